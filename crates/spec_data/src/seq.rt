@@ -1,0 +1,82 @@
+//! A list, as contracts see it.
+
+ghost use Rattle.std.specs.Prelude.{◌≡◌, ℕ, ◌<◌, ◌≤◌, ◌↔◌, List, ◌∷◌, [], ◌++◌, length, IsTrue, IfOk, OnOk, OnErr};
+
+use std::alloc::{AllocError, Global};
+use std::marker::Model;
+
+/// A vector that contracts see as the list of its elements.
+#[derive(Drop)]
+pub struct Seq<T> {
+    held: Vec<T>,
+}
+
+impl<T> Model for Seq<T> {
+    ghost use Rattle.std.specs.Prelude.{List};
+
+    ghost Value = { List T };
+
+    ghost view = { λ a. a.held.items };
+}
+
+impl<T> Seq<T> {
+    pub fn of(held: Vec<T>) -> Seq<T>
+        ensures { result ≡ held.items }
+    {
+        Seq { held }
+    }
+
+    /// A list of nothing; it takes no memory.
+    pub fn new(alloc: Global) -> Seq<T>
+        ensures { result ≡ [] }
+    {
+        Seq {
+            held: Vec::new(alloc),
+        }
+    }
+
+    pub fn into_vec(self) -> Vec<T>
+        ensures { result.items ≡ self }
+    {
+        self.held
+    }
+
+    pub fn as_slice(&self) -> &[T]
+        ensures { result.now ≡ self.now }
+    {
+        self.held.as_slice()
+    }
+
+    pub fn push(&mut self, value: T) -> Result<(), AllocError>
+    where
+        T: Drop,
+        ensures ok { OnOk result (self.new ≡ self.old ++ value ∷ []) }
+        ensures err { OnErr result (self.new ≡ self.old) }
+    {
+        self.held.push(value)?;
+        Ok(())
+    }
+
+    /// How many elements there are.
+    pub fn len(&self) -> usize
+        ensures { result ≡ length self.now }
+    {
+        self.held.len()
+    }
+
+    /// Whether there is no element.
+    pub fn is_empty(&self) -> bool
+        ensures { IsTrue result ↔ (self.now ≡ []) }
+    {
+        self.held.is_empty()
+    }
+
+    /// A list of the same elements.
+    pub fn copy(&self, alloc: Global) -> Result<Seq<T>, AllocError>
+    where
+        T: Copy + Drop,
+        ensures { IfOk result (λ list. list ≡ self.now) }
+    {
+        Ok(Seq::of(Vec::from_slice(alloc, self.as_slice())?))
+    }
+}

@@ -1,0 +1,15 @@
+pub mod Term
+pub mod TermCode
+pub mod Advert
+pub mod Core
+pub mod Paths
+pub mod PathSameness
+pub mod Order
+pub mod Precondition
+pub mod Parties
+pub mod Value
+pub mod Bound
+pub mod Cost
+pub mod Balance
+pub mod Readable
+pub mod Faults

@@ -1,0 +1,64 @@
+-- The branch and the choice that a path leads to; of this project's profile of BitML.
+use Rattle.std.specs.Prelude.{◌==◌, Bool, false, List, [], ◌∷◌, Option, Some, None, option_map, option_and_then, slice_get}
+use Rattle.std.specs.Cmp.Lexicographic.{pointwise}
+use Rattle.spec_terms.specs.Term.{Branch, auth, after, put_reveal, withdraw, split, Choice, branches, parts_list}
+use Rattle.spec_terms.specs.Core.{core, continuation}
+use Rattle.spec_terms.specs.declared.path.PathStep.{PathStep}
+use Rattle.spec_terms.specs.declared.path.PathStep.TheVariants.{Branch as To, Part as Into}
+
+-- what stands at the end of a path: a position with its choice, or a branch
+pub data Spot : Type 0 where
+  position : Choice → Spot
+  at_branch : Branch → Spot
+
+-- what stands one step below a core: a branch of a put's or reveal's continuation, or the position of a part
+abbrev pub below : Branch → PathStep → Option Spot
+below (put_reveal puts reveals test next) (To i) = option_map at_branch (slice_get (branches next) i)
+below (split parts) (Into k) = option_map (λ p. position p.1) (slice_get (parts_list parts) k)
+below (put_reveal puts reveals test next) (Into k) = None
+below (split parts) (To i) = None
+below (auth party body) s = None
+below (after height body) s = None
+below (withdraw party) s = None
+
+-- what stands one step further
+abbrev pub next_spot : Spot → PathStep → Option Spot
+next_spot (position c) (To i) = option_map at_branch (slice_get (branches c) i)
+next_spot (position c) (Into k) = None
+next_spot (at_branch b) s = below (core b) s
+
+-- what stands at the end of these steps
+abbrev pub spot_from : Spot → List PathStep → Option Spot
+spot_from p [] = Some p
+spot_from p (s ∷ steps) = option_and_then (λ q. spot_from q steps) (next_spot p s)
+
+-- the branch that stands there, if one does
+abbrev pub as_branch : Spot → Option Branch
+as_branch (position c) = None
+as_branch (at_branch b) = Some b
+
+-- the choice of the position that stands there; the continuation of a put or reveal stands at that branch's own path
+abbrev pub as_choice : Spot → Option Choice
+as_choice (position c) = Some c
+as_choice (at_branch b) = continuation (core b)
+
+-- the branch at a path from the root
+abbrev pub at : Choice → List PathStep → Option Branch
+at root path = option_and_then as_branch (spot_from (position root) path)
+
+-- the choice at a position, by the path from the root
+abbrev pub choice_at : Choice → List PathStep → Option Choice
+choice_at root path = option_and_then as_choice (spot_from (position root) path)
+
+-- ---- sameness
+
+-- whether the steps are the same
+abbrev pub step_eq : PathStep → PathStep → Bool
+step_eq (To i) (To j) = i == j
+step_eq (Into i) (Into j) = i == j
+step_eq (To i) (Into j) = false
+step_eq (Into i) (To j) = false
+
+-- whether the paths are the same
+abbrev pub path_eq : List PathStep → List PathStep → Bool
+path_eq = pointwise step_eq

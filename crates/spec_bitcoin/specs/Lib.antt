@@ -1,0 +1,13 @@
+pub mod Spelling
+pub mod Reading
+pub mod Digests
+pub mod Opcodes
+pub mod Numbers
+pub mod Scripts
+pub mod Trees
+pub mod Effects
+pub mod Meaning
+pub mod Keys
+pub mod Live
+pub mod Verdict
+pub mod Statements

@@ -1,0 +1,101 @@
+//! Steps of the calculus, as plain data.
+
+ghost use Rattle.std.specs.Prelude.{◌≡◌, IfOk};
+
+use spec_data::{Name, OutOfMemory, Seq};
+use std::alloc::Global;
+
+/// Who owns a deposit.
+#[derive(Clone, Copy, PartialEq, Eq)]
+pub enum Owner {
+    /// A declared party.
+    Party(Name),
+    /// Someone who isn't declared.
+    Outside,
+}
+
+/// Deposits go, and others come. Inputs are numbers of deposits; outputs are owners with satoshi.
+#[derive(Drop)]
+pub struct Move {
+    pub inputs: Seq<u32>,
+    pub outputs: Seq<(Owner, u64)>,
+}
+
+/// A step of the calculus. Contracts are named by their place, deposits and active contracts by
+/// their number, branches by their place among a position's branches.
+#[derive(Drop)]
+pub enum Step {
+    /// Blocks pass.
+    Delay {
+        blocks: u32,
+    },
+    /// A party agrees to a move.
+    AuthMove {
+        party: Name,
+        action: Move,
+    },
+    /// A move is made.
+    Move {
+        action: Move,
+    },
+    /// A contract is advertised, with a deposit for each entry of its precondition.
+    Advertise {
+        contract: u32,
+        bindings: Seq<(Name, u32)>,
+    },
+    /// A participant commits to its secrets. An unknown length is none.
+    Commit {
+        contract: u32,
+        party: Name,
+        lengths: Seq<(Name, Option<u32>)>,
+    },
+    /// A participant lets the contract take its deposit.
+    AuthInit {
+        contract: u32,
+        party: Name,
+        deposit: Name,
+    },
+    /// The contract begins.
+    Init {
+        contract: u32,
+    },
+    /// A secret is revealed.
+    Reveal {
+        contract: u32,
+        party: Name,
+        secret: Name,
+    },
+    /// A party agrees to a branch of an active contract.
+    AuthBranch {
+        party: Name,
+        output: u32,
+        branch: u32,
+    },
+    /// A branch that puts deposits in or reveals secrets is taken.
+    PutReveal {
+        output: u32,
+        branch: u32,
+    },
+    /// A branch that pays a party is taken.
+    Withdraw {
+        output: u32,
+        branch: u32,
+    },
+    /// A branch that splits the contract is taken.
+    Split {
+        output: u32,
+        branch: u32,
+    },
+}
+
+impl Move {
+    /// A move with the same inputs and outputs.
+    pub fn copy(&self, alloc: Global) -> Result<Move, OutOfMemory>
+        ensures { IfOk result (λ action. action ≡ self.now) }
+    {
+        Ok(Move {
+            inputs: self.inputs.copy(alloc)?,
+            outputs: self.outputs.copy(alloc)?,
+        })
+    }
+}

@@ -1,0 +1,79 @@
+-- All transactions and scripts of a contract, in the order of its text; of this project's profile of BitML.
+use Rattle.std.specs.Prelude.{ℕ, ◌+◌, List, [], ◌∷◌, ◌++◌, map}
+use Rattle.spec_terms.specs.Term as term
+use Rattle.spec_terms.specs.Term.{Choice, no_branch, branch, auth, after, put_reveal, withdraw, split, Parts, no_part, part}
+use Rattle.spec_terms.specs.Core.{lock}
+use Rattle.spec_terms.specs.declared.path.PathStep.{PathStep}
+use Rattle.spec_compiler.specs.declared.prepared.Prepared.{Prepared}
+use Rattle.spec_compiler.specs.Setting.{Setting, branch_path, position_script}
+use Rattle.spec_compiler.specs.Transactions.{Draft, Standing, prepared, continued_value, part_position, core_draft, continued, part_standing, initial_draft, root_standing}
+
+-- ---- the transactions by path
+
+abbrev mutual
+  -- of the branches of a position from number i on, with all that stands under them
+  pub choice_drafts : (List ℕ → List ℕ) → Setting → Standing → ℕ → Choice → List (List PathStep × Draft)
+  choice_drafts hash s here i no_branch = []
+  choice_drafts hash s here i (branch b bs) = branch_drafts hash s here i (lock b) b ++ choice_drafts hash s here (i + 1) bs
+
+  -- of branch i of a position, which has this lock
+  pub branch_drafts : (List ℕ → List ℕ) → Setting → Standing → ℕ → ℕ → term.Branch → List (List PathStep × Draft)
+  branch_drafts hash s here i l (auth party body) = branch_drafts hash s here i l body
+  branch_drafts hash s here i l (after height body) = branch_drafts hash s here i l body
+  branch_drafts hash s here i l (put_reveal puts reveals test next) =
+      (branch_path here.position i, core_draft hash s here i l (put_reveal puts reveals test next))
+      ∷ choice_drafts hash s (continued hash s (branch_path here.position i) (core_draft hash s here i l (put_reveal puts reveals test next)) (continued_value s here.output.value puts) next) 0 next
+  branch_drafts hash s here i l (withdraw party) = (branch_path here.position i, core_draft hash s here i l (withdraw party)) ∷ []
+  branch_drafts hash s here i l (split parts) =
+      (branch_path here.position i, core_draft hash s here i l (split parts))
+      ∷ parts_drafts hash s (branch_path here.position i) (core_draft hash s here i l (split parts)) 0 parts
+
+  -- of the parts from number k on of the split at a path, which this transaction makes
+  pub parts_drafts : (List ℕ → List ℕ) → Setting → List PathStep → Draft → ℕ → Parts → List (List PathStep × Draft)
+  parts_drafts hash s path made k no_part = []
+  parts_drafts hash s path made k (part v c ps) = choice_drafts hash s (part_standing hash s path made k v c) 0 c ++ parts_drafts hash s path made (k + 1) ps
+
+-- the transaction of each path
+abbrev pub drafts : (List ℕ → List ℕ) → Setting → List (List PathStep × Draft)
+drafts hash s = choice_drafts hash s (root_standing hash s) 0 s.advert.root
+
+-- ---- the scripts by position
+
+abbrev mutual
+  -- of the positions under the branches of a position from number i on
+  pub choice_scripts : (List ℕ → List ℕ) → Setting → List PathStep → ℕ → Choice → List (List PathStep × List ℕ)
+  choice_scripts hash s position i no_branch = []
+  choice_scripts hash s position i (branch b bs) = branch_scripts hash s (branch_path position i) b ++ choice_scripts hash s position (i + 1) bs
+
+  -- of the positions under the branch at a path
+  pub branch_scripts : (List ℕ → List ℕ) → Setting → List PathStep → term.Branch → List (List PathStep × List ℕ)
+  branch_scripts hash s path (auth party body) = branch_scripts hash s path body
+  branch_scripts hash s path (after height body) = branch_scripts hash s path body
+  branch_scripts hash s path (put_reveal puts reveals test next) = (path, position_script hash s path next) ∷ choice_scripts hash s path 0 next
+  branch_scripts hash s path (withdraw party) = []
+  branch_scripts hash s path (split parts) = parts_scripts hash s path 0 parts
+
+  -- of the parts from number k on of the split at a path
+  pub parts_scripts : (List ℕ → List ℕ) → Setting → List PathStep → ℕ → Parts → List (List PathStep × List ℕ)
+  parts_scripts hash s path k no_part = []
+  parts_scripts hash s path k (part v c ps) =
+      ((part_position path k, position_script hash s (part_position path k) c) ∷ choice_scripts hash s (part_position path k) 0 c) ++ parts_scripts hash s path (k + 1) ps
+
+-- the script of each position
+abbrev pub scripts : (List ℕ → List ℕ) → Setting → List (List PathStep × List ℕ)
+scripts hash s = ([], position_script hash s [] s.advert.root) ∷ choice_scripts hash s [] 0 s.advert.root
+
+-- ---- all of it
+
+-- what a contract is compiled to: the initial transaction, the transaction of each path, and the script of each position
+pub record Compilation : Type 0 where
+  pub init : Prepared
+  pub paths : List (List PathStep × Prepared)
+  pub scripts : List (List PathStep × List ℕ)
+
+abbrev pub compilation : (List ℕ → List ℕ) → Setting → Compilation
+compilation hash s = record {
+  init = prepared hash (initial_draft hash s);
+  paths = map (λ p. (p.0, prepared hash p.1)) (drafts hash s);
+  scripts = scripts hash s;
+}

@@ -1,0 +1,9 @@
+pub mod Scripts
+pub mod Setting
+pub mod Witness
+pub mod Transactions
+pub mod Compilation
+pub mod ByPath
+pub mod Hashed
+pub mod Endorsements
+pub mod Statements

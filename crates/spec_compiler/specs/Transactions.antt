@@ -1,0 +1,156 @@
+-- The transactions of a contract, before they are put in order; this project's profile of BitML, in transactions of Bitcoin with segregated witnesses (BIP 141).
+use Rattle.std.specs.Prelude.{ℕ, ◌+◌, ◌-◌, List, [], ◌∷◌, ◌++◌, map, Option, Some, None}
+use Rattle.spec_data.specs.Lists.{look_up}
+use Rattle.spec_terms.specs.Term as term
+use Rattle.spec_terms.specs.Term.{Choice, auth, after, put_reveal, withdraw, split, Parts, no_part, part}
+use Rattle.spec_terms.specs.Core.{core, lock, puts_of}
+use Rattle.spec_terms.specs.Precondition.{Holding, holding, persistent, volatile, total_of, value_of_puts}
+use Rattle.spec_terms.specs.declared.path.PathStep.{PathStep}
+use Rattle.spec_terms.specs.declared.path.PathStep.TheVariants.{Part as Into}
+use Rattle.spec_bitcoin.specs.declared.tx.OutPoint.{OutPoint}
+use Rattle.spec_bitcoin.specs.declared.tx.TxIn.{TxIn}
+use Rattle.spec_bitcoin.specs.declared.tx.TxOut.{TxOut}
+use Rattle.spec_bitcoin.specs.declared.tx.Tx.{Tx}
+use Rattle.spec_bitcoin.specs.Digests.{txid, digest}
+use Rattle.spec_bitcoin.specs.Keys.{pay_to, deposit_script}
+use Rattle.spec_compiler.specs.declared.prepared.Prepared.{Prepared}
+use Rattle.spec_compiler.specs.Setting.{Setting, branch_path, deposit_key, position_script}
+
+-- ---- transactions and what they spend
+
+-- an output that a transaction spends: where it lies, the script that its spender shows, and its value in satoshi
+pub record Spent : Type 0 where
+  pub place : OutPoint
+  pub script : List ℕ
+  pub value : ℕ
+
+-- a transaction without witnesses, by what it spends, what it makes and its lock
+pub record Draft : Type 0 where
+  pub spends : List Spent
+  pub outputs : List TxOut
+  pub lock : ℕ
+
+-- an input with a sequence under which the lock binds
+abbrev pub input_of : Spent → TxIn
+input_of spent = record { prev = spent.place; script_sig = []; sequence = 0xfffffffe; witness = [] }
+
+abbrev pub tx_of : Draft → Tx
+tx_of d = record { version = 2; inputs = map input_of d.spends; outputs = d.outputs; lock = d.lock }
+
+-- the digest of the input that spends this
+abbrev pub digest_of_spent : (List ℕ → List ℕ) → Tx → Spent → List ℕ
+digest_of_spent hash tx spent = digest hash tx (input_of spent) spent.script spent.value
+
+-- the transaction with its txid and the digest of each input
+abbrev pub prepared : (List ℕ → List ℕ) → Draft → Prepared
+prepared hash d = record { tx = tx_of d; txid = txid hash (tx_of d); digests = map (digest_of_spent hash (tx_of d)) d.spends }
+
+-- where output k of the transaction lies
+abbrev pub output_place : (List ℕ → List ℕ) → Draft → ℕ → OutPoint
+output_place hash d k = record { txid = txid hash (tx_of d); vout = k }
+
+-- an output for whoever shows this script and what it asks for
+abbrev pub pays : (List ℕ → List ℕ) → List ℕ → ℕ → TxOut
+pays hash script value = record { value = value; script = pay_to (hash script) }
+
+-- ---- deposits
+
+-- the script of a party's deposits
+abbrev pub party_script : (List ℕ → List ℕ) → List ℕ → List ℕ
+party_script hash party = deposit_script (deposit_key hash party)
+
+-- where a deposit that was looked up lies
+abbrev pub place_or_none : Option OutPoint → OutPoint
+place_or_none None = record { txid = []; vout = 0 }
+place_or_none (Some place) = place
+
+-- the output of a bound deposit
+abbrev pub deposit : (List ℕ → List ℕ) → Setting → List ℕ → Holding → Spent
+deposit hash s name h = record { place = place_or_none (look_up name s.bound); script = party_script hash h.owner; value = h.value }
+
+-- a deposit that was looked up
+abbrev pub holding_or_none : Option Holding → Holding
+holding_or_none None = holding [] 0
+holding_or_none (Some h) = h
+
+-- the outputs of the volatile deposits of these names
+abbrev pub put_deposits : (List ℕ → List ℕ) → Setting → List (List ℕ) → List Spent
+put_deposits hash s puts = map (λ name. deposit hash s name (holding_or_none (look_up name (volatile s.advert.pre)))) puts
+
+-- the outputs of the persistent deposits
+abbrev pub persistent_deposits : (List ℕ → List ℕ) → Setting → List Spent
+persistent_deposits hash s = map (λ d. deposit hash s d.0 d.1) (persistent s.advert.pre)
+
+-- ---- positions, and what the transaction of a branch does
+
+-- a position, and the output that stands there
+pub record Standing : Type 0 where
+  pub position : List PathStep
+  pub output : Spent
+
+-- what a put's continuation is worth
+abbrev pub continued_value : Setting → ℕ → List (List ℕ) → ℕ
+continued_value s balance puts = balance + value_of_puts (volatile s.advert.pre) puts - s.advert.fee
+
+-- the position of part k of a split
+abbrev pub part_position : List PathStep → ℕ → List PathStep
+part_position path k = path ++ Into k ∷ []
+
+-- the outputs of the parts from number k on of the split at a path
+abbrev pub part_outputs : (List ℕ → List ℕ) → Setting → List PathStep → ℕ → Parts → List TxOut
+part_outputs hash s path k no_part = []
+part_outputs hash s path k (part v c ps) = pays hash (position_script hash s (part_position path k) c) v ∷ part_outputs hash s path (k + 1) ps
+
+-- the outputs of a core's transaction, where the branch has this path and its position this balance
+abbrev pub core_outputs : (List ℕ → List ℕ) → Setting → List PathStep → ℕ → term.Branch → List TxOut
+core_outputs hash s path balance (put_reveal puts reveals test next) = pays hash (position_script hash s path next) (continued_value s balance puts) ∷ []
+core_outputs hash s path balance (withdraw party) = pays hash (party_script hash party) (balance - s.advert.fee) ∷ []
+core_outputs hash s path balance (split parts) = part_outputs hash s path 0 parts
+core_outputs hash s path balance (auth party body) = []
+core_outputs hash s path balance (after height body) = []
+
+-- the transaction of branch i of a position, by its lock and its core: the output of the position, and then the deposits that are put
+abbrev pub core_draft : (List ℕ → List ℕ) → Setting → Standing → ℕ → ℕ → term.Branch → Draft
+core_draft hash s here i height b = record {
+  spends = here.output ∷ put_deposits hash s (puts_of b);
+  outputs = core_outputs hash s (branch_path here.position i) here.output.value b;
+  lock = height;
+}
+
+-- the transaction of branch i of a position
+abbrev pub branch_draft : (List ℕ → List ℕ) → Setting → Standing → ℕ → term.Branch → Draft
+branch_draft hash s here i b = core_draft hash s here i (lock b) (core b)
+
+-- the position at which a put goes on, at the path of its branch
+abbrev pub continued : (List ℕ → List ℕ) → Setting → List PathStep → Draft → ℕ → Choice → Standing
+continued hash s path made value next = record {
+  position = path;
+  output = record { place = output_place hash made 0; script = position_script hash s path next; value = value };
+}
+
+-- the position of part k of the split at a path
+abbrev pub part_standing : (List ℕ → List ℕ) → Setting → List PathStep → Draft → ℕ → ℕ → Choice → Standing
+part_standing hash s path made k value next = record {
+  position = part_position path k;
+  output = record { place = output_place hash made k; script = position_script hash s (part_position path k) next; value = value };
+}
+
+-- ---- the initial transaction
+
+-- what the root is worth
+abbrev pub root_value : Setting → ℕ
+root_value s = total_of (persistent s.advert.pre) - s.advert.fee
+
+abbrev pub initial_draft : (List ℕ → List ℕ) → Setting → Draft
+initial_draft hash s = record {
+  spends = persistent_deposits hash s;
+  outputs = pays hash (position_script hash s [] s.advert.root) (root_value s) ∷ [];
+  lock = 0;
+}
+
+-- the root
+abbrev pub root_standing : (List ℕ → List ℕ) → Setting → Standing
+root_standing hash s = record {
+  position = [];
+  output = record { place = output_place hash (initial_draft hash s) 0; script = position_script hash s [] s.advert.root; value = root_value s };
+}

@@ -1,0 +1,136 @@
+-- One event of a run: what it comes to, what it hashes and posts, and what is left of it; of this project's profile.
+use Rattle.std.specs.Prelude.{ℕ, ◌+◌, List, [], ◌∷◌, ◌++◌, map, Bool, not, nat_le, Option, Some, None, Result, Ok, Err}
+use Rattle.spec_data.specs.Lists.{first_reason}
+use Rattle.spec_bitcoin.specs.declared.tx.TxOut.{TxOut}
+use Rattle.spec_bitcoin.specs.declared.tx.Tx.{Tx}
+use Rattle.spec_bitcoin.specs.declared.label.Label.TheVariants as labels
+use Rattle.spec_bitcoin.specs.Digests.{txid, txid_strings, opening_transaction}
+use Rattle.spec_bitcoin.specs.Keys.{label_text}
+use Rattle.spec_bitcoin.specs.Reading.{transaction_of}
+use Rattle.spec_calculus.specs.Steps.{last_height}
+use Rattle.spec_compiler.specs.Transactions.{party_script}
+use Rattle.spec_run.specs.declared.event.Event.{Event}
+use Rattle.spec_run.specs.declared.event.Event.TheVariants as events
+use Rattle.spec_run.specs.declared.outcome.Reason.{Reason}
+use Rattle.spec_run.specs.declared.outcome.Reason.TheVariants as reason
+use Rattle.spec_run.specs.declared.outcome.Record.{Record}
+use Rattle.spec_run.specs.Setup.{Setup}
+use Rattle.spec_run.specs.Messages.{noted_all, collision}
+use Rattle.spec_run.specs.World.{Held, World}
+use Rattle.spec_run.specs.Draft.{Draft, Answer, Went, Halted, Halt, done, posting, refused, unless, answer}
+use Rattle.spec_run.specs.Owners.{paid_to}
+use Rattle.spec_run.specs.Advertising.{advertise_draft}
+use Rattle.spec_run.specs.Committing.{commit_draft}
+use Rattle.spec_run.specs.Signing.{endorse_draft, init_draft, authorise_draft, sign_draft}
+use Rattle.spec_run.specs.Revealing.{reveal_draft}
+use Rattle.spec_run.specs.Giving.{give_draft}
+use Rattle.spec_run.specs.Firing.{fire_init_draft, fire_draft}
+use Rattle.spec_run.specs.Ledger.{made_from, reaches}
+
+-- ---- the opening
+
+-- the outputs of the header's deposits
+abbrev pub opening_outputs : Setup → List TxOut
+opening_outputs s = map {B = TxOut} (λ d. record { value = d.1; script = paid_to s (d.0) }) s.header.deposits
+
+-- what is hashed before any event: the deposit labels, the deposit scripts, and the opening transaction's bytes with their hash
+abbrev pub opening_strings : Setup → List (List ℕ)
+opening_strings s =
+    map (λ party. label_text (labels.Deposit party)) s.header.parties
+    ++ (map (party_script s.hash) s.header.parties
+    ++ txid_strings s.hash (opening_transaction (opening_outputs s)))
+
+-- no contract output is there at the opening
+abbrev pub holds_nothing : ℕ → Option Held
+holds_nothing k = None
+
+abbrev pub opening_world : Setup → World
+opening_world s = record {
+  tip = 0;
+  outputs = made_from holds_nothing (txid s.hash (opening_transaction (opening_outputs s))) 0 (opening_outputs s);
+  book = [];
+  posted = [];
+  advertised = [];
+  promises = [];
+  begun = [];
+  hashed = noted_all [] (opening_strings s);
+}
+
+-- the first two different opening strings with one digest
+abbrev pub opening_collision : Setup → Option (List ℕ × List ℕ)
+opening_collision s = collision s.hash [] (opening_strings s)
+
+-- ---- raw transactions and blocks
+
+-- a raw transaction that was read, or the place of its fault
+abbrev pub append_read : Setup → World → Result Tx ℕ → Draft
+append_read s w (Ok tx) = reaches s w w tx
+append_read s w (Err place) = refused w [] (reason.BadTx place)
+
+-- the height stays within its bound
+abbrev pub mine_row : World → ℕ → List (Bool × Reason)
+mine_row w blocks = (not (nat_le (w.tip + blocks) last_height), reason.TimeLimit) ∷ []
+
+abbrev pub mine_draft : World → ℕ → Draft
+mine_draft w blocks = unless (first_reason (mine_row w blocks)) w [] (done (record w { tip = w.tip + blocks }) [])
+
+-- ---- all events
+
+-- what an event comes to, where nothing collides and nothing is guessed
+abbrev pub draft : Setup → World → Event → Draft
+draft s w (events.Advertise contract bindings) = advertise_draft s w contract bindings
+draft s w (events.Commit contract party digests) = commit_draft s w contract party digests
+draft s w (events.Endorse contract party) = endorse_draft s w contract party
+draft s w (events.Init contract party) = init_draft s w contract party
+draft s w (events.Authorise party output branch) = authorise_draft s w party output branch
+draft s w (events.Reveal contract party secret) = reveal_draft s w contract party secret
+draft s w (events.Post bytes) = posting w bytes None
+draft s w (events.Sign party label digest) = sign_draft s w party label digest
+draft s w (events.Give party inputs outputs) = give_draft s w party inputs outputs
+draft s w (events.Append bytes) = append_read s w (transaction_of bytes)
+draft s w (events.FireInit contract) = fire_init_draft s w contract
+draft s w (events.Fire output branch) = fire_draft s w output branch
+draft s w (events.Mine blocks) = mine_draft w blocks
+
+-- what is left of an event in this world
+abbrev pub event : Setup → World → Event → Answer
+event s w e = answer s w (draft s w e)
+
+-- ---- a run
+
+-- goes on where the event didn't halt, and stops with the first value where it did
+abbrev pub goes_on : {X : Type 0} → Answer → X → (Draft → World → X) → X
+goes_on (Halted halt) stop go = stop
+goes_on (Went d next) stop go = go d next
+
+abbrev pub record_of : Event → Draft → Record
+record_of e d = record { event = e; outcome = d.outcome; tx = d.tx }
+
+-- the records of these events up to the first halt
+abbrev pub trace_from : Setup → World → List Event → List Record
+trace_from s w [] = []
+trace_from s w (e ∷ es) = goes_on (event s w e) [] (λ d next. record_of e d ∷ trace_from s next es)
+
+abbrev pub trace : Setup → List Event → List Record
+trace s es = trace_from s (opening_world s) es
+
+-- the last world before the first halt
+abbrev pub last_from : Setup → World → List Event → World
+last_from s w [] = w
+last_from s w (e ∷ es) = goes_on (event s w e) w (λ d next. last_from s next es)
+
+abbrev pub last_world : Setup → List Event → World
+last_world s es = last_from s (opening_world s) es
+
+-- the halt, and the event that it came with
+abbrev pub halt_with : Event → Answer → Option (Event × Halt) → Option (Event × Halt)
+halt_with e (Halted halt) later = Some (e, halt)
+halt_with e (Went d next) later = later
+
+-- the first halt of these events
+abbrev pub halt_from : Setup → World → List Event → Option (Event × Halt)
+halt_from s w [] = None
+halt_from s w (e ∷ es) = halt_with e (event s w e) (goes_on (event s w e) None (λ d next. halt_from s next es))
+
+abbrev pub first_halt : Setup → List Event → Option (Event × Halt)
+first_halt s es = halt_from s (opening_world s) es

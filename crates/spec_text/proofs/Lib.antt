@@ -1,0 +1,4 @@
+pub mod Worked
+pub mod WorkedRuns
+pub mod WorkedDraws
+pub mod WorkedCommands

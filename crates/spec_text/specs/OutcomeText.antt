@@ -1,0 +1,80 @@
+-- How outcomes and their reasons are printed; of this project's profile.
+use Rattle.std.specs.Prelude.{ℕ, List, ◌++◌, flat_map, codes}
+use Rattle.std.specs.Fmt.{decimal}
+use Rattle.spec_bitcoin.specs.Keys.{path_text}
+use Rattle.spec_run.specs.declared.outcome.Outcome.{Outcome}
+use Rattle.spec_run.specs.declared.outcome.Outcome.TheVariants.{Done, Accepted, Refused}
+use Rattle.spec_run.specs.declared.outcome.Reason.{Reason}
+use Rattle.spec_run.specs.declared.outcome.Reason.TheVariants as reason
+use Rattle.spec_text.specs.RunText.{output_text, outputs_text}
+
+-- ---- reasons
+
+-- a reason that shows a name
+abbrev pub with_name : List ℕ → List ℕ → List ℕ
+with_name text name = text ++ (codes " " ++ name)
+
+-- a reason that shows a number
+abbrev pub with_number : List ℕ → ℕ → List ℕ
+with_number text number = text ++ (codes " " ++ decimal number)
+
+-- the name of a reason, and what it shows
+abbrev pub reason_text : Reason → List ℕ
+reason_text reason.NoContract = codes "NoContract"
+reason_text reason.AdvertFull = codes "AdvertFull"
+reason_text reason.WrongNames = codes "WrongNames"
+reason_text (reason.DepositRepeated x) = with_name (codes "DepositRepeated") x
+reason_text (reason.NotLive x) = with_name (codes "NotLive") x
+reason_text (reason.WrongDeposit x) = with_name (codes "WrongDeposit") x
+reason_text reason.NoHonest = codes "NoHonest"
+reason_text reason.NotAdvertised = codes "NotAdvertised"
+reason_text reason.NotParticipant = codes "NotParticipant"
+reason_text reason.AlreadyCommitted = codes "AlreadyCommitted"
+reason_text (reason.NoSecret a) = with_name (codes "NoSecret") a
+reason_text (reason.BadSecretLength a) = with_name (codes "BadSecretLength") a
+reason_text (reason.HashRepeated a) = with_name (codes "HashRepeated") a
+reason_text reason.NotAllCommitted = codes "NotAllCommitted"
+reason_text (reason.NotEndorsed path party) = codes "NotEndorsed " ++ (path_text path ++ (codes " " ++ party))
+reason_text reason.NotActive = codes "NotActive"
+reason_text reason.NoBranch = codes "NoBranch"
+reason_text reason.NotAsked = codes "NotAsked"
+reason_text reason.NotHonest = codes "NotHonest"
+reason_text reason.NotCommitted = codes "NotCommitted"
+reason_text reason.NotBegun = codes "NotBegun"
+reason_text reason.AlreadyRevealed = codes "AlreadyRevealed"
+reason_text reason.Honest = codes "Honest"
+reason_text reason.NotOwner = codes "NotOwner"
+reason_text (reason.NotLiveOutput n) = with_number (codes "NotLive") n
+reason_text (reason.NotOwnerOutput n) = with_number (codes "NotOwner") n
+reason_text (reason.BadTx place) = with_number (codes "BadTx") place
+reason_text reason.NotCompiled = codes "NotCompiled"
+reason_text (reason.SecretUnknown a) = with_name (codes "SecretUnknown") a
+reason_text reason.TimeLimit = codes "TimeLimit"
+reason_text reason.NoInput = codes "NoInput"
+reason_text reason.NoOutput = codes "NoOutput"
+reason_text reason.InputRepeated = codes "InputRepeated"
+reason_text (reason.MissingInput k) = with_number (codes "MissingInput") k
+reason_text reason.ValueLimit = codes "ValueLimit"
+reason_text reason.InsufficientIn = codes "InsufficientIn"
+reason_text reason.NotFinal = codes "NotFinal"
+reason_text (reason.ScriptSigNotEmpty k) = with_number (codes "ScriptSigNotEmpty") k
+reason_text (reason.NotWitnessScript k) = with_number (codes "NotWitnessScript") k
+reason_text (reason.ScriptMismatch k) = with_number (codes "ScriptMismatch") k
+reason_text (reason.ItemTooLong k) = with_number (codes "ItemTooLong") k
+reason_text (reason.ScriptFalse k) = with_number (codes "ScriptFalse") k
+
+-- ---- outcomes
+
+-- ` #n v` for each new output
+abbrev pub made_text : List (ℕ × ℕ) → List ℕ
+made_text ms = flat_map (λ m. codes " " ++ (output_text m.0 ++ (codes " " ++ decimal m.1))) ms
+
+-- `accepted spends #a #b makes #c v #d w lock L`
+abbrev pub accepted_text : List ℕ → List (ℕ × ℕ) → ℕ → List ℕ
+accepted_text spent made lock = codes "accepted spends" ++ (outputs_text spent ++ (codes " makes" ++ (made_text made ++ (codes " lock " ++ decimal lock))))
+
+-- the line of an outcome, without its end
+abbrev pub outcome_text : Outcome → List ℕ
+outcome_text Done = codes "done"
+outcome_text (Accepted spent made lock) = accepted_text spent made lock
+outcome_text (Refused r) = codes "refused " ++ reason_text r

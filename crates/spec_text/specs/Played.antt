@@ -1,0 +1,65 @@
+-- The text of a played run, by its setup and its events; of this project's profile.
+use Rattle.std.specs.Prelude.{ℕ, ◌+◌, List, [], ◌∷◌, map, Bool, true, false, Option, Some, None}
+use Rattle.spec_calculus.specs.declared.step.Step.{Step}
+use Rattle.spec_calculus.specs.Configuration.{Configuration}
+use Rattle.spec_run.specs.declared.event.Event.{Event}
+use Rattle.spec_run.specs.declared.outcome.Record.{Record}
+use Rattle.spec_run.specs.Setup.{Setup}
+use Rattle.spec_run.specs.World.{World, Output}
+use Rattle.spec_run.specs.Draft.{Halt, Collided, Guessed}
+use Rattle.spec_run.specs.Event.{trace, last_world, first_halt, opening_collision}
+use Rattle.spec_run.specs.Translation.{translated, last_configuration}
+use Rattle.spec_run.specs.Offers.{offers}
+use Rattle.spec_text.specs.declared.entry.Entry.{Entry}
+use Rattle.spec_text.specs.PlayText.{Ending, whole, guessed, collided, report_text}
+
+-- ---- the entries
+
+abbrev pub entry_of : Record → List Step → Entry
+entry_of r steps = record { event = r.event; outcome = r.outcome; steps = steps }
+
+-- records with their steps
+abbrev pub entries_of : List Record → List (List Step) → List Entry
+entries_of [] steps = []
+entries_of (r ∷ rs) [] = []
+entries_of (r ∷ rs) (s ∷ ss) = entry_of r s ∷ entries_of rs ss
+
+-- what is shown of each event up to the first halt
+abbrev pub entries : Setup → List Event → List Entry
+entries s es = entries_of (trace s es) (translated s es)
+
+-- ---- how the run ends
+
+abbrev pub onto_live : Bool → ℕ → ℕ → List (ℕ × ℕ) → List (ℕ × ℕ)
+onto_live true number value later = (number, value) ∷ later
+onto_live false number value later = later
+
+-- the live outputs with their values, the numbers from n on
+abbrev pub live_from : ℕ → List Output → List (ℕ × ℕ)
+live_from n [] = []
+live_from n (o ∷ os) = onto_live o.live n o.value (live_from (n + 1) os)
+
+abbrev pub live_outputs : World → List (ℕ × ℕ)
+live_outputs w = live_from 0 w.outputs
+
+abbrev pub end_of : World → Configuration → Ending
+end_of w g = whole w.tip (live_outputs w) g (map (λ o. o.event) (offers g))
+
+abbrev pub halted : Event → Halt → Ending
+halted event (Collided earlier later) = collided (Some event) earlier later
+halted event (Guessed party secret) = guessed event party secret
+
+abbrev pub ending_by : World → Configuration → Option (Event × Halt) → Ending
+ending_by w g None = end_of w g
+ending_by w g (Some h) = halted (h.0) (h.1)
+
+abbrev pub ending_from : World → Configuration → Option (List ℕ × List ℕ) → Option (Event × Halt) → Ending
+ending_from w g (Some p) halt = collided None (p.0) (p.1)
+ending_from w g None halt = ending_by w g halt
+
+abbrev pub ending : Setup → List Event → Ending
+ending s es = ending_from (last_world s es) (last_configuration s es) (opening_collision s) (first_halt s es)
+
+-- what `play` prints of a run
+unfoldable pub play_text : Setup → List Event → List ℕ
+play_text s es = report_text s.header.deposits (entries s es) (ending s es)

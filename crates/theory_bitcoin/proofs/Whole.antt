@@ -1,0 +1,79 @@
+-- All of the bytes: a value, or the place where they go wrong.
+use Rattle.std.proofs.Common.{◌≡◌, ℕ, zero, suc, ◌+◌, ◌-◌, ◌<◌, ◌≤◌, List, [], ◌∷◌, ◌++◌, length, take, Result, Ok, Err, refl, sym, ap, subst, ◌∙◌, append_assoc, arith}
+use Rattle.std.proofs.lemmas.List.{append-nil, length-append, take_at}
+use Rattle.spec_bitcoin.specs.Spelling.{IsBytes}
+use Rattle.theory_bitcoin.proofs.Exact.{Exact, ok_is}
+
+-- the bytes spell nothing, and p is the length of their longest prefix that begins a text
+pub record BadAt {A : Type 0} (L : List ℕ → A → Type 0) (bytes : List ℕ) (p : ℕ) : Type 0 where
+  pub none : (a : A) → L bytes a → ⊥
+  pub within : p ≤ length bytes
+  pub more : List ℕ
+  pub value : A
+  pub begins : L (take p bytes ++ more) value
+  pub longest : (q : ℕ) → p < q → q ≤ length bytes → (further : List ℕ) (a : A) → L (take q bytes ++ further) a → ⊥
+
+-- a longer front goes past the next item
+pub longer : (front rest : List ℕ) (q : ℕ) → length front < q → q ≤ length (front ++ rest) → (c : ℕ) × (after : List ℕ) × (within : List ℕ) × (rest ≡ c ∷ after) × (take q (front ++ rest) ≡ front ++ c ∷ within)
+longer [] [] q lt le = absurd (omega arith)
+longer [] (c ∷ after) zero lt le = absurd (omega arith)
+longer [] (c ∷ after) (suc q) lt le = (c, after, take q after, refl, refl)
+longer (x ∷ front) rest zero lt le = absurd (omega arith)
+longer (x ∷ front) rest (suc q) lt le =
+    let w = longer front rest q (omega arith) (omega arith) in
+    (w.0, w.1, w.2, w.3, ap (λ (l : List ℕ). x ∷ l) w.4)
+
+abbrev w_front : List ℕ → ℕ → List ℕ → List ℕ → List ℕ
+w_front front c within further = front ++ c ∷ (within ++ further)
+
+bad_from : {A : Type 0} (L : List ℕ → A → Type 0) (bytes front rest more : List ℕ) (value : A) → bytes ≡ front ++ rest → L (front ++ more) value
+    → ((a : A) → L bytes a → ⊥) → ((c : ℕ) (after further : List ℕ) (a : A) → rest ≡ c ∷ after → L (front ++ c ∷ further) a → ⊥) → BadAt L bytes (length bytes - length rest)
+bad_from L bytes front rest more value parts begins none stops =
+    let len : length bytes ≡ length front + length rest = ap length parts ∙ length-append front rest in
+    let place : length bytes - length rest ≡ length front = omega arith in
+    let fronts : take (length bytes - length rest) bytes ≡ front = rw (place, parts) (take_at front rest (length front) refl) in
+    record {
+      none = none;
+      within = omega arith;
+      more = more;
+      value = value;
+      begins = rw fronts begins;
+      longest = λ q lt le further a l.
+          let w = longer front rest q (omega arith) (subst (λ (b : List ℕ). q ≤ length b) parts le) in
+          let is : take q bytes ++ further ≡ w_front front w.0 w.2 further = ap (λ (b : List ℕ). take q b ++ further) parts ∙ ap (λ (b : List ℕ). b ++ further) w.4 ∙ append_assoc front (w.0 ∷ w.2) further in
+          stops w.0 w.1 (w.2 ++ further) a w.3 (subst (λ (t : List ℕ). L t a) is l);
+    }
+
+stopped_none : {A : Type 0} (L : List ℕ → A → Type 0) (read : List ℕ → Result (A × List ℕ) ℕ) → Exact L read → (bytes : List ℕ) (left : ℕ) (a : A) → read bytes ≡ Err left → L bytes a → ⊥
+stopped_none L read x bytes left a e l =
+    let again : read bytes ≡ Ok (a, []) = ap read (sym (append-nil bytes)) ∙ x.again bytes [] a l in
+    absurd cc
+
+whole_rest : {A : Type 0} (L : List ℕ → A → Type 0) (read : List ℕ → Result (A × List ℕ) ℕ) → Exact L read → (bytes : List ℕ) (a : A) (rest : List ℕ) (b : A) → read bytes ≡ Ok (a, rest) → L bytes b → rest ≡ []
+whole_rest L read x bytes a rest b e l =
+    let again : read bytes ≡ Ok (b, []) = ap read (sym (append-nil bytes)) ∙ x.again bytes [] b l in
+    ap (λ (p : _ × List ℕ). p.1) (ok_is (a, rest) (b, []) (sym e ∙ again))
+
+-- no text begins another
+pub nothing_after : {A : Type 0} (L : List ℕ → A → Type 0) (read : List ℕ → Result (A × List ℕ) ℕ) → Exact L read → (text : List ℕ) (a : A) → L text a → (c : ℕ) (further : List ℕ) (b : A) → L (text ++ c ∷ further) b → ⊥
+nothing_after L read x text a l c further b m =
+    let one : read (text ++ c ∷ further) ≡ Ok (a, c ∷ further) = x.again text (c ∷ further) a l in
+    let two : read (text ++ c ∷ further) ≡ Ok (b, []) = ap read (sym (append-nil (text ++ c ∷ further))) ∙ x.again (text ++ c ∷ further) [] b m in
+    let three : c ∷ further ≡ [] = ap (λ (p : _ × List ℕ). p.1) (ok_is (a, c ∷ further) (b, []) (sym one ∙ two)) in
+    cc
+
+-- reading stopped
+pub bad_stopped : {A : Type 0} (L : List ℕ → A → Type 0) (read : List ℕ → Result (A × List ℕ) ℕ) → Exact L read → (bytes : List ℕ) (left : ℕ) → IsBytes bytes → read bytes ≡ Err left → BadAt L bytes (length bytes - left)
+bad_stopped L read x bytes left fits e =
+    let s = x.fails bytes left fits e in
+    let none : (a : _) → L bytes a → ⊥ = λ (a : _) (l : L bytes a). stopped_none L read x bytes left a e l in
+    subst (λ (n : ℕ). BadAt L bytes (length bytes - n)) s.left_is (bad_from L bytes s.front s.rest s.more s.value s.parts s.begins none s.stops)
+
+-- a whole text, and bytes behind it
+pub bad_trailing : {A : Type 0} (L : List ℕ → A → Type 0) (read : List ℕ → Result (A × List ℕ) ℕ) → Exact L read → (bytes : List ℕ) (a : A) (rest : List ℕ) → IsBytes bytes → read bytes ≡ Ok (a, rest) → (length rest ≡ 0 → ⊥) → BadAt L bytes (length bytes - length rest)
+bad_trailing L read x bytes a rest fits e some =
+    let t = x.takes bytes a rest fits e in
+    let begins : L (t.text ++ []) a = subst (λ (l : List ℕ). L l a) (sym (append-nil t.text)) t.spelled in
+    bad_from L bytes t.text rest [] a t.parts begins
+    (λ b l. some (ap length (whole_rest L read x bytes a rest b e l)))
+    (λ c after further b at l. nothing_after L read x t.text a t.spelled c further b l)

@@ -1,0 +1,5 @@
+use Rattle.theory_script.proofs.Choosing.{chooses_by_items}
+use Rattle.theory_script.proofs.chooses_by_items.Goals as goal
+
+pub returns : goal.returns
+returns c = chooses_by_items

@@ -1,0 +1,5 @@
+use Rattle.theory_script.proofs.Deposits.{deposit_meaning}
+use Rattle.theory_script.proofs.deposit_meaning.Goals as goal
+
+pub returns : goal.returns
+returns c = deposit_meaning

@@ -1,0 +1,5 @@
+use Rattle.theory_script.proofs.ScriptListing.{scripts_are_listed}
+use Rattle.theory_script.proofs.scripts_are_listed.Goals as goal
+
+pub returns : goal.returns
+returns c = scripts_are_listed

@@ -1,0 +1,5 @@
+use Rattle.theory_script.proofs.Opened.{cost_is}
+use Rattle.theory_script.proofs.size_theorem.Goals as goal
+
+pub returns : goal.returns
+returns c = λ hash s position choice is_hash compiled. cost_is hash s position choice is_hash compiled

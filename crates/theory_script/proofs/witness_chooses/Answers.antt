@@ -1,0 +1,5 @@
+use Rattle.theory_script.proofs.Choosing.{witness_chooses}
+use Rattle.theory_script.proofs.witness_chooses.Goals as goal
+
+pub returns : goal.returns
+returns c = witness_chooses

@@ -1,0 +1,5 @@
+use Rattle.theory_script.proofs.Witnesses.{witness_opens}
+use Rattle.theory_script.proofs.witness_opens.Goals as goal
+
+pub returns : goal.returns
+returns c = witness_opens

@@ -1,0 +1,34 @@
+-- What is claimed of the lists of a contract's transactions and scripts: they have each path and each position once, with what stands there; of this project's profile of BitML.
+use Rattle.std.specs.Prelude.{◌≡◌, ℕ, List, [], ◌∷◌, Option, Some, None, option_map, if◌then◌else◌}
+use Rattle.spec_terms.specs.Term.{Choice}
+use Rattle.spec_terms.specs.Paths.{choice_at, path_eq}
+use Rattle.spec_terms.specs.declared.path.PathStep.{PathStep}
+use Rattle.spec_compiler.specs.Setting.{Setting, position_script}
+use Rattle.spec_compiler.specs.Transactions.{Standing}
+use Rattle.spec_compiler.specs.Compilation.{compilation}
+use Rattle.spec_compiler.specs.ByPath.{position_at, prepared_at}
+
+-- what a list has for a path
+abbrev pub at_path : {V : Type 0} → List PathStep → List (List PathStep × V) → Option V
+at_path path [] = None
+at_path path (e ∷ es) = if path_eq e.0 path then Some (e.1) else at_path path es
+
+-- the list of transactions has for each path the transaction of the branch there, and for no other path one
+abbrev pub PathsAreListed : Type 0
+PathsAreListed = (hash : List ℕ → List ℕ) (s : Setting) (path : List PathStep) → at_path path (compilation hash s).paths ≡ prepared_at hash s path
+
+-- the list of scripts has for each position the script of its output, and for no other path one
+abbrev pub ScriptsAreListed : Type 0
+ScriptsAreListed = (hash : List ℕ → List ℕ) (s : Setting) (position : List PathStep)
+    → at_path position (compilation hash s).scripts ≡ option_map (λ p. p.0.output.script) (position_at hash s position)
+
+-- a position of a contract, as it stands on the chain: its path, its branches, and its script
+pub record StandsAt (hash : List ℕ → List ℕ) (s : Setting) (position : List PathStep) (here : Standing) (choice : Choice) : Type 0 where
+  pub path : here.position ≡ position
+  pub branches : choice_at s.advert.root position ≡ Some choice
+  pub script : here.output.script ≡ position_script hash s position choice
+
+-- what is found by a path stands there
+abbrev pub PositionsStand : Type 0
+PositionsStand = (hash : List ℕ → List ℕ) (s : Setting) (position : List PathStep) (here : Standing) (choice : Choice)
+    → position_at hash s position ≡ Some (here, choice) → StandsAt hash s position here choice

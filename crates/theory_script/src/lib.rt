@@ -1,0 +1,62 @@
+//! What follows of the scripts and the transactions of contracts: each theorem is the contract of a function that does nothing.
+#![tactic(auto)]
+
+ghost use Rattle.spec_bitcoin.specs.Statements.{WrittenIsRead};
+ghost use Rattle.spec_compiler.specs.Statements.{ScriptTheorem, OpenedIsChosen, SizeTheorem, WitnessOpens, DepositMeaning};
+ghost use Rattle.theory_script.specs.Choices.{WitnessChooses, ChoosesByItems};
+ghost use Rattle.theory_script.specs.Listed.{PathsAreListed, ScriptsAreListed, PositionsStand};
+
+/// The script of a position of a checked contract is true exactly on the stacks that open one of its branches.
+pub fn script_theorem()
+    ensures { ScriptTheorem }
+{}
+
+/// The branch that a stack opens is the one that its selectors choose.
+pub fn opened_is_chosen()
+    ensures { OpenedIsChosen }
+{}
+
+/// A witness that is made for a branch chooses it.
+pub fn witness_chooses()
+    ensures { WitnessChooses }
+{}
+
+/// A witness chooses by the stack on which its script runs.
+pub fn chooses_by_items()
+    ensures { ChoosesByItems }
+{}
+
+/// The script of a position of a checked contract is as large as its cost, and meets no limit of scripts.
+pub fn size_theorem()
+    ensures { SizeTheorem }
+{}
+
+/// A witness that is handed valid signatures and fitting secrets makes its script true.
+pub fn witness_opens()
+    ensures { WitnessOpens }
+{}
+
+/// The script of a deposit is true exactly on one valid signature.
+pub fn deposit_meaning()
+    ensures { DepositMeaning }
+{}
+
+/// What is written of operations is read as the same operations.
+pub fn written_is_read()
+    ensures { WrittenIsRead }
+{}
+
+/// The list of a contract's transactions has for each path the one of the branch there, and no other path.
+pub fn paths_are_listed()
+    ensures { PathsAreListed }
+{}
+
+/// The list of a contract's scripts has for each position that of its output, and no other path.
+pub fn scripts_are_listed()
+    ensures { ScriptsAreListed }
+{}
+
+/// A position that is found by its path has that path, the term's branches, and their script.
+pub fn positions_stand()
+    ensures { PositionsStand }
+{}

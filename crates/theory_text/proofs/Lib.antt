@@ -1,0 +1,9 @@
+pub mod Options
+pub mod Labels
+pub mod ListFacts
+pub mod ValidHeaders
+pub mod Words
+pub mod Hex
+pub mod ValidEvents
+pub mod ValidRuns
+pub mod Headlines

@@ -1,0 +1,30 @@
+-- Options that are taken apart step by step.
+use Rattle.std.proofs.Common.{◌≡◌, List, [], ◌∷◌, Option, Some, None, refl, subst}
+use Rattle.std.specs.List.{AllByRecursion}
+use Rattle.spec_text.specs.Digits.{onto}
+use Rattle.spec_text.specs.Words.{◌>>=◌}
+
+abbrev pub some : {A : Type 0} → A → Option A
+some x = Some x
+
+pub some_is : {A : Type 0} (x y : A) → some x ≡ some y → x ≡ y
+some_is x y h = cc
+
+pub none_some : {A : Type 0} (x : A) → None ≡ some x → ⊥
+none_some x h = cc
+
+-- what came before a value
+pub record Came {A B : Type 0} (m : Option A) (f : A → Option B) (y : B) : Type 0 where
+  pub first : A
+  pub is : m ≡ some first
+  pub then' : f first ≡ some y
+
+pub came : {A B : Type 0} (m : Option A) (f : A → Option B) (y : B) → (m >>= f) ≡ some y → Came m f y
+came None f y h = absurd (none_some y h)
+came (Some x) f y h = record { first = x; is = refl; then' = h }
+
+-- what holds of each element holds of all
+pub onto_all : {A : Type 0} (P : A → Type 0) (x : Option A) (xs : Option (List A)) (ys : List A) → onto x xs ≡ some ys → ((a : A) → x ≡ some a → P a) → ((as' : List A) → xs ≡ some as' → AllByRecursion P as') → AllByRecursion P ys
+onto_all P (Some a) (Some as') ys h f g = subst (AllByRecursion P) (some_is (a ∷ as') ys h) (f a refl, g as' refl)
+onto_all P (Some a) None ys h f g = absurd (none_some ys h)
+onto_all P None xs ys h f g = absurd (none_some ys h)

@@ -1,0 +1,133 @@
+-- The numbers of compiled transactions are within their widths.
+use Rattle.std.proofs.Common.{◌≡◌, ℕ, zero, suc, ◌+◌, ◌<◌, ◌≤◌, ◌^◌, List, [], ◌∷◌, ◌++◌, length, map, Bool, true, false, Option, Some, None, refl, sym, ap, ◌∙◌, subst, arith, inl, inr, lit<}
+use Rattle.std.specs.Prelude.{◌&&◌, ◌⊎◌, nat_le, slice_get}
+use Rattle.std.specs.List.{list_all, AllByRecursion}
+use Rattle.std.proofs.lemmas.Bool.{and_parts}
+use Rattle.std.proofs.lemmas.Bool.Decides.{nat_tests}
+use Rattle.spec_data.specs.Lists.{is_among}
+use Rattle.spec_terms.specs.Advert.{Advert}
+use Rattle.spec_terms.specs.Parties.{participants}
+use Rattle.spec_terms.specs.Precondition.{Holding, persistent, deposits, secrets}
+use Rattle.spec_terms.specs.Readable.{max_money, most_deposits, most_secrets, is_readable_pre, is_readable_contract, is_some_list, is_readable_entry}
+use Rattle.spec_terms.specs.Faults.{IsWellFormed}
+use Rattle.spec_terms.specs.declared.pre.Pre.{Pre}
+use Rattle.spec_terms.specs.declared.pre.Pre.TheVariants.{Persistent, Volatile, Secret}
+use Rattle.spec_bitcoin.specs.declared.tx.TxOut.{TxOut}
+use Rattle.spec_bitcoin.specs.Spelling.{IsBytes, IsString, IsPlace, IsInput, IsOutput, IsTransaction}
+use Rattle.spec_compiler.specs.Setting.{Setting, position_script}
+use Rattle.spec_compiler.specs.Transactions.{Spent, input_of, tx_of, pays, deposit, persistent_deposits, root_value, initial_draft}
+use Rattle.spec_run.specs.Setup.{Setup, people_of, people_at, contract_at}
+use Rattle.spec_run.specs.World.{Output, World}
+use Rattle.spec_run.specs.Compiled.{compiled_at}
+use Rattle.spec_calculus.specs.Configuration.{Configuration}
+use Rattle.spec_run.specs.Conditions.{HashesBytes, IsSetup}
+use Rattle.theory_run.proofs.Tests.{length_map}
+use Rattle.theory_run.proofs.Positions.{Is_in}
+use Rattle.theory_run.proofs.Later.{compiled_is}
+use Rattle.theory_run.proofs.Kept.{KeptBook}
+use Rattle.theory_run.proofs.Mentions.{has_deposit}
+use Rattle.theory_run.proofs.Entering.{at_bound}
+use Rattle.theory_run.proofs.Checking.{compiled_checked}
+use Rattle.theory_run.proofs.Balances.{root_little}
+
+-- ---- inputs and outputs
+
+no_bytes : IsBytes []
+no_bytes i = omega arith
+
+more_bytes : (b : ℕ) (bytes : List ℕ) → b < 256 → IsBytes bytes → IsBytes (b ∷ bytes)
+more_bytes b bytes h t zero = h
+more_bytes b bytes h t (suc i) = t i
+
+-- inputs that spend what lies at such places
+pub inputs_fit : (spends : List Spent) → ((x : Spent) → Is_in x spends → IsPlace x.place) → AllByRecursion IsInput (map input_of spends)
+inputs_fit [] f = tt
+inputs_fit (x ∷ spends) f = (
+  record {
+    prev = f x (inl refl);
+    script_sig = record { bytes = no_bytes; size = omega arith };
+    sequence = omega arith;
+    items = omega arith;
+    witness = tt;
+  },
+  inputs_fit spends (λ y i. f y (inr i)),
+)
+
+-- an output for whoever shows a script
+pub output_fits : (hash : List ℕ → List ℕ) → HashesBytes hash → (script : List ℕ) (value : ℕ) → value ≤ max_money → IsOutput (pays hash script value)
+output_fits hash size script value h = record {
+  value = omega (arith, h);
+  script = record {
+    bytes = more_bytes 0 (32 ∷ hash script) (omega arith) (more_bytes 32 (hash script) (omega arith) (size.bytes script));
+    size = let l = size.size script in omega (arith, l);
+  };
+}
+
+-- ---- the initial transaction
+
+few_persistent : (pre : List Pre) → length (persistent pre) ≤ length (deposits pre)
+few_persistent [] = omega arith
+few_persistent (Persistent party value name ∷ pre) = let r = few_persistent pre in omega (arith, r)
+few_persistent (Volatile party value name ∷ pre) = let r = few_persistent pre in omega (arith, r)
+few_persistent (Secret party name ∷ pre) = few_persistent pre
+
+persistent_among : (pre : List Pre) (d : List ℕ × Holding) → Is_in d (persistent pre) → Is_in d (deposits pre)
+persistent_among [] d h = absurd h
+persistent_among (Persistent party value name ∷ pre) d (inl e) = inl e
+persistent_among (Persistent party value name ∷ pre) d (inr i) = inr (persistent_among pre d i)
+persistent_among (Volatile party value name ∷ pre) d h = inr (persistent_among pre d h)
+persistent_among (Secret party name ∷ pre) d h = persistent_among pre d h
+
+some_there : {X : Type 0} (x : X) (xs : List X) → Is_in x xs → 0 < length xs
+some_there x [] h = absurd h
+some_there x (y ∷ xs) h = omega arith
+
+few_deposits : (a : Advert) → IsWellFormed a → length (persistent a.pre) ≤ 32
+few_deposits a h =
+    let r = (and_parts (is_readable_pre a.pre) (nat_le a.fee max_money && is_readable_contract a.root) h.readable).0 in
+    let p = (and_parts (is_some_list a.pre && list_all is_readable_entry a.pre) (nat_le (length (deposits a.pre)) most_deposits && nat_le (length (secrets a.pre)) most_secrets) r).1 in
+    let q = (and_parts (nat_le (length (deposits a.pre)) most_deposits) (nat_le (length (secrets a.pre)) most_secrets) p).0 in
+    let l = few_persistent a.pre in
+    grind (arith, nat_tests, q, l)
+
+module _ (s : Setup) (is : IsSetup s) (g : Configuration) (w : World) (kept : KeptBook s g w) (k : ℕ) (st : Setting) (c : compiled_at s w k ≡ Some st) where
+  well : IsWellFormed st.advert
+  well = compiled_checked s is w k st c
+
+  -- a deposit that is bound lies at a place
+  pub bound_place : (d : List ℕ × Holding) → Is_in d (deposits st.advert.pre) → IsPlace (deposit s.hash st (d.0) (d.1)).place
+  bound_place d i =
+      let a = at_bound s g w kept k st c (d.0) (d.1) i in
+      subst IsPlace (sym a.place) (kept.placed_fine a.number a.bound.output a.bound.there)
+
+  persistent_place : (ds : List (List ℕ × Holding)) → ((d : List ℕ × Holding) → Is_in d ds → Is_in d (deposits st.advert.pre)) → (x : Spent) → Is_in x (map (λ (d : List ℕ × Holding). deposit s.hash st d.0 d.1) ds) → IsPlace x.place
+  persistent_place [] f x h = absurd h
+  persistent_place (d ∷ ds) f x (inl e) = subst (λ (y : Spent). IsPlace y.place) (sym e) (bound_place d (f d (inl refl)))
+  persistent_place (d ∷ ds) f x (inr i) = persistent_place ds (λ y j. f y (inr j)) x i
+
+  some_persistent : 0 < length (persistent st.advert.pre)
+  some_persistent =
+      let ci = compiled_is s w k st c in
+      let fair = (kept.adverts k ci.advertised).fair in
+      let sa : st.advert ≡ ci.advert = ap (λ (y : Setting). y.advert) ci.is in
+      let pe : people_at s k ≡ participants ci.advert = ap people_of ci.there in
+      let m : is_among fair.0 (participants st.advert) ≡ true = subst (λ (y : Advert). is_among fair.0 (participants y) ≡ true) (sym sa) (subst (λ ps. is_among fair.0 ps ≡ true) pe fair.1) in
+      let d = has_deposit st.advert fair.0 well m in
+      some_there (d.name, d.holding) (persistent st.advert.pre) d.there
+
+  -- the initial transaction of a compiled contract
+  pub initial_fits : IsTransaction (tx_of (initial_draft s.hash st))
+  initial_fits =
+      let a = length_map input_of (persistent_deposits s.hash st) in
+      let b = length_map (λ (d : List ℕ × Holding). deposit s.hash st d.0 d.1) (persistent st.advert.pre) in
+      let n = some_persistent in
+      let f = few_deposits st.advert well in
+      record {
+        version = omega arith;
+        some = omega (arith, a, b, n);
+        few_inputs = omega (arith, a, b, f);
+        inputs = inputs_fit (persistent_deposits s.hash st) (persistent_place (persistent st.advert.pre) (persistent_among st.advert.pre));
+        few_outputs = omega arith;
+        outputs = (output_fits s.hash is.hash (position_script s.hash st [] st.advert.root) (root_value st) (root_little s.hash st well), tt);
+        lock = omega arith;
+      }

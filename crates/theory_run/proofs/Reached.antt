@@ -1,0 +1,64 @@
+-- What is kept of signatures, outputs and contracts is kept by every transaction that the ledger accepts.
+use Rattle.std.proofs.Common.{◌≡◌, ℕ, ◌+◌, ◌<◌, ◌≤◌, ◌^◌, List, [], ◌∷◌, ◌++◌, length, Bool, true, false, Option, Some, None, refl, sym, ap, ◌∙◌, subst, append-nil}
+use Rattle.spec_data.specs.Lists.{is_among}
+use Rattle.spec_bitcoin.specs.declared.tx.Tx.{Tx}
+use Rattle.spec_bitcoin.specs.Spelling.{IsTransaction}
+use Rattle.spec_calculus.specs.Configuration.{Configuration}
+use Rattle.spec_calculus.specs.Beginning.{is_init_authorised}
+use Rattle.spec_calculus.specs.Branches.{has_branch_authorised}
+use Rattle.spec_compiler.specs.Setting.{Setting}
+use Rattle.spec_run.specs.Setup.{Setup}
+use Rattle.spec_run.specs.Messages.{noted_all, collision}
+use Rattle.spec_run.specs.World.{World, is_advertised}
+use Rattle.spec_run.specs.Compiled.{setting, compiled_at}
+use Rattle.spec_run.specs.Conditions.{HashesBytes}
+use Rattle.spec_run.specs.Draft.{settled}
+use Rattle.spec_run.specs.Ledger.{items_of, strings_of, kind_of, accepted}
+use Rattle.theory_run.proofs.Hashed.{NoClash, no_clash, among_left, all_more, all_new}
+use Rattle.theory_run.proofs.Worth.{IsAccepted}
+use Rattle.theory_run.proofs.Later.{lasts_spent, compiled_is, compiled_from, compiled_stays}
+use Rattle.theory_run.proofs.Accepting.{Accepting, accepting, HeardAll}
+use Rattle.theory_run.proofs.Kept.{KeptBook, Frame}
+use Rattle.theory_run.proofs.Spending.{DraftsFit, Checked}
+use Rattle.theory_run.proofs.Kinded.{accept_kept}
+
+module _ (s : Setup) (size : HashesBytes s.hash) (few_contracts : length s.contracts ≤ 16) (g g' : Configuration) (w : World) (kept : KeptBook s g w) (fit : DraftsFit s w) (check : Checked s w)
+    (inits : (k : ℕ) (x : List ℕ) → is_init_authorised g.init_authorised k x ≡ true → is_init_authorised g'.init_authorised k x ≡ true)
+    (asked : (n i : ℕ) (a : List ℕ) → has_branch_authorised g.branch_authorised n i a ≡ true → has_branch_authorised g'.branch_authorised n i a ≡ true)
+    (tx : Tx) (fits : IsTransaction tx) (few : length tx.outputs ≤ 2 ^ 32) (spent : List ℕ) (is : IsAccepted s w tx spent) (clear : NoClash s.hash w.hashed) (apart : collision s.hash w.hashed (strings_of s w tx ++ items_of tx) ≡ None) where
+  -- the world after it
+  abbrev pub next : World
+  next = settled w (accepted s w tx spent)
+
+  -- contracts that are compiled stay as they are
+  pub stays : (k : ℕ) (st : Setting) → compiled_at s w k ≡ Some st → compiled_at s next k ≡ Some st
+  stays k st h =
+      let c = compiled_is s w k st h in
+      compiled_stays s w next [] [] k st (sym (append-nil w.advertised)) (sym (append-nil w.promises)) (lasts_spent spent w.outputs _) (kept.adverts k c.advertised).made refl h
+
+  -- and no others are
+  pub no_others : (k : ℕ) (st : Setting) → compiled_at s next k ≡ Some st → compiled_at s w k ≡ Some st
+  no_others k st h =
+      let c = compiled_is s next k st h in
+      let x : compiled_at s w k ≡ Some (setting w k c.advert) = compiled_from s w k c.advert c.there c.advertised c.promised in
+      let y : compiled_at s next k ≡ Some (setting w k c.advert) = stays k (setting w k c.advert) x in
+      x ∙ sym y ∙ h
+
+  frame : Frame s g g' w next
+  frame = record {
+    outputs = lasts_spent spent w.outputs _;
+    book = λ k d h. h;
+    hashed = λ t h. all_more w.hashed (strings_of s w tx ++ items_of tx) t h;
+    compiled = stays;
+    bindings = λ k h. refl;
+    inits = inits;
+    asked = asked;
+  }
+
+  pub reached_kept : KeptBook s g' next
+  reached_kept =
+      accept_kept s size few_contracts g w kept fit check (noted_all w.hashed (strings_of s w tx ++ items_of tx)) (no_clash s.hash w.hashed (strings_of s w tx ++ items_of tx) clear apart)
+      (λ t h. all_more w.hashed (strings_of s w tx ++ items_of tx) t h)
+      tx fits spent (accepting s w tx spent is)
+      (record { heard = λ t h. all_new w.hashed (strings_of s w tx ++ items_of tx) t (among_left t (strings_of s w tx) (items_of tx) h) })
+      g' next refl frame refl few no_others (λ k h. h) refl

@@ -1,0 +1,23 @@
+//! A sink of bytes.
+
+ghost use Rattle.std.specs.Prelude.{ℕ, List, Option};
+ghost use Rattle.bm_io.specs.Counts.{HasCause};
+ghost use Rattle.bm_io.specs.Sink.{Writes};
+
+/// A write that failed.
+#[derive(Clone, Copy, Debug, PartialEq, Eq)]
+pub struct WriteFault;
+
+/// What takes bytes.
+pub trait Sink {
+    /// The bytes written, if it tells them.
+    ghost written: { Self → Option (List ℕ) };
+
+    /// How often a write has failed.
+    ghost faults: { Self → ℕ };
+
+    /// Writes the whole piece, or fails after a front of it. It takes no memory.
+    fn write_all(&mut self, piece: &[u8]) -> Result<(), WriteFault>
+        ensures cause { HasCause (faults self.old) (faults self.new) result }
+        ensures writes { Writes (written self.old) (written self.new) piece.now result };
+}

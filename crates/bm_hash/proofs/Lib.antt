@@ -1,0 +1,4 @@
+pub mod Collisions
+pub mod Evidence
+pub mod HashSteps
+pub mod HashesLemmas

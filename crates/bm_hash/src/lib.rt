@@ -1,0 +1,12 @@
+//! Hash functions of 32 bytes, and a trail of the messages that were hashed.
+#![tactic(auto)]
+
+mod hashing;
+mod messages;
+
+pub use hashing::{Hash32, Sha, Toy, Twin};
+pub use messages::{Trail, TrailError};
+pub use spec_data::{Bytes, OutOfMemory};
+
+#[cfg(test)]
+mod tests;

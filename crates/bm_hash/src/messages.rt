@@ -1,0 +1,178 @@
+//! The messages that were hashed.
+
+ghost use Rattle.std.specs.Prelude.{◌≡◌, ◌++◌, ◌∷◌, [], IfOk, IfErr, OnOk, OnErr, length, IfNone, IfSome, Some, None};
+ghost use Rattle.std.specs.Option.{option_map, option_copied};
+ghost use Rattle.std.specs.Vec.{vec_len};
+ghost use Rattle.std.specs.Ordering.{nat_cmp};
+ghost use Rattle.std.specs.Cmp.Lexicographic.{slice_cmp};
+ghost use Rattle.std.specs.BTreeMap.{Updates, IsUnchanged};
+ghost use Rattle.bm_hash.specs.declared.messages.TrailError.TheVariants.{Collided, Memory};
+ghost use Rattle.bm_hash.specs.Messages.{evidence_of, message_of};
+ghost use Rattle.bm_hash.specs.Trails.{HashedAlong, StopsAlong, IsClash, HaveApartDigests};
+
+use crate::hashing::Hash32;
+use spec_data::{Bytes, OutOfMemory};
+use std::alloc::{AllocError, AllocFailed, Global};
+use std::collections::BTreeMap;
+use std::marker::Model;
+
+/// Why a message was not hashed.
+#[derive(Clone, Copy, Debug, PartialEq, Eq)]
+pub enum TrailError {
+    /// Two different messages have one digest.
+    Collided,
+    /// Want of memory.
+    Memory,
+}
+
+impl<T: Drop> From<AllocFailed<T>> for TrailError {
+    ghost from_gives = { λ _ r. r ≡ Memory };
+
+    fn from(_error: AllocFailed<T>) -> TrailError {
+        TrailError::Memory
+    }
+}
+
+impl From<AllocError> for TrailError {
+    ghost from_gives = { λ _ r. r ≡ Memory };
+
+    fn from(_error: AllocError) -> TrailError {
+        TrailError::Memory
+    }
+}
+
+/// The different messages that were hashed, in order.
+#[derive(Drop)]
+pub struct Trail<H: Hash32> {
+    alloc: Global,
+    hasher: H,
+    messages: Vec<Bytes>,
+    index: BTreeMap<[u8; 32], usize>,
+    collision: Option<usize>,
+}
+
+impl<H: Hash32> Model for Trail<H> {
+    ghost use Rattle.bm_hash.specs.Messages.{Noted, IsTrail};
+
+    ghost Value = { Noted H };
+
+    ghost view = { λ t. record { hasher = t.hasher; messages = t.messages.items } };
+
+    ghost invariant = { λ t. IsTrail (H.digest_of t.hasher) t.messages.items t.index t.collision };
+}
+
+// Adds a message with its digest.
+fn add_message(
+    alloc: Global,
+    messages: &mut Vec<Bytes>,
+    index: &mut BTreeMap<[u8; 32], usize>,
+    digest: [u8; 32],
+    message: &[u8],
+) -> Result<(), OutOfMemory>
+    ensures added { OnOk result (messages.new.items ≡ messages.old.items ++ message.now ∷ []) }
+    ensures indexed { OnOk result (Updates (slice_cmp nat_cmp) index.old index.new digest (Some (length messages.old.items))) }
+    ensures same { OnErr result (messages.new.items ≡ messages.old.items) }
+    ensures unindexed { OnErr result (IsUnchanged index.old index.new) }
+{
+    let place = messages.len();
+    messages.push(Bytes::from_slice(alloc, message)?)?;
+    if index.insert(digest, place).is_err() {
+        let _ = messages.pop();
+        return Err(AllocError);
+    }
+    Ok(())
+}
+
+impl<H: Hash32 + Drop> Trail<H> {
+    /// A trail of no message.
+    pub fn new(alloc: Global, hasher: H) -> Trail<H>
+        ensures { result ≡ (record { hasher = hasher; messages = [] }) }
+    {
+        Trail {
+            alloc,
+            hasher,
+            messages: Vec::new(alloc),
+            index: BTreeMap::new(alloc),
+            collision: None,
+        }
+    }
+
+    pub fn hasher(&self) -> &H
+        ensures { result.now ≡ self.now.hasher }
+    {
+        &self.hasher
+    }
+
+    /// The digest of a message, which is then on the trail.
+    pub fn hash(&mut self, message: &[u8]) -> Result<[u8; 32], TrailError>
+        ensures hasher { self.new.hasher ≡ self.old.hasher }
+        ensures digest { IfOk result (λ d. d ≡ H.digest_of self.old.hasher message.now) }
+        ensures ok { OnOk result (HashedAlong H.digest_of self.old self.new (message.now ∷ [])) }
+        ensures err { IfErr result (StopsAlong H.digest_of self.old self.new (message.now ∷ [])) }
+    {
+        if self.collision.is_some() {
+            return Err(TrailError::Collided);
+        }
+        let digest = self.hasher.hash32(message);
+        match self.index.get(&digest).copied() {
+            Some(place) => {
+                if self.messages[place].as_slice() == message {
+                    return Ok(digest);
+                }
+                self.messages.push(Bytes::from_slice(self.alloc, message)?)?;
+                self.collision = Some(place);
+                Err(TrailError::Collided)
+            }
+            None => {
+                add_message(
+                    self.alloc,
+                    &mut self.messages,
+                    &mut self.index,
+                    digest,
+                    message,
+                )?;
+                Ok(digest)
+            }
+        }
+    }
+
+    /// The digest of the digest of a message.
+    pub fn double(&mut self, message: &[u8]) -> Result<[u8; 32], TrailError>
+        ensures hasher { self.new.hasher ≡ self.old.hasher }
+        ensures digest { IfOk result (λ d. d ≡ H.digest_of self.old.hasher (H.digest_of self.old.hasher message.now)) }
+        ensures ok { OnOk result (HashedAlong H.digest_of self.old self.new (message.now ∷ H.digest_of self.old.hasher message.now ∷ [])) }
+        ensures err { IfErr result (StopsAlong H.digest_of self.old self.new (message.now ∷ H.digest_of self.old.hasher message.now ∷ [])) }
+    {
+        let digest = self.hash(message)?;
+        self.hash(&digest)
+    }
+
+    // The messages at the places that are kept.
+    fn clash_pair(&self) -> Option<(&[u8], &[u8])>
+        ensures { option_map (λ p. (p.0.now, p.1.now)) result ≡ evidence_of (H.digest_of self.now.hasher) self.now.messages }
+    {
+        let place = self.collision?;
+        let last = self.messages.len() - 1;
+        Some((
+            self.messages[place].as_slice(),
+            self.messages[last].as_slice(),
+        ))
+    }
+
+    /// Two different messages with one digest, the earlier one first.
+    pub fn evidence(&self) -> Option<(&[u8], &[u8])>
+        ensures pair { option_map (λ p. (p.0.now, p.1.now)) result ≡ evidence_of (H.digest_of self.now.hasher) self.now.messages }
+        ensures clash { IfSome result (λ p. IsClash (H.digest_of self.now.hasher) self.now.messages p.0.now p.1.now) }
+        ensures apart { IfNone result (HaveApartDigests (H.digest_of self.now.hasher) self.now.messages) }
+    {
+        self.clash_pair()
+    }
+
+    /// The message with this digest.
+    pub fn message(&self, digest: &[u8; 32]) -> Option<&[u8]>
+        ensures { option_copied result ≡ message_of (H.digest_of self.now.hasher) self.now.messages digest.now }
+    {
+        let place = self.index.get(digest).copied()?;
+        Some(self.messages[place].as_slice())
+    }
+}

@@ -1,0 +1,116 @@
+//! Published digests, and trails over each hash.
+
+use crate::{Bytes, Hash32, OutOfMemory, Sha, Toy, Trail, TrailError, Twin};
+use std::alloc::Global;
+use std::test::Fail;
+
+/// The SHA-256 of the byte 1.
+const OF_ONE: [u8; 32] = [
+    0x4b, 0xf5, 0x12, 0x2f, 0x34, 0x45, 0x54, 0xc5, 0x3b, 0xde, 0x2e, 0xbb, 0x8c, 0xd2, 0xb7, 0xe3,
+    0xd1, 0x60, 0x0a, 0xd6, 0x31, 0xc3, 0x85, 0xa5, 0xd7, 0xcc, 0xe2, 0x3c, 0x77, 0x85, 0x45, 0x9a,
+];
+
+#[test]
+fn sha_gives_the_digests_of_its_standard(rt: HostRuntime) -> Result<(), Fail> {
+    let cases: [(&[u8], [u8; 32]); 3] = [
+        (
+            b"",
+            [
+                0xe3, 0xb0, 0xc4, 0x42, 0x98, 0xfc, 0x1c, 0x14, 0x9a, 0xfb, 0xf4, 0xc8, 0x99, 0x6f,
+                0xb9, 0x24, 0x27, 0xae, 0x41, 0xe4, 0x64, 0x9b, 0x93, 0x4c, 0xa4, 0x95, 0x99, 0x1b,
+                0x78, 0x52, 0xb8, 0x55,
+            ],
+        ),
+        (
+            b"abc",
+            [
+                0xba, 0x78, 0x16, 0xbf, 0x8f, 0x01, 0xcf, 0xea, 0x41, 0x41, 0x40, 0xde, 0x5d, 0xae,
+                0x22, 0x23, 0xb0, 0x03, 0x61, 0xa3, 0x96, 0x17, 0x7a, 0x9c, 0xb4, 0x10, 0xff, 0x61,
+                0xf2, 0x00, 0x15, 0xad,
+            ],
+        ),
+        (
+            b"abcdbcdecdefdefgefghfghighijhijkijkljklmklmnlmnomnopnopq",
+            [
+                0x24, 0x8d, 0x6a, 0x61, 0xd2, 0x06, 0x38, 0xb8, 0xe5, 0xc0, 0x26, 0x93, 0x0c, 0x3e,
+                0x60, 0x39, 0xa3, 0x3c, 0xe4, 0x59, 0x64, 0xff, 0x21, 0x67, 0xf6, 0xec, 0xed, 0xd4,
+                0x19, 0xdb, 0x06, 0xc1,
+            ],
+        ),
+    ];
+    for (message, digest) in cases {
+        assert_eq!(rt; Sha.hash32(message), digest);
+    }
+    Ok(())
+}
+
+#[test]
+fn a_trail_finds_its_messages(rt: HostRuntime) -> Result<(), Fail> {
+    let mut trail = Trail::new(rt.alloc(), Sha);
+    let digest = trail.hash(&[1])?;
+    assert_eq!(rt; digest, OF_ONE);
+    let found = trail.message(&digest).ok_or("none")?;
+    assert!(rt; found == [1].as_slice());
+    assert!(rt; trail.message(&[0; 32]).is_none());
+    let double = trail.double(b"abc")?;
+    assert!(rt; double.starts_with(&[0x4f, 0x8b, 0x42, 0xc2]));
+    assert!(rt; trail.evidence().is_none());
+    Ok(())
+}
+
+#[test]
+fn a_trail_stops_at_the_first_clash(rt: HostRuntime) -> Result<(), Fail> {
+    let mut trail = Trail::new(rt.alloc(), Toy);
+    trail.hash(&[1, 2])?;
+    trail.hash(&[1, 2])?;
+    trail.hash(&[4])?;
+    assert_eq!(rt; trail.hash(&[3]), Err(TrailError::Collided));
+    assert_eq!(rt; trail.hash(&[4]), Err(TrailError::Collided));
+    let (earlier, later) = trail.evidence().ok_or("none")?;
+    assert!(rt; earlier == [1, 2].as_slice());
+    assert!(rt; later == [3].as_slice());
+    Ok(())
+}
+
+#[test]
+fn a_sum_of_bytes_clashes_with_its_digest(rt: HostRuntime) -> Result<(), Fail> {
+    let mut trail = Trail::new(rt.alloc(), Toy);
+    assert_eq!(rt; trail.double(&[2, 0]), Err(TrailError::Collided));
+    let (earlier, later) = trail.evidence().ok_or("none")?;
+    assert!(rt; earlier == [2, 0].as_slice());
+    assert_eq!(rt; (later[0], later.len()), (2, 32));
+    Ok(())
+}
+
+fn twin(alloc: Global) -> Result<Twin, OutOfMemory> {
+    Ok(Twin {
+        first: Bytes::from_slice(alloc, &[1])?,
+        second: Bytes::from_slice(alloc, &[2])?,
+    })
+}
+
+#[test]
+fn twins_have_one_digest(rt: HostRuntime) -> Result<(), Fail> {
+    let twin = twin(rt.alloc())?.copy(rt.alloc())?;
+    let mut trail = Trail::new(rt.alloc(), twin);
+    assert_eq!(rt; trail.hash(&[2])?, OF_ONE);
+    assert!(rt; trail.hash(&[3])?.starts_with(&[0x08, 0x4f, 0xed, 0x08]));
+    assert!(rt; trail.evidence().is_none());
+    assert_eq!(rt; trail.hash(&[1]), Err(TrailError::Collided));
+    let (earlier, later) = trail.evidence().ok_or("none")?;
+    assert!(rt; earlier == [2].as_slice());
+    assert!(rt; later == [1].as_slice());
+    assert!(rt; trail.hasher().first.as_slice() == [1].as_slice());
+    Ok(())
+}
+
+/// A search from the front would compare some hundred thousand million pairs.
+#[test]
+fn half_a_million_messages_take_no_search(rt: HostRuntime) -> Result<(), Fail> {
+    let mut trail = Trail::new(rt.alloc(), Sha);
+    for number in 0u32..500_000 {
+        trail.hash(&number.to_le_bytes())?;
+    }
+    assert!(rt; trail.evidence().is_none());
+    Ok(())
+}

@@ -1,0 +1,11 @@
+//! Numbers and bytes as words: plain decimals, and hexadecimal digits.
+#![tactic(auto)]
+
+mod decimals;
+mod hexadecimal;
+
+pub use decimals::{decimal_reads_back, put_decimal, read_decimal};
+pub use hexadecimal::{HexError, hexadecimal_reads_back, put_hex, read_hex};
+
+#[cfg(test)]
+mod tests;

@@ -1,0 +1,69 @@
+-- The terms of the definitions that contracts, predicates and expressions of the code are seen as; of this project, from no standard.
+use Rattle.std.specs.Prelude.{ℕ, List, [], ◌∷◌, map}
+use Rattle.spec_terms.specs.Term.{Formula, constant, length_of, plus, minus, Test, always, both, negation, equal, less, Branch, auth, after, put_reveal, withdraw, split, Choice, no_branch, branch, Parts, no_part, part}
+use Rattle.bm_syntax.specs.declared.term.Expr.{Expr, fold-Expr}
+use Rattle.bm_syntax.specs.declared.term.Expr.TheOpen.{Expr-F}
+use Rattle.bm_syntax.specs.declared.term.Pred.{Pred, fold-Pred}
+use Rattle.bm_syntax.specs.declared.term.Pred.TheOpen.{Pred-F}
+use Rattle.bm_syntax.specs.declared.term.Guarded.{Guarded, fold-Guarded}
+use Rattle.bm_syntax.specs.declared.term.Guarded.TheOpen.{Guarded-F, Contract-F, Part-F}
+use Rattle.bm_syntax.specs.declared.term.Contract.{Contract}
+use Rattle.bm_syntax.specs.declared.term.Part.{Part}
+
+abbrev pub formula_step : Expr-F Formula → Formula
+formula_step (Expr-F.Const n) = constant n
+formula_step (Expr-F.Length name) = length_of name
+formula_step (Expr-F.Plus a b) = plus a.value b.value
+formula_step (Expr-F.Minus a b) = minus a.value b.value
+
+abbrev pub formula : Expr → Formula
+formula = fold-Expr Formula formula_step
+
+abbrev pub test_step : Pred-F Test → Test
+test_step Pred-F.True = always
+test_step (Pred-F.And a b) = both a.value b.value
+test_step (Pred-F.Not a) = negation a.value
+test_step (Pred-F.Equal a b) = equal (formula a) (formula b)
+test_step (Pred-F.Less a b) = less (formula a) (formula b)
+
+abbrev pub test : Pred → Test
+test = fold-Pred Test test_step
+
+abbrev pub choice_of : List Branch → Choice
+choice_of [] = no_branch
+choice_of (b ∷ bs) = branch b (choice_of bs)
+
+abbrev pub parts_of : List (ℕ × Choice) → Parts
+parts_of [] = no_part
+parts_of (p ∷ ps) = part p.0 p.1 (parts_of ps)
+
+-- one level, with what stands below it already seen as its term
+abbrev pub branch_step : Guarded-F Branch Choice (ℕ × Choice) → Branch
+branch_step (Guarded-F.Auth party body) = auth party body.value
+branch_step (Guarded-F.After height body) = after height body.value
+branch_step (Guarded-F.PutReveal puts reveals t next) = put_reveal puts.items reveals.items (test t) next.value
+branch_step (Guarded-F.Withdraw party) = withdraw party
+branch_step (Guarded-F.Split parts) = split (parts_of parts.items)
+
+abbrev pub choice_step : Contract-F Branch Choice (ℕ × Choice) → Choice
+choice_step c = choice_of c.branches.items
+
+abbrev pub part_step : Part-F Branch Choice (ℕ × Choice) → ℕ × Choice
+part_step p = (p.value, p.next)
+
+-- the branch that a `Guarded` is
+abbrev pub guarded : Guarded → Branch
+guarded = fold-Guarded Branch Choice (ℕ × Choice) branch_step choice_step part_step
+
+abbrev pub choice_view : List Guarded → Choice
+choice_view bs = choice_of (map guarded bs)
+
+-- the choice that a `Contract` is
+abbrev pub contract : Contract → Choice
+contract c = choice_view c.branches.items
+
+abbrev pub part_view : Part → ℕ × Choice
+part_view p = (p.value, contract p.next)
+
+abbrev pub parts_view : List Part → Parts
+parts_view ps = parts_of (map part_view ps)

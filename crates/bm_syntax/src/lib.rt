@@ -1,0 +1,21 @@
+//! The terms of contracts: what stands at the head of a branch, at a path, and who takes part.
+#![tactic(auto)]
+
+pub mod advert;
+pub mod copies;
+pub mod head;
+pub mod parties;
+pub mod term;
+pub mod walk;
+
+pub use advert::Advert;
+pub use copies::copy;
+pub use head::{asks, core, lock};
+pub use parties::participants;
+pub use spec_data::Name;
+pub use spec_terms::{Limit, Path, PathStep, Pre};
+pub use term::{Contract, Expr, Guarded, Part, Pred};
+pub use walk::{at, branch_at, choice_at};
+
+#[cfg(test)]
+mod tests;

@@ -1,0 +1,14 @@
+//! The canonical text of an advert.
+#![tactic(auto)]
+
+mod contract;
+mod precondition;
+mod predicate;
+mod prefix;
+pub mod printer;
+mod text;
+
+pub use printer::print_advert;
+
+#[cfg(test)]
+mod tests;

@@ -1,0 +1,82 @@
+-- Where an advert shows a flaw first, as the code looks for it; of this project, from no standard.
+use Rattle.std.specs.Prelude.{ℕ, ℤ, pos, ◌+◌, int_lt, Bool, false, ◌&&◌, List, [], ◌∷◌, ◌++◌, Option, Some, None, if◌then◌else◌}
+use Rattle.spec_data.specs.Lists.{or_else}
+use Rattle.spec_terms.specs.Term.{Branch, auth, after, put_reveal, withdraw, split, Choice, no_branch, branch, Parts, no_part, part}
+use Rattle.spec_terms.specs.Advert.{Advert}
+use Rattle.spec_terms.specs.Paths.{Spot, position, at_branch}
+use Rattle.spec_terms.specs.Precondition.{volatile}
+use Rattle.spec_terms.specs.Balance.{Stand, after_put, stands}
+use Rattle.spec_terms.specs.Faults.{first_place, at_core, at_position, puts_unknown, reveals_unknown, repeats, tests_hidden, is_uneven, is_short, is_withdraw, is_too_much, is_unbounded, is_too_large}
+use Rattle.spec_terms.specs.declared.path.PathStep.{PathStep}
+use Rattle.spec_terms.specs.declared.path.PathStep.TheVariants.{Branch as To, Part as Into}
+use Rattle.spec_terms.specs.declared.place.Place.{Place}
+use Rattle.spec_terms.specs.declared.place.Place.TheVariants as places
+use Rattle.bm_wellformed.specs.declared.flaw.Flaw.{Flaw}
+use Rattle.bm_wellformed.specs.declared.flaw.Flaw.TheVariants.{UnknownDeposit, UnknownSecret, PrefixRepeated, PredicateSecret, SplitSum, FeeShort, Balance, Expression, Script}
+
+-- whether a position or branch with this balance shows the flaw
+abbrev pub passes : Flaw → Advert → ℤ → Spot → Bool
+passes UnknownDeposit a balance spot = at_core (puts_unknown a.pre) spot
+passes UnknownSecret a balance spot = at_core (reveals_unknown a.pre) spot
+passes PrefixRepeated a balance spot = at_core repeats spot
+passes PredicateSecret a balance spot = at_core tests_hidden spot
+passes SplitSum a balance spot = at_core (is_uneven a.fee balance) spot
+passes FeeShort a balance spot = is_short a.fee balance spot
+passes Balance a balance spot = at_position (λ c. is_too_much balance) spot
+passes Expression a balance spot = at_core is_unbounded spot
+passes (Script parties) a balance spot = at_position (is_too_large parties) spot
+
+-- whether a branch of this core, at a position with this balance, shows the flaw
+abbrev pub core_passes : Flaw → Advert → ℤ → Branch → Bool
+core_passes UnknownDeposit a balance b = puts_unknown a.pre b
+core_passes UnknownSecret a balance b = reveals_unknown a.pre b
+core_passes PrefixRepeated a balance b = repeats b
+core_passes PredicateSecret a balance b = tests_hidden b
+core_passes SplitSum a balance b = is_uneven a.fee balance b
+core_passes FeeShort a balance b = is_withdraw b && int_lt balance (pos a.fee)
+core_passes Balance a balance b = false
+core_passes Expression a balance b = is_unbounded b
+core_passes (Script parties) a balance b = false
+
+-- where these positions and branches show it first
+abbrev pub found_in : Flaw → Advert → List Stand → Option Place
+found_in flaw a ss = first_place (λ s. passes flaw a s.balance s.spot) ss
+
+-- the place, where the test is true
+abbrev pub place_when : Bool → Place → Option Place
+place_when shown place = if shown then Some place else None
+
+module _ (flaw : Flaw) (a : Advert) where
+  abbrev mutual
+    -- the branches at position q, the first of which has the number i, each with all that stands under it
+    pub found_in_branches : List PathStep → ℤ → ℕ → Choice → Option Place
+    found_in_branches q balance i no_branch = None
+    found_in_branches q balance i (branch b bs) =
+        or_else (place_when (passes flaw a balance (at_branch b)) (places.Branch (q ++ To i ∷ [])))
+        (or_else (found_under (q ++ To i ∷ []) balance b) (found_in_branches q balance (i + 1) bs))
+
+    -- what stands under the branch at path p
+    pub found_under : List PathStep → ℤ → Branch → Option Place
+    found_under p balance (auth party body) = found_under p balance body
+    found_under p balance (after height body) = found_under p balance body
+    found_under p balance (put_reveal puts reveals test next) =
+        or_else (place_when (passes flaw a (after_put (volatile a.pre) a.fee balance puts) (position next)) (places.Position p))
+        (found_in_branches p (after_put (volatile a.pre) a.fee balance puts) 0 next)
+    found_under p balance (withdraw party) = None
+    found_under p balance (split parts) = found_in_parts p 0 parts
+
+    -- the parts of the split at path p, the first of which has the number k
+    pub found_in_parts : List PathStep → ℕ → Parts → Option Place
+    found_in_parts p k no_part = None
+    found_in_parts p k (part v c ps) =
+        or_else
+        (or_else (place_when (passes flaw a (pos v) (position c)) (places.Position (p ++ Into k ∷ []))) (found_in_branches (p ++ Into k ∷ []) (pos v) 0 c))
+        (found_in_parts p (k + 1) ps)
+
+  -- the position q itself, and then its branches
+  abbrev pub found_in_choice : List PathStep → ℤ → Choice → Option Place
+  found_in_choice q balance c = or_else (place_when (passes flaw a balance (position c)) (places.Position q)) (found_in_branches q balance 0 c)
+
+-- where the advert shows it first
+abbrev pub found : Flaw → Advert → Option Place
+found flaw a = found_in flaw a (stands a)

@@ -1,0 +1,11 @@
+//! The contract calculus: configurations, which steps may be taken, and what they lead to.
+#![tactic(auto)]
+
+pub mod config;
+mod moves;
+mod same;
+#[cfg(test)]
+mod tests;
+
+pub use config::{Config, StepError};
+pub use spec_calculus::{Deposit, Move, MoveAuthorisation, Owner, Step};

@@ -1,0 +1,213 @@
+//! What a move asks of the deposits, and what it makes of them.
+
+ghost use Rattle.std.specs.Prelude.{◌≡◌, ◌+◌, ◌<◌, ◌^◌, ◌++◌, IfOk, OnOk, OnErr, length};
+ghost use Rattle.spec_data.specs.Lists as lists;
+ghost use Rattle.spec_calculus.specs.Moves as spec;
+ghost use Rattle.spec_calculus.specs.Steps as steps;
+
+use crate::same::{move_eq, owner_eq};
+use spec_calculus::{Deposit, Move, MoveAuthorisation, Owner};
+use spec_data::{Name, OutOfMemory};
+use std::alloc::Global;
+
+fn deposit_at(deposits: &[Deposit], number: u32) -> Option<Deposit>
+    ensures { result ≡ spec.deposit_at deposits.now number }
+{
+    for deposit in deposits {
+        if deposit.number == number {
+            return Some(*deposit);
+        }
+    }
+    None
+}
+
+fn value_at(deposits: &[Deposit], number: u32) -> u64
+    ensures { result ≡ spec.value_at deposits.now number }
+{
+    match deposit_at(deposits, number) {
+        None => 0,
+        Some(deposit) => deposit.value,
+    }
+}
+
+fn owner_at(deposits: &[Deposit], number: u32) -> Owner
+    ensures { result ≡ spec.owner_at deposits.now number }
+{
+    match deposit_at(deposits, number) {
+        None => Owner::Outside,
+        Some(deposit) => deposit.owner,
+    }
+}
+
+fn are_distinct(numbers: &[u32]) -> bool
+    ensures { result ≡ lists.are_distinct numbers.now }
+{
+    let mut rest = numbers;
+    while let [first, others @ ..] = rest {
+        if others.contains(first) {
+            return false;
+        }
+        rest = others;
+    }
+    true
+}
+
+fn are_live(deposits: &[Deposit], inputs: &[u32]) -> bool
+    ensures { result ≡ spec.are_live deposits.now inputs.now }
+{
+    inputs.iter().all(|n| deposit_at(deposits, *n).is_some())
+}
+
+fn spends_live(deposits: &[Deposit], inputs: &[u32]) -> bool
+    ensures { result ≡ spec.spends_live deposits.now inputs.now }
+{
+    !inputs.is_empty() && are_distinct(inputs) && are_live(deposits, inputs)
+}
+
+fn owns_one(deposits: &[Deposit], inputs: &[u32], party: &Name) -> bool
+    ensures { result ≡ spec.owns_one deposits.now inputs.now party.now }
+{
+    let party = Owner::Party(*party);
+    inputs
+        .iter()
+        .any(|n| owner_eq(&owner_at(deposits, *n), &party))
+}
+
+fn value_in(deposits: &[Deposit], inputs: &[u32]) -> u128
+    ensures { result ≡ spec.value_in deposits.now inputs.now }
+{
+    let mut total = 0;
+    for input in inputs {
+        total += value_at(deposits, *input) as u128;
+    }
+    total
+}
+
+fn value_out(outputs: &[(Owner, u64)]) -> u128
+    ensures { result ≡ spec.value_out outputs.now }
+{
+    outputs.iter().map(|o| o.1 as u128).sum()
+}
+
+fn pays(deposits: &[Deposit], action: &Move) -> bool
+    ensures { result ≡ spec.pays deposits.now action.now }
+{
+    let outputs = action.outputs.as_slice();
+    !outputs.is_empty() && value_out(outputs) <= value_in(deposits, action.inputs.as_slice())
+}
+
+fn has_authorised(authorised: &[MoveAuthorisation], party: &Name, action: &Move) -> bool
+    ensures { result ≡ spec.has_authorised authorised.now party.now action.now }
+{
+    authorised
+        .iter()
+        .any(|a| a.party == *party && move_eq(&a.action, action))
+}
+
+fn has_agreed(authorised: &[MoveAuthorisation], action: &Move, owner: &Owner) -> bool
+    ensures { result ≡ spec.has_agreed authorised.now action.now owner.now }
+{
+    match owner {
+        Owner::Party(party) => has_authorised(authorised, party, action),
+        Owner::Outside => true,
+    }
+}
+
+fn all_agree(deposits: &[Deposit], authorised: &[MoveAuthorisation], action: &Move) -> bool
+    ensures { result ≡ spec.all_agree deposits.now authorised.now action.now }
+{
+    action.inputs.as_slice().iter().all(|n| has_agreed(authorised, action, &owner_at(deposits, *n)))
+}
+
+/// The first premise of a party's agreement to a move that fails, or 0.
+pub fn auth_move_fails(deposits: &[Deposit], party: &Name, action: &Move) -> u8
+    ensures { result ≡ lists.first_false 1 (steps.auth_move_premises deposits.now party.now action.now) }
+{
+    let inputs = action.inputs.as_slice();
+    if !spends_live(deposits, inputs) {
+        return 1;
+    }
+    if !owns_one(deposits, inputs, party) {
+        return 2;
+    }
+    0
+}
+
+/// The first premise of a move that fails, or 0.
+pub fn move_fails(deposits: &[Deposit], authorised: &[MoveAuthorisation], action: &Move) -> u8
+    ensures { result ≡ lists.first_false 1 (steps.move_premises deposits.now authorised.now action.now) }
+{
+    if !spends_live(deposits, action.inputs.as_slice()) {
+        return 1;
+    }
+    if !pays(deposits, action) {
+        return 2;
+    }
+    if !all_agree(deposits, authorised, action) {
+        return 3;
+    }
+    0
+}
+
+/// The deposits that aren't among these.
+pub fn kept(
+    alloc: Global,
+    deposits: &[Deposit],
+    numbers: &[u32],
+) -> Result<Vec<Deposit>, OutOfMemory>
+    ensures { IfOk result (λ v. v.items ≡ spec.kept deposits.now numbers.now) }
+{
+    deposits
+        .iter()
+        .copied()
+        .filter(|d| !numbers.contains(&d.number))
+        .collect(alloc)
+}
+
+/// Pushes a deposit for each output, named in order.
+pub fn push_made(
+    out: &mut Vec<Deposit>,
+    next: u32,
+    outputs: &[(Owner, u64)],
+) -> Result<(), OutOfMemory>
+    requires { next + length outputs.now < 2 ^ 32 }
+    ensures { IfOk result (λ _. out.new.items ≡ out.old.items ++ spec.made next outputs.now) }
+{
+    let mut number = next;
+    for (owner, value) in outputs {
+        out.push(Deposit {
+            number,
+            owner: *owner,
+            value: *value,
+        })?;
+        number += 1;
+    }
+    Ok(())
+}
+
+/// Adds the party's authorisation of the move, if it isn't there.
+pub fn agree(
+    alloc: Global,
+    authorised: &mut Vec<MoveAuthorisation>,
+    party: &Name,
+    action: &Move,
+) -> Result<(), OutOfMemory>
+    ensures ok { OnOk result (authorised.new.items ≡ spec.with_authorisation authorised.old.items party.now action.now) }
+    ensures err { OnErr result (authorised.new.items ≡ authorised.old.items) }
+{
+    if has_authorised(authorised.as_slice(), party, action) {
+        return Ok(());
+    }
+    authorised.push(MoveAuthorisation {
+        party: *party,
+        action: action.copy(alloc)?,
+    })?;
+    Ok(())
+}
+
+/// Removes the authorisations of the move.
+pub fn forget(authorised: &mut Vec<MoveAuthorisation>, action: &Move)
+    ensures { authorised.new.items ≡ spec.without_move authorised.old.items action.now }
+{
+    authorised.retain(|a| !move_eq(&a.action, action));
+}

@@ -1,0 +1,3 @@
+mod Loop
+mod Filled
+mod Collided

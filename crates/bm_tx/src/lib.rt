@@ -1,0 +1,17 @@
+//! Transactions as bytes, and their txids.
+#![tactic(auto)]
+
+mod fault;
+mod identity;
+mod numbers;
+mod reading;
+mod writing;
+
+pub use fault::TxError;
+pub use identity::txid;
+pub use reading::decode;
+pub use spec_bitcoin::{OutPoint, Tx, TxIn, TxOut};
+pub use writing::{encode, encode_stripped};
+
+#[cfg(test)]
+mod tests;

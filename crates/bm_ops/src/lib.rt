@@ -1,0 +1,16 @@
+//! Scripts as bytes and as operations, and the numbers of their items.
+#![tactic(auto)]
+
+mod numbers;
+mod opcodes;
+mod reading;
+mod writing;
+
+pub use numbers::{item_of, number_of};
+pub use opcodes::opcode_named;
+pub use reading::{ScriptError, decode_script};
+pub use spec_bitcoin::{Binary, Op, Opcode};
+pub use writing::{encode_script, push_number};
+
+#[cfg(test)]
+mod tests;

@@ -1,0 +1,5 @@
+pub mod Live
+pub mod LineLemmas
+pub mod ReadLemmas
+pub mod Events
+mod Worked

@@ -1,0 +1,9 @@
+pub mod Agreement
+pub mod Headline
+pub mod Lines
+pub mod Reading
+pub mod Run
+pub mod Steps
+pub mod Text
+pub mod Tool
+pub mod World

@@ -5,7 +5,7 @@ use Rattle.std.specs.Prelude.{take_while}
 use Rattle.std.proofs.lemmas.List.{length-take}
 use Rattle.spec_terms.specs.Readable.{is_name_byte}
 use Rattle.spec_text.specs.declared.token.Kind.{Kind}
-use Rattle.spec_text.specs.Digits.{is_digit}
+use Rattle.spec_data.specs.Digits.{is_digit}
 use Rattle.spec_text.specs.Lexis.{Front, word_kind, number_kind, word_front, number_front}
 use Rattle.bm_lex.specs.Fronts.{word_at, number_at}
 

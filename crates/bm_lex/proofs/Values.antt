@@ -1,7 +1,7 @@
 -- The value of digits.
 use Rattle.std.proofs.Common.{◌≡◌, ℕ, ◌+◌, ◌-◌, ◌*◌, ◌<◌, ◌≤◌, List, [], ◌∷◌, length, drop, None, refl, arith, add-one, get_or, drop-cons}
 use Rattle.std.proofs.lemmas.Bool.Decides.{nat_tests}
-use Rattle.spec_text.specs.Digits.{value_from, below}
+use Rattle.spec_data.specs.Digits.{value_from, below}
 
 -- further digits make a number no smaller
 pub value_from-least : (n : ℕ) (bytes : List ℕ) → n ≤ value_from n bytes

@@ -3,7 +3,7 @@
 ghost use Rattle.std.specs.Prelude.{◌≡◌, ◌≤◌, ◌<◌, ℕ, List, ◌∷◌, ◌^◌, length, take_while, IfSome, Option, Some, None, true};
 ghost use Rattle.bm_lex.specs.Fronts.{front_of, word_at, number_at};
 ghost use Rattle.spec_terms.specs.Readable.{is_letter, is_name_byte};
-ghost use Rattle.spec_text.specs.Digits.{is_digit, decimal_value, below};
+ghost use Rattle.spec_data.specs.Digits.{is_digit, decimal_value, below};
 ghost use Rattle.spec_text.specs.Lexis.{is_blank, keywords, symbols, word_in, word_kind, number_kind, symbol_in, symbol_front};
 
 use spec_text::{Keyword, Kind, Symbol};

@@ -6,7 +6,7 @@ use Rattle.std.proofs.Math.Seq.{drop-cons}
 use Rattle.std.proofs.lemmas.Bool.{le-ltb, lt-ltb, ne_eqb}
 use Rattle.std.proofs.lemmas.Str.Parse.{IsNumeralModel, numerals_by_fold, tells_all_ascii_digits}
 use Rattle.std.proofs.lemmas.Fmt.{digits_decimal, digits_value-decimal, first_decimal, decimal_nonempty, decimal_digit}
-use Rattle.spec_text.specs.Digits.{is_digit, is_plain, value_from, decimal_value, below, read_decimal}
+use Rattle.spec_data.specs.Digits.{is_digit, is_plain, value_from, decimal_value, below, read_decimal}
 
 -- a value that is too great stays so
 pub below-great : (bound value : ℕ) (bytes : List ℕ) → bound ≤ value → below bound (value_from value bytes) ≡ None

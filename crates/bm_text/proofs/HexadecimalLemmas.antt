@@ -10,7 +10,7 @@ use Rattle.hex.specs.declared.error.FromHexError.TheVariants.{OddLength}
 use Rattle.hex.specs.Hex as hex
 use Rattle.hex.specs.Hex.{IsBytes, decode_of, decode_pairs, digit_or_error, pair_value, encode_lower, encode_with, lower_digits, ◌>>=◌}
 use Rattle.hex.proofs.HexLemmas.{decode_of-encode_lower}
-use Rattle.spec_text.specs.Digits.{hex_digit, hex_text, hex_digit_value, hex_pair, hex_bytes, onto, read_hex}
+use Rattle.spec_data.specs.Digits.{hex_digit, hex_text, hex_digit_value, hex_pair, hex_bytes, onto, read_hex}
 
 -- the value of a result, if it has one
 abbrev pub some_of : {A : Type 0} → Result A FromHexError → Option A

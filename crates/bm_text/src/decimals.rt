@@ -3,7 +3,7 @@
 ghost use Rattle.std.specs.Prelude.{◌≡◌, ◌++◌, ◌^◌, OnOk, OnErr, Some, true};
 ghost use Rattle.std.specs.List.{list_all};
 ghost use Rattle.std.specs.Fmt.{decimal};
-ghost use Rattle.spec_text.specs.Digits.{is_digit, is_plain, decimal_value, below, read_decimal};
+ghost use Rattle.spec_data.specs.Digits.{is_digit, is_plain, decimal_value, below, read_decimal};
 
 use spec_data::OutOfMemory;
 use std::alloc::Global;

@@ -2,7 +2,7 @@
 
 ghost use Rattle.std.specs.Prelude.{◌≡◌, ◌≢◌, ◌<◌, ◌++◌, length, IfOk, OnOk, OnErr, Some, None, Err};
 ghost use Rattle.hex.specs.declared.error.FromHexError.TheVariants.{OutOfMemory};
-ghost use Rattle.spec_text.specs.Digits.{hex_text, read_hex};
+ghost use Rattle.spec_data.specs.Digits.{hex_text, read_hex};
 
 use hex::FromHexError;
 use spec_data::OutOfMemory;

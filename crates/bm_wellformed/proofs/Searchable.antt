@@ -9,7 +9,8 @@ use Rattle.spec_data.proofs.ListLemmas.{or_else-none}
 use Rattle.spec_terms.specs.Advert.{Advert}
 use Rattle.spec_terms.specs.Precondition.{Holding, party_of, persistent, deposits, secrets, owners_of}
 use Rattle.spec_terms.specs.Parties.{choice_mentions, participants}
-use Rattle.spec_terms.specs.Readable.{is_name, max_money, most_depth, most_branches, most_deposits, most_secrets, is_some_list, is_readable_count, are_readable, depth_of_choice, count_of, is_readable_contract, is_readable_entry, is_readable_pre, is_readable}
+use Rattle.spec_data.specs.Ranges.{max_money}
+use Rattle.spec_terms.specs.Readable.{is_name, most_depth, most_branches, most_deposits, most_secrets, is_some_list, is_readable_count, are_readable, depth_of_choice, count_of, is_readable_contract, is_readable_entry, is_readable_pre, is_readable}
 use Rattle.spec_terms.specs.Faults.{first_without, name_repeated, unknown_deposit, unknown_secret, prefix_repeated, predicate_secret, no_persistent, split_sum, fee_short, first_found, first_fault}
 use Rattle.spec_terms.specs.declared.place.Place.{Place}
 use Rattle.spec_terms.specs.declared.place.Place.TheVariants as places

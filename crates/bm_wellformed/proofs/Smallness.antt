@@ -6,7 +6,8 @@ use Rattle.std.proofs.lemmas.Bool.{and_parts, leb-true}
 use Rattle.std.proofs.lemmas.List.{length-map}
 use Rattle.spec_terms.specs.Term.{Branch, auth, after, put_reveal, withdraw, split, Choice, no_branch, branch, branches, Parts, no_part, part, parts_list}
 use Rattle.spec_terms.specs.Core.{core}
-use Rattle.spec_terms.specs.Readable.{is_name, max_money, last_height, most_choices, most_parts, is_some_list, is_whole_prefix, is_readable_count, is_readable_split, is_readable_test, are_readable, is_readable_branch, are_readable_parts}
+use Rattle.spec_data.specs.Ranges.{max_money, last_height}
+use Rattle.spec_terms.specs.Readable.{is_name, most_choices, most_parts, is_some_list, is_whole_prefix, is_readable_count, is_readable_split, is_readable_test, are_readable, is_readable_branch, are_readable_parts}
 use Rattle.bm_syntax.specs.View.{choice_view, parts_view, guarded, part_view}
 use Rattle.bm_syntax.proofs.Views.{branches-choice_of, parts_list-parts_of}
 use Rattle.bm_syntax.specs.declared.term.Guarded.{Guarded}

@@ -4,6 +4,7 @@ use Rattle.std.specs.List.{list_any, position_from, flat_map}
 use Rattle.std.specs.Option.{option_and_then, option_map_or}
 use Rattle.std.specs.Str.{bytes_eq}
 use Rattle.spec_data.specs.Lists.{first_reason, or_else}
+use Rattle.spec_data.specs.Ranges.{max_money}
 use Rattle.spec_bitcoin.specs.declared.tx.TxIn.{TxIn}
 use Rattle.spec_bitcoin.specs.declared.tx.TxOut.{TxOut}
 use Rattle.spec_bitcoin.specs.declared.tx.Tx.{Tx}
@@ -36,10 +37,6 @@ number_or_zero (Some n) = n
 -- the sum of the outputs, in satoshi
 abbrev pub total_of : List TxOut → ℕ
 total_of outputs = sum_by (λ o. o.value) outputs
-
--- the most satoshi that there are
-abbrev pub max_money : ℕ
-max_money = 2100000000000000
 
 -- the value that an input spends
 abbrev pub spent_value : List Entry → TxIn → ℕ

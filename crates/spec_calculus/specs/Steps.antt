@@ -1,6 +1,7 @@
 -- The steps of the calculus: the first premise that fails, the effect, and legal runs; of this project's profile of BitML.
 use Rattle.std.specs.Prelude.{◌≡◌, ℕ, ◌+◌, ◌-◌, Bool, ◌&&◌, not, List, [], ◌∷◌, ◌++◌, Option, is_some, length, map, nat_le, cond}
 use Rattle.spec_data.specs.Lists.{first_false, is_among, look_up}
+use Rattle.spec_data.specs.Ranges.{last_height}
 use Rattle.spec_terms.specs.Advert.{Advert}
 use Rattle.spec_terms.specs.Term.{Branch}
 use Rattle.spec_terms.specs.Value.{holds}
@@ -19,10 +20,6 @@ use Rattle.spec_calculus.specs.Configuration.{Configuration}
 use Rattle.spec_calculus.specs.Moves.{spends_live, owns_one, pays, all_agree, kept, made, with_authorisation, without_move}
 use Rattle.spec_calculus.specs.Beginning.{contract_at, pre_of, participants_of, fee_of, is_advertised, binds, is_any_honest, has_committed, have_committed, lists_secrets, is_told, bindings_of, is_there, are_there, numbers_of, persistent_names, has_persistent, is_init_authorised, are_init_authorised}
 use Rattle.spec_calculus.specs.Branches.{length_at, is_known, is_revealed, are_revealed, secret_lengths, active_at, place_of, position_of, balance_of, advert_of, branch_of, asks_of, lock_of, has_branch_authorised, have_branch_authorised, is_put, is_withdraw, is_split, puts_of, reveals_of, test_of, payee_of, values_of, gone, total_value, others, parts_made}
-
--- the greatest height
-abbrev pub last_height : ℕ
-last_height = 499999999
 
 -- ---- premises, for each kind of step in their order
 

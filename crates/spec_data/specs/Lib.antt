@@ -1,2 +1,4 @@
+pub mod Digits
 pub mod Lists
 pub mod Name
+pub mod Ranges

@@ -5,7 +5,7 @@ use Rattle.std.specs.Str.{bytes_eq}
 use Rattle.spec_data.specs.Lists.{is_among, are_different}
 use Rattle.spec_terms.specs.Faults.{IsWellFormed}
 use Rattle.spec_bitcoin.specs.Spelling.{IsBytes}
-use Rattle.spec_bitcoin.specs.Verdict.{max_money}
+use Rattle.spec_data.specs.Ranges.{max_money}
 use Rattle.spec_bitcoin.specs.Keys.{IsLabel}
 use Rattle.spec_compiler.specs.Statements.{IsHash}
 use Rattle.spec_run.specs.declared.header.Header.{Header}

@@ -7,7 +7,7 @@ use Rattle.spec_bitcoin.specs.declared.label.Label.TheVariants as labels
 use Rattle.spec_bitcoin.specs.Digests.{txid, txid_strings, opening_transaction}
 use Rattle.spec_bitcoin.specs.Keys.{label_text}
 use Rattle.spec_bitcoin.specs.Reading.{transaction_of}
-use Rattle.spec_calculus.specs.Steps.{last_height}
+use Rattle.spec_data.specs.Ranges.{last_height}
 use Rattle.spec_compiler.specs.Transactions.{party_script}
 use Rattle.spec_run.specs.declared.event.Event.{Event}
 use Rattle.spec_run.specs.declared.event.Event.TheVariants as events

@@ -6,7 +6,7 @@ use Rattle.spec_bitcoin.specs.declared.tx.TxOut.{TxOut}
 use Rattle.spec_bitcoin.specs.declared.tx.Tx.{Tx}
 use Rattle.spec_bitcoin.specs.Digests.{digest}
 use Rattle.spec_bitcoin.specs.Keys.{Pair, signature_of}
-use Rattle.spec_bitcoin.specs.Verdict.{max_money}
+use Rattle.spec_data.specs.Ranges.{max_money}
 use Rattle.spec_calculus.specs.declared.step.Owner.TheVariants.{Party}
 use Rattle.spec_calculus.specs.Same.{owner_eq}
 use Rattle.spec_compiler.specs.Setting.{deposit_key}

@@ -12,7 +12,8 @@ use Rattle.spec_terms.specs.Parties.{participants}
 use Rattle.spec_terms.specs.Bound.{is_bounded, lengths_of_test}
 use Rattle.spec_terms.specs.Cost.{cost}
 use Rattle.spec_terms.specs.Balance.{Stand, stands}
-use Rattle.spec_terms.specs.Readable.{is_readable, max_money}
+use Rattle.spec_data.specs.Ranges.{max_money}
+use Rattle.spec_terms.specs.Readable.{is_readable}
 use Rattle.spec_terms.specs.declared.limit.Limit.{Limit}
 use Rattle.spec_terms.specs.declared.limit.Limit.TheVariants as limits
 use Rattle.spec_terms.specs.declared.place.Place.{Place}

@@ -2,6 +2,7 @@
 use Rattle.std.specs.Prelude.{ℕ, ◌+◌, max, nat_le, Bool, true, false, ◌&&◌, ◌||◌, not, List, [], ◌∷◌, length, codes}
 use Rattle.std.specs.List.{list_all}
 use Rattle.spec_data.specs.Lists.{is_among}
+use Rattle.spec_data.specs.Ranges.{max_money, last_height}
 use Rattle.spec_terms.specs.Term.{Formula, constant, length_of, plus, minus, Test, always, both, negation, equal, less, Branch, auth, after, put_reveal, withdraw, split, Choice, no_branch, branch, branches, Parts, no_part, part, parts_list}
 use Rattle.spec_terms.specs.Advert.{Advert}
 use Rattle.spec_terms.specs.Precondition.{deposits, secrets}
@@ -38,17 +39,9 @@ is_name name = is_word name && (nat_le (length name) 32 && not (is_among name ke
 
 -- ---- the limits of the reader
 
--- the satoshi that there can ever be
-abbrev pub max_money : ℕ
-max_money = 2100000000000000
-
 -- the greatest constant of an expression
 abbrev pub greatest_constant : ℕ
 greatest_constant = 2147483647
-
--- the last block height
-abbrev pub last_height : ℕ
-last_height = 499999999
 
 -- nested terms on one way from the root, and nested nodes of one predicate
 abbrev pub most_depth : ℕ

@@ -2,7 +2,7 @@
 use Rattle.std.proofs.Common.{◌≡◌, ℕ, zero, suc, List, [], ◌∷◌, refl, Option, Some, None, Ok, Err}
 use Rattle.std.specs.Prelude.{codes, Result}
 use Rattle.std.specs.Fmt.{decimal, digits}
-use Rattle.spec_text.specs.Digits.{read_decimal, read_hex, hex_text}
+use Rattle.spec_data.specs.Digits.{read_decimal, read_hex, hex_text}
 use Rattle.spec_text.specs.Lexis.{tokens_of, word_front, number_front, symbol_front}
 use Rattle.spec_terms.specs.Advert.{Advert}
 use Rattle.spec_terms.specs.declared.limit.Limit.TheVariants as limits

@@ -5,7 +5,7 @@ use Rattle.spec_terms.specs.Advert.{Advert}
 use Rattle.spec_run.specs.declared.event.Event.{Event}
 use Rattle.spec_run.specs.declared.event.Run.{Run}
 use Rattle.spec_run.specs.Setup.{Setup}
-use Rattle.spec_text.specs.Digits.{read_decimal}
+use Rattle.spec_data.specs.Digits.{read_decimal}
 use Rattle.spec_text.specs.Words.{◌>>=◌, given}
 use Rattle.spec_text.specs.RunText.{newline}
 use Rattle.spec_text.specs.Canonical.{advert_text}

@@ -3,7 +3,7 @@ use Rattle.std.specs.Prelude.{ℕ, zero, suc, ◌+◌, ◌^◌, List, [], ◌∷
 use Rattle.std.specs.Str.{bytes_eq}
 use Rattle.spec_terms.specs.Readable.{is_letter, is_name_byte}
 use Rattle.spec_text.specs.Limits.{most_name_bytes}
-use Rattle.spec_text.specs.Digits.{is_digit, decimal_value}
+use Rattle.spec_data.specs.Digits.{is_digit, decimal_value}
 use Rattle.spec_text.specs.declared.token.Token.{Token}
 use Rattle.spec_text.specs.declared.token.Kind.{Kind}
 use Rattle.spec_text.specs.declared.token.Kind.TheVariants as kind

@@ -1,4 +1,3 @@
-pub mod Digits
 pub mod Lexis
 pub mod Limits
 pub mod Lexeme

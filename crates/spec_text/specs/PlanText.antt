@@ -15,7 +15,7 @@ use Rattle.spec_run.specs.World.{World}
 use Rattle.spec_run.specs.Compiled.{compiled_at}
 use Rattle.spec_run.specs.Event.{last_world}
 use Rattle.spec_run.specs.Translation.{translated, last_configuration}
-use Rattle.spec_text.specs.Digits.{hex_text}
+use Rattle.spec_data.specs.Digits.{hex_text}
 use Rattle.spec_text.specs.RunText.{newline}
 use Rattle.spec_text.specs.PlayText.{Ending, whole, guessed, collided, guessed_line, collided_line}
 use Rattle.spec_text.specs.Played.{ending, live_outputs}

@@ -10,7 +10,7 @@ use Rattle.spec_calculus.specs.Configuration.{Configuration}
 use Rattle.spec_calculus.specs.Branches.{length_at, is_revealed}
 use Rattle.spec_run.specs.declared.event.Event.{Event}
 use Rattle.spec_text.specs.declared.entry.Entry.{Entry}
-use Rattle.spec_text.specs.Digits.{hex_text}
+use Rattle.spec_data.specs.Digits.{hex_text}
 use Rattle.spec_text.specs.RunText.{newline, output_text, event_text, contract_party_text}
 use Rattle.spec_text.specs.OutcomeText.{outcome_text}
 use Rattle.spec_text.specs.StepText.{owner_text, length_text, step_lines}

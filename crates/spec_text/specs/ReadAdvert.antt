@@ -17,7 +17,8 @@ use Rattle.spec_text.specs.Lexis.{tokens_of, Tokens}
 use Rattle.spec_text.specs.declared.lexeme.Lexeme.{Lexeme}
 use Rattle.spec_text.specs.declared.lexeme.Lexeme.TheVariants.{Keyword as keyword, Symbol as symbol}
 use Rattle.spec_text.specs.Lexeme.{lexemes}
-use Rattle.spec_terms.specs.Readable.{max_money, most_depth, most_branches, most_deposits, most_secrets}
+use Rattle.spec_data.specs.Ranges.{max_money}
+use Rattle.spec_terms.specs.Readable.{most_depth, most_branches, most_deposits, most_secrets}
 use Rattle.spec_text.specs.Reading.{Reads, ◌>>=◌, Seen, taken, wrong, token_by, a_symbol, a_name, a_number}
 use Rattle.spec_text.specs.ReadContract.{choice_with, branch_at}
 

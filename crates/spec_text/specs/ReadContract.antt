@@ -8,7 +8,8 @@ use Rattle.spec_text.specs.declared.token.Keyword.TheVariants as word
 use Rattle.spec_text.specs.declared.token.Symbol.TheVariants as mark
 use Rattle.spec_text.specs.declared.lexeme.Lexeme.{Lexeme}
 use Rattle.spec_text.specs.declared.lexeme.Lexeme.TheVariants.{Keyword as keyword, Symbol as symbol, Name as name, LongName as long_name}
-use Rattle.spec_terms.specs.Readable.{max_money, last_height, most_depth, most_choices, most_parts}
+use Rattle.spec_data.specs.Ranges.{max_money, last_height}
+use Rattle.spec_terms.specs.Readable.{most_depth, most_choices, most_parts}
 use Rattle.spec_text.specs.Reading.{Reads, ◌>>=◌, Seen, taken, wrong, above, token_by, too_many, a_symbol, a_keyword, a_name, a_number, names_from}
 use Rattle.spec_text.specs.ReadTest.{test_at, begun}
 

@@ -3,7 +3,8 @@ use Rattle.std.specs.Prelude.{ℕ, ◌+◌, List, [], ◌∷◌, ◌++◌, lengt
 use Rattle.std.specs.Str.{bytes_eq}
 use Rattle.std.specs.List.{list_any, sum_by}
 use Rattle.spec_data.specs.Lists.{is_among}
-use Rattle.spec_terms.specs.Readable.{is_name, max_money}
+use Rattle.spec_data.specs.Ranges.{max_money}
+use Rattle.spec_terms.specs.Readable.{is_name}
 use Rattle.spec_run.specs.declared.event.Event.{Event}
 use Rattle.spec_run.specs.declared.event.Run.{Run}
 use Rattle.spec_run.specs.declared.header.Header.{Header}
@@ -12,7 +13,7 @@ use Rattle.spec_text.specs.declared.run_fault.RunLimit.{RunLimit}
 use Rattle.spec_text.specs.declared.run_fault.RunLimit.TheVariants as limits
 use Rattle.spec_text.specs.declared.run_fault.RunFault.{RunFault}
 use Rattle.spec_text.specs.declared.run_fault.RunFault.TheVariants as faults
-use Rattle.spec_text.specs.Digits.{read_hex}
+use Rattle.spec_data.specs.Digits.{read_hex}
 use Rattle.spec_text.specs.Lines.{lines_of, words_of}
 use Rattle.spec_text.specs.Words.{amount}
 use Rattle.spec_text.specs.EventLines.{event_of}

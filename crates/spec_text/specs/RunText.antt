@@ -7,7 +7,7 @@ use Rattle.spec_run.specs.declared.event.Event.TheVariants as events
 use Rattle.spec_run.specs.declared.event.Run.{Run}
 use Rattle.spec_run.specs.declared.header.Header.{Header}
 use Rattle.spec_run.specs.declared.header.HeldSecret.{HeldSecret}
-use Rattle.spec_text.specs.Digits.{hex_text}
+use Rattle.spec_data.specs.Digits.{hex_text}
 
 abbrev pub newline : List ℕ
 newline = 10 ∷ []

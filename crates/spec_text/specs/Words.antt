@@ -7,7 +7,7 @@ use Rattle.spec_terms.specs.declared.path.PathStep.{PathStep}
 use Rattle.spec_terms.specs.declared.path.PathStep.TheVariants.{Branch as To, Part as Into}
 use Rattle.spec_bitcoin.specs.declared.label.Label.{Label}
 use Rattle.spec_bitcoin.specs.declared.label.Label.TheVariants.{Deposit, Branch}
-use Rattle.spec_text.specs.Digits.{number_below, read_hex, onto}
+use Rattle.spec_data.specs.Digits.{number_below, read_hex, onto}
 use Rattle.spec_text.specs.Lines.{parts_of}
 
 infixl 10 ◌>>=◌

@@ -1,6 +1,6 @@
 use Rattle.std.proofs.Common.{ℕ, List, length, ap, ◌∙◌, rules}
 use Rattle.std.specs.Prelude.{take_while}
-use Rattle.spec_text.specs.Digits.{is_digit}
+use Rattle.spec_data.specs.Digits.{is_digit}
 use Rattle.std.proofs.lemmas.List.{take_rest}
 use Rattle.bm_lex.proofs.Runs.{number_at-is}
 use Rattle.bm_lex.proofs.front.number_at.Goals as goal

@@ -1,5 +1,5 @@
 use Rattle.std.proofs.Common.{◌≡◌, ◌<◌, ◌^◌, drop}
-use Rattle.spec_text.specs.Digits.{value_from, below}
+use Rattle.spec_data.specs.Digits.{value_from, below}
 use Rattle.bm_lex.proofs.front.value_of.Given as goal
 
 abbrev pub invariant-loop-digit : goal.invariant-loop-digit

@@ -1,6 +1,6 @@
 use Rattle.std.proofs.Common.{◌≡◌, ◌<◌, ◌^◌, drop, true}
 use Rattle.std.specs.List.{list_all}
-use Rattle.spec_text.specs.Digits.{is_digit, value_from, decimal_value, below}
+use Rattle.spec_data.specs.Digits.{is_digit, value_from, decimal_value, below}
 use Rattle.bm_text.proofs.decimals.value_of.Given as goal
 
 -- what the digits that are left go on to is what all of them are

@@ -17,7 +17,8 @@ use Rattle.spec_terms.specs.Parties.{participants, add_new, add_all, choice_ment
 use Rattle.spec_terms.specs.Precondition.{secrets, names_of, party_of}
 use Rattle.spec_terms.specs.Bound.{is_bounded, lengths_of_test}
 use Rattle.spec_terms.specs.Cost.{cost}
-use Rattle.spec_terms.specs.Readable.{max_money, is_readable_entry, is_readable_pre, is_readable_contract, is_some_list, is_always, is_whole_prefix, is_readable_count, are_readable, is_readable_branch, are_readable_parts}
+use Rattle.spec_data.specs.Ranges.{max_money}
+use Rattle.spec_terms.specs.Readable.{is_readable_entry, is_readable_pre, is_readable_contract, is_some_list, is_always, is_whole_prefix, is_readable_count, are_readable, is_readable_branch, are_readable_parts}
 use Rattle.spec_terms.specs.Faults.{at_core, at_position, are_among, first_found, faults, exceeded, fits_a_script}
 use Rattle.spec_terms.specs.declared.pre.Pre.{Pre}
 use Rattle.spec_terms.specs.declared.place.Place.{Place}

@@ -1,35 +1,22 @@
 -- The numbers of the labels that words spell.
-use Rattle.std.proofs.Common.{◌≡◌, ℕ, ◌<◌, ◌^◌, Bool, true, false, List, [], ◌∷◌, ◌++◌, Option, Some, None, refl, sym, ap, subst, ◌∙◌, arith}
-use Rattle.std.specs.Prelude.{◌==◌, if◌then◌else◌, nat_lt, codes}
+use Rattle.std.proofs.Common.{◌≡◌, ℕ, ◌<◌, ◌^◌, Bool, true, false, List, [], ◌∷◌, ◌++◌, Option, Some, None, subst}
+use Rattle.std.specs.Prelude.{◌==◌, if◌then◌else◌, codes}
 use Rattle.std.specs.List.{AllByRecursion}
 use Rattle.std.specs.Str.{bytes_eq}
-use Rattle.std.proofs.lemmas.Bool.Decides.{nat_tests}
 use Rattle.spec_terms.specs.declared.path.PathStep.{PathStep}
 use Rattle.spec_bitcoin.specs.Keys.{IsStep, IsLabel}
 use Rattle.spec_bitcoin.specs.declared.label.Label.{Label}
 use Rattle.spec_bitcoin.specs.declared.label.Label.TheVariants.{Deposit, Branch}
-use Rattle.spec_text.specs.Digits.{decimal_value, is_plain, below, number_below, onto}
+use Rattle.spec_data.specs.Digits.{onto}
 use Rattle.spec_text.specs.Lines.{parts_of}
 use Rattle.spec_text.specs.Words.{◌>>=◌, given, small, a_name, step_mark, step_of, step, steps_from, steps, path, label_of, label}
-use Rattle.theory_text.proofs.Options.{some, some_is, none_some, Came, came, onto_all}
+use Rattle.theory_text.proofs.Decimals.{number_less}
+use Rattle.theory_text.proofs.Options.{some, some_is, none_some, came, onto_all}
 
 -- ---- numbers
 
-below_is : (t : Bool) (bound v n : ℕ) → (t ≡ true → v < bound) → (if t then some v else None) ≡ some n → n < bound
-below_is true bound v n f h = omega (arith, some_is v n h, f refl)
-below_is false bound v n f h = absurd (none_some n h)
-
-plain_is : (t : Bool) (later : Option ℕ) (n : ℕ) → (if t then later else None) ≡ some n → later ≡ some n
-plain_is true later n h = h
-plain_is false later n h = absurd (none_some n h)
-
-less_is : (v bound : ℕ) → nat_lt v bound ≡ true → v < bound
-less_is v bound h = grind (arith, nat_tests)
-
 small_is : (word : List ℕ) (n : ℕ) → small word ≡ some n → n < 2 ^ 32
-small_is word n h =
-    below_is (nat_lt (decimal_value word) (2 ^ 32)) (2 ^ 32) (decimal_value word) n (less_is (decimal_value word) (2 ^ 32))
-    (plain_is (is_plain word) (below (2 ^ 32) (decimal_value word)) n h)
+small_is word n h = number_less (2 ^ 32) word n h
 
 -- ---- paths
 

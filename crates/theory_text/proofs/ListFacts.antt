@@ -1,7 +1,7 @@
 -- Facts about lists to which one element is added.
-use Rattle.std.proofs.Common.{◌≡◌, ℕ, Bool, true, false, not, List, [], ◌∷◌, ◌++◌, refl, sym, ap, subst, ◌∙◌, cond}
-use Rattle.std.specs.Prelude.{◌&&◌, ◌||◌}
-use Rattle.std.specs.List.{list_any, list_all}
+use Rattle.std.proofs.Common.{◌≡◌, ℕ, Bool, true, false, not, List, [], ◌∷◌, ◌++◌, refl, sym, ◌∙◌}
+use Rattle.std.specs.Prelude.{if◌then◌else◌, ◌&&◌, ◌||◌}
+use Rattle.std.specs.List.{list_all}
 use Rattle.std.specs.Str.{bytes_eq}
 use Rattle.std.proofs.lemmas.List.Folds.{list_any-append, list_all-append}
 use Rattle.std.proofs.lemmas.Slice.Eq.{bytes_eq-Decides}
@@ -40,6 +40,11 @@ not_yes false h = refl
 
 pub not_no : (b : Bool) → b ≡ false → not b ≡ true
 not_no b h = rw h refl
+
+-- what a test led to: the first where it holds, or else the second
+pub by_test : {A : Type 0} (t : Bool) (x y z : A) (P : Type 0) → (if t then x else y) ≡ z → (t ≡ true → x ≡ z → P) → (y ≡ z → P) → P
+by_test true x y z P h f g = f refl h
+by_test false x y z P h f g = g h
 
 -- what is among names is among more of them
 pub among_more : (x a : List ℕ) (names : List (List ℕ)) → is_among x names ≡ true → is_among x (names ++ a ∷ []) ≡ true

@@ -1,44 +1,31 @@
 -- The events that a run file spells are those of which the theorems on runs speak.
-use Rattle.std.proofs.Common.{◌≡◌, ℕ, suc, ◌+◌, ◌*◌, ◌<◌, ◌≤◌, ◌^◌, Bool, true, false, not, List, [], ◌∷◌, ◌++◌, length, Option, Some, None, Ok, Err, refl, sym, ap, subst, ◌∙◌, arith}
-use Rattle.std.specs.Prelude.{◌&&◌, ◌==◌, if◌then◌else◌, nat_lt, nat_le, Result, codes}
+use Rattle.std.proofs.Common.{◌≡◌, ℕ, suc, ◌*◌, ◌≤◌, Bool, true, false, List, [], ◌∷◌, length, Option, Some, None, refl, ap, subst, arith}
+use Rattle.std.specs.Prelude.{◌&&◌, ◌==◌, nat_le, codes}
 use Rattle.std.specs.List.{list_all, AllByRecursion}
 use Rattle.std.specs.Str.{bytes_eq}
 use Rattle.std.proofs.lemmas.Bool.Decides.{nat_tests}
 use Rattle.spec_data.specs.Lists.{is_among}
 use Rattle.spec_run.specs.Setup.{Setup, is_declared}
-use Rattle.spec_run.specs.Conditions.{IsEvent, IsPiece, IsDigest, IsGift}
+use Rattle.spec_run.specs.Conditions.{IsEvent, IsPiece, IsDigest}
 use Rattle.spec_run.specs.declared.event.Event.{Event}
 use Rattle.spec_run.specs.declared.event.Event.TheVariants as events
-use Rattle.spec_text.specs.Digits.{read_hex, onto}
+use Rattle.spec_data.specs.Digits.{read_hex, onto}
 use Rattle.spec_text.specs.Words.{◌>>=◌, given, small, amount, output, a_name, one_of, digest, named, two_parts, all_of, label}
-use Rattle.spec_text.specs.Lines.{parts_of, words_of}
-use Rattle.spec_text.specs.EventLines.{LineReader, advertise, commit, contract_and_party, authorise, reveal, bytes_event, sign, before_arrow, at_arrow, shares, is_some_list, give, fire, mine, event_by, event_of}
-use Rattle.theory_text.proofs.Options.{some, some_is, none_some, Came, came, onto_all}
+use Rattle.spec_text.specs.Lines.{parts_of}
+use Rattle.spec_text.specs.EventLines.{advertise, commit, contract_and_party, authorise, reveal, bytes_event, sign, before_arrow, at_arrow, shares, is_some_list, give, fire, mine, event_by, event_of}
+use Rattle.theory_text.proofs.Options.{some, some_is, none_some, came, onto_all, given_is}
 use Rattle.theory_text.proofs.Labels.{label_is}
-use Rattle.theory_text.proofs.ListFacts.{and_left, and_right, and_is}
-use Rattle.theory_text.proofs.Words.{total, total-words, count-words}
-use Rattle.theory_text.proofs.Hex.{IsHex, read_hex_is}
+use Rattle.theory_text.proofs.ListFacts.{and_left, and_right, and_is, by_test}
+use Rattle.theory_text.proofs.Words.{total}
+use Rattle.theory_text.proofs.Hex.{read_hex_is}
 
--- ---- options
-
-record Given {A : Type 0} (t : Bool) (x y : A) : Type 0 where
-  holds : t ≡ true
-  same : x ≡ y
-
-given_is : {A : Type 0} (t : Bool) (x y : A) → given t x ≡ some y → Given t x y
-given_is true x y h = record { holds = refl; same = some_is x y h }
-given_is false x y h = absurd (none_some y h)
+-- ---- parties
 
 -- one of the parties is declared
 declared : (s : Setup) (word a : List ℕ) → one_of s.header.parties word ≡ some a → is_declared s a ≡ true
 declared s word a h =
     let g = given_is (is_among word s.header.parties) word a h in
     subst (λ (x : List ℕ). is_declared s x ≡ true) g.same g.holds
-
--- a test by the words' first: the next or a later one
-by_word : (t : Bool) (x y : Option Event) (e : Event) (P : Type 0) → (if t then x else y) ≡ some e → (x ≡ some e → P) → (y ≡ some e → P) → P
-by_word true x y e P h f g = f h
-by_word false x y e P h f g = g h
 
 -- ---- digests
 
@@ -139,8 +126,8 @@ fire_is : (s : Setup) (words : List (List ℕ)) (e : Event) → fire s.header.pa
 fire_is s [] e h = absurd (none_some e h)
 fire_is s (w ∷ []) e h = absurd (none_some e h)
 fire_is s (w ∷ n ∷ []) e h =
-    by_word (bytes_eq w (codes "init")) _ _ e (IsEvent s e) h
-    (λ h1. let c = came (small n) (λ k. some (events.FireInit k)) e h1 in subst (IsEvent s) (some_is (events.FireInit c.first) e c.then') tt)
+    by_test (bytes_eq w (codes "init")) _ _ (some e) (IsEvent s e) h
+    (λ same h1. let c = came (small n) (λ k. some (events.FireInit k)) e h1 in subst (IsEvent s) (some_is (events.FireInit c.first) e c.then') tt)
     (λ h1.
     let c = came (output w) (λ o. small n >>= λ i. some (events.Fire o i)) e h1 in
     let d = came (small n) (λ i. some (events.Fire c.first i)) e c.then' in
@@ -225,18 +212,18 @@ give_is s (a ∷ ws) e few h =
 
 event_by_is : (s : Setup) (word : List ℕ) (words : List (List ℕ)) (e : Event) → total words ≤ 1048576 → length words ≤ 524288 → event_by word s.header.parties words ≡ some e → IsEvent s e
 event_by_is s word words e size few h =
-    by_word (bytes_eq word (codes "advertise")) _ _ e (IsEvent s e) h (advertise_is s words e) (λ h1.
-    by_word (bytes_eq word (codes "commit")) _ _ e (IsEvent s e) h1 (commit_is s words e) (λ h2.
-    by_word (bytes_eq word (codes "endorse")) _ _ e (IsEvent s e) h2 (two_is s events.Endorse (λ n p d. d) words e) (λ h3.
-    by_word (bytes_eq word (codes "init")) _ _ e (IsEvent s e) h3 (two_is s events.Init (λ n p d. d) words e) (λ h4.
-    by_word (bytes_eq word (codes "authorise")) _ _ e (IsEvent s e) h4 (authorise_is s words e) (λ h5.
-    by_word (bytes_eq word (codes "reveal")) _ _ e (IsEvent s e) h5 (reveal_is s words e) (λ h6.
-    by_word (bytes_eq word (codes "post")) _ _ e (IsEvent s e) h6 (bytes_is s events.Post (λ bytes p. p) words e size) (λ h7.
-    by_word (bytes_eq word (codes "sign")) _ _ e (IsEvent s e) h7 (sign_is s words e) (λ h8.
-    by_word (bytes_eq word (codes "give")) _ _ e (IsEvent s e) h8 (give_is s words e few) (λ h9.
-    by_word (bytes_eq word (codes "append")) _ _ e (IsEvent s e) h9 (bytes_is s events.Append (λ bytes p. p) words e size) (λ h10.
-    by_word (bytes_eq word (codes "fire")) _ _ e (IsEvent s e) h10 (fire_is s words e) (λ h11.
-    by_word (bytes_eq word (codes "mine")) _ _ e (IsEvent s e) h11 (mine_is s words e) (λ h12. absurd (none_some e h12)))))))))))))
+    by_test (bytes_eq word (codes "advertise")) _ _ (some e) (IsEvent s e) h (λ same. advertise_is s words e) (λ h1.
+    by_test (bytes_eq word (codes "commit")) _ _ (some e) (IsEvent s e) h1 (λ same. commit_is s words e) (λ h2.
+    by_test (bytes_eq word (codes "endorse")) _ _ (some e) (IsEvent s e) h2 (λ same. two_is s events.Endorse (λ n p d. d) words e) (λ h3.
+    by_test (bytes_eq word (codes "init")) _ _ (some e) (IsEvent s e) h3 (λ same. two_is s events.Init (λ n p d. d) words e) (λ h4.
+    by_test (bytes_eq word (codes "authorise")) _ _ (some e) (IsEvent s e) h4 (λ same. authorise_is s words e) (λ h5.
+    by_test (bytes_eq word (codes "reveal")) _ _ (some e) (IsEvent s e) h5 (λ same. reveal_is s words e) (λ h6.
+    by_test (bytes_eq word (codes "post")) _ _ (some e) (IsEvent s e) h6 (λ same. bytes_is s events.Post (λ bytes p. p) words e size) (λ h7.
+    by_test (bytes_eq word (codes "sign")) _ _ (some e) (IsEvent s e) h7 (λ same. sign_is s words e) (λ h8.
+    by_test (bytes_eq word (codes "give")) _ _ (some e) (IsEvent s e) h8 (λ same. give_is s words e few) (λ h9.
+    by_test (bytes_eq word (codes "append")) _ _ (some e) (IsEvent s e) h9 (λ same. bytes_is s events.Append (λ bytes p. p) words e size) (λ h10.
+    by_test (bytes_eq word (codes "fire")) _ _ (some e) (IsEvent s e) h10 (λ same. fire_is s words e) (λ h11.
+    by_test (bytes_eq word (codes "mine")) _ _ (some e) (IsEvent s e) h11 (λ same. mine_is s words e) (λ h12. absurd (none_some e h12)))))))))))))
 
 -- what the words of a line spell, where these are no more than a line has
 pub event_is : (s : Setup) (words : List (List ℕ)) (e : Event) → total words ≤ 1048576 → 2 * length words ≤ 1048577 → event_of s.header.parties words ≡ Some e → IsEvent s e

@@ -1,28 +1,29 @@
 -- The header that a run file spells is one of which the theorems on runs speak.
-use Rattle.std.proofs.Common.{◌≡◌, ℕ, suc, ◌+◌, ◌<◌, ◌≤◌, Bool, true, false, not, List, [], ◌∷◌, ◌++◌, length, map, Option, Some, None, Ok, Err, refl, sym, ap, subst, ◌∙◌, arith, inl, inr}
-use Rattle.std.specs.Prelude.{◌&&◌, ◌||◌, if◌then◌else◌, nat_lt, nat_le, Result, codes}
-use Rattle.std.specs.List.{list_any, list_all, sum_by}
+use Rattle.std.proofs.Common.{◌≡◌, ℕ, ◌+◌, ◌≤◌, Bool, true, false, not, List, [], ◌∷◌, ◌++◌, length, map, Option, Some, None, Ok, Err, refl, ap, subst, ◌∙◌, arith}
+use Rattle.std.specs.Prelude.{◌&&◌, nat_lt, nat_le, Result, codes}
+use Rattle.std.specs.List.{list_any, sum_by}
 use Rattle.std.specs.Str.{bytes_eq}
 use Rattle.std.proofs.lemmas.List.{length-append}
 use Rattle.std.proofs.lemmas.List.Sums.{sum_by-append}
 use Rattle.std.proofs.lemmas.List.Folds.{list_any-append}
 use Rattle.std.proofs.lemmas.Bool.Decides.{nat_tests}
 use Rattle.spec_data.specs.Lists.{is_among, are_different}
-use Rattle.spec_terms.specs.Readable.{is_name, max_money}
-use Rattle.spec_run.specs.Conditions.{IsHeader, are_held_apart, are_all_among}
+use Rattle.spec_data.specs.Ranges.{max_money}
+use Rattle.spec_terms.specs.Readable.{is_name}
+use Rattle.spec_run.specs.Conditions.{IsHeader, are_held_apart}
 use Rattle.spec_run.specs.declared.header.Header.{Header}
 use Rattle.spec_run.specs.declared.header.HeldSecret.{HeldSecret}
 use Rattle.spec_text.specs.declared.run_fault.RunLimit.{RunLimit}
 use Rattle.spec_text.specs.declared.run_fault.RunFault.{RunFault}
-use Rattle.spec_text.specs.Digits.{read_hex}
+use Rattle.spec_data.specs.Digits.{read_hex}
 use Rattle.spec_text.specs.Words.{amount}
 use Rattle.spec_text.specs.Lines.{words_of}
 use Rattle.spec_text.specs.RunFile.{Line, bad, over, empty, rule, says, spelled_within, is_long, no_header, party_line, honest_line, is_taken, held_secret, secret_of, secret_line, deposit_of, deposit_line, rule_line, header_words, header_line, kept, Headed, header_step, read_header}
-use Rattle.theory_text.proofs.ListFacts.{and_is, and_left, and_right, or_no, or_left, or_right, not_yes, not_no, among_more, all_among_more, all_push, bytes_eq-back, different_push}
+use Rattle.theory_text.proofs.ListFacts.{and_is, and_left, and_right, or_no, or_left, or_right, not_yes, not_no, all_among_more, all_push, bytes_eq-back, different_push, by_test}
 
 -- ---- what a line says
 
-abbrev says_header : Header → Line Header
+abbrev pub says_header : Header → Line Header
 says_header h = says h
 
 says_is : (h k : Header) → says_header h ≡ says_header k → h ≡ k
@@ -34,7 +35,7 @@ pub record Within (ok room : Bool) (h k : Header) : Type 0 where
   pub fits : room ≡ true
   pub same : h ≡ k
 
-within : (ok room : Bool) (limit : RunLimit) (h k : Header) → spelled_within ok room limit h ≡ says k → Within ok room h k
+pub within : (ok room : Bool) (limit : RunLimit) (h k : Header) → spelled_within ok room limit h ≡ says k → Within ok room h k
 within true true limit h k e = record { spelled = refl; fits = refl; same = says_is h k e }
 within true false limit h k e = absurd cc
 within false room limit h k e = absurd cc
@@ -171,26 +172,21 @@ deposit_says h k (a ∷ []) is e = absurd cc
 deposit_says h k (a ∷ w ∷ []) is e = deposit_of_says h k a (amount w) is e
 deposit_says h k (a ∷ w ∷ v ∷ ws) is e = absurd cc
 
-rule_says : (k : Header) (ws : List (List ℕ)) → rule_line ws ≡ says k → ⊥
+pub rule_says : (k : Header) (ws : List (List ℕ)) → rule_line ws ≡ says k → ⊥
 rule_says k [] e = cc
 rule_says k (w ∷ ws) e = cc
-
--- a line of several, by which test is the first to hold
-by_word : (b : Bool) (x y : Line Header) (k : Header) → (if b then x else y) ≡ says k → (x ≡ says k → IsHeader k) → (y ≡ says k → IsHeader k) → IsHeader k
-by_word true x y k e f g = f e
-by_word false x y k e f g = g e
 
 words_say : (h k : Header) (ws : List (List ℕ)) → IsHeader h → header_words h ws ≡ says k → IsHeader k
 words_say h k [] is e = absurd cc
 words_say h k (w ∷ ws) is e =
-    by_word (bytes_eq w (codes "party")) _ _ k e (party_says h k ws is) (λ e1.
-    by_word (bytes_eq w (codes "honest")) _ _ k e1 (honest_says h k ws is) (λ e2.
-    by_word (bytes_eq w (codes "secret")) _ _ k e2 (secret_says h k ws is) (λ e3.
-    by_word (bytes_eq w (codes "deposit")) _ _ k e3 (deposit_says h k ws is) (λ e4.
-    by_word (bytes_eq w (codes "--")) _ _ k e4 (λ e5. absurd (rule_says k ws e5)) (λ e5. absurd cc)))))
+    by_test (bytes_eq w (codes "party")) _ _ (says_header k) (IsHeader k) e (λ same. party_says h k ws is) (λ e1.
+    by_test (bytes_eq w (codes "honest")) _ _ (says_header k) (IsHeader k) e1 (λ same. honest_says h k ws is) (λ e2.
+    by_test (bytes_eq w (codes "secret")) _ _ (says_header k) (IsHeader k) e2 (λ same. secret_says h k ws is) (λ e3.
+    by_test (bytes_eq w (codes "deposit")) _ _ (says_header k) (IsHeader k) e3 (λ same. deposit_says h k ws is) (λ e4.
+    by_test (bytes_eq w (codes "--")) _ _ (says_header k) (IsHeader k) e4 (λ same e5. absurd (rule_says k ws e5)) (λ e5. absurd cc)))))
 
 line_says : (h k : Header) (line : List ℕ) → IsHeader h → header_line h line ≡ says k → IsHeader k
-line_says h k line is e = by_word (is_long line) _ _ k e (λ f. absurd cc) (words_say h k (words_of line) is)
+line_says h k line is e = by_test (is_long line) _ _ (says_header k) (IsHeader k) e (λ long f. absurd cc) (words_say h k (words_of line) is)
 
 -- ---- the header
 
@@ -209,12 +205,12 @@ no_header_is = record {
   few_deposits = omega arith;
 }
 
-kept_is : (h : Header) (said : Line Header) → IsHeader h → ((k : Header) → said ≡ says k → IsHeader k) → IsHeader (kept h said)
-kept_is h (says k) is f = f k refl
-kept_is h bad is f = is
-kept_is h (over w) is f = is
-kept_is h empty is f = is
-kept_is h rule is f = is
+kept_is : (P : Header → Type 0) (h : Header) (said : Line Header) → P h → ((k : Header) → said ≡ says k → P k) → P (kept h said)
+kept_is P h (says k) is f = f k refl
+kept_is P h bad is f = is
+kept_is P h (over w) is f = is
+kept_is P h empty is f = is
+kept_is P h rule is f = is
 
 abbrev headed : Headed → Result Headed RunFault
 headed x = Ok x
@@ -225,16 +221,20 @@ headed_eq x y e = cc
 fault_headed : (f : RunFault) (x : Headed) → Err f ≡ headed x → ⊥
 fault_headed f x e = cc
 
-step_is : (h : Header) (n : ℕ) (lines : List (List ℕ)) (said : Line Header) (later : Result Headed RunFault) (x : Headed) → IsHeader h → (later ≡ headed x → IsHeader x.0) → header_step h n lines said later ≡ headed x → IsHeader x.0
-step_is h n lines bad later x is f e = absurd (fault_headed _ x e)
-step_is h n lines (over w) later x is f e = absurd (fault_headed _ x e)
-step_is h n lines empty later x is f e = f e
-step_is h n lines rule later x is f e = subst IsHeader (ap (λ (z : Headed). z.0) (headed_eq (h, lines, n + 1) x e)) is
-step_is h n lines (says k) later x is f e = f e
+step_is : (P : Header → Type 0) (h : Header) (n : ℕ) (lines : List (List ℕ)) (said : Line Header) (later : Result Headed RunFault) (x : Headed) → P h → (later ≡ headed x → P x.0) → header_step h n lines said later ≡ headed x → P x.0
+step_is P h n lines bad later x is f e = absurd (fault_headed _ x e)
+step_is P h n lines (over w) later x is f e = absurd (fault_headed _ x e)
+step_is P h n lines empty later x is f e = f e
+step_is P h n lines rule later x is f e = subst P (ap (λ (z : Headed). z.0) (headed_eq (h, lines, n + 1) x e)) is
+step_is P h n lines (says k) later x is f e = f e
+
+-- what each line keeps holds of the header of lines, where it holds of what came before
+pub header_keeps : (P : Header → Type 0) → ((h k : Header) (line : List ℕ) → P h → header_line h line ≡ says k → P k) → (h : Header) (n : ℕ) (lines : List (List ℕ)) (x : Headed) → P h → read_header h n lines ≡ Ok x → P x.0
+header_keeps P keeps h n [] x is e = absurd (fault_headed _ x e)
+header_keeps P keeps h n (line ∷ lines) x is e =
+    step_is P h n lines (header_line h line) (read_header (kept h (header_line h line)) (n + 1) lines) x is
+    (header_keeps P keeps (kept h (header_line h line)) (n + 1) lines x (kept_is P h (header_line h line) is (λ k s. keeps h k line is s))) e
 
 -- the header of lines is one of which the theorems speak, where what came before is
 pub header_is : (h : Header) (n : ℕ) (lines : List (List ℕ)) (x : Headed) → IsHeader h → read_header h n lines ≡ Ok x → IsHeader x.0
-header_is h n [] x is e = absurd (fault_headed _ x e)
-header_is h n (line ∷ lines) x is e =
-    step_is h n lines (header_line h line) (read_header (kept h (header_line h line)) (n + 1) lines) x is
-    (header_is (kept h (header_line h line)) (n + 1) lines x (kept_is h (header_line h line) is (λ k s. line_says h k line is s))) e
+header_is h n lines x is e = header_keeps IsHeader (λ g k line. line_says g k line) h n lines x is e

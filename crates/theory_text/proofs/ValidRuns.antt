@@ -1,5 +1,5 @@
 -- The runs that run files spell are those of which the theorems on runs speak.
-use Rattle.std.proofs.Common.{◌≡◌, ℕ, suc, ◌+◌, ◌*◌, ◌<◌, ◌≤◌, Bool, true, false, List, [], ◌∷◌, length, Option, Some, None, Ok, Err, refl, sym, ap, subst, ◌∙◌, arith}
+use Rattle.std.proofs.Common.{◌≡◌, ℕ, ◌+◌, ◌*◌, ◌≤◌, Bool, true, false, List, [], ◌∷◌, length, Option, Some, None, Ok, Err, refl, sym, ap, subst, arith}
 use Rattle.std.specs.Prelude.{if◌then◌else◌, nat_lt, Result}
 use Rattle.std.specs.List.{AllByRecursion}
 use Rattle.std.proofs.lemmas.Bool.Decides.{nat_tests}
@@ -22,22 +22,22 @@ use Rattle.theory_text.proofs.ValidHeaders.{no_header_is, header_is}
 
 -- ---- a line
 
-abbrev an_event : Event → Line Event
+abbrev pub an_event : Event → Line Event
 an_event e = says e
 
-event_eq : (d e : Event) → an_event d ≡ an_event e → d ≡ e
+pub event_eq : (d e : Event) → an_event d ≡ an_event e → d ≡ e
 event_eq d e h = cc
 
-over_says : (e : Event) → over limits.Events ≡ an_event e → ⊥
+pub over_says : (e : Event) → over limits.Events ≡ an_event e → ⊥
 over_says e h = cc
 
 long_says : (e : Event) → over limits.Line ≡ an_event e → ⊥
 long_says e h = cc
 
-bad_says : (e : Event) → bad ≡ an_event e → ⊥
+pub bad_says : (e : Event) → bad ≡ an_event e → ⊥
 bad_says e h = cc
 
-empty_says : (e : Event) → empty ≡ an_event e → ⊥
+pub empty_says : (e : Event) → empty ≡ an_event e → ⊥
 empty_says e h = cc
 
 within_is : (room : Bool) (d e : Event) → spelled_within true room limits.Events d ≡ an_event e → d ≡ e
@@ -52,15 +52,15 @@ words_are : (s : Setup) (count : ℕ) (words : List (List ℕ)) (e : Event) → 
 words_are s count [] e size few h = absurd (empty_says e h)
 words_are s count (w ∷ ws) e size few h = said_is s count (event_of s.header.parties (w ∷ ws)) e (λ d is. event_is s (w ∷ ws) d size few is) h
 
-record Short (long : Bool) (said : Line Event) (e : Event) : Type 0 where
-  short : long ≡ false
-  is : said ≡ an_event e
+pub record Short (long : Bool) (said : Line Event) (e : Event) : Type 0 where
+  pub short : long ≡ false
+  pub is : said ≡ an_event e
 
-not_long : (long : Bool) (said : Line Event) (e : Event) → (if long then over limits.Line else said) ≡ an_event e → Short long said e
+pub not_long : (long : Bool) (said : Line Event) (e : Event) → (if long then over limits.Line else said) ≡ an_event e → Short long said e
 not_long true said e h = absurd (long_says e h)
 not_long false said e h = record { short = refl; is = h }
 
-short_line : (line : List ℕ) → is_long line ≡ false → length line ≤ 1048576
+pub short_line : (line : List ℕ) → is_long line ≡ false → length line ≤ 1048576
 short_line line h = grind (arith, nat_tests)
 
 line_is : (s : Setup) (count : ℕ) (line : List ℕ) (e : Event) → event_line s.header.parties count line ≡ an_event e → IsEvent s e
@@ -99,13 +99,13 @@ events_are s count n (line ∷ lines) es h =
 
 -- ---- the run
 
-abbrev a_run : Run → Result Run RunFault
+abbrev pub a_run : Run → Result Run RunFault
 a_run r = Ok r
 
-run_eq : (q r : Run) → a_run q ≡ a_run r → q ≡ r
+pub run_eq : (q r : Run) → a_run q ≡ a_run r → q ≡ r
 run_eq q r h = cc
 
-fault_run : (f : RunFault) (r : Run) → Err f ≡ a_run r → ⊥
+pub fault_run : (f : RunFault) (r : Run) → Err f ≡ a_run r → ⊥
 fault_run f r h = cc
 
 header_and_events : (header : Header) (read : Result (List Event) RunFault) (run : Run) → IsHeader header → ((es : List Event) → read ≡ events_read es → (s : Setup) → s.header ≡ header → AllByRecursion (IsEvent s) es) → with_header header read ≡ a_run run → IsReadRun run

@@ -1,2 +1,1 @@
 pub mod RunFiles
-pub mod Headline

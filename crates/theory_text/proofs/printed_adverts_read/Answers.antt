@@ -1,0 +1,5 @@
+use Rattle.theory_text.proofs.PrintedAdverts.{printed_advert}
+use Rattle.theory_text.proofs.printed_adverts_read.Goals as goal
+
+pub returns : goal.returns
+returns c = printed_advert

@@ -1,0 +1,5 @@
+use Rattle.theory_text.proofs.PrintedLines.{printed_event}
+use Rattle.theory_text.proofs.printed_events_read.Goals as goal
+
+pub returns : goal.returns
+returns c = printed_event

@@ -1,0 +1,15 @@
+//! What follows of any world, whatever run led to it: each theorem is the contract of a function that does nothing.
+#![tactic(auto)]
+
+ghost use Rattle.spec_run.specs.Statements.{ValueTheorem, RefusalTheorem};
+
+/// What the live outputs are worth never grows, and stays the same after every event that isn't
+/// accepted.
+pub fn value_theorem()
+    ensures { ValueTheorem }
+{}
+
+/// A refused event leaves all as it was, but for the messages that were hashed.
+pub fn refusal_theorem()
+    ensures { RefusalTheorem }
+{}

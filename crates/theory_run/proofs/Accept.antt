@@ -1,45 +1,43 @@
 -- What an accepted transaction leaves of signatures, outputs and contracts.
-use Rattle.std.proofs.Common.{◌≡◌, ℕ, zero, suc, ◌+◌, ◌<◌, ◌≤◌, ◌^◌, List, [], ◌∷◌, ◌++◌, length, map, Bool, true, false, not, Option, Some, None, refl, sym, ap, ◌∙◌, subst, arith, inl, inr, lit<}
-use Rattle.std.specs.Prelude.{◌==◌, ◌&&◌, ◌||◌, ◌⊎◌, slice_get, is_some, if◌then◌else◌, option_map}
-use Rattle.std.specs.List.{flat_map, list_any, list_all}
-use Rattle.std.specs.Str.{bytes_eq}
-use Rattle.std.proofs.lemmas.Bool.{and_parts, and_from, or_left, or_right, or_cases, both_ways, eqb-true, eq-eqb}
+use Rattle.std.proofs.Common.{◌≡◌, ℕ, zero, suc, ◌+◌, ◌<◌, ◌≤◌, ◌^◌, List, [], ◌∷◌, ◌++◌, length, map, Bool, true, false, not, Option, Some, None, refl, sym, ap, ◌∙◌, subst, arith, inl, inr}
+use Rattle.std.specs.Prelude.{◌==◌, ◌⊎◌, slice_get, if◌then◌else◌, option_map}
+use Rattle.std.specs.List.{flat_map}
+use Rattle.std.proofs.lemmas.Bool.{or_left, or_right, both_ways, eq-eqb}
 use Rattle.spec_data.specs.Lists.{has_number, is_among}
 use Rattle.spec_terms.specs.Term as term
 use Rattle.spec_terms.specs.Term.{Choice, branches}
 use Rattle.spec_terms.specs.Core.{is_asked}
 use Rattle.spec_terms.specs.declared.path.PathStep.{PathStep}
-use Rattle.spec_terms.specs.declared.path.PathStep.TheVariants.{Branch as To, Part as Into}
+use Rattle.spec_terms.specs.declared.path.PathStep.TheVariants.{Branch as To}
 use Rattle.spec_bitcoin.specs.declared.tx.OutPoint.{OutPoint}
 use Rattle.spec_bitcoin.specs.declared.tx.TxIn.{TxIn}
 use Rattle.spec_bitcoin.specs.declared.tx.TxOut.{TxOut}
 use Rattle.spec_bitcoin.specs.declared.tx.Tx.{Tx}
-use Rattle.spec_bitcoin.specs.Spelling.{stripped, IsPlace, IsTransaction}
+use Rattle.spec_bitcoin.specs.Spelling.{stripped, IsPlace}
 use Rattle.spec_bitcoin.specs.Digests.{txid, preimage, digest, opening_transaction}
 use Rattle.spec_bitcoin.specs.Keys.{key_of, has_signed}
 use Rattle.spec_bitcoin.specs.Verdict.{script_of, input_strings}
 use Rattle.spec_calculus.specs.Configuration.{Configuration}
-use Rattle.spec_compiler.specs.Setting.{Setting, branch_label, deposit_key, people}
+use Rattle.spec_compiler.specs.Setting.{Setting, branch_label, deposit_key}
 use Rattle.spec_compiler.specs.Transactions.{Standing, party_script}
 use Rattle.spec_compiler.specs.ByPath.{position_at}
-use Rattle.spec_run.specs.Setup.{Setup, is_declared, is_honest}
-use Rattle.spec_run.specs.World.{Held, Output, World, output_at, held_at, active_held, is_advertised}
+use Rattle.spec_run.specs.Setup.{Setup, is_declared}
+use Rattle.spec_run.specs.World.{Held, Output, World, held_at, active_held, is_advertised}
 use Rattle.spec_run.specs.Owners.{paid_to}
 use Rattle.spec_run.specs.Compiled.{compiled_at}
 use Rattle.spec_run.specs.Conditions.{HashesBytes}
 use Rattle.spec_run.specs.Event.{opening_outputs}
-use Rattle.spec_run.specs.Ledger.{live_from, spend_from, made_from, strings_of}
-use Rattle.theory_bitcoin.proofs.Apart.{inputless_apart}
-use Rattle.theory_run.proofs.Hashed.{NoClash}
-use Rattle.theory_run.proofs.Preimages.{HeardLists, heard_lists, double-apart}
-use Rattle.theory_run.proofs.Bare.{bare, bare_input, NoScripts, stripped-apart}
-use Rattle.theory_run.proofs.Positions.{Is_in}
-use Rattle.theory_run.proofs.Accepting.{IsSpent, AllSpent, Accepting, HeardAll, HeardInput, heard_bytes, heard_bytes_hash, heard_shared, heard_input, later_strings, first_strings}
-use Rattle.theory_run.proofs.Later.{Lasts, SameOutput, lasts_spent, get-spent, get-front, get-split, get-made}
+use Rattle.spec_run.specs.Ledger.{live_from, spend_from, made_from}
+use Rattle.theory_world.proofs.Hashed.{NoClash}
+use Rattle.theory_world.proofs.Preimages.{HeardLists, heard_lists, double-apart, IsNumbered}
+use Rattle.theory_world.proofs.Bare.{bare_input, NoScripts, stripped-apart, inputless_apart}
+use Rattle.theory_world.proofs.Positions.{Is_in}
+use Rattle.theory_world.proofs.Accepting.{IsSpent, AllSpent, Accepting, HeardAll, heard_bytes, heard_bytes_hash, heard_shared, heard_input, later_strings, first_strings}
+use Rattle.theory_world.proofs.Later.{SameOutput, get-spent, get-front, get-split, get-made}
 use Rattle.spec_calculus.specs.Branches.{has_branch_authorised}
-use Rattle.theory_run.proofs.Outputs.{length-spend_from}
-use Rattle.theory_run.proofs.Labels.{get_below}
-use Rattle.theory_run.proofs.Kept.{cause_later, KeptBook, HeldFine, DepositCause, BranchCause, HeardDigest, SpentFor, AllSpentFor, From, opening_id, Frame, from_later, origin_later, held_later, advert_later}
+use Rattle.theory_world.proofs.Outputs.{length-spend_from}
+use Rattle.theory_world.proofs.Labels.{get_below}
+use Rattle.theory_run.proofs.Kept.{cause_later, KeptBook, HeldFine, BranchCause, SpentFor, AllSpentFor, From, opening_id, Frame, origin_later, held_later, advert_later}
 use Rattle.theory_run.proofs.Spending.{DraftsFit, Checked, deposit_signed}
 
 in_strings : (f : TxIn → List (List ℕ)) (is : List TxIn) (i : TxIn) (t : List ℕ) → Is_in i is → is_among t (f i) ≡ true → is_among t (flat_map f is) ≡ true
@@ -65,7 +63,7 @@ no_scripts s w tx [] (x ∷ is) h = absurd h
 no_scripts s w tx (n ∷ ns) [] h = absurd h
 no_scripts s w tx (n ∷ ns) (x ∷ is) h = (h.0.no_script, no_scripts s w tx ns is h.1)
 
-bare_in : (xs ys : List TxIn) (i : TxIn) → map bare_input xs ≡ map bare_input ys → Is_in i xs → (j : TxIn) × Is_in j ys × (j.prev ≡ i.prev)
+pub bare_in : (xs ys : List TxIn) (i : TxIn) → map bare_input xs ≡ map bare_input ys → Is_in i xs → (j : TxIn) × Is_in j ys × (j.prev ≡ i.prev)
 bare_in [] ys i e h = absurd h
 bare_in (x ∷ xs) [] i e h = cc
 bare_in (x ∷ xs) (y ∷ ys) i e (inl k) =
@@ -76,13 +74,13 @@ bare_in (x ∷ xs) (y ∷ ys) i e (inr k) =
     let r = bare_in xs ys i b k in
     (r.0, inr r.1, r.2)
 
-spent_for_in : (s : Setup) (w : World) (tx : Tx) (is : List TxIn) (i : TxIn) → AllSpentFor s w tx is → Is_in i is → SpentFor s w tx i
+pub spent_for_in : (s : Setup) (w : World) (tx : Tx) (is : List TxIn) (i : TxIn) → AllSpentFor s w tx is → Is_in i is → SpentFor s w tx i
 spent_for_in s w tx [] i h k = absurd k
 spent_for_in s w tx (x ∷ is) i h (inl e) = subst (SpentFor s w tx) (sym e) h.0
 spent_for_in s w tx (x ∷ is) i h (inr k) = spent_for_in s w tx is i h.1 k
 
 module _ (s : Setup) (size : HashesBytes s.hash) (g : Configuration) (w : World) (kept : KeptBook s g w) (fit : DraftsFit s w) (check : Checked s w) (hs : List (List ℕ)) (clear : NoClash s.hash hs) (sub : (t : List ℕ) → is_among t w.hashed ≡ true → is_among t hs ≡ true)
-    (tx : Tx) (fits : IsTransaction tx) (spent : List ℕ) (acc : Accepting s w tx spent) (all : HeardAll s w hs tx) where
+    (tx : Tx) (fits : IsNumbered tx) (spent : List ℕ) (acc : Accepting s w tx spent) (all : HeardAll s w hs tx) where
   pub scripts_none : NoScripts tx.inputs
   scripts_none = no_scripts s w tx spent tx.inputs acc.spends
 
@@ -92,6 +90,13 @@ module _ (s : Setup) (size : HashesBytes s.hash) (g : Configuration) (w : World)
   first_input : (is : List TxIn) → not (length is == 0) ≡ true → (i : TxIn) × Is_in i is
   first_input [] h = cc
   first_input (i ∷ is) h = (i, inl refl)
+
+  some_inputs : 0 < length tx.inputs
+  some_inputs = above (length tx.inputs) acc.some
+    where
+      above : (n : ℕ) → not (n == 0) ≡ true → 0 < n
+      above zero h = cc
+      above (suc n) h = omega arith
 
   -- what spends the same places isn't dead
   pub not_dead : (i : TxIn) (n : ℕ) (o : Output) → Is_in i tx.inputs → slice_get w.outputs n ≡ Some o → o.place ≡ i.prev → o.live ≡ false → ⊥
@@ -111,10 +116,10 @@ module _ (s : Setup) (size : HashesBytes s.hash) (g : Configuration) (w : World)
       by_origin (inl f) =
           let op = opening_transaction (opening_outputs s) in
           let m = double-apart s.hash hs clear (stripped op) (stripped tx) (sub _ kept.opened.0) (sub _ kept.opened.1) (heard_bytes s w hs tx all) (heard_bytes_hash s w hs tx all) (sym f ∙ e) in
-          inputless_apart op tx refl fits m
+          inputless_apart op tx refl some_inputs m
       by_origin (inr f) =
           let m = double-apart s.hash hs clear (stripped f.tx) (stripped tx) (sub _ f.first) (sub _ f.second) (heard_bytes s w hs tx all) (heard_bytes_hash s w hs tx all) (sym f.is ∙ e) in
-          let b = stripped-apart f.tx tx f.fits fits m in
+          let b = stripped-apart f.tx tx f.no_scripts scripts_none f.fits fits m in
           let i = first_input tx.inputs acc.some in
           let j = bare_in tx.inputs f.tx.inputs i.0 (ap (λ (x : Tx). x.inputs) (sym b)) i.1 in
           let d = spent_for_in s w f.tx f.tx.inputs j.0 f.spent j.1 in

@@ -1,28 +1,23 @@
 -- What is kept after a contract is advertised.
-use Rattle.std.proofs.Common.{◌≡◌, ℕ, zero, suc, ◌+◌, ◌≤◌, List, [], ◌∷◌, ◌++◌, length, map, Bool, true, false, not, Option, Some, None, refl, sym, ap, ◌∙◌, subst, arith, inl, inr, append-nil}
-use Rattle.std.specs.Prelude.{◌==◌, ◌&&◌, ◌||◌, ◌⊎◌, slice_get, is_some, if◌then◌else◌}
-use Rattle.std.specs.List.{list_any, list_all, AllByRecursion}
+use Rattle.std.proofs.Common.{◌≡◌, ℕ, List, [], ◌∷◌, ◌++◌, map, Bool, true, false, not, Option, Some, None, refl, sym, ap, ◌∙◌, subst, arith, inl, inr}
+use Rattle.std.specs.Prelude.{◌==◌, ◌&&◌, ◌||◌, is_some, if◌then◌else◌}
+use Rattle.std.specs.List.{list_all}
 use Rattle.std.specs.Option.{is_none}
 use Rattle.std.specs.Str.{bytes_eq}
-use Rattle.std.proofs.lemmas.Bool.{and_parts, and_from, or_left, or_right, or_parts, or_cases, both_ways, not-false, not-true, eqb-true, eq-eqb}
-use Rattle.spec_data.specs.Lists.{is_among, are_different, has_number, look_up, first_reason}
-use Rattle.spec_data.proofs.ListLemmas.{no_reason-none_true}
-use Rattle.spec_terms.specs.Advert.{Advert}
-use Rattle.spec_terms.specs.Faults.{IsWellFormed}
+use Rattle.std.proofs.lemmas.Bool.{and_parts, and_from, or_left, or_right, or_parts, or_cases, both_ways, not-true, eqb-true, eq-eqb}
+use Rattle.spec_data.specs.Lists.{is_among, are_different, has_number, look_up}
 use Rattle.spec_terms.specs.Precondition.{Holding, deposits, names_of, name_in}
 use Rattle.spec_terms.specs.declared.pre.Pre.{Pre}
 use Rattle.spec_terms.specs.declared.pre.Pre.TheVariants.{Persistent, Volatile, Secret}
 use Rattle.spec_calculus.specs.Same.{owner_eq}
 use Rattle.spec_calculus.specs.declared.step.Owner.TheVariants.{Party, Outside}
-use Rattle.spec_calculus.specs.declared.parts.Advertised.{Advertised}
-use Rattle.spec_run.specs.Setup.{Setup, is_declared, is_honest, contract_at, has_contract, pre_at, people_at}
-use Rattle.spec_run.specs.World.{Output, World, output_at, is_deposit, bindings_at, is_advertised}
-use Rattle.spec_run.specs.Owners.{paid_to, owner_among, owner_by, owner_of, deposit_value, suits}
-use Rattle.spec_run.specs.Advertising.{or_else_this, arranged, repeated, not_live, unsuited, deposit_names, are_rearranged}
-use Rattle.theory_run.proofs.Same.{bytes-true, bytes_refl}
-use Rattle.theory_run.proofs.Tests.{any-append}
-use Rattle.theory_run.proofs.Positions.{Is_in}
-use Rattle.theory_run.proofs.AllSecrets.{different_names}
+use Rattle.spec_run.specs.Setup.{Setup, pre_at}
+use Rattle.spec_run.specs.World.{Output, World, output_at, is_deposit}
+use Rattle.spec_run.specs.Owners.{paid_to, owner_among, owner_by, suits}
+use Rattle.spec_run.specs.Advertising.{or_else_this, arranged, repeated, not_live, unsuited}
+use Rattle.theory_world.proofs.Same.{bytes-true, bytes_refl}
+use Rattle.theory_world.proofs.Tests.{any-append}
+use Rattle.theory_world.proofs.Positions.{Is_in}
 use Rattle.theory_run.proofs.Kept.{IsBound}
 
 -- ---- look-ups in what is arranged
@@ -129,7 +124,7 @@ owner_is s (p ∷ ps) script a h = by_test (bytes_eq (paid_to s p) script) refl 
     by_test true e q ih = (or_left _ _ q, sym (bytes-true (paid_to s p) script e) ∙ ap (paid_to s) (bytes-true p a q))
     by_test false e q ih = let r = ih q in (or_right (bytes_eq p a) _ r.0, r.1)
 
-none_is : {X : Type 0} (o : Option X) → is_none o ≡ true → o ≡ None
+pub none_is : {X : Type 0} (o : Option X) → is_none o ≡ true → o ≡ None
 none_is None h = refl
 none_is (Some x) h = cc
 
@@ -169,7 +164,7 @@ entry_looked e ds d f (inr i) ih = by_test (bytes_eq (e.0) (d.0)) refl
     by_test true u = absurd (both_ways _ f (subst (λ y. is_among y (names_of ds) ≡ true) (sym (bytes-true (e.0) (d.0) u)) (entry_named ds d i)))
     by_test false u = ih i
 
-head_apart : (name : List ℕ) (pre : List Pre) → (not (is_among name (map name_in pre)) && are_different (map name_in pre)) ≡ true → (is_among name (names_of (deposits pre)) ≡ false) × (are_different (map name_in pre) ≡ true)
+pub head_apart : (name : List ℕ) (pre : List Pre) → (not (is_among name (map name_in pre)) && are_different (map name_in pre)) ≡ true → (is_among name (names_of (deposits pre)) ≡ false) × (are_different (map name_in pre) ≡ true)
 head_apart name pre h =
     let p = and_parts (not (is_among name (map name_in pre))) (are_different (map name_in pre)) h in
     (by_test (is_among name (names_of (deposits pre))) refl (not-true _ p.0), p.1)

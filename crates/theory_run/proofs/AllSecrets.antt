@@ -1,24 +1,22 @@
 -- The secrets of all contracts are different.
-use Rattle.std.proofs.Common.{◌≡◌, ℕ, zero, suc, ◌+◌, ◌<◌, List, [], ◌∷◌, ◌++◌, map, Bool, true, false, not, Option, Some, None, refl, sym, ap, ◌∙◌, subst, arith, inl, inr}
-use Rattle.std.specs.Prelude.{◌==◌, ◌&&◌, ◌||◌, ◌⊎◌, is_some, slice_get, if◌then◌else◌, option_map}
-use Rattle.std.specs.List.{list_any, list_all, AllByRecursion}
+use Rattle.std.proofs.Common.{◌≡◌, ℕ, ◌+◌, ◌<◌, List, [], ◌∷◌, ◌++◌, map, Bool, true, false, not, Some, None, refl, sym, ap, ◌∙◌, subst, arith, inl, inr}
+use Rattle.std.specs.Prelude.{if◌then◌else◌}
+use Rattle.std.specs.List.{AllByRecursion}
 use Rattle.std.specs.Str.{bytes_eq}
-use Rattle.std.proofs.lemmas.Bool.{and_parts, and_from, or_left, or_right, or_parts, or_from, or_cases, ne_eqb, eq-eqb, not-true, not_from_false, false_from_ne_true, both_ways}
+use Rattle.std.proofs.lemmas.Bool.{and_parts, and_from, or_left, or_right, or_parts, or_from, or_cases, not-true, not_from_false, false_from_ne_true, both_ways}
 use Rattle.spec_data.specs.Lists.{is_among, are_different}
-use Rattle.spec_data.proofs.ListLemmas.{or_else-none}
 use Rattle.spec_terms.specs.Advert.{Advert}
-use Rattle.spec_terms.specs.Faults.{IsWellFormed, first_repeated, name_repeated}
-use Rattle.spec_terms.specs.Precondition.{secrets, name_in, names_of_party, secrets_of}
+use Rattle.spec_terms.specs.Faults.{IsWellFormed, first_repeated}
+use Rattle.spec_terms.specs.Precondition.{secrets, name_in}
 use Rattle.spec_terms.specs.declared.pre.Pre.{Pre}
 use Rattle.spec_terms.specs.declared.pre.Pre.TheVariants.{Persistent, Volatile, Secret}
 use Rattle.spec_calculus.specs.declared.parts.Revealed.{Revealed}
-use Rattle.spec_run.specs.Setup.{Setup, pre_at, pre_of, contract_at}
-use Rattle.spec_run.specs.Committing.{secrets_at}
+use Rattle.spec_run.specs.Setup.{Setup}
 use Rattle.spec_run.specs.Secrets.{all_secrets, secrets_from, secrets_of_contract}
 use Rattle.spec_terms.specs.declared.place.Place.TheVariants as places
-use Rattle.theory_run.proofs.Faultless.{map_none, no_fault}
-use Rattle.theory_run.proofs.Same.{bytes-true, bytes_refl}
-use Rattle.theory_run.proofs.Hashed.{among-append, among_left, among_right, among_head}
+use Rattle.theory_world.proofs.Faultless.{map_none, no_fault}
+use Rattle.theory_world.proofs.Same.{bytes-true, bytes_refl}
+use Rattle.theory_world.proofs.Hashed.{among-append, among_right, among_head}
 use Rattle.theory_run.proofs.Secrets.{has_secret, same_secret, secret-true, secret_refl, has_secret-append, different_secrets}
 
 -- ---- names of one precondition

@@ -1,32 +1,26 @@
 -- An accepted transaction that takes a branch: whom it asks authorise, its lock is over, and money agrees after its step.
-use Rattle.std.proofs.Common.{◌≡◌, ℕ, zero, suc, ◌+◌, ◌<◌, ◌≤◌, List, [], ◌∷◌, ◌++◌, length, map, Bool, true, false, not, cond, Option, Some, None, refl, sym, ap, ◌∙◌, subst, arith, append-nil, inl, inr}
-use Rattle.std.specs.Prelude.{◌-◌, if◌then◌else◌, ◌==◌, ◌&&◌, ◌||◌, ◌⊎◌, slice_get, is_some, nat_lt, nat_le}
-use Rattle.std.specs.List.{filter, find, list_all, list_any}
+use Rattle.std.proofs.Common.{◌≡◌, ℕ, suc, ◌+◌, List, [], ◌∷◌, ◌++◌, length, map, Bool, true, false, not, cond, Option, Some, None, refl, sym, ap, ◌∙◌, subst, arith, inl, inr}
+use Rattle.std.specs.Prelude.{if◌then◌else◌, ◌==◌, ◌&&◌, ◌||◌, ◌⊎◌, slice_get, is_some, nat_lt, nat_le}
+use Rattle.std.specs.List.{filter, find, list_all}
 use Rattle.std.specs.Option.{is_none, option_and_then}
 use Rattle.std.specs.Str.{bytes_eq}
 use Rattle.std.proofs.lemmas.Bool.{and_parts, and_from, or_cases, or_left, or_right, eq-eqb, not_from_false}
 use Rattle.std.proofs.lemmas.Bool.Decides.{nat_tests}
-use Rattle.spec_data.specs.Lists.{AllTrue, is_among, has_number, look_up}
+use Rattle.spec_data.specs.Lists.{AllTrue, is_among}
 use Rattle.spec_terms.specs.Term as term
 use Rattle.spec_terms.specs.Term.{Choice, branches, Parts, no_part, part, auth, after, put_reveal, withdraw, split}
-use Rattle.spec_terms.specs.Core.{core, asks, is_asked, lock, puts_of as core_puts}
-use Rattle.spec_terms.specs.Advert.{Advert}
-use Rattle.spec_terms.specs.Parties.{participants}
-use Rattle.spec_terms.specs.Precondition.{Holding, volatile, deposits, names_of, total_of, value_of_puts}
+use Rattle.spec_terms.specs.Core.{asks, is_asked}
 use Rattle.spec_terms.specs.declared.path.PathStep.{PathStep}
-use Rattle.spec_terms.specs.declared.path.PathStep.TheVariants.{Branch as To, Part as Into}
+use Rattle.spec_terms.specs.declared.path.PathStep.TheVariants.{Part as Into}
 use Rattle.spec_bitcoin.specs.declared.tx.TxIn.{TxIn}
-use Rattle.spec_bitcoin.specs.declared.tx.TxOut.{TxOut}
 use Rattle.spec_bitcoin.specs.declared.tx.Tx.{Tx}
 use Rattle.spec_bitcoin.specs.Verdict.{heeds_lock, is_not_final}
 use Rattle.spec_calculus.specs.declared.parts.Deposit.{Deposit}
 use Rattle.spec_calculus.specs.declared.parts.ActiveContract.{ActiveContract}
 use Rattle.spec_calculus.specs.declared.parts.BranchAuthorisation.{BranchAuthorisation}
-use Rattle.spec_calculus.specs.declared.step.Step.{Step}
-use Rattle.spec_calculus.specs.declared.step.Step.TheVariants as steps
 use Rattle.spec_calculus.specs.Configuration.{Configuration}
 use Rattle.spec_calculus.specs.Moves.{deposit_at, kept}
-use Rattle.spec_calculus.specs.Branches.{active_at, others, parts_made, part_values, has_branch_authorised, have_branch_authorised, asks_of}
+use Rattle.spec_calculus.specs.Branches.{active_at, parts_made, part_values, has_branch_authorised, have_branch_authorised, asks_of}
 use Rattle.spec_calculus.specs.Steps.{auth_branch_premises, branch_at, with_branch, effect, after as reached, Legal}
 use Rattle.spec_compiler.specs.Setting.{Setting}
 use Rattle.spec_compiler.specs.Transactions.{part_outputs}
@@ -35,9 +29,9 @@ use Rattle.spec_run.specs.World.{Held, Output, World, is_deposit, active_held}
 use Rattle.spec_run.specs.Ledger.{made_from}
 use Rattle.spec_run.specs.Steps.{auth_branch, is_awaited}
 use Rattle.spec_run.specs.Agreement.{active_by, active_in, deposits_from, actives_from}
-use Rattle.theory_run.proofs.Same.{bytes-true, bytes_refl}
-use Rattle.theory_run.proofs.Tests.{any-append}
-use Rattle.theory_run.proofs.Outputs.{deposit_of, deposit-at, active-at}
+use Rattle.theory_world.proofs.Same.{bytes-true, bytes_refl}
+use Rattle.theory_world.proofs.Tests.{any-append}
+use Rattle.theory_world.proofs.Outputs.{deposit_of, deposit-at, active-at}
 use Rattle.theory_run.proofs.Legal.{passes}
 use Rattle.theory_run.proofs.Moved.{AgreeOnMoney}
 use Rattle.theory_run.proofs.Commits.{every}

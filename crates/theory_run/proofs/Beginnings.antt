@@ -1,49 +1,44 @@
 -- An accepted initial transaction is a legal beginning, and money agrees after it.
-use Rattle.std.proofs.Common.{◌≡◌, ℕ, zero, suc, ◌+◌, List, [], ◌∷◌, ◌++◌, length, map, Bool, true, false, not, cond, Option, Some, None, refl, sym, ap, ◌∙◌, subst, arith, append-nil, inl, inr}
-use Rattle.std.specs.Prelude.{◌-◌, if◌then◌else◌, ◌==◌, ◌&&◌, ◌||◌, slice_get, is_some}
-use Rattle.std.specs.List.{filter, list_all, list_any}
+use Rattle.std.proofs.Common.{◌≡◌, ℕ, List, [], ◌∷◌, ◌++◌, map, Bool, true, false, not, cond, Option, Some, None, refl, sym, ap, ◌∙◌, subst, append-nil, inl, inr}
+use Rattle.std.specs.Prelude.{◌-◌, if◌then◌else◌, ◌==◌, ◌&&◌, slice_get}
+use Rattle.std.specs.List.{filter, list_all}
 use Rattle.std.specs.Str.{bytes_eq}
-use Rattle.std.proofs.lemmas.Bool.{and_parts, and_from, or_left, or_right, eq-eqb}
-use Rattle.spec_data.specs.Lists.{AllTrue, is_among, are_different, look_up, has_number}
+use Rattle.std.proofs.lemmas.Bool.{and_from, or_left, or_right, eq-eqb}
+use Rattle.spec_data.specs.Lists.{AllTrue, is_among, look_up, has_number}
 use Rattle.spec_terms.specs.Advert.{Advert}
 use Rattle.spec_terms.specs.Parties.{participants}
-use Rattle.spec_terms.specs.Precondition.{Holding, persistent, deposits, names_of, name_in, total_of}
+use Rattle.spec_terms.specs.Precondition.{Holding, persistent, deposits, names_of, total_of}
 use Rattle.spec_bitcoin.specs.declared.tx.Tx.{Tx}
-use Rattle.spec_bitcoin.specs.declared.tx.TxOut.{TxOut}
 use Rattle.spec_bitcoin.specs.Digests.{txid}
-use Rattle.spec_calculus.specs.declared.step.Step.{Step}
 use Rattle.spec_calculus.specs.declared.step.Step.TheVariants as steps
 use Rattle.spec_calculus.specs.declared.parts.Advertised.{Advertised}
 use Rattle.spec_calculus.specs.declared.parts.ActiveContract.{ActiveContract}
 use Rattle.spec_calculus.specs.declared.parts.InitAuthorisation.{InitAuthorisation}
 use Rattle.spec_calculus.specs.Configuration.{Configuration}
-use Rattle.spec_calculus.specs.Moves.{is_live}
 use Rattle.spec_calculus.specs.Branches.{gone, total_value, has_branch_authorised}
-use Rattle.spec_calculus.specs.Beginning.{contract_at, pre_of, fee_of, bindings_of, has_committed, have_committed, is_there, are_there, numbers_of, persistent_names, has_persistent, is_own, is_init_authorised, are_init_authorised}
+use Rattle.spec_calculus.specs.Beginning.{contract_at, pre_of, bindings_of, has_committed, have_committed, is_there, are_there, numbers_of, persistent_names, has_persistent, is_own, is_init_authorised}
 use Rattle.spec_calculus.specs.Steps.{auth_init_premises, init_premises, is_committed, with_init, begun, effect, after, Legal}
 use Rattle.spec_compiler.specs.Setting.{Setting, position_script}
-use Rattle.spec_compiler.specs.Transactions.{input_of, tx_of, deposit, pays, initial_draft, root_value}
-use Rattle.spec_run.specs.Setup.{Setup, pre_at, pre_of as setup_pre}
-use Rattle.spec_run.specs.World.{Held, Output, World, is_deposit, output_at, bindings_at, has_promised, have_promised, is_promise_of}
+use Rattle.spec_compiler.specs.Transactions.{pays, root_value}
+use Rattle.spec_run.specs.Setup.{Setup, pre_of as setup_pre}
+use Rattle.spec_run.specs.World.{Held, World, bindings_at, has_promised, have_promised}
 use Rattle.spec_run.specs.Ledger.{spend_from, made_from}
 use Rattle.spec_run.specs.Steps.{auth_inits, unauthorised, begin_steps, names_deposit}
-use Rattle.spec_run.specs.Agreement.{deposits_from, actives_from}
-use Rattle.theory_run.proofs.Same.{bytes-true, bytes_refl}
-use Rattle.theory_run.proofs.Tests.{any-append, any_map, all_alike, all_then, all_among}
+use Rattle.theory_world.proofs.Same.{bytes_refl}
+use Rattle.theory_world.proofs.Tests.{any-append, any_map, all_alike, all_among}
 use Rattle.theory_run.proofs.Legal.{passes, after-append, legal_append}
 use Rattle.theory_run.proofs.Moved.{AgreeOnMoney, live_there, actives-untouched}
 use Rattle.theory_run.proofs.Keeping.{committed_by}
 use Rattle.theory_run.proofs.AllSecrets.{different_names}
 use Rattle.theory_run.proofs.Commits.{Constant}
-use Rattle.theory_run.proofs.Bare.{bare, bare_input}
-use Rattle.theory_run.proofs.Positions.{Is_in}
-use Rattle.theory_run.proofs.Accepting.{Accepting}
-use Rattle.theory_run.proofs.Later.{compiled_is}
+use Rattle.theory_world.proofs.Positions.{Is_in}
+use Rattle.theory_world.proofs.Accepting.{Accepting}
+use Rattle.theory_world.proofs.Later.{compiled_is}
 use Rattle.theory_run.proofs.Kept.{KeptBook}
 use Rattle.theory_run.proofs.Spending.{Checked}
 use Rattle.theory_run.proofs.Entering.{IsInitial, persistent_deposit}
-use Rattle.theory_run.proofs.Gone.{taken_values, gone_values, agree_by}
-use Rattle.theory_run.proofs.Numbers.{in_looked, named_looked, persistent_different, AllIn, all_in, AreBound, are_bound}
+use Rattle.theory_run.proofs.Gone.{gone_values, agree_by}
+use Rattle.theory_run.proofs.Numbers.{in_looked, persistent_different, all_in, AreBound, are_bound}
 
 -- ---- what contract steps leave
 
@@ -118,11 +113,11 @@ inits_cover xs ys k (p ∷ ps) h = by_test (is_init_authorised xs k (p.0)) refl 
 
 -- ---- the steps
 
-abbrev InitOk : Configuration → ℕ → List (List ℕ × Holding) → Type 0
+abbrev pub InitOk : Configuration → ℕ → List (List ℕ × Holding) → Type 0
 InitOk c k [] = Unit {0}
 InitOk c k (d ∷ ds) = AllTrue (auth_init_premises c k (d.1).owner (d.0) (contract_at c.contracts k)) × InitOk c k ds
 
-legal_inits : (c : Configuration) (k : ℕ) (ds : List (List ℕ × Holding)) (xs : List InitAuthorisation) → InitOk c k ds → Legal (record c { init_authorised = xs }) (auth_inits k ds)
+pub legal_inits : (c : Configuration) (k : ℕ) (ds : List (List ℕ × Holding)) (xs : List InitAuthorisation) → InitOk c k ds → Legal (record c { init_authorised = xs }) (auth_inits k ds)
 legal_inits c k [] xs h = tt
 legal_inits c k (d ∷ ds) xs h = (passes (record c { init_authorised = xs }) (steps.AuthInit k (d.1).owner (d.0)) h.0, legal_inits c k ds (with_init xs k (d.0)) h.1)
 

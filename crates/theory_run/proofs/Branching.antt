@@ -1,7 +1,7 @@
 -- An accepted transaction that takes a branch is a legal step of the calculus, and money agrees after it.
-use Rattle.std.proofs.Common.{◌≡◌, ℕ, zero, suc, ◌+◌, ◌<◌, ◌≤◌, List, [], ◌∷◌, ◌++◌, length, map, Bool, true, false, not, Option, Some, None, refl, sym, ap, ◌∙◌, subst, arith, append-nil, inl, inr}
-use Rattle.std.specs.Prelude.{◌-◌, ◌==◌, ◌&&◌, ◌||◌, ◌⊎◌, slice_get, is_some, nat_le}
-use Rattle.std.specs.List.{filter, list_all, AllByRecursion}
+use Rattle.std.proofs.Common.{◌≡◌, ℕ, ◌+◌, ◌≤◌, List, [], ◌∷◌, ◌++◌, length, map, true, not, Some, None, refl, sym, ap, ◌∙◌, subst, append-nil}
+use Rattle.std.specs.Prelude.{◌-◌, slice_get, is_some, nat_le}
+use Rattle.std.specs.List.{filter, list_all}
 use Rattle.std.proofs.lemmas.Bool.{and_parts}
 use Rattle.spec_data.specs.Lists.{AllTrue, is_among, are_distinct, has_number, look_up}
 use Rattle.spec_terms.specs.Term as term
@@ -10,54 +10,50 @@ use Rattle.spec_terms.specs.Core.{core, asks, lock, puts_of as core_puts, reveal
 use Rattle.spec_terms.specs.Value.{holds}
 use Rattle.spec_terms.specs.Advert.{Advert}
 use Rattle.spec_terms.specs.Parties.{participants}
-use Rattle.spec_terms.specs.Precondition.{Holding, volatile, deposits, names_of, total_of, value_of_puts}
+use Rattle.spec_terms.specs.Precondition.{volatile, deposits, names_of, value_of_puts}
 use Rattle.spec_terms.specs.declared.path.PathStep.{PathStep}
-use Rattle.spec_terms.specs.declared.path.PathStep.TheVariants.{Branch as To, Part as Into}
+use Rattle.spec_terms.specs.declared.path.PathStep.TheVariants.{Branch as To}
 use Rattle.spec_bitcoin.specs.declared.tx.TxIn.{TxIn}
-use Rattle.spec_bitcoin.specs.declared.tx.TxOut.{TxOut}
 use Rattle.spec_bitcoin.specs.declared.tx.Tx.{Tx}
-use Rattle.spec_bitcoin.specs.Spelling.{IsTransaction}
 use Rattle.spec_bitcoin.specs.Digests.{txid}
-use Rattle.spec_calculus.specs.declared.step.Step.{Step}
 use Rattle.spec_calculus.specs.declared.step.Step.TheVariants as steps
 use Rattle.spec_calculus.specs.declared.parts.ActiveContract.{ActiveContract}
 use Rattle.spec_calculus.specs.Configuration.{Configuration}
 use Rattle.spec_calculus.specs.Moves.{kept as kept_deposits}
 use Rattle.spec_calculus.specs.Beginning.{contract_at, pre_of, fee_of, bindings_of, are_there, numbers_of, is_init_authorised}
-use Rattle.spec_calculus.specs.Branches.{active_at, others, gone, total_value, are_revealed, secret_lengths, advert_of, branch_in, branch_of, lock_of, asks_of, part_values, is_put, is_withdraw, is_split, is_put_core, is_withdraw_core, is_split_core, payee_of, payee_in, values_of, values_in, puts_of, reveals_of, test_of, place_of, has_branch_authorised, have_branch_authorised}
-use Rattle.spec_calculus.specs.Steps.{branch_at, put_reveal_premises, withdraw_premises, split_premises, continued, withdrawn, divided, effect, after as reached, Legal}
-use Rattle.spec_compiler.specs.Setting.{Setting, people, branch_path, position_script}
-use Rattle.spec_compiler.specs.Transactions.{input_of, tx_of, deposit, pays, party_script, continued_value, part_outputs, core_outputs, put_deposits, branch_draft}
-use Rattle.spec_run.specs.Setup.{Setup, people_at, people_of, is_declared}
-use Rattle.spec_run.specs.World.{Held, Output, World, is_deposit, bindings_at}
-use Rattle.spec_run.specs.Compiled.{compiled_at}
+use Rattle.spec_calculus.specs.Branches.{active_at, others, gone, total_value, are_revealed, secret_lengths, advert_of, branch_in, branch_of, lock_of, asks_of, part_values, is_withdraw, is_split, is_put_core, is_withdraw_core, is_split_core, payee_of, payee_in, values_of, values_in, puts_of, place_of, has_branch_authorised, have_branch_authorised}
+use Rattle.spec_calculus.specs.Steps.{branch_at, put_reveal_premises, withdraw_premises, split_premises, continued, withdrawn, divided, after as reached, Legal}
+use Rattle.spec_compiler.specs.Setting.{Setting, branch_path, position_script}
+use Rattle.spec_compiler.specs.Transactions.{input_of, pays, party_script, continued_value, part_outputs, core_outputs, put_deposits}
+use Rattle.spec_run.specs.Setup.{Setup, people_at, people_of}
+use Rattle.spec_run.specs.World.{Held, World, is_deposit, bindings_at}
 use Rattle.spec_run.specs.Conditions.{HashesBytes}
 use Rattle.spec_run.specs.Ledger.{spend_from, made_from, core_holds, held_branch}
-use Rattle.spec_run.specs.Agreement.{deposits_from, actives_from}
 use Rattle.spec_run.specs.Steps.{auth_branch, is_awaited, core_step, branch_steps}
-use Rattle.theory_run.proofs.Tests.{all_alike}
-use Rattle.theory_run.proofs.Hashed.{NoClash}
+use Rattle.theory_world.proofs.Preimages.{IsNumbered}
+use Rattle.theory_world.proofs.Tests.{all_alike}
+use Rattle.theory_world.proofs.Hashed.{NoClash}
 use Rattle.theory_run.proofs.Legal.{passes, after-append, legal_append}
 use Rattle.theory_run.proofs.Moved.{AgreeOnMoney}
 use Rattle.theory_run.proofs.Commits.{Constant}
-use Rattle.theory_run.proofs.Bare.{bare, bare_input}
-use Rattle.theory_run.proofs.Accepting.{Accepting, AllSpent, HeardAll}
-use Rattle.theory_run.proofs.Later.{compiled_is}
-use Rattle.theory_run.proofs.Standing.{term_branches}
-use Rattle.theory_run.proofs.Mentions.{branch_named, asked_mentioned}
+use Rattle.theory_world.proofs.Bare.{bare_input}
+use Rattle.theory_world.proofs.Accepting.{Accepting, AllSpent, HeardAll}
+use Rattle.theory_world.proofs.Later.{compiled_is}
+use Rattle.theory_world.proofs.Standing.{term_branches}
+use Rattle.theory_world.proofs.Mentions.{branch_named, asked_mentioned}
 use Rattle.theory_run.proofs.Kept.{KeptBook}
 use Rattle.theory_run.proofs.Spending.{DraftsFit, Checked}
 use Rattle.theory_run.proofs.Entering.{First, first}
 use Rattle.theory_run.proofs.Enters.{Taking}
 use Rattle.theory_run.proofs.Kinded.{looked_branch}
-use Rattle.theory_run.proofs.Gone.{taken_values, gone_values, without_absent, only_first, agree_by}
+use Rattle.theory_run.proofs.Gone.{gone_values, without_absent, only_first, agree_by}
 use Rattle.theory_run.proofs.Numbers.{AllIn, volatile_entry, entries_named, entries_in, entries_deposits, entries_total, AreBound, are_bound}
 use Rattle.theory_run.proofs.Owned.{owner_paid}
 use Rattle.theory_run.proofs.Beginnings.{StepFrame, bindings_same, there_same}
 use Rattle.theory_run.proofs.Awaiting.{asked_all, after-asked, asked_all_more, asked_cover, legal_awaited, lock_reached, active_there, no_deposit_there, none_active, kept_none, part_held, parts_active, parts_no_deposits, parts_counted}
 
 module _ (s : Setup) (size : HashesBytes s.hash) (few_contracts : length s.contracts ≤ 16) (g : Configuration) (w : World) (kept : KeptBook s g w) (fit : DraftsFit s w) (check : Checked s w) (hs : List (List ℕ)) (clear : NoClash s.hash hs) (sub : (t : List ℕ) → is_among t w.hashed ≡ true → is_among t hs ≡ true)
-    (tx : Tx) (fits : IsTransaction tx) (spent : List ℕ) (acc : Accepting s w tx spent) (all : HeardAll s w hs tx) where
+    (tx : Tx) (fits : IsNumbered tx) (spent : List ℕ) (acc : Accepting s w tx spent) (all : HeardAll s w hs tx) where
   abbrev fst : First s size g w kept fit check hs clear sub tx fits spent acc all
   fst = first s size g w kept fit check hs clear sub tx fits spent acc all
 

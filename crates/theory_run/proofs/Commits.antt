@@ -1,38 +1,35 @@
 -- A commitment is a legal step, and what it leaves of secrets.
-use Rattle.std.proofs.Common.{◌≡◌, ℕ, ◌+◌, ◌-◌, zero, suc, List, [], ◌∷◌, ◌++◌, length, map, Bool, true, false, not, Option, Some, None, refl, sym, ap, ◌∙◌, subst, arith, inl, inr, append-nil}
-use Rattle.std.specs.Prelude.{if◌then◌else◌, ◌==◌, ◌&&◌, ◌||◌, ◌⊎◌, slice_get, is_some, nat_le}
+use Rattle.std.proofs.Common.{◌≡◌, ℕ, ◌+◌, zero, suc, List, [], ◌∷◌, ◌++◌, length, map, Bool, true, false, not, Option, Some, None, refl, sym, ap, ◌∙◌, subst, arith, inl, inr, append-nil}
+use Rattle.std.specs.Prelude.{if◌then◌else◌, ◌==◌, ◌&&◌, ◌||◌, slice_get, is_some}
 use Rattle.std.specs.List.{find, list_all, list_any}
 use Rattle.std.specs.Option.{option_map}
 use Rattle.std.specs.Str.{bytes_eq}
-use Rattle.std.proofs.lemmas.Bool.{and_parts, and_from, or_left, or_right, or_parts, or_cases, eqb-true, eq-eqb, not-false, not-true, not_from_false, false_from_ne_true, both_ways}
+use Rattle.std.proofs.lemmas.Bool.{and_parts, and_from, or_left, or_right, or_parts, or_cases, eqb-true, eq-eqb, not-false, not_from_false, both_ways}
 use Rattle.std.proofs.lemmas.Bool.Decides.{nat_tests}
 use Rattle.spec_data.specs.Lists.{is_among, are_different, look_up, first_reason, NoneTrue}
 use Rattle.spec_data.proofs.ListLemmas.{no_reason-none_true}
 use Rattle.spec_terms.specs.Advert.{Advert}
-use Rattle.spec_terms.specs.Parties.{participants}
 use Rattle.spec_terms.specs.Precondition.{secrets, names_of, names_of_party, secrets_of}
-use Rattle.spec_terms.specs.declared.pre.Pre.{Pre}
-use Rattle.spec_terms.specs.declared.pre.Pre.TheVariants.{Persistent, Volatile, Secret}
 use Rattle.spec_calculus.specs.declared.parts.Revealed.{Revealed}
 use Rattle.spec_calculus.specs.declared.step.Step.{Step}
 use Rattle.spec_calculus.specs.declared.step.Step.TheVariants as steps
 use Rattle.spec_calculus.specs.Configuration.{Configuration}
-use Rattle.spec_calculus.specs.Beginning.{pre_of as calculus_pre, participants_of, is_fair, lists_each, are_known, is_told, has_committed}
+use Rattle.spec_calculus.specs.Beginning.{pre_of as calculus_pre, participants_of, is_fair, lists_each, are_known, has_committed}
 use Rattle.spec_calculus.specs.Steps.{effect, after, Legal}
-use Rattle.spec_run.specs.Setup.{Setup, is_honest, held_secret, bytes_or_none, pre_of, pre_at, people_of, people_at, contract_at}
+use Rattle.spec_run.specs.Setup.{Setup, is_honest, held_secret, bytes_or_none, pre_of, people_of, contract_at}
 use Rattle.spec_run.specs.Messages.{noted_all, collision}
 use Rattle.spec_run.specs.World.{Promise, World, is_promise_of, has_promised}
 use Rattle.spec_run.specs.Advertising.{are_rearranged, arranged, or_else_this}
-use Rattle.spec_run.specs.Committing.{secrets_at, is_secret_long, own_digests, own_strings, not_held, badly_long, used_digests, used_again, missing_secret, bad_secret, names_fit, committed_digests, committed_strings, commit_row, digest_row, repeated_digest, with_promise}
+use Rattle.spec_run.specs.Committing.{secrets_at, is_secret_long, own_digests, own_strings, not_held, badly_long, used_digests, used_again, names_fit, committed_digests, committed_strings, commit_row, digest_row}
 use Rattle.spec_run.specs.Revealing.{fits, fitting}
 use Rattle.spec_run.specs.Secrets.{all_secrets, secrets_from, secrets_of_contract, digest_at, is_shown, shown, newly_shown, secret_size, length_in_run, lengths_in_run}
 use Rattle.spec_run.specs.Steps.{reveals, commit_lengths}
-use Rattle.theory_run.proofs.Same.{bytes-true, bytes_refl}
-use Rattle.theory_run.proofs.Tests.{any-append, any_map, map_append}
+use Rattle.theory_world.proofs.Same.{bytes-true, bytes_refl}
+use Rattle.theory_world.proofs.Tests.{any-append, any_map, map_append}
 use Rattle.theory_run.proofs.Legal.{passes}
-use Rattle.theory_run.proofs.Hashed.{NoClash, no_clash, among_left, among_head, among_tail, all_more, all_new}
-use Rattle.theory_run.proofs.Secrets.{has_secret, same_secret, secret_refl, has_secret-append, different_secrets, after-reveals}
-use Rattle.theory_run.proofs.Once.{Once, once_push, at_push, at_used, new_at, not_before, used-append}
+use Rattle.theory_world.proofs.Hashed.{NoClash, no_clash, among_left, among_head, among_tail, all_more, all_new}
+use Rattle.theory_run.proofs.Secrets.{has_secret, same_secret, has_secret-append, different_secrets, after-reveals}
+use Rattle.theory_world.proofs.Once.{once_push, at_push, new_at, not_before, used-append}
 use Rattle.theory_run.proofs.Keeping.{Begins, KeptSecrets, is_own, committed_by, reveals_legal, reveals_agree}
 use Rattle.theory_run.proofs.Posting.{is_own-some, is_own-more, shown-is_some, posted_own}
 
@@ -102,7 +99,7 @@ long_all : (s : Setup) (a : List ℕ) (ns : List (List ℕ)) → is_some (badly_
 long_all s a [] h = refl
 long_all s a (n ∷ ns) h = grind (arith, long_all s a ns)
 
-own_looked : (s : Setup) (a n : List ℕ) (ns : List (List ℕ)) → is_among n ns ≡ true → look_up n (own_digests s a ns) ≡ Some (s.hash (bytes_or_none (held_secret s a n)))
+pub own_looked : (s : Setup) (a n : List ℕ) (ns : List (List ℕ)) → is_among n ns ≡ true → look_up n (own_digests s a ns) ≡ Some (s.hash (bytes_or_none (held_secret s a n)))
 own_looked s a n [] h = cc
 own_looked s a n (m ∷ ns) h = by_test (bytes_eq m n) refl h (own_looked s a n ns)
   where
@@ -110,6 +107,19 @@ own_looked s a n (m ∷ ns) h = by_test (bytes_eq m n) refl h (own_looked s a n 
         → (if b then Some (s.hash (bytes_or_none (held_secret s a m))) else look_up n (own_digests s a ns)) ≡ Some (s.hash (bytes_or_none (held_secret s a n)))
     by_test true e q ih = ap (λ y. Some (s.hash (bytes_or_none (held_secret s a y)))) (bytes-true m n e)
     by_test false e q ih = ih q
+
+-- each of a party's secrets has its digest
+pub digests_looked : (s : Setup) (k : ℕ) (a : List ℕ) (ds : List (List ℕ × List ℕ)) → names_fit s k a ds ≡ true → list_all (λ n. is_some (look_up n (committed_digests s k a ds))) (secrets_at s k a) ≡ true
+digests_looked s k a ds h = by_honest (is_honest s a) refl h
+  where
+    names : List (List ℕ)
+    names = secrets_at s k a
+
+    by_honest : (b : Bool) → is_honest s a ≡ b → (if b then length ds == 0 else are_rearranged (names_of ds) names) ≡ true → list_all (λ n. is_some (look_up n (if b then own_digests s a names else ds))) names ≡ true
+    by_honest true e r = every (λ n. is_some (look_up n (own_digests s a names))) names (λ n i. ap is_some (own_looked s a n names i))
+    by_honest false e r =
+        let p = and_parts (are_different (names_of ds) && list_all (λ n. is_among n names) (names_of ds)) (list_all (λ n. is_among n (names_of ds)) names) r in
+        every (λ n. is_some (look_up n ds)) names (λ n i. named-looked ds n (each (λ m. is_among m (names_of ds)) names n p.1 i))
 
 own_heard : (s : Setup) (a n : List ℕ) (ns : List (List ℕ)) → is_among n ns ≡ true → is_among (bytes_or_none (held_secret s a n)) (own_strings s a ns) ≡ true
 own_heard s a n [] h = cc
@@ -225,13 +235,7 @@ module _ (s : Setup) (z : List (List ℕ)) (apart : different_secrets (all_secre
 
   -- each name has its digest
   looked : list_all (λ n. is_some (look_up n digests)) names ≡ true
-  looked = by_honest (is_honest s a) refl (not-false _ row.1.1.1.1.0)
-    where
-      by_honest : (b : Bool) → is_honest s a ≡ b → (if b then length ds == 0 else are_rearranged (names_of ds) names) ≡ true → list_all (λ n. is_some (look_up n (if b then own_digests s a names else ds))) names ≡ true
-      by_honest true e r = every (λ n. is_some (look_up n (own_digests s a names))) names (λ n i. ap is_some (own_looked s a n names i))
-      by_honest false e r =
-          let p = and_parts (are_different (names_of ds) && list_all (λ n. is_among n names) (names_of ds)) (list_all (λ n. is_among n (names_of ds)) names) r in
-          every (λ n. is_some (look_up n ds)) names (λ n i. named-looked ds n (each (λ m. is_among m (names_of ds)) names n p.1 i))
+  looked = digests_looked s k a ds (not-false _ row.1.1.1.1.0)
 
   fair : (n : List ℕ) → is_among n names ≡ true → is_fair (length_in_run s z a n (or_else_this [] (look_up n digests))) ≡ true
   fair n i = by_honest (is_honest s a) refl

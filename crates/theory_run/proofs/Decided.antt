@@ -1,21 +1,16 @@
 -- All steps of an accepted transaction that takes a branch are legal, and money agrees after them.
-use Rattle.std.proofs.Common.{◌≡◌, ℕ, zero, suc, ◌+◌, ◌<◌, ◌≤◌, List, [], ◌∷◌, ◌++◌, length, map, reverse, Bool, true, false, not, Option, Some, None, refl, sym, ap, ◌∙◌, subst, inl, inr}
-use Rattle.std.specs.Prelude.{◌==◌, ◌&&◌, ◌||◌, slice_get, is_some}
-use Rattle.std.specs.List.{list_all, flat_map}
+use Rattle.std.proofs.Common.{◌≡◌, ℕ, ◌≤◌, List, [], ◌∷◌, ◌++◌, length, map, Bool, true, not, Some, refl, sym, ap, ◌∙◌, subst}
+use Rattle.std.specs.Prelude.{◌==◌, slice_get}
 use Rattle.spec_data.specs.Lists.{is_among}
 use Rattle.spec_terms.specs.Term as term
 use Rattle.spec_terms.specs.Term.{Choice, branches, auth, after, put_reveal, withdraw, split}
-use Rattle.spec_terms.specs.Core.{core, puts_of, reveals_of, test_of}
+use Rattle.spec_terms.specs.Core.{core, reveals_of, test_of}
 use Rattle.spec_terms.specs.Value.{holds}
 use Rattle.spec_terms.specs.Advert.{Advert}
 use Rattle.spec_terms.specs.Parties.{participants}
-use Rattle.spec_terms.specs.declared.path.PathStep.{PathStep}
-use Rattle.spec_terms.specs.declared.path.PathStep.TheVariants.{Branch as To, Part as Into}
-use Rattle.spec_bitcoin.specs.declared.tx.TxIn.{TxIn}
+use Rattle.spec_terms.specs.declared.path.PathStep.TheVariants.{Branch as To}
 use Rattle.spec_bitcoin.specs.declared.tx.Tx.{Tx}
-use Rattle.spec_bitcoin.specs.Spelling.{IsTransaction}
 use Rattle.spec_bitcoin.specs.Digests.{txid}
-use Rattle.spec_bitcoin.specs.Verdict as verdict
 use Rattle.spec_calculus.specs.Configuration.{Configuration}
 use Rattle.spec_calculus.specs.Steps.{after as reached, Legal}
 use Rattle.spec_compiler.specs.Setting.{Setting, branch_path}
@@ -23,17 +18,18 @@ use Rattle.spec_compiler.specs.Scripts.{digest_of}
 use Rattle.spec_compiler.specs.Statements.{Opens, are_secrets, secret_lengths as shown_lengths}
 use Rattle.spec_compiler.specs.Transactions.{core_outputs}
 use Rattle.spec_run.specs.Setup.{Setup, people_at}
-use Rattle.spec_run.specs.World.{Held, Output, World, digests_at, have_promised}
+use Rattle.spec_run.specs.World.{Held, World, digests_at, have_promised}
 use Rattle.spec_run.specs.Conditions.{HashesBytes}
 use Rattle.spec_run.specs.Ledger.{spend_from, made_from, core_holds, held_branch}
 use Rattle.spec_run.specs.Steps.{branch_steps}
-use Rattle.theory_run.proofs.Hashed.{NoClash, among_left, among_right}
+use Rattle.theory_world.proofs.Preimages.{IsNumbered}
+use Rattle.theory_world.proofs.Hashed.{NoClash, among_left, among_right}
 use Rattle.theory_run.proofs.Moved.{AgreeOnMoney}
 use Rattle.theory_run.proofs.Keeping.{KeptSecrets, Begins}
 use Rattle.theory_run.proofs.Commits.{Constant}
-use Rattle.theory_run.proofs.Accepting.{Accepting, HeardAll}
-use Rattle.theory_run.proofs.Later.{compiled_is}
-use Rattle.theory_run.proofs.Standing.{term_choice}
+use Rattle.theory_world.proofs.Accepting.{Accepting, HeardAll}
+use Rattle.theory_world.proofs.Later.{compiled_is}
+use Rattle.theory_world.proofs.Standing.{term_choice}
 use Rattle.theory_run.proofs.Kept.{KeptBook}
 use Rattle.theory_run.proofs.Spending.{DraftsFit, Checked}
 use Rattle.theory_run.proofs.Entering.{First, first}
@@ -43,7 +39,7 @@ use Rattle.theory_run.proofs.Branching.{IsTested, legal_put, legal_withdraw, leg
 use Rattle.theory_run.proofs.Tested.{puts_known, reveals_known, PromisesNamed, all_revealed}
 
 module _ (s : Setup) (size : HashesBytes s.hash) (few_contracts : length s.contracts ≤ 16) (g : Configuration) (w : World) (kept : KeptBook s g w) (fit : DraftsFit s w) (check : Checked s w) (hs : List (List ℕ)) (clear : NoClash s.hash hs) (sub : (t : List ℕ) → is_among t w.hashed ≡ true → is_among t hs ≡ true)
-    (tx : Tx) (fits : IsTransaction tx) (spent : List ℕ) (acc : Accepting s w tx spent) (all : HeardAll s w hs tx) where
+    (tx : Tx) (fits : IsNumbered tx) (spent : List ℕ) (acc : Accepting s w tx spent) (all : HeardAll s w hs tx) where
   abbrev fst : First s size g w kept fit check hs clear sub tx fits spent acc all
   fst = first s size g w kept fit check hs clear sub tx fits spent acc all
 

@@ -1,46 +1,41 @@
 -- What an accepted transaction is to the contracts, and what its outputs hold.
-use Rattle.std.proofs.Common.{◌≡◌, ℕ, zero, suc, ◌+◌, ◌<◌, ◌≤◌, ◌^◌, List, [], ◌∷◌, ◌++◌, length, map, Bool, true, false, not, Option, Some, None, refl, sym, ap, ◌∙◌, subst, arith, inl, inr, lit<}
-use Rattle.std.specs.Prelude.{◌==◌, ◌&&◌, ◌||◌, ◌⊎◌, slice_get, is_some, if◌then◌else◌, option_map}
-use Rattle.std.specs.List.{flat_map, list_any, list_all, AllByRecursion}
+use Rattle.std.proofs.Common.{◌≡◌, ℕ, zero, suc, ◌+◌, List, [], ◌∷◌, length, map, Bool, true, false, not, Option, Some, None, refl, sym, ap, ◌∙◌, subst, arith, inl, inr}
+use Rattle.std.specs.Prelude.{◌==◌, slice_get, if◌then◌else◌}
 use Rattle.std.specs.Str.{bytes_eq}
-use Rattle.std.proofs.lemmas.Bool.{and_parts, and_from, or_left, or_right, or_cases, both_ways, eqb-true, eq-eqb}
-use Rattle.spec_data.specs.Lists.{has_number, is_among, look_up}
+use Rattle.std.proofs.lemmas.Bool.{both_ways}
+use Rattle.spec_data.specs.Lists.{is_among, look_up}
 use Rattle.spec_terms.specs.Term as term
 use Rattle.spec_terms.specs.Term.{Choice, branches, Parts, no_part, part, parts_list, auth, after, put_reveal, withdraw, split}
-use Rattle.spec_terms.specs.Core.{core}
 use Rattle.spec_terms.specs.Advert.{Advert}
 use Rattle.spec_terms.specs.Precondition.{Holding, deposits, persistent}
 use Rattle.spec_terms.specs.declared.pre.Pre.{Pre}
 use Rattle.spec_terms.specs.declared.pre.Pre.TheVariants.{Persistent, Volatile, Secret}
 use Rattle.spec_terms.specs.declared.path.PathStep.{PathStep}
-use Rattle.spec_terms.specs.declared.path.PathStep.TheVariants.{Branch as To, Part as Into}
 use Rattle.spec_bitcoin.specs.declared.tx.OutPoint.{OutPoint}
 use Rattle.spec_bitcoin.specs.declared.tx.TxIn.{TxIn}
-use Rattle.spec_bitcoin.specs.declared.tx.TxOut.{TxOut}
 use Rattle.spec_bitcoin.specs.declared.tx.Tx.{Tx}
-use Rattle.spec_bitcoin.specs.Spelling.{stripped, IsPlace, IsTransaction}
+use Rattle.spec_bitcoin.specs.Spelling.{stripped, IsPlace}
 use Rattle.spec_compiler.specs.Hashed.{compiled_strings}
 use Rattle.spec_bitcoin.specs.Digests.{txid}
-use Rattle.spec_bitcoin.specs.Keys.{pay_to}
 use Rattle.spec_calculus.specs.Configuration.{Configuration}
-use Rattle.spec_compiler.specs.Setting.{Setting, branch_path}
-use Rattle.spec_compiler.specs.Transactions.{Draft, Spent, Standing, input_of, tx_of, output_place, place_or_none, deposit, persistent_deposits, branch_draft, initial_draft, root_standing}
+use Rattle.spec_compiler.specs.Setting.{Setting}
+use Rattle.spec_compiler.specs.Transactions.{Draft, Spent, Standing, input_of, tx_of, place_or_none, deposit, persistent_deposits, branch_draft, initial_draft, root_standing}
 use Rattle.spec_compiler.specs.ByPath.{position_at}
-use Rattle.spec_run.specs.Setup.{Setup, contract_at}
-use Rattle.spec_run.specs.World.{Held, Output, World, output_at, held_at, active_held, bindings_at}
+use Rattle.spec_run.specs.Setup.{Setup}
+use Rattle.spec_run.specs.World.{Held, Output, World, output_at, active_held, bindings_at, is_advertised}
 use Rattle.spec_run.specs.Compiled.{place_of, bound_places, compiled_at}
 use Rattle.spec_run.specs.Conditions.{HashesBytes}
-use Rattle.spec_run.specs.Ledger.{is_initial, initial_from, initial_of, first_held, same_bare}
-use Rattle.theory_run.proofs.Hashed.{NoClash}
-use Rattle.theory_run.proofs.Preimages.{double-apart}
-use Rattle.theory_run.proofs.Bare.{bare, bare_input, same-true, same_from, stripped-apart, txid-bare}
-use Rattle.theory_run.proofs.Positions.{Is_in}
-use Rattle.theory_run.proofs.Accepting.{IsSpent, AllSpent, Accepting, HeardAll, heard_bytes, heard_bytes_hash, heard_input}
-use Rattle.theory_run.proofs.Later.{compiled_is}
-use Rattle.theory_run.proofs.Made.{MadeBy, by_initial, by_branch, ByBranch, made_by}
-use Rattle.theory_run.proofs.Kept.{KeptBook, HeldFine, IsBound, AdvertFine}
-use Rattle.theory_run.proofs.Spending.{DraftsFit, Checked, HeardDraft, initial_heard, branch_heard, draft_bytes, draft_bytes_hash, IsTaken, taken}
-use Rattle.theory_run.proofs.Accept.{spent_at, scripts_none, lists, all_strings_of}
+use Rattle.spec_run.specs.Ledger.{is_initial, initial_from, initial_of, first_held}
+use Rattle.theory_world.proofs.Hashed.{NoClash}
+use Rattle.theory_world.proofs.Preimages.{double-apart, IsNumbered}
+use Rattle.theory_world.proofs.Bare.{bare, bare_input, same-true, same_from, stripped-apart, txid-bare}
+use Rattle.theory_world.proofs.Positions.{Is_in}
+use Rattle.theory_world.proofs.Accepting.{IsSpent, AllSpent, Accepting, HeardAll, heard_bytes, heard_bytes_hash, heard_input}
+use Rattle.theory_world.proofs.Later.{compiled_is}
+use Rattle.theory_world.proofs.Made.{MadeBy, by_initial, by_branch, ByBranch, made_by}
+use Rattle.theory_run.proofs.Kept.{KeptBook, IsBound, AdvertFine}
+use Rattle.theory_run.proofs.Spending.{DraftsFit, Checked, HeardDraft, initial_heard, branch_heard, draft_bytes, draft_bytes_hash, taken, draft_no_scripts}
+use Rattle.theory_run.proofs.Accept.{scripts_none, lists, all_strings_of}
 
 -- ---- which contract's initial transaction it is
 
@@ -110,10 +105,10 @@ pub record AtBound (s : Setup) (w : World) (st : Setting) (name : List ℕ) (h :
   pub bound : IsBound s w h number
   pub place : (deposit s.hash st name h).place ≡ bound.output.place
 
-pub at_bound : (s : Setup) (g : Configuration) (w : World) → KeptBook s g w → (k : ℕ) (st : Setting) → compiled_at s w k ≡ Some st → (name : List ℕ) (h : Holding) → Is_in (name, h) (deposits st.advert.pre) → AtBound s w st name h
-at_bound s g w kept k st c name h i =
+pub bound_at : (s : Setup) (w : World) → ((k : ℕ) → is_advertised w k ≡ true → AdvertFine s w k) → (k : ℕ) (st : Setting) → compiled_at s w k ≡ Some st → (name : List ℕ) (h : Holding) → Is_in (name, h) (deposits st.advert.pre) → AtBound s w st name h
+bound_at s w adverts k st c name h i =
     let ci = compiled_is s w k st c in
-    let ad = kept.adverts k ci.advertised in
+    let ad = adverts k ci.advertised in
     let sc : st.contract ≡ k = ap (λ (y : Setting). y.contract) ci.is in
     let sa : st.advert ≡ ci.advert = ap (λ (y : Setting). y.advert) ci.is in
     let sb : st.bound ≡ bound_places w (bindings_at w.advertised k) = ap (λ (y : Setting). y.bound) ci.is in
@@ -129,6 +124,9 @@ at_bound s g w kept k st c name h i =
       place = ap (λ bs. place_or_none (look_up name bs)) sb ∙ ap place_or_none l ∙ ap place_of b.2.there;
     }
 
+pub at_bound : (s : Setup) (g : Configuration) (w : World) → KeptBook s g w → (k : ℕ) (st : Setting) → compiled_at s w k ≡ Some st → (name : List ℕ) (h : Holding) → Is_in (name, h) (deposits st.advert.pre) → AtBound s w st name h
+at_bound s g w kept k st c name h i = bound_at s w kept.adverts k st c name h i
+
 -- the first persistent deposit
 first_persistent : (hash : List ℕ → List ℕ) (st : Setting) (ds : List (List ℕ × Holding)) (x : TxIn) (xs : List TxIn) → map bare_input (x ∷ xs) ≡ map bare_input (map input_of (map (λ (d : List ℕ × Holding). deposit hash st d.0 d.1) ds))
     → (d : List ℕ × Holding) × Is_in d ds × (x.prev ≡ (deposit hash st d.0 d.1).place)
@@ -141,7 +139,7 @@ first_place : (x : TxIn) (xs : List TxIn) (y : Spent) (ys : List Spent) → map 
 first_place x xs y ys h = let a : bare_input x ≡ bare_input (input_of y) = cc in ap (λ (z : TxIn). z.prev) a
 
 module _ (s : Setup) (size : HashesBytes s.hash) (g : Configuration) (w : World) (kept : KeptBook s g w) (fit : DraftsFit s w) (check : Checked s w) (hs : List (List ℕ)) (clear : NoClash s.hash hs) (sub : (t : List ℕ) → is_among t w.hashed ≡ true → is_among t hs ≡ true)
-    (tx : Tx) (fits : IsTransaction tx) (spent : List ℕ) (acc : Accepting s w tx spent) (all : HeardAll s w hs tx) where
+    (tx : Tx) (fits : IsNumbered tx) (spent : List ℕ) (acc : Accepting s w tx spent) (all : HeardAll s w hs tx) where
   -- ---- the first input
 
   pub record First : Type 0 where
@@ -194,8 +192,8 @@ module _ (s : Setup) (size : HashesBytes s.hash) (g : Configuration) (w : World)
   branch_first k st q here choice i b c e h = kept.placed k st q here choice first.number first.spends.output c e first.spends.there (draft_first (branch_draft s.hash st here i b) here.output _ refl h)
 
   -- equal ids come from transactions that are the same but for witnesses
-  pub id_bare : (d : Draft) → IsTransaction (tx_of d) → HeardDraft s.hash hs d → txid s.hash tx ≡ txid s.hash (tx_of d) → bare tx ≡ bare (tx_of d)
-  id_bare d df dh e = stripped-apart tx (tx_of d) fits df (double-apart s.hash hs clear (stripped tx) (stripped (tx_of d)) (heard_bytes s w hs tx all) (heard_bytes_hash s w hs tx all) (draft_bytes s.hash hs d dh) (draft_bytes_hash s.hash hs d dh) e)
+  pub id_bare : (d : Draft) → IsNumbered (tx_of d) → HeardDraft s.hash hs d → txid s.hash tx ≡ txid s.hash (tx_of d) → bare tx ≡ bare (tx_of d)
+  id_bare d df dh e = stripped-apart tx (tx_of d) (scripts_none s size g w kept fit check hs clear sub tx fits spent acc all) (draft_no_scripts d.spends) fits df (double-apart s.hash hs clear (stripped tx) (stripped (tx_of d)) (heard_bytes s w hs tx all) (heard_bytes_hash s w hs tx all) (draft_bytes s.hash hs d dh) (draft_bytes_hash s.hash hs d dh) e)
 
   pub bare_id : (d : Draft) → bare tx ≡ bare (tx_of d) → txid s.hash tx ≡ txid s.hash (tx_of d)
   bare_id d e = sym (txid-bare s.hash tx) ∙ ap (txid s.hash) e ∙ txid-bare s.hash (tx_of d)

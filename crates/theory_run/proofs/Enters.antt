@@ -1,50 +1,40 @@
 -- A move, a beginning and a branch that are accepted: what their outputs hold, and what is kept.
-use Rattle.std.proofs.Common.{◌≡◌, ℕ, zero, suc, ◌+◌, ◌<◌, ◌≤◌, ◌^◌, List, [], ◌∷◌, ◌++◌, length, map, Bool, true, false, not, Option, Some, None, refl, sym, ap, ◌∙◌, subst, arith, inl, inr, lit<}
-use Rattle.std.specs.Prelude.{◌-◌, ◌==◌, ◌&&◌, ◌||◌, ◌⊎◌, slice_get, is_some, if◌then◌else◌, option_map}
-use Rattle.std.specs.List.{flat_map, list_any, list_all, AllByRecursion}
-use Rattle.std.specs.Str.{bytes_eq}
+use Rattle.std.proofs.Common.{◌≡◌, ℕ, zero, suc, ◌+◌, ◌≤◌, ◌^◌, List, [], ◌∷◌, ◌++◌, length, true, Option, Some, None, refl, sym, ap, ◌∙◌, subst, arith, inl, inr}
+use Rattle.std.specs.Prelude.{◌-◌, ◌⊎◌, slice_get}
 use Rattle.spec_data.specs.Lists.{is_among}
 use Rattle.spec_terms.specs.Term as term
 use Rattle.spec_terms.specs.Term.{Choice, branches, Parts, no_part, part, parts_list, auth, after, put_reveal, withdraw, split}
 use Rattle.spec_terms.specs.Core.{core}
-use Rattle.spec_terms.specs.Paths as terms
 use Rattle.spec_terms.specs.declared.path.PathStep.{PathStep}
 use Rattle.spec_terms.specs.declared.path.PathStep.TheVariants.{Branch as To, Part as Into}
-use Rattle.spec_bitcoin.specs.declared.label.Label.TheVariants as labels
-use Rattle.spec_bitcoin.specs.declared.tx.OutPoint.{OutPoint}
 use Rattle.spec_bitcoin.specs.declared.tx.TxOut.{TxOut}
 use Rattle.spec_bitcoin.specs.declared.tx.Tx.{Tx}
-use Rattle.spec_bitcoin.specs.Spelling.{IsTransaction}
 use Rattle.spec_bitcoin.specs.Digests.{txid}
-use Rattle.spec_bitcoin.specs.Keys.{label_text, pay_to, IsLabel}
+use Rattle.spec_bitcoin.specs.Keys.{pay_to}
 use Rattle.spec_calculus.specs.Configuration.{Configuration}
-use Rattle.spec_compiler.specs.Setting.{Setting, branch_path, branch_label, people, position_demands, position_script, branch_keys}
-use Rattle.spec_compiler.specs.Scripts.{demands_from}
+use Rattle.spec_compiler.specs.Setting.{Setting, branch_path, position_script}
 use Rattle.spec_compiler.specs.Hashed.{compiled_strings}
-use Rattle.spec_bitcoin.specs.Scripts.{script_ops}
 use Rattle.theory_script.proofs.Stands.{position_stands}
-use Rattle.spec_compiler.specs.Statements.{IsCompiled}
-use Rattle.spec_compiler.specs.Transactions.{Draft, Standing, tx_of, output_place, pays, part_position, part_outputs, core_outputs, continued_value, branch_draft, continued, part_standing, initial_draft, root_standing, root_value, party_script}
-use Rattle.spec_compiler.specs.ByPath as by_path
+use Rattle.spec_compiler.specs.Transactions.{Standing, tx_of, pays, part_position, part_outputs, core_outputs, continued_value, branch_draft, continued, part_standing, initial_draft, root_standing, root_value, party_script}
 use Rattle.spec_compiler.specs.ByPath.{position_at}
 use Rattle.spec_run.specs.Setup.{Setup, is_declared}
 use Rattle.spec_run.specs.World.{Held, Output, World, is_advertised}
 use Rattle.spec_run.specs.Compiled.{compiled_at}
 use Rattle.spec_run.specs.Conditions.{HashesBytes}
 use Rattle.spec_run.specs.Ledger.{spend_from, made_from, core_holds, initial_of, first_held}
-use Rattle.theory_script.proofs.Opened.{is_checked}
-use Rattle.theory_run.proofs.Hashed.{NoClash}
-use Rattle.theory_run.proofs.Bare.{bare}
-use Rattle.theory_run.proofs.Accepting.{Accepting, HeardAll, IsSpent, heard_input}
-use Rattle.theory_run.proofs.Labels.{get_below, path_fine}
-use Rattle.theory_run.proofs.Later.{compiled_is}
-use Rattle.theory_run.proofs.Made.{ByBranch}
-use Rattle.theory_run.proofs.Standing.{stand_of_branch, put_position, split_position, position_named, term_choice, view_at, root_position}
-use Rattle.theory_run.proofs.Keyed.{ScriptKey, script_key, one_position, no_deposit}
+use Rattle.theory_world.proofs.Preimages.{IsNumbered}
+use Rattle.theory_world.proofs.Hashed.{NoClash}
+use Rattle.theory_world.proofs.Bare.{bare}
+use Rattle.theory_world.proofs.Accepting.{Accepting, HeardAll}
+use Rattle.theory_world.proofs.Later.{compiled_is}
+use Rattle.theory_world.proofs.Made.{ByBranch}
+use Rattle.theory_world.proofs.Standing.{put_position, split_position, position_named, root_position}
+use Rattle.theory_run.proofs.OnePosition.{pays_same, position_key, same_position}
+use Rattle.theory_world.proofs.Keyed.{no_deposit}
 use Rattle.theory_run.proofs.Kept.{KeptBook, HeldFine, Frame}
-use Rattle.theory_run.proofs.Spending.{DraftsFit, Checked, script_heard, label_heard, IsTaken, taken}
+use Rattle.theory_run.proofs.Spending.{DraftsFit, Checked, script_heard}
 use Rattle.theory_run.proofs.Accept.{accepts}
-use Rattle.theory_run.proofs.Entering.{First, first, first_holds, initial_first, branch_first, bare_id, IsInitial, not_initial, Making, initial_making, branch_making, making, moves_make_none}
+use Rattle.theory_run.proofs.Entering.{First, first, initial_first, branch_first, bare_id, IsInitial, not_initial, Making, initial_making, branch_making, making, moves_make_none}
 
 -- an element of a list of one
 one_of : {A : Type 0} (x y : A) (m : ℕ) → slice_get (x ∷ []) m ≡ Some y → (m ≡ 0) × (x ≡ y)
@@ -58,53 +48,15 @@ part_of hash st path k m no_part x h = cc
 part_of hash st path k zero (part v c ps) x h = let z : 0 + k ≡ k = omega arith in ((v, c), refl, rw z (let e : pays hash (position_script hash st (part_position path k) c) v ≡ x = cc in sym e))
 part_of hash st path k (suc m) (part v c ps) x h = let z : suc m + k ≡ m + (k + 1) = omega arith in rw z (part_of hash st path (k + 1) m ps x h)
 
-pays_same : (hash : List ℕ → List ℕ) (hs : List (List ℕ)) → NoClash hash hs → (a b : List ℕ) → is_among a hs ≡ true → is_among b hs ≡ true → pay_to (hash a) ≡ pay_to (hash b) → a ≡ b
-pays_same hash hs clear a b ha hb e = let h : hash a ≡ hash b = cc in clear.one a b ha hb h
-
 module _ (s : Setup) (size : HashesBytes s.hash) (few_contracts : length s.contracts ≤ 16) (g : Configuration) (w : World) (kept : KeptBook s g w) (fit : DraftsFit s w) (check : Checked s w) (hs : List (List ℕ)) (clear : NoClash s.hash hs) (sub : (t : List ℕ) → is_among t w.hashed ≡ true → is_among t hs ≡ true)
-    (tx : Tx) (fits : IsTransaction tx) (spent : List ℕ) (acc : Accepting s w tx spent) (all : HeardAll s w hs tx) where
+    (tx : Tx) (fits : IsNumbered tx) (spent : List ℕ) (acc : Accepting s w tx spent) (all : HeardAll s w hs tx) where
   heard_of : (k : ℕ) (st : Setting) → compiled_at s w k ≡ Some st → (t : List ℕ) → is_among t (compiled_strings s.hash st) ≡ true → is_among t hs ≡ true
   heard_of k st c t i = sub t (kept.heard k st c t i)
-
-  -- ---- keys of positions
-
-  abbrev Key : Setting → List PathStep → Choice → Type 0
-  Key st q choice = (a : ScriptKey s.hash st q (position_script s.hash st q choice)) × IsLabel (branch_label st.contract (q ++ To 0 ∷ []) a.person) × (is_among (label_text (branch_label st.contract (q ++ To 0 ∷ []) a.person)) hs ≡ true)
-
-  pub position_key : (k : ℕ) (st : Setting) (q : List PathStep) (here : Standing) (choice : Choice) → compiled_at s w k ≡ Some st → position_at s.hash st q ≡ Some (here, choice) → Key st q choice
-  position_key k st q here choice c e = by_branches (branches choice) refl (is_checked s.hash st q choice size.size comp).some_branch
-    where
-      comp : IsCompiled st q choice
-      comp = record { checked = check.checked k st c; committed = check.committed k st c; is_position = term_choice s.hash st q here choice e }
-
-      by_branches : (bs : List term.Branch) → branches choice ≡ bs → 0 < length (demands_from (λ i. branch_keys s.hash st (branch_path q i)) st.hashes 0 bs) → Key st q choice
-      by_branches [] f h = absurd (omega (arith, h))
-      by_branches (b ∷ bs) f h =
-          let there : slice_get (branches choice) 0 ≡ Some b = ap (λ xs. slice_get xs 0) f in
-          let key = script_key s.hash st q choice size.size comp b there in
-          let ci = compiled_is s w k st c in
-          let sc : st.contract ≡ k = ap (λ (y : Setting). y.contract) ci.is in
-          let lt = get_below s.contracts k ci.advert ci.there in
-          let spot : terms.spot_from (terms.position st.advert.root) (q ++ To 0 ∷ []) ≡ Some (terms.at_branch b) = view_at s.hash st (q ++ To 0 ∷ []) ∙ ap (option_map _) (stand_of_branch s.hash st q here choice 0 b e there) in
-          (key, (omega (arith, sc, lt, few_contracts), path_fine st.advert (q ++ To 0 ∷ []) (terms.at_branch b) (check.checked k st c) spot), label_heard s.hash st hs (heard_of k st c) q here choice 0 b e there key.person key.takes_part)
-
-  -- scripts of two positions that are paid to the same are of one position
-  same_position : (k j : ℕ) (st su : Setting) (q r : List PathStep) (here there : Standing) (c d : Choice) → compiled_at s w k ≡ Some st → compiled_at s w j ≡ Some su → position_at s.hash st q ≡ Some (here, c) → position_at s.hash su r ≡ Some (there, d)
-      → pay_to (s.hash (position_script s.hash st q c)) ≡ pay_to (s.hash (position_script s.hash su r d)) → (st.contract ≡ su.contract) × (q ≡ r)
-  same_position k j st su q r here there c d ck cj eq er p =
-      let a = position_key k st q here c ck eq in
-      let b = position_key j su r there d cj er in
-      let ha : is_among (position_script s.hash st q c) hs ≡ true = subst (λ x. is_among x hs ≡ true) (position_stands s.hash st q here c eq).script (script_heard s.hash st hs (heard_of k st ck) q here c eq) in
-      let hb : is_among (position_script s.hash su r d) hs ≡ true = subst (λ x. is_among x hs ≡ true) (position_stands s.hash su r there d er).script (script_heard s.hash su hs (heard_of j su cj) r there d er) in
-      let e = pays_same s.hash hs clear (position_script s.hash st q c) (position_script s.hash su r d) ha hb p in
-      let a' : ScriptKey s.hash st q (position_script s.hash su r d) = subst (ScriptKey s.hash st q) e a.0 in
-      one_position s.hash size.size hs clear st su q r (position_script s.hash su r d)
-      (record { person = a.0.person; takes_part = a.0.takes_part; ops = a.0.ops; spells = ap script_ops (sym e) ∙ a.0.spells; first = a.0.first; branch = a.0.branch }) b.0 a.1 b.1 a.2 b.2
 
   -- a position isn't paid as a deposit
   not_deposit : (k : ℕ) (st : Setting) (q : List PathStep) (here : Standing) (c : Choice) (p : List ℕ) → compiled_at s w k ≡ Some st → position_at s.hash st q ≡ Some (here, c) → is_declared s p ≡ true → pay_to (s.hash (position_script s.hash st q c)) ≡ pay_to (s.hash (party_script s.hash p)) → ⊥
   not_deposit k st q here c p ck eq decl e =
-      let a = position_key k st q here c ck eq in
+      let a = position_key s size few_contracts w check hs clear heard_of k st q here c ck eq in
       let ha : is_among (position_script s.hash st q c) hs ≡ true = subst (λ x. is_among x hs ≡ true) (position_stands s.hash st q here c eq).script (script_heard s.hash st hs (heard_of k st ck) q here c eq) in
       let x = pays_same s.hash hs clear (position_script s.hash st q c) (party_script s.hash p) ha (sub _ (kept.programs p decl)) e in
       no_deposit s.hash size.size hs clear st q (position_script s.hash st q c) p a.0 a.1 a.2 (sub _ (kept.labelled p decl)) x
@@ -190,7 +142,7 @@ module _ (s : Setup) (size : HashesBytes s.hash) (few_contracts : length s.contr
           by_making (initial_making a b h) =
               let o : (pays s.hash (position_script s.hash su [] su.advert.root) (root_value su) ∷ []) ≡ pays s.hash (position_script s.hash is.setting [] is.setting.advert.root) (root_value is.setting) ∷ [] = sym (ap (λ (y : Tx). y.outputs) h) ∙ outputs_are in
               let v : pays s.hash (position_script s.hash su [] su.advert.root) (root_value su) ≡ pays s.hash (position_script s.hash is.setting [] is.setting.advert.root) (root_value is.setting) = cc in
-              let same = same_position j k su is.setting [] [] (root_standing s.hash su) (root_standing s.hash is.setting) su.advert.root is.setting.advert.root c is.compiled refl refl (ap (λ (y : TxOut). y.script) v) in
+              let same = same_position s size few_contracts w check hs clear heard_of j k su is.setting [] [] (root_standing s.hash su) (root_standing s.hash is.setting) su.advert.root is.setting.advert.root c is.compiled refl refl (ap (λ (y : TxOut). y.script) v) in
               let cj : su.contract ≡ j = ap (λ (y : Setting). y.contract) (compiled_is s w j su c).is in
               let ck : is.setting.contract ≡ k = ap (λ (y : Setting). y.contract) (compiled_is s w k is.setting is.compiled).is in
               let kj : k ≡ j = sym ck ∙ sym same.0 ∙ cj in
@@ -289,12 +241,12 @@ module _ (s : Setup) (size : HashesBytes s.hash) (few_contracts : length s.contr
     holds_position (put_reveal puts reveals test nx) e q here choice m x eq hx hs' =
         let n = new_put puts reveals test nx e m x hx in
         let sc = (position_stands s.hash st path n.here n.choice n.stands).script in
-        let same = same_position h.contract h.contract st st path q n.here here n.choice choice t.fine.compiled t.fine.compiled n.stands eq (ap (λ y. pay_to (s.hash y)) (sym sc) ∙ sym n.script ∙ hs') in
+        let same = same_position s size few_contracts w check hs clear heard_of h.contract h.contract st st path q n.here here n.choice choice t.fine.compiled t.fine.compiled n.stands eq (ap (λ y. pay_to (s.hash y)) (sym sc) ∙ sym n.script ∙ hs') in
         ap (λ p. Some (record { contract = h.contract; position = p })) same.1
     holds_position (split ps) e q here choice m x eq hx hs' =
         let n = new_part ps e m x hx in
         let sc = (position_stands s.hash st (path ++ Into m ∷ []) n.here n.choice n.stands).script in
-        let same = same_position h.contract h.contract st st (path ++ Into m ∷ []) q n.here here n.choice choice t.fine.compiled t.fine.compiled n.stands eq (ap (λ y. pay_to (s.hash y)) (sym sc) ∙ sym n.script ∙ hs') in
+        let same = same_position s size few_contracts w check hs clear heard_of h.contract h.contract st st (path ++ Into m ∷ []) q n.here here n.choice choice t.fine.compiled t.fine.compiled n.stands eq (ap (λ y. pay_to (s.hash y)) (sym sc) ∙ sym n.script ∙ hs') in
         ap (λ p. Some (record { contract = h.contract; position = p })) same.1
     holds_position (withdraw p) e q here choice m x eq hx hs' =
         let r = one_of (pays s.hash (party_script s.hash p) (t.fine.here.output.value - st.advert.fee)) x m (ap (λ xs. slice_get xs m) (sym (outputs_are (withdraw p) e)) ∙ hx) in

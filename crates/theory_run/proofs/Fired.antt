@@ -1,38 +1,87 @@
 -- What is kept after an event that hands a transaction to the ledger, but for a gift: raw transactions, initial transactions and branches.
-use Rattle.std.proofs.Common.{◌≡◌, ℕ, zero, suc, ◌+◌, ◌≤◌, ◌<◌, ◌^◌, List, [], ◌∷◌, ◌++◌, length, Bool, true, false, Option, Some, None, Result, Ok, Err, refl, sym, ap, ◌∙◌, subst, arith}
+use Rattle.std.proofs.Common.{◌≡◌, ℕ, ◌≤◌, List, [], ◌∷◌, ◌++◌, length, Bool, true, false, Option, Some, None, Result, Ok, Err, refl, sym, ap, ◌∙◌, subst, arith, length-append}
+use Rattle.std.specs.Prelude.{slice_get, if◌then◌else◌, option_map}
 use Rattle.std.specs.List.{flat_map}
-use Rattle.spec_data.specs.Lists.{is_among, first_reason}
+use Rattle.spec_data.specs.Lists.{first_reason}
+use Rattle.spec_terms.specs.Term as term
+use Rattle.spec_terms.specs.Term.{branches}
+use Rattle.spec_terms.specs.Paths.{at}
+use Rattle.spec_terms.specs.declared.path.PathStep.TheVariants.{Branch as To}
 use Rattle.spec_bitcoin.specs.declared.tx.Tx.{Tx}
 use Rattle.spec_bitcoin.specs.declared.verdict.Verdict.{Verdict}
 use Rattle.spec_bitcoin.specs.declared.verdict.Verdict.TheVariants as verdicts
-use Rattle.spec_bitcoin.specs.Spelling.{IsTransaction}
+use Rattle.spec_bitcoin.specs.Spelling.{word, compact, output_bytes, inputs_bytes, outputs_bytes, witnesses_bytes, is_marked, stripped, marked, spelling}
 use Rattle.spec_bitcoin.specs.Reading.{transaction_of}
 use Rattle.spec_calculus.specs.Configuration.{Configuration}
 use Rattle.spec_calculus.specs.Steps.{after}
+use Rattle.spec_compiler.specs.Setting.{Setting}
+use Rattle.spec_compiler.specs.Transactions.{tx_of, prepared, branch_draft, initial_draft}
+use Rattle.spec_compiler.specs.ByPath.{prepared_at}
 use Rattle.spec_run.specs.declared.event.Event.{Event}
 use Rattle.spec_run.specs.declared.outcome.Reason.TheVariants as reason
-use Rattle.spec_run.specs.Setup.{Setup}
-use Rattle.spec_run.specs.World.{World, held_at}
+use Rattle.spec_run.specs.Setup.{Setup, contract_at}
+use Rattle.spec_run.specs.World.{Held, World, held_at}
 use Rattle.spec_run.specs.Compiled.{compiled_at}
 use Rattle.spec_run.specs.Conditions.{HashesBytes, IsPiece}
 use Rattle.spec_run.specs.Draft.{settled}
-use Rattle.spec_run.specs.Ledger.{verdict_in, strings_of, reason_of, accepted, judged, reaches}
-use Rattle.spec_run.specs.Firing.{initial_by, taking_by, reaches_if, fire_init_row, fire_init_draft, fire_row, fire_draft}
+use Rattle.spec_run.specs.Ledger.{verdict_in, strings_of, reason_of, accepted, judged, reaches, choice_in, held_path, held_branch, branch_in}
+use Rattle.spec_run.specs.Firing.{initial_by, initial_witnesses, initial_transaction, prepared_by, taking_with, taking_witnesses, taking_transaction, taking_by, reaches_if, fire_init_row, fire_init_draft, fire_row, fire_draft}
 use Rattle.spec_run.specs.Event.{append_read}
 use Rattle.spec_run.specs.Steps.{steps_of}
 use Rattle.theory_bitcoin.proofs.Top.{read_is_spelled}
-use Rattle.theory_run.proofs.Hashed.{NoClash}
-use Rattle.theory_run.proofs.Worth.{accepted_by}
-use Rattle.theory_run.proofs.Kept.{KeptBook}
+use Rattle.theory_world.proofs.Hashed.{NoClash}
+use Rattle.theory_world.proofs.Preimages.{IsNumbered, numbered}
+use Rattle.theory_world.proofs.Bare.{bare_numbered}
+use Rattle.theory_world.proofs.Acceptable.{with-bare}
+use Rattle.theory_world.proofs.Standing.{term_choice, term_branches, draft_of_branch}
+use Rattle.theory_world.proofs.Worth.{accepted_by}
+use Rattle.theory_run.proofs.Kept.{KeptBook, HeldFine}
 use Rattle.theory_run.proofs.Spending.{DraftsFit, Checked}
 use Rattle.theory_run.proofs.Reached.{reached_kept}
-use Rattle.theory_run.proofs.Staying.{inits_stay, asked_stay}
-use Rattle.theory_run.proofs.Signings.{KeptAfter, refused_after, unless_after}
+use Rattle.theory_world.proofs.Staying.{inits_stay, asked_stay}
+use Rattle.theory_run.proofs.Signings.{IsActive, active, held_contract, KeptAfter, refused_after, unless_after}
 
--- a transaction that fits its spelling, and whose outputs can be numbered in four bytes
-pub record IsNumbered (tx : Tx) : Type 0 where
-  pub fits : IsTransaction tx
-  pub few : length tx.outputs ≤ 2 ^ 32
+-- ---- bytes
+
+long_tail : (x y : List ℕ) → length y ≤ length (x ++ y)
+long_tail x y = let a = length-append x y in omega (arith, a)
+
+long_front : (x y : List ℕ) → length x ≤ length (x ++ y)
+long_front x y = let a = length-append x y in omega (arith, a)
+
+-- outputs have no more bytes than their transaction
+outputs_short : (tx : Tx) → length (flat_map output_bytes tx.outputs) ≤ length (spelling tx)
+unfolding stripped marked
+outputs_short tx = by_mark (is_marked tx.inputs)
+  where
+    o : ℕ
+    o = length (flat_map output_bytes tx.outputs)
+
+    by_mark : (b : Bool) → o ≤ length (if b then marked tx else stripped tx)
+    by_mark true =
+        let rest = inputs_bytes tx.inputs ++ outputs_bytes tx.outputs ++ witnesses_bytes tx.inputs ++ word tx.lock in
+        let a = long_tail (word tx.version) (0 ∷ 1 ∷ rest) in
+        let b = long_front (inputs_bytes tx.inputs ++ outputs_bytes tx.outputs ++ witnesses_bytes tx.inputs) (word tx.lock) in
+        let c = long_front (inputs_bytes tx.inputs ++ outputs_bytes tx.outputs) (witnesses_bytes tx.inputs) in
+        let d = long_tail (inputs_bytes tx.inputs) (outputs_bytes tx.outputs) in
+        let e = long_tail (compact (length tx.outputs)) (flat_map output_bytes tx.outputs) in
+        omega (arith, a, b, c, d, e)
+    by_mark false =
+        let b = long_front (word tx.version ++ inputs_bytes tx.inputs ++ outputs_bytes tx.outputs) (word tx.lock) in
+        let c = long_tail (word tx.version ++ inputs_bytes tx.inputs) (outputs_bytes tx.outputs) in
+        let e = long_tail (compact (length tx.outputs)) (flat_map output_bytes tx.outputs) in
+        omega (arith, b, c, e)
+
+-- a transaction that a piece spells
+pub piece_numbered : (bytes : List ℕ) → IsPiece bytes → (tx : Tx) → transaction_of bytes ≡ Ok tx → IsNumbered tx
+piece_numbered bytes piece tx h =
+    let sp = read_is_spelled bytes tx piece.bytes h in
+    let a = outputs_short tx in
+    let b = ap length sp.same in
+    let c = piece.size in
+    numbered tx sp.fits (omega (arith, a, b, c))
+
+-- ---- events
 
 module _ (s : Setup) (size : HashesBytes s.hash) (few_contracts : length s.contracts ≤ 16) (strings : List (List ℕ)) (g : Configuration) (w : World) (kept : KeptBook s g w) (fit : DraftsFit s w) (check : Checked s w) (clear : NoClash s.hash w.hashed) where
   -- whatever the ledger says of a transaction without new signatures
@@ -43,24 +92,70 @@ module _ (s : Setup) (size : HashesBytes s.hash) (few_contracts : length s.contr
       by_verdict (verdicts.Refused r) h = refused_after s size few_contracts strings g w kept check clear e (strings_of s w tx) (reason_of r)
       by_verdict (verdicts.Accepted spent made) h = λ apart.
           let xs = steps_of s strings g w (settled w (accepted s w tx spent)) e (accepted s w tx spent) in
-          reached_kept s size few_contracts g (after g xs) w kept fit check (inits_stay xs g) (asked_stay xs g) tx fine.fits fine.few spent (accepted_by s w tx spent made h) clear apart
+          reached_kept s size few_contracts g (after g xs) w kept fit check (inits_stay xs g) (asked_stay xs g) tx fine spent (accepted_by s w tx spent made h) clear apart
 
   pub reaches_if_after : (e : Event) (o : Option Tx) → ((tx : Tx) → o ≡ Some tx → IsNumbered tx) → KeptAfter s size few_contracts strings g w kept check clear e (reaches_if s w o)
   reaches_if_after e None fine = refused_after s size few_contracts strings g w kept check clear e [] reason.NotCompiled
   reaches_if_after e (Some tx) fine = reaches_after e tx (fine tx refl)
 
-  -- a raw transaction; those that bytes spell have no more outputs than bytes
-  pub append_after : (e : Event) (bytes : List ℕ) → IsPiece bytes → ((tx : Tx) → transaction_of bytes ≡ Ok tx → length tx.outputs ≤ 2 ^ 32) → KeptAfter s size few_contracts strings g w kept check clear e (append_read s w (transaction_of bytes))
-  append_after e bytes piece few = by_read (transaction_of bytes) refl
+  -- a raw transaction
+  pub append_after : (e : Event) (bytes : List ℕ) → IsPiece bytes → KeptAfter s size few_contracts strings g w kept check clear e (append_read s w (transaction_of bytes))
+  append_after e bytes piece = by_read (transaction_of bytes) refl
     where
       by_read : (r : Result Tx ℕ) → transaction_of bytes ≡ r → KeptAfter s size few_contracts strings g w kept check clear e (append_read s w r)
-      by_read (Ok tx) h = reaches_after e tx (record { fits = (read_is_spelled bytes tx piece.bytes h).fits; few = few tx h })
+      by_read (Ok tx) h = reaches_after e tx (piece_numbered bytes piece tx h)
       by_read (Err place) h = refused_after s size few_contracts strings g w kept check clear e [] (reason.BadTx place)
 
   -- an initial transaction
-  pub fire_init_after : (e : Event) (contract : ℕ) → ((tx : Tx) → initial_by s (compiled_at s w contract) ≡ Some tx → IsNumbered tx) → KeptAfter s size few_contracts strings g w kept check clear e (fire_init_draft s w contract)
-  fire_init_after e contract fine = unless_after s size few_contracts strings g w kept check clear e (first_reason (fire_init_row s w contract)) [] (reaches_if s w (initial_by s (compiled_at s w contract))) (λ r. reaches_if_after e (initial_by s (compiled_at s w contract)) fine)
+  pub started_numbered : (contract : ℕ) (tx : Tx) → initial_by s (compiled_at s w contract) ≡ Some tx → IsNumbered tx
+  started_numbered contract tx h = by_compiled (compiled_at s w contract) refl h
+    where
+      by_compiled : (o : Option Setting) → compiled_at s w contract ≡ o → initial_by s o ≡ Some tx → IsNumbered tx
+      by_compiled None c q = cc
+      by_compiled (Some st) c q =
+          let z : initial_transaction s st ≡ tx = cc in
+          subst IsNumbered z (bare_numbered (initial_transaction s st) (tx_of (initial_draft s.hash st)) (with-bare (tx_of (initial_draft s.hash st)) (initial_witnesses s st (prepared s.hash (initial_draft s.hash st)))) (fit.initial contract st c))
+
+  pub fire_init_after : (e : Event) (contract : ℕ) → KeptAfter s size few_contracts strings g w kept check clear e (fire_init_draft s w contract)
+  fire_init_after e contract = unless_after s size few_contracts strings g w kept check clear e (first_reason (fire_init_row s w contract)) [] (reaches_if s w (initial_by s (compiled_at s w contract))) (λ r. reaches_if_after e (initial_by s (compiled_at s w contract)) (started_numbered contract))
 
   -- the transaction of a branch
-  pub fire_after : (e : Event) (n j : ℕ) → ((tx : Tx) → taking_by s w (held_at w n) j ≡ Some tx → IsNumbered tx) → KeptAfter s size few_contracts strings g w kept check clear e (fire_draft s w n j)
-  fire_after e n j fine = unless_after s size few_contracts strings g w kept check clear e (first_reason (fire_row s w n j)) [] (reaches_if s w (taking_by s w (held_at w n) j)) (λ r. reaches_if_after e (taking_by s w (held_at w n) j) fine)
+  pub taken_numbered : (n j : ℕ) (tx : Tx) → taking_by s w (held_at w n) j ≡ Some tx → IsNumbered tx
+  taken_numbered n j tx h = by_held (held_at w n) refl h
+    where
+      by_held : (o : Option Held) → held_at w n ≡ o → taking_by s w o j ≡ Some tx → IsNumbered tx
+      by_held None e q = cc
+      by_held (Some held) e q = by_branch (held_branch s held j) refl q
+        where
+          act : IsActive w n held
+          act = active w n held e
+
+          hf : HeldFine s w act.output held
+          hf = kept.held n act.output held act.there act.holds
+
+          st : Setting
+          st = hf.setting
+
+          compiled : compiled_at s w held.contract ≡ Some hf.setting
+          compiled = hf.compiled
+
+          chosen : choice_in (contract_at s held.contract) held.position ≡ Some hf.choice
+          chosen = ap (λ o. choice_in o held.position) (held_contract s w held act.output hf) ∙ term_choice s.hash hf.setting held.position hf.here hf.choice hf.stands
+
+          by_branch : (o : Option term.Branch) → held_branch s held j ≡ o → taking_with s w held j (compiled_at s w held.contract) (choice_in (contract_at s held.contract) held.position) (held_branch s held j) (prepared_by s (compiled_at s w held.contract) (held_path held j)) ≡ Some tx → IsNumbered tx
+          by_branch None b x =
+              let y = sym (λ i. taking_with s w held j (compiled i) (chosen i) (b i) (prepared_by s (compiled i) (held_path held j))) ∙ x in
+              cc
+          by_branch (Some c) b x =
+              let text : at hf.setting.advert.root (held.position ++ To j ∷ []) ≡ Some c = ap (λ o. branch_in o (held_path held j)) (sym (held_contract s w held act.output hf)) ∙ b in
+              let there : slice_get (branches hf.choice) j ≡ Some c = sym (term_branches s.hash hf.setting held.position hf.here hf.choice j hf.stands) ∙ text in
+              let d = branch_draft s.hash hf.setting hf.here j c in
+              let made : prepared_at s.hash hf.setting (held_path held j) ≡ Some (prepared s.hash d) = ap (option_map (prepared s.hash)) (draft_of_branch s.hash hf.setting held.position hf.here hf.choice j c hf.stands there) in
+              let y : (let o : Option Tx = Some (taking_transaction s w hf.setting held j hf.choice c (prepared s.hash d)) in o) ≡ Some tx =
+              sym (λ i. taking_with s w held j (compiled i) (chosen i) (b i) ((ap (λ o. prepared_by s o (held_path held j)) compiled ∙ made) i)) ∙ x in
+              let z : taking_transaction s w hf.setting held j hf.choice c (prepared s.hash d) ≡ tx = cc in
+              subst IsNumbered z (bare_numbered (taking_transaction s w hf.setting held j hf.choice c (prepared s.hash d)) (tx_of d) (with-bare (tx_of d) (taking_witnesses s w hf.setting held j hf.choice c (prepared s.hash d)))
+              (fit.branch held.contract hf.setting held.position hf.here hf.choice j c hf.compiled hf.stands there))
+
+  pub fire_after : (e : Event) (n j : ℕ) → KeptAfter s size few_contracts strings g w kept check clear e (fire_draft s w n j)
+  fire_after e n j = unless_after s size few_contracts strings g w kept check clear e (first_reason (fire_row s w n j)) [] (reaches_if s w (taking_by s w (held_at w n) j)) (λ r. reaches_if_after e (taking_by s w (held_at w n) j) (taken_numbered n j))

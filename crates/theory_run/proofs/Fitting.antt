@@ -1,34 +1,39 @@
 -- The numbers of compiled transactions are within their widths.
-use Rattle.std.proofs.Common.{◌≡◌, ℕ, zero, suc, ◌+◌, ◌<◌, ◌≤◌, ◌^◌, List, [], ◌∷◌, ◌++◌, length, map, Bool, true, false, Option, Some, None, refl, sym, ap, ◌∙◌, subst, arith, inl, inr, lit<}
-use Rattle.std.specs.Prelude.{◌&&◌, ◌⊎◌, nat_le, slice_get}
-use Rattle.std.specs.List.{list_all, AllByRecursion}
+use Rattle.std.proofs.Common.{◌≡◌, ℕ, zero, suc, ◌*◌, ◌<◌, ◌≤◌, List, [], ◌∷◌, length, map, true, Some, refl, sym, ap, ◌∙◌, subst, arith, inl, inr, length-append}
+use Rattle.std.specs.Prelude.{◌&&◌, nat_le, slice_get}
+use Rattle.std.specs.List.{list_all, AllByRecursion, flat_map}
 use Rattle.std.proofs.lemmas.Bool.{and_parts}
 use Rattle.std.proofs.lemmas.Bool.Decides.{nat_tests}
 use Rattle.spec_data.specs.Lists.{is_among}
 use Rattle.spec_terms.specs.Advert.{Advert}
 use Rattle.spec_terms.specs.Parties.{participants}
 use Rattle.spec_terms.specs.Precondition.{Holding, persistent, deposits, secrets}
-use Rattle.spec_terms.specs.Readable.{max_money, most_deposits, most_secrets, is_readable_pre, is_readable_contract, is_some_list, is_readable_entry}
+use Rattle.spec_data.specs.Ranges.{max_money}
+use Rattle.spec_terms.specs.Readable.{most_deposits, most_secrets, is_readable_pre, is_readable_contract, is_some_list, is_readable_entry}
 use Rattle.spec_terms.specs.Faults.{IsWellFormed}
 use Rattle.spec_terms.specs.declared.pre.Pre.{Pre}
 use Rattle.spec_terms.specs.declared.pre.Pre.TheVariants.{Persistent, Volatile, Secret}
 use Rattle.spec_bitcoin.specs.declared.tx.TxOut.{TxOut}
-use Rattle.spec_bitcoin.specs.Spelling.{IsBytes, IsString, IsPlace, IsInput, IsOutput, IsTransaction}
+use Rattle.spec_bitcoin.specs.Spelling.{IsBytes, IsPlace, IsInput, IsOutput, IsTransaction, long_word, sized, compact, output_bytes}
 use Rattle.spec_compiler.specs.Setting.{Setting, position_script}
 use Rattle.spec_compiler.specs.Transactions.{Spent, input_of, tx_of, pays, deposit, persistent_deposits, root_value, initial_draft}
-use Rattle.spec_run.specs.Setup.{Setup, people_of, people_at, contract_at}
-use Rattle.spec_run.specs.World.{Output, World}
+use Rattle.spec_run.specs.Setup.{Setup, people_of, people_at}
+use Rattle.spec_run.specs.World.{Output, World, is_advertised}
 use Rattle.spec_run.specs.Compiled.{compiled_at}
-use Rattle.spec_calculus.specs.Configuration.{Configuration}
 use Rattle.spec_run.specs.Conditions.{HashesBytes, IsSetup}
-use Rattle.theory_run.proofs.Tests.{length_map}
-use Rattle.theory_run.proofs.Positions.{Is_in}
-use Rattle.theory_run.proofs.Later.{compiled_is}
-use Rattle.theory_run.proofs.Kept.{KeptBook}
-use Rattle.theory_run.proofs.Mentions.{has_deposit}
-use Rattle.theory_run.proofs.Entering.{at_bound}
-use Rattle.theory_run.proofs.Checking.{compiled_checked}
-use Rattle.theory_run.proofs.Balances.{root_little}
+use Rattle.spec_bitcoin.specs.Keys.{pay_to}
+use Rattle.std.proofs.lemmas.List.Concat.{flat_map-cons}
+use Rattle.theory_bitcoin.proofs.Formats.{wide64}
+use Rattle.theory_world.proofs.Preimages.{IsNumbered, numbered}
+use Rattle.theory_world.proofs.Counts.{count_size}
+use Rattle.theory_world.proofs.Tests.{length_map}
+use Rattle.theory_world.proofs.Positions.{Is_in}
+use Rattle.theory_world.proofs.Later.{compiled_is}
+use Rattle.theory_run.proofs.Kept.{AdvertFine}
+use Rattle.theory_world.proofs.Mentions.{has_deposit}
+use Rattle.theory_run.proofs.Entering.{bound_at}
+use Rattle.theory_world.proofs.Checking.{compiled_checked}
+use Rattle.theory_world.proofs.Balances.{root_little}
 
 -- ---- inputs and outputs
 
@@ -63,6 +68,30 @@ output_fits hash size script value h = record {
   };
 }
 
+-- ---- the bytes of outputs
+
+-- an output for whoever shows a script has few of them
+pub pays_size : (hash : List ℕ → List ℕ) → HashesBytes hash → (script : List ℕ) (value : ℕ) → length (output_bytes (pays hash script value)) ≤ 51
+pays_size hash size script value =
+    let p = pay_to (hash script) in
+    let a = length-append (long_word value) (sized p) in
+    let b = length-append (compact (length p)) p in
+    let c = wide64.len value in
+    let d = count_size (length p) in
+    let l = size.size script in
+    omega (arith, a, b, c, d, l)
+
+abbrev pub AllShort : List TxOut → Type 0
+AllShort os = AllByRecursion (λ o. length (output_bytes o) ≤ 51) os
+
+pub short_bytes : (os : List TxOut) → AllShort os → length (flat_map output_bytes os) ≤ 51 * length os
+short_bytes [] h = omega arith
+short_bytes (o ∷ os) h =
+    let a = ap length (flat_map-cons output_bytes o os) ∙ length-append (output_bytes o) (flat_map output_bytes os) in
+    let r = short_bytes os h.1 in
+    let b = h.0 in
+    omega (arith, a, b, r)
+
 -- ---- the initial transaction
 
 few_persistent : (pre : List Pre) → length (persistent pre) ≤ length (deposits pre)
@@ -90,15 +119,15 @@ few_deposits a h =
     let l = few_persistent a.pre in
     grind (arith, nat_tests, q, l)
 
-module _ (s : Setup) (is : IsSetup s) (g : Configuration) (w : World) (kept : KeptBook s g w) (k : ℕ) (st : Setting) (c : compiled_at s w k ≡ Some st) where
+module _ (s : Setup) (is : IsSetup s) (w : World) (adverts : (k : ℕ) → is_advertised w k ≡ true → AdvertFine s w k) (placed : (n : ℕ) (o : Output) → slice_get w.outputs n ≡ Some o → IsPlace o.place) (k : ℕ) (st : Setting) (c : compiled_at s w k ≡ Some st) where
   well : IsWellFormed st.advert
   well = compiled_checked s is w k st c
 
   -- a deposit that is bound lies at a place
   pub bound_place : (d : List ℕ × Holding) → Is_in d (deposits st.advert.pre) → IsPlace (deposit s.hash st (d.0) (d.1)).place
   bound_place d i =
-      let a = at_bound s g w kept k st c (d.0) (d.1) i in
-      subst IsPlace (sym a.place) (kept.placed_fine a.number a.bound.output a.bound.there)
+      let a = bound_at s w adverts k st c (d.0) (d.1) i in
+      subst IsPlace (sym a.place) (placed a.number a.bound.output a.bound.there)
 
   persistent_place : (ds : List (List ℕ × Holding)) → ((d : List ℕ × Holding) → Is_in d ds → Is_in d (deposits st.advert.pre)) → (x : Spent) → Is_in x (map (λ (d : List ℕ × Holding). deposit s.hash st d.0 d.1) ds) → IsPlace x.place
   persistent_place [] f x h = absurd h
@@ -108,7 +137,7 @@ module _ (s : Setup) (is : IsSetup s) (g : Configuration) (w : World) (kept : Ke
   some_persistent : 0 < length (persistent st.advert.pre)
   some_persistent =
       let ci = compiled_is s w k st c in
-      let fair = (kept.adverts k ci.advertised).fair in
+      let fair = (adverts k ci.advertised).fair in
       let sa : st.advert ≡ ci.advert = ap (λ (y : Setting). y.advert) ci.is in
       let pe : people_at s k ≡ participants ci.advert = ap people_of ci.there in
       let m : is_among fair.0 (participants st.advert) ≡ true = subst (λ (y : Advert). is_among fair.0 (participants y) ≡ true) (sym sa) (subst (λ ps. is_among fair.0 ps ≡ true) pe fair.1) in
@@ -131,3 +160,9 @@ module _ (s : Setup) (is : IsSetup s) (g : Configuration) (w : World) (kept : Ke
         outputs = (output_fits s.hash is.hash (position_script s.hash st [] st.advert.root) (root_value st) (root_little s.hash st well), tt);
         lock = omega arith;
       }
+
+  pub initial_numbered : IsNumbered (tx_of (initial_draft s.hash st))
+  initial_numbered =
+      let os = (tx_of (initial_draft s.hash st)).outputs in
+      let l = short_bytes os (pays_size s.hash is.hash (position_script s.hash st [] st.advert.root) (root_value st), tt) in
+      numbered (tx_of (initial_draft s.hash st)) initial_fits (omega (arith, l))

@@ -1,37 +1,36 @@
 -- The steps of an accepted transaction with what it reveals, and what configuration and world agree on after them.
-use Rattle.std.proofs.Common.{◌≡◌, ℕ, zero, suc, ◌+◌, ◌≤◌, List, [], ◌∷◌, ◌++◌, length, map, Bool, true, false, Option, Some, None, refl, sym, ap, ◌∙◌, subst}
-use Rattle.std.specs.Prelude.{◌&&◌, slice_get, if◌then◌else◌, option_map}
+use Rattle.std.proofs.Common.{◌≡◌, ℕ, zero, suc, ◌≤◌, List, [], ◌∷◌, ◌++◌, length, map, Bool, true, false, Option, Some, None, refl, sym, ap, ◌∙◌, subst}
+use Rattle.std.specs.Prelude.{slice_get, if◌then◌else◌, option_map}
 use Rattle.std.specs.List.{list_all}
 use Rattle.std.proofs.lemmas.Bool.{and_from}
 use Rattle.spec_data.specs.Lists.{is_among}
 use Rattle.spec_terms.specs.Term as term
 use Rattle.spec_terms.specs.Term.{Choice}
 use Rattle.spec_compiler.specs.Transactions.{Standing}
-use Rattle.spec_bitcoin.specs.declared.tx.OutPoint.{OutPoint}
 use Rattle.spec_bitcoin.specs.Live.{same_place}
 use Rattle.spec_bitcoin.specs.declared.tx.Tx.{Tx}
-use Rattle.spec_bitcoin.specs.Spelling.{IsTransaction}
 use Rattle.spec_bitcoin.specs.Digests.{txid}
 use Rattle.spec_calculus.specs.declared.parts.Revealed.{Revealed}
 use Rattle.spec_calculus.specs.Configuration.{Configuration}
 use Rattle.spec_calculus.specs.Steps.{after, Legal}
 use Rattle.spec_run.specs.Setup.{Setup, people_at}
-use Rattle.spec_run.specs.World.{Held, Output, Promise, World, active_held}
+use Rattle.spec_run.specs.World.{Held, Output, World}
 use Rattle.spec_run.specs.Compiled.{compiled_at}
 use Rattle.spec_run.specs.Conditions.{HashesBytes}
 use Rattle.spec_run.specs.Ledger.{spend_from, made_from, held_branch, items_of, Kind, Begins, Takes, Moves, kind_of, new_held}
 use Rattle.spec_run.specs.Secrets.{shown, newly_shown}
-use Rattle.spec_run.specs.Steps.{reveals, reveal_step, branch_steps, kind_steps, accepted_steps}
-use Rattle.spec_run.specs.Agreement.{committed_pair, promised_pair, compiled_place, is_place, is_placed, is_placed_by, Agree}
-use Rattle.theory_run.proofs.Same.{place_refl}
-use Rattle.theory_run.proofs.Tests.{map_map}
-use Rattle.theory_run.proofs.Hashed.{NoClash}
+use Rattle.spec_run.specs.Steps.{reveals, branch_steps, kind_steps, accepted_steps}
+use Rattle.spec_run.specs.Agreement.{committed_pair, compiled_place, is_place, is_placed, is_placed_by, Agree}
+use Rattle.theory_world.proofs.Preimages.{IsNumbered}
+use Rattle.theory_world.proofs.Same.{place_refl}
+use Rattle.theory_world.proofs.Tests.{map_map}
+use Rattle.theory_world.proofs.Hashed.{NoClash}
 use Rattle.theory_run.proofs.Secrets.{has_secret, after-reveals}
 use Rattle.theory_run.proofs.Legal.{after-append, legal_append}
 use Rattle.theory_run.proofs.Moved.{AgreeOnMoney}
 use Rattle.theory_run.proofs.Keeping.{KeptSecrets, Begins as BeginsWith, committed_by}
 use Rattle.theory_run.proofs.Commits.{Constant}
-use Rattle.theory_run.proofs.Accepting.{Accepting, HeardAll}
+use Rattle.theory_world.proofs.Accepting.{Accepting, HeardAll}
 use Rattle.theory_run.proofs.Kept.{KeptBook}
 use Rattle.theory_run.proofs.Spending.{DraftsFit, Checked}
 use Rattle.theory_run.proofs.Beginnings.{StepFrame}
@@ -104,7 +103,7 @@ kind_same s g rs w tx spent (Takes h n i) = branch_same g rs (people_at s h.cont
 kind_same s g rs w tx spent Moves = refl
 
 module _ (s : Setup) (size : HashesBytes s.hash) (few_contracts : length s.contracts ≤ 16) (g : Configuration) (w : World) (kept : KeptBook s g w) (fit : DraftsFit s w) (check : Checked s w) (hs : List (List ℕ)) (clear : NoClash s.hash hs) (sub : (t : List ℕ) → is_among t w.hashed ≡ true → is_among t hs ≡ true)
-    (tx : Tx) (fits : IsTransaction tx) (spent : List ℕ) (acc : Accepting s w tx spent) (all : HeardAll s w hs tx)
+    (tx : Tx) (fits : IsNumbered tx) (spent : List ℕ) (acc : Accepting s w tx spent) (all : HeardAll s w hs tx)
     (con : Constant s g) (money : AgreeOnMoney s g w) (advertised : g.advertised ≡ w.advertised)
     (z : List (List ℕ)) (next : World) (secrets : KeptSecrets s z (record g { revealed = g.revealed ++ newly_shown s w next }) next) (begins : BeginsWith z next.posted) (named : PromisesNamed s next.promises) (promises : next.promises ≡ w.promises)
     (posts : (u : List ℕ) → is_among u (items_of tx) ≡ true → is_among u next.posted ≡ true)

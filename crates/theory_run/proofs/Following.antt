@@ -1,5 +1,5 @@
 -- A whole run is followed: what each event keeps and claims, the whole run does.
-use Rattle.std.proofs.Common.{◌≡◌, ℕ, List, [], ◌∷◌, ◌++◌, Bool, true, false, Option, Some, None, refl, sym, ap, ◌∙◌, subst, arith, cond}
+use Rattle.std.proofs.Common.{◌≡◌, ℕ, List, [], ◌∷◌, ◌++◌, Bool, true, false, Option, Some, None, refl, ◌∙◌, subst, cond}
 use Rattle.std.specs.Prelude.{◌||◌}
 use Rattle.std.specs.List.{find, list_any, AllByRecursion}
 use Rattle.std.proofs.lemmas.Bool.{or_left}
@@ -17,7 +17,7 @@ use Rattle.spec_run.specs.Steps.{steps_of}
 use Rattle.spec_run.specs.Translation.{opening_configuration, reached_from, last_configuration}
 use Rattle.spec_run.specs.Conditions.{IsEvent}
 use Rattle.spec_run.specs.Statements.{Claim, HoldsOf, HoldsFrom, HoldsThroughout}
-use Rattle.theory_run.proofs.Tests.{any-append}
+use Rattle.theory_world.proofs.Tests.{any-append}
 use Rattle.theory_run.proofs.Keeping.{Begins}
 
 -- ---- what is posted stays

@@ -1,9 +1,9 @@
 -- What contract steps take of the deposits, and that money agrees after them.
-use Rattle.std.proofs.Common.{◌≡◌, ℕ, zero, suc, ◌+◌, ◌<◌, List, [], ◌∷◌, ◌++◌, length, map, Bool, true, false, not, Option, Some, None, refl, sym, ap, ◌∙◌, subst, arith, length-append}
-use Rattle.std.specs.Prelude.{if◌then◌else◌, ◌==◌, ◌&&◌, ◌||◌, slice_get}
-use Rattle.std.specs.List.{filter, find, list_all, list_any, fold, sum_by, cons_option}
+use Rattle.std.proofs.Common.{◌≡◌, ℕ, zero, suc, ◌+◌, ◌<◌, List, [], ◌∷◌, ◌++◌, length, Bool, true, false, not, Option, Some, None, refl, sym, ap, ◌∙◌, subst, arith, length-append}
+use Rattle.std.specs.Prelude.{if◌then◌else◌, ◌==◌, slice_get}
+use Rattle.std.specs.List.{filter, find, list_all, fold, cons_option}
 use Rattle.std.specs.Option.{is_none}
-use Rattle.std.proofs.lemmas.Bool.{and_parts, and_from, eqb-true, eq-eqb, ne_eqb, not-true}
+use Rattle.std.proofs.lemmas.Bool.{and_parts, eqb-true, eq-eqb, ne_eqb, not-true}
 use Rattle.std.proofs.lemmas.Bool.Decides.{nat_tests}
 use Rattle.spec_data.specs.Lists.{has_number, are_distinct}
 use Rattle.spec_bitcoin.specs.declared.tx.TxOut.{TxOut}
@@ -17,7 +17,7 @@ use Rattle.spec_run.specs.World.{Held, Output, World, is_deposit}
 use Rattle.spec_run.specs.Owners.{owner_by, deposit_value}
 use Rattle.spec_run.specs.Ledger.{spend_from, made_from}
 use Rattle.spec_run.specs.Agreement.{deposits_from, actives_from}
-use Rattle.theory_run.proofs.Outputs.{actives-append, actives-spent, deposits-append, deposits-spent, length-spend_from, length-made_from}
+use Rattle.theory_world.proofs.Outputs.{actives-append, actives-spent, deposits-append, deposits-spent, length-spend_from, length-made_from}
 use Rattle.theory_run.proofs.Moved.{AgreeOnMoney}
 
 -- ---- values of deposits

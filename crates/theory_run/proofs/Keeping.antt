@@ -1,10 +1,10 @@
 -- What every run keeps of secrets, and the steps that reveal.
-use Rattle.std.proofs.Common.{◌≡◌, ℕ, List, [], ◌∷◌, ◌++◌, map, Bool, true, false, not, Option, Some, None, refl, sym, ap, ◌∙◌, subst, arith}
-use Rattle.std.specs.Prelude.{◌==◌, ◌&&◌, ◌||◌, is_some, if◌then◌else◌}
-use Rattle.std.specs.List.{find, list_any, list_all}
+use Rattle.std.proofs.Common.{◌≡◌, ℕ, List, [], ◌∷◌, ◌++◌, map, Bool, true, false, not, Option, Some, None, refl, ap, ◌∙◌, arith}
+use Rattle.std.specs.Prelude.{◌==◌, ◌&&◌, is_some, if◌then◌else◌}
+use Rattle.std.specs.List.{find, list_any}
 use Rattle.std.specs.Option.{option_map}
 use Rattle.std.specs.Str.{bytes_eq}
-use Rattle.std.proofs.lemmas.Bool.{and_parts, and_from, not_from_false, not-true}
+use Rattle.std.proofs.lemmas.Bool.{and_parts}
 use Rattle.spec_data.specs.Lists.{is_among, look_up}
 use Rattle.spec_calculus.specs.declared.parts.Committed.{Committed}
 use Rattle.spec_calculus.specs.declared.parts.Revealed.{Revealed}
@@ -17,10 +17,10 @@ use Rattle.spec_run.specs.Committing.{secrets_at, is_secret_long, used_digests}
 use Rattle.spec_run.specs.Revealing.{fits, fitting}
 use Rattle.spec_run.specs.Secrets.{all_secrets, digest_at, is_shown, shown, newly_shown, secret_size, length_in_run, lengths_in_run}
 use Rattle.spec_run.specs.Steps.{reveals}
-use Rattle.theory_run.proofs.Same.{bytes-true, bytes_refl}
-use Rattle.theory_run.proofs.Hashed.{NoClash, find_any, any_found}
+use Rattle.theory_world.proofs.Same.{bytes-true}
+use Rattle.theory_world.proofs.Hashed.{NoClash, find_any, any_found}
 use Rattle.theory_run.proofs.Secrets.{has_secret, different_secrets, has_secret-append, filter-member, different-filter, all-filter, is_known_in, legal_reveals}
-use Rattle.theory_run.proofs.Once.{Once}
+use Rattle.theory_world.proofs.Once.{Once}
 
 -- the strings posted so far begin those of the run: the first that passes a test is the first of the run
 pub record Begins (z posted : List (List ℕ)) : Type 0 where

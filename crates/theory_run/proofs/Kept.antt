@@ -1,30 +1,29 @@
 -- What every run keeps of signatures, outputs and contracts.
-use Rattle.std.proofs.Common.{◌≡◌, ℕ, zero, suc, ◌+◌, ◌<◌, List, [], ◌∷◌, ◌++◌, length, map, Bool, true, false, not, Option, Some, None, refl, sym, ap, ◌∙◌, subst, arith, inl, inr}
-use Rattle.std.specs.Prelude.{◌==◌, ◌&&◌, ◌||◌, ◌⊎◌, slice_get, is_some, if◌then◌else◌}
-use Rattle.std.specs.List.{list_any, list_all}
+use Rattle.std.proofs.Common.{◌≡◌, ℕ, List, [], ◌∷◌, ◌++◌, Bool, true, false, Option, Some, None, refl, sym, ap, ◌∙◌, subst, inl, inr}
+use Rattle.std.specs.Prelude.{◌&&◌, ◌⊎◌, slice_get, is_some, if◌then◌else◌}
 use Rattle.std.specs.Str.{bytes_eq}
 use Rattle.std.specs.Option.{is_none}
-use Rattle.std.proofs.lemmas.Bool.{and_parts, and_from, or_left, or_right, or_cases, both_ways}
+use Rattle.std.proofs.lemmas.Bool.{and_parts, and_from, both_ways}
 use Rattle.spec_data.specs.Lists.{is_among, look_up}
 use Rattle.spec_terms.specs.Advert.{Advert}
 use Rattle.spec_terms.specs.Core.{core, puts_of, is_asked}
 use Rattle.spec_terms.specs.Term as term
 use Rattle.spec_terms.specs.Term.{Choice, branches}
-use Rattle.spec_terms.specs.Precondition.{Holding, deposits, persistent, volatile}
+use Rattle.spec_terms.specs.Precondition.{Holding, deposits, persistent}
 use Rattle.spec_terms.specs.declared.path.PathStep.{PathStep}
-use Rattle.spec_terms.specs.declared.path.PathStep.TheVariants.{Branch as To, Part as Into}
+use Rattle.spec_terms.specs.declared.path.PathStep.TheVariants.{Branch as To}
 use Rattle.spec_bitcoin.specs.declared.label.Label.TheVariants as labels
 use Rattle.spec_bitcoin.specs.declared.tx.OutPoint.{OutPoint}
 use Rattle.spec_bitcoin.specs.declared.tx.TxIn.{TxIn}
 use Rattle.spec_bitcoin.specs.declared.tx.Tx.{Tx}
-use Rattle.spec_bitcoin.specs.Spelling.{stripped, IsPlace, IsTransaction}
+use Rattle.spec_bitcoin.specs.Spelling.{stripped, IsPlace}
 use Rattle.spec_bitcoin.specs.Digests.{txid, preimage, digest, opening_transaction}
 use Rattle.spec_bitcoin.specs.Keys.{Pair, key_of, label_text, has_signed, pay_to}
 use Rattle.spec_calculus.specs.Configuration.{Configuration}
 use Rattle.spec_calculus.specs.Beginning.{is_init_authorised}
 use Rattle.spec_calculus.specs.Branches.{has_branch_authorised}
 use Rattle.spec_compiler.specs.Setting.{Setting, branch_label, deposit_key, people}
-use Rattle.spec_compiler.specs.Transactions.{Draft, Spent, Standing, tx_of, digest_of_spent, deposit, put_deposits, persistent_deposits, branch_draft, initial_draft, party_script}
+use Rattle.spec_compiler.specs.Transactions.{Spent, Standing, tx_of, digest_of_spent, put_deposits, persistent_deposits, branch_draft, initial_draft, party_script}
 use Rattle.spec_compiler.specs.ByPath.{position_at}
 use Rattle.spec_compiler.specs.Hashed.{compiled_strings}
 use Rattle.spec_run.specs.Setup.{Setup, is_declared, is_honest, contract_at, pre_at, people_at}
@@ -33,12 +32,11 @@ use Rattle.spec_run.specs.Owners.{paid_to}
 use Rattle.spec_run.specs.Compiled.{compiled_at}
 use Rattle.spec_run.specs.Event.{opening_outputs}
 use Rattle.spec_run.specs.Steps.{names_deposit, is_bound_live}
-use Rattle.theory_run.proofs.Preimages.{HeardLists}
-use Rattle.theory_run.proofs.Bare.{NoScripts}
-use Rattle.theory_run.proofs.Positions.{Is_in}
-use Rattle.theory_run.proofs.Tests.{all_then}
-use Rattle.theory_run.proofs.Later.{Lasts, SameOutput, are_made, compiled_is}
-use Rattle.theory_run.proofs.Book.{signed_back}
+use Rattle.theory_world.proofs.Preimages.{HeardLists, IsNumbered}
+use Rattle.theory_world.proofs.Bare.{NoScripts}
+use Rattle.theory_world.proofs.Positions.{Is_in}
+use Rattle.theory_world.proofs.Tests.{all_then}
+use Rattle.theory_world.proofs.Later.{Lasts, SameOutput, are_made, compiled_is}
 
 -- a test that isn't false is true
 true_from_ne_false : (b : Bool) → (b ≡ false → ⊥) → b ≡ true
@@ -86,7 +84,7 @@ AllSpentFor s w tx (i ∷ is) = SpentFor s w tx i × AllSpentFor s w tx is
 -- a transaction of this id was accepted
 pub record From (s : Setup) (w : World) (id : List ℕ) : Type 0 where
   pub tx : Tx
-  pub fits : IsTransaction tx
+  pub fits : IsNumbered tx
   pub no_scripts : NoScripts tx.inputs
   pub is : id ≡ txid s.hash tx
   pub first : is_among (stripped tx) w.hashed ≡ true
@@ -99,19 +97,18 @@ opening_id s = txid s.hash (opening_transaction (opening_outputs s))
 
 -- ---- what an honest party has signed
 
--- an input of a gift whose inputs are spent
+-- an input of a gift without its witnesses
 pub record Gave (s : Setup) (w : World) (a d : List ℕ) : Type 0 where
   pub tx : Tx
   pub input : TxIn
   pub value : ℕ
-  pub fits : IsTransaction tx
+  pub fits : IsNumbered tx
   pub lists : HeardLists s.hash w.hashed tx
   pub prev : IsPlace input.prev
   pub is : d ≡ digest s.hash tx input (party_script s.hash a) value
   pub heard : HeardDigest s w.hashed tx input (party_script s.hash a) value
   pub some : (i : TxIn) × Is_in i tx.inputs
   pub final : AllFinal tx.inputs
-  pub dead : AllDead w tx.inputs
 
 -- the put of a deposit
 pub record Needed (s : Setup) (w : World) (a d : List ℕ) : Type 0 where
@@ -273,8 +270,14 @@ module _ (s : Setup) (g g' : Configuration) (w next : World) (f : Frame s g g' w
       let l : o.live ≡ true = true_from_ne_false o.live (λ e. both_ways _ (r.2.dead e) p.0) in
       subst (λ y. is_deposit y ≡ true) (sym h) (and_from _ _ l (subst (λ y. is_none y ≡ true) r.2.holds p.1))
 
+  unfoldable pub gave_later : (a d : List ℕ) → Gave s w a d → Gave s next a d
+  gave_later a d h = record { tx = h.tx; input = h.input; value = h.value; fits = h.fits; lists = lists_later h.tx h.lists; prev = h.prev; is = h.is; heard = digest_later h.tx h.input (party_script s.hash a) h.value h.heard; some = h.some; final = h.final }
+
+  unfoldable pub needed_later : (a d : List ℕ) → Needed s w a d → Needed s next a d
+  needed_later a d h = record { contract = h.contract; setting = h.setting; compiled = f.compiled h.contract h.setting h.compiled; position = h.position; here = h.here; choice = h.choice; stands = h.stands; index = h.index; branch = h.branch; there = h.there; spent = h.spent; put = h.put; is = h.is }
+
   module _ (adverts : (k : ℕ) → is_advertised w k ≡ true → AdvertFine s w k) where
-    bound_before : (k : ℕ) (e : List ℕ × Holding) → is_advertised w k ≡ true → is_bound_live next k e ≡ true → is_bound_live w k e ≡ true
+    pub bound_before : (k : ℕ) (e : List ℕ × Holding) → is_advertised w k ≡ true → is_bound_live next k e ≡ true → is_bound_live w k e ≡ true
     bound_before k e adv h = by_number (look_up (e.0) (bindings_at w.advertised k)) refl (subst (λ bs. names_deposit next (look_up (e.0) bs) ≡ true) (f.bindings k adv) h)
       where
         by_number : (o : Option ℕ) → look_up (e.0) (bindings_at w.advertised k) ≡ o → names_deposit next o ≡ true → names_deposit w o ≡ true
@@ -288,10 +291,8 @@ module _ (s : Setup) (g g' : Configuration) (w next : World) (f : Frame s g g' w
             by_output None u v = let m = rw u at made in cc
             by_output (Some o) u v = live_before n o u v
 
-    pub cause_later : (a d : List ℕ) → DepositCause s g w a d → DepositCause s g' next a d
-    cause_later a d (gave h) = gave (record { tx = h.tx; input = h.input; value = h.value; fits = h.fits; lists = lists_later h.tx h.lists; prev = h.prev; is = h.is; heard = digest_later h.tx h.input (party_script s.hash a) h.value h.heard; some = h.some; final = h.final; dead = all_dead_later h.tx.inputs h.dead })
-    cause_later a d (needed h) = needed (record { contract = h.contract; setting = h.setting; compiled = f.compiled h.contract h.setting h.compiled; position = h.position; here = h.here; choice = h.choice; stands = h.stands; index = h.index; branch = h.branch; there = h.there; spent = h.spent; put = h.put; is = h.is })
-    cause_later a d (started h) = started (record {
+    unfoldable pub started_later : (a d : List ℕ) → Started s g w a d → Started s g' next a d
+    started_later a d h = record {
       contract = h.contract;
       setting = h.setting;
       compiled = f.compiled h.contract h.setting h.compiled;
@@ -299,7 +300,12 @@ module _ (s : Setup) (g g' : Configuration) (w next : World) (f : Frame s g g' w
       persists = h.persists;
       is = h.is;
       authorised = λ e i o l. f.inits h.contract (e.0) (h.authorised e i o (bound_before h.contract e (compiled_is s w h.contract h.setting h.compiled).advertised l));
-    })
+    }
+
+    pub cause_later : (a d : List ℕ) → DepositCause s g w a d → DepositCause s g' next a d
+    cause_later a d (gave h) = gave (gave_later a d h)
+    cause_later a d (needed h) = needed (needed_later a d h)
+    cause_later a d (started h) = started (started_later a d h)
 
   bound_later : (h : Holding) (n : ℕ) → IsBound s w h n → IsBound s next h n
   bound_later h n b =

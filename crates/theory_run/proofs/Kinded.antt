@@ -1,38 +1,32 @@
 -- What an accepted transaction is to the contracts is what it was compiled as, and every accepted transaction keeps what is kept.
-use Rattle.std.proofs.Common.{◌≡◌, ℕ, zero, suc, ◌+◌, ◌<◌, ◌≤◌, ◌^◌, List, [], ◌∷◌, ◌++◌, length, map, drop, reverse, Bool, true, false, not, Option, Some, None, refl, sym, ap, ◌∙◌, subst, arith, inl, inr}
-use Rattle.std.specs.Prelude.{◌==◌, ◌&&◌, ◌||◌, ◌⊎◌, slice_get, is_some, if◌then◌else◌}
-use Rattle.std.specs.List.{list_any, list_all, AllByRecursion}
+use Rattle.std.proofs.Common.{◌≡◌, ℕ, ◌≤◌, ◌^◌, List, [], ◌∷◌, ◌++◌, length, drop, reverse, true, Option, Some, None, refl, sym, ap, ◌∙◌, subst, inl}
+use Rattle.std.specs.Prelude.{slice_get}
 use Rattle.std.proofs.lemmas.List.{reverse-append}
 use Rattle.spec_data.specs.Lists.{is_among}
 use Rattle.spec_terms.specs.Term as term
 use Rattle.spec_terms.specs.Term.{Choice, branches, withdraw}
-use Rattle.spec_terms.specs.Core.{core}
-use Rattle.spec_terms.specs.Paths.{at, choice_at}
-use Rattle.spec_terms.specs.Advert.{Advert}
 use Rattle.spec_terms.specs.Parties.{participants}
-use Rattle.spec_terms.specs.declared.path.PathStep.{PathStep}
-use Rattle.spec_terms.specs.declared.path.PathStep.TheVariants.{Branch as To, Part as Into}
-use Rattle.spec_bitcoin.specs.declared.tx.TxIn.{TxIn}
+use Rattle.spec_terms.specs.declared.path.PathStep.TheVariants.{Branch as To}
 use Rattle.spec_bitcoin.specs.declared.tx.Tx.{Tx}
-use Rattle.spec_bitcoin.specs.Spelling.{is_filled, IsInput, IsPlace, IsTransaction}
+use Rattle.spec_bitcoin.specs.Spelling.{is_filled, IsPlace}
 use Rattle.spec_bitcoin.specs.Digests.{txid}
 use Rattle.spec_bitcoin.specs.Verdict as verdict
 use Rattle.spec_calculus.specs.Configuration.{Configuration}
-use Rattle.spec_compiler.specs.Setting.{Setting, people}
-use Rattle.spec_compiler.specs.Transactions.{tx_of, branch_draft}
+use Rattle.spec_compiler.specs.Setting.{Setting}
 use Rattle.spec_compiler.specs.Witness.{chosen, chosen_by}
 use Rattle.spec_run.specs.Setup.{Setup, is_declared, contract_at}
 use Rattle.spec_run.specs.World.{Held, Output, World, is_advertised}
 use Rattle.spec_run.specs.Compiled.{compiled_at}
 use Rattle.spec_run.specs.Conditions.{HashesBytes}
-use Rattle.spec_run.specs.Ledger.{spend_from, made_from, core_holds, branch_holds, branch_in, held_branch, held_path, choice_in, count_of, branch_count, first_number, first_witness, initial_of, first_held, Kind, Begins, Takes, Moves, kind_by, kind_of, new_held}
+use Rattle.spec_run.specs.Ledger.{spend_from, made_from, branch_holds, branch_in, held_branch, held_path, choice_in, count_of, branch_count, first_number, first_witness, initial_of, first_held, Kind, Begins, Takes, Moves, kind_by, kind_of, new_held}
 use Rattle.theory_script.proofs.Chosen.{opened_is_chosen}
-use Rattle.theory_run.proofs.Hashed.{NoClash}
-use Rattle.theory_run.proofs.Positions.{Is_in}
-use Rattle.theory_run.proofs.Accepting.{Accepting, HeardAll, heard_input}
-use Rattle.theory_run.proofs.Later.{compiled_is}
-use Rattle.theory_run.proofs.Standing.{term_choice, term_branches}
-use Rattle.theory_run.proofs.Mentions.{branch_named, payee_mentioned, has_deposit}
+use Rattle.theory_world.proofs.Preimages.{IsNumbered, AllPlaces}
+use Rattle.theory_world.proofs.Hashed.{NoClash}
+use Rattle.theory_world.proofs.Positions.{Is_in}
+use Rattle.theory_world.proofs.Accepting.{Accepting, HeardAll, heard_input}
+use Rattle.theory_world.proofs.Later.{compiled_is}
+use Rattle.theory_world.proofs.Standing.{term_choice, term_branches}
+use Rattle.theory_world.proofs.Mentions.{branch_named, payee_mentioned, has_deposit}
 use Rattle.theory_run.proofs.Kept.{KeptBook, HeldFine, Frame, HeardDigest}
 use Rattle.theory_run.proofs.Spending.{DraftsFit, Checked, IsTaken, taken}
 use Rattle.theory_run.proofs.Accept.{scripts_none, lists, all_strings_of}
@@ -67,11 +61,11 @@ module _ (s : Setup) (w : World) (h : Held) (o : Output) (hf : HeldFine s w o h)
   looked_branch i b e = ap (λ a. branch_in a (held_path h i)) contract_is ∙ term_branches s.hash hf.setting h.position hf.here hf.choice i hf.stands ∙ e
 
 module _ (s : Setup) (size : HashesBytes s.hash) (few_contracts : length s.contracts ≤ 16) (g : Configuration) (w : World) (kept : KeptBook s g w) (fit : DraftsFit s w) (check : Checked s w) (hs : List (List ℕ)) (clear : NoClash s.hash hs) (sub : (t : List ℕ) → is_among t w.hashed ≡ true → is_among t hs ≡ true)
-    (tx : Tx) (fits : IsTransaction tx) (spent : List ℕ) (acc : Accepting s w tx spent) (all : HeardAll s w hs tx) where
+    (tx : Tx) (fits : IsNumbered tx) (spent : List ℕ) (acc : Accepting s w tx spent) (all : HeardAll s w hs tx) where
   abbrev fst : First s size g w kept fit check hs clear sub tx fits spent acc all
   fst = first s size g w kept fit check hs clear sub tx fits spent acc all
 
-  abbrev Taken : (h : Held) → HeldFine s w fst.spends.output h → Type 0
+  abbrev pub Taken : (h : Held) → HeldFine s w fst.spends.output h → Type 0
   Taken h hf = IsTaken s size g w kept fit check hs clear sub tx fits (scripts_none s size g w kept fit check hs clear sub tx fits spent acc all) (lists s size g w kept fit check hs clear sub tx fits spent acc all) fst.input fst.spends.output h hf
 
   -- the first input's branch, where it spends a contract output
@@ -80,7 +74,7 @@ module _ (s : Setup) (size : HashesBytes s.hash) (few_contracts : length s.contr
       let here : Is_in fst.input tx.inputs = subst (Is_in fst.input) (sym fst.inputs_is) (inl refl) in
       let hi = heard_input s w hs tx all fst.input fst.number (λ t l. all_strings_of s w tx fst.input t here l) fst.spends in
       let hd : HeardDigest s hs tx fst.input (verdict.script_of fst.input.witness) fst.spends.output.value = record { first = hi.signed; second = hi.signed_hash } in
-      let p : IsPlace fst.input.prev = (subst (AllByRecursion IsInput) fst.inputs_is fits.inputs).0.prev in
+      let p : IsPlace fst.input.prev = (subst AllPlaces fst.inputs_is fits.places).0 in
       taken s size g w kept fit check hs clear sub tx fits (scripts_none s size g w kept fit check hs clear sub tx fits spent acc all) (lists s size g w kept fit check hs clear sub tx fits spent acc all)
       fst.number fst.input fst.spends hi.script hd h hf p
 
@@ -100,21 +94,21 @@ module _ (s : Setup) (size : HashesBytes s.hash) (few_contracts : length s.contr
             participant_declared s g w kept check h.contract hf.setting hf.compiled p (branch_named hf.setting.advert (h.position ++ To t.opened.i ∷ []) t.opened.b p l (payee_mentioned t.opened.b p c));
       }
 
-  -- what it is, where it takes a branch
-  pub kind_taken : (h : Held) (e : fst.spends.output.holds ≡ Some h) → initial_of s w tx ≡ None → (let t = first_taking h e in kind_of s w tx spent ≡ Takes h fst.number t.index)
-  unfolding first_taking first_taken
-  kind_taken h e i =
-      let t = first_taking h e in
-      let hf = t.fine in
-      let k = first_taken h hf in
+  -- what it is, where its first witness opens a branch
+  pub kind_opened : (h : Held) → fst.spends.output.holds ≡ Some h → initial_of s w tx ≡ None → (hf : HeldFine s w fst.spends.output h) (k : Taken h hf) → kind_of s w tx spent ≡ Takes h fst.number k.opened.i
+  kind_opened h e i hf k =
       let f = first_holds s size g w kept fit check hs clear sub tx fits spent acc all ∙ e in
       let under = under_script fst.input.witness fst.spends.filled in
-      let ch : chosen_by (branch_count s h) fst.input.witness ≡ t.index =
+      let ch : chosen_by (branch_count s h) fst.input.witness ≡ k.opened.i =
       ap (λ n. chosen_by n fst.input.witness) (counted s w h fst.spends.output hf) ∙ ap (chosen (length (branches hf.choice))) under
       ∙ opened_is_chosen s.hash _ hf.setting h.position hf.choice (reverse (verdict.items_of fst.input.witness)) k.opened in
       (λ j. kind_by s tx spent (i j) (f j))
       ∙ (λ j. Takes h (first_number (fst.spent_is j)) (chosen_by (branch_count s h) (first_witness (fst.inputs_is j))))
       ∙ ap (Takes h fst.number) ch
+
+  pub kind_taken : (h : Held) (e : fst.spends.output.holds ≡ Some h) → initial_of s w tx ≡ None → (let t = first_taking h e in kind_of s w tx spent ≡ Takes h fst.number t.index)
+  unfolding first_taking
+  kind_taken h e i = let hf = kept.held fst.number fst.spends.output h fst.spends.there e in kind_opened h e i hf (first_taken h hf)
 
   -- whatever it is, what is kept is kept
   pub accept_kept : (g' : Configuration) (next : World) → next.outputs ≡ spend_from 0 spent w.outputs ++ made_from (new_held s (kind_of s w tx spent)) (txid s.hash tx) 0 tx.outputs → Frame s g g' w next → next.hashed ≡ hs → length tx.outputs ≤ 2 ^ 32

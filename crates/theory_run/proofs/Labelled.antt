@@ -1,25 +1,22 @@
 -- Keys of labels that take part in a run are told apart, and what the pair of one label says of honest parties' signatures.
-use Rattle.std.proofs.Common.{◌≡◌, ℕ, zero, suc, ◌+◌, ◌<◌, ◌≤◌, List, [], ◌∷◌, ◌++◌, length, map, Bool, true, false, not, Option, Some, None, refl, sym, ap, ◌∙◌, subst, arith, inl, inr}
-use Rattle.std.specs.Prelude.{◌==◌, ◌&&◌, ◌||◌, ◌⊎◌, slice_get, is_some, if◌then◌else◌, option_map}
-use Rattle.std.specs.List.{list_any, list_all}
+use Rattle.std.proofs.Common.{◌≡◌, ℕ, ◌≤◌, List, [], ◌∷◌, ◌++◌, length, Bool, true, false, Option, Some, None, refl, sym, ap, ◌∙◌, subst, arith, inl, inr}
+use Rattle.std.specs.Prelude.{◌&&◌, slice_get, if◌then◌else◌, option_map}
 use Rattle.std.specs.Str.{bytes_eq}
-use Rattle.std.proofs.lemmas.Bool.{and_parts, and_from, or_left, or_right, or_cases, both_ways}
+use Rattle.std.proofs.lemmas.Bool.{and_parts, or_cases, both_ways}
 use Rattle.spec_data.specs.Lists.{is_among}
 use Rattle.spec_terms.specs.Term as term
 use Rattle.spec_terms.specs.Term.{Choice, branches}
-use Rattle.spec_terms.specs.Core.{is_asked}
 use Rattle.spec_terms.specs.Paths as terms
 use Rattle.spec_terms.specs.declared.path.PathStep.{PathStep}
-use Rattle.spec_terms.specs.declared.path.PathStep.TheVariants.{Branch as To, Part as Into}
+use Rattle.spec_terms.specs.declared.path.PathStep.TheVariants.{Branch as To}
 use Rattle.spec_bitcoin.specs.declared.label.Label.{Label}
 use Rattle.spec_bitcoin.specs.declared.label.Label.TheVariants as labels
-use Rattle.spec_bitcoin.specs.Keys.{Pair, key_of, label_text, has_signed, IsLabel}
+use Rattle.spec_bitcoin.specs.Keys.{key_of, label_text, has_signed, IsLabel}
 use Rattle.spec_calculus.specs.Configuration.{Configuration}
 use Rattle.spec_calculus.specs.Branches.{has_branch_authorised}
 use Rattle.spec_compiler.specs.Setting.{Setting, branch_label, deposit_key, people}
 use Rattle.spec_compiler.specs.Transactions.{Standing, tx_of, digest_of_spent, prepared, branch_draft}
-use Rattle.spec_compiler.specs.ByPath as by_path
-use Rattle.spec_compiler.specs.ByPath.{position_at, prepared_at}
+use Rattle.spec_compiler.specs.ByPath.{position_at}
 use Rattle.spec_compiler.specs.Hashed.{compiled_strings}
 use Rattle.spec_run.specs.Setup.{Setup, is_declared, is_honest}
 use Rattle.spec_run.specs.World.{Held, Output, World, held_at, active_held}
@@ -28,13 +25,13 @@ use Rattle.spec_run.specs.Conditions.{HashesBytes}
 use Rattle.spec_run.specs.Signing.{label_party, branch_pair, prepared_in, authorising_pairs}
 use Rattle.spec_run.specs.Ledger.{held_path}
 use Rattle.theory_bitcoin.proofs.Labels.{one_label}
-use Rattle.theory_run.proofs.Same.{bytes-true, bytes_refl}
-use Rattle.theory_run.proofs.Hashed.{NoClash}
-use Rattle.theory_run.proofs.Book.{key-apart}
-use Rattle.theory_run.proofs.Labels.{get_below, path_fine}
-use Rattle.theory_run.proofs.Later.{compiled_is}
-use Rattle.theory_run.proofs.Standing.{stand_of_branch, draft_of_branch, view_at}
-use Rattle.theory_run.proofs.Kept.{KeptBook, HeldFine, DepositCause, BranchCause}
+use Rattle.theory_world.proofs.Same.{bytes-true}
+use Rattle.theory_world.proofs.Hashed.{NoClash}
+use Rattle.theory_world.proofs.Book.{key-apart}
+use Rattle.theory_world.proofs.Labels.{get_below, path_fine}
+use Rattle.theory_world.proofs.Later.{compiled_is}
+use Rattle.theory_world.proofs.Standing.{stand_of_branch, draft_of_branch, view_at}
+use Rattle.theory_run.proofs.Kept.{KeptBook, HeldFine, BranchCause}
 use Rattle.theory_run.proofs.Spending.{Checked, label_heard}
 
 -- the one pair of a list of one
@@ -65,6 +62,19 @@ abbrev pub label_path : Label → List PathStep
 label_path (labels.Deposit p) = []
 label_path (labels.Branch c p a) = p
 
+-- the label of a participant's key of a branch of a compiled contract, whose strings are among these
+pub compiled_label : (s : Setup) → length s.contracts ≤ 16 → (w : World) → Checked s w → (hs : List (List ℕ)) → ((j : ℕ) (su : Setting) → compiled_at s w j ≡ Some su → (t : List ℕ) → is_among t (compiled_strings s.hash su) ≡ true → is_among t hs ≡ true)
+    → (k : ℕ) (st : Setting) (q : List PathStep) (here : Standing) (choice : Choice) (i : ℕ) (b : term.Branch) (a : List ℕ) → compiled_at s w k ≡ Some st → position_at s.hash st q ≡ Some (here, choice) → slice_get (branches choice) i ≡ Some b → is_among a (people st) ≡ true
+    → IsLabel (branch_label k (q ++ To i ∷ []) a) × (is_among (label_text (branch_label k (q ++ To i ∷ []) a)) hs ≡ true)
+compiled_label s few_contracts w check hs heard k st q here choice i b a c e t p =
+    let ci = compiled_is s w k st c in
+    let sc : st.contract ≡ k = ap (λ (y : Setting). y.contract) ci.is in
+    let lt = get_below s.contracts k ci.advert ci.there in
+    let spot : terms.spot_from (terms.position st.advert.root) (q ++ To i ∷ []) ≡ Some (terms.at_branch b) = view_at s.hash st (q ++ To i ∷ []) ∙ ap (option_map _) (stand_of_branch s.hash st q here choice i b e t) in (
+      (omega (arith, lt, few_contracts), path_fine st.advert (q ++ To i ∷ []) (terms.at_branch b) (check.checked k st c) spot),
+      subst (λ n. is_among (label_text (branch_label n (q ++ To i ∷ []) a)) hs ≡ true) sc (label_heard s.hash st hs (heard k st c) q here choice i b e t a p),
+    )
+
 module _ (s : Setup) (size : HashesBytes s.hash) (few_contracts : length s.contracts ≤ 16) (g : Configuration) (w : World) (kept : KeptBook s g w) (check : Checked s w) (hs : List (List ℕ)) (clear : NoClash s.hash hs) (sub : (t : List ℕ) → is_among t w.hashed ≡ true → is_among t hs ≡ true) where
   -- a label that a run's messages have
   pub record IsHeard (l : Label) : Type 0 where
@@ -80,24 +90,18 @@ module _ (s : Setup) (size : HashesBytes s.hash) (few_contracts : length s.contr
   pub heard_label : (k : ℕ) (st : Setting) (q : List PathStep) (here : Standing) (choice : Choice) (i : ℕ) (b : term.Branch) (a : List ℕ) → compiled_at s w k ≡ Some st → position_at s.hash st q ≡ Some (here, choice) → slice_get (branches choice) i ≡ Some b → is_among a (people st) ≡ true
       → IsHeard (branch_label k (q ++ To i ∷ []) a)
   heard_label k st q here choice i b a c e t p =
-      let ci = compiled_is s w k st c in
-      let sc : st.contract ≡ k = ap (λ (y : Setting). y.contract) ci.is in
-      let lt = get_below s.contracts k ci.advert ci.there in
-      let spot : terms.spot_from (terms.position st.advert.root) (q ++ To i ∷ []) ≡ Some (terms.at_branch b) = view_at s.hash st (q ++ To i ∷ []) ∙ ap (option_map _) (stand_of_branch s.hash st q here choice i b e t) in
-      record {
-        fine = (omega (arith, lt, few_contracts), path_fine st.advert (q ++ To i ∷ []) (terms.at_branch b) (check.checked k st c) spot);
-        heard = subst (λ n. is_among (label_text (branch_label n (q ++ To i ∷ []) a)) hs ≡ true) sc (label_heard s.hash st hs (λ t h. sub t (kept.heard k st c t h)) q here choice i b e t a p);
-      }
+      let r = compiled_label s few_contracts w check hs (λ j su d x y. sub x (kept.heard j su d x y)) k st q here choice i b a c e t p in
+      record { fine = r.0; heard = r.1 }
 
   -- ---- a pair that a dishonest party signs at will
 
   module _ (g' : Configuration) (next : World) (party : List ℕ) (label : Label) (digest : List ℕ) (lies : is_honest s party ≡ false) (owned : label_party label ≡ party) (fine : IsHeard label) where
-    pub lie_deposit : (a d : List ℕ) → is_declared s a ≡ true → is_honest s a ≡ true → has_signed ((key_of s.hash label, digest) ∷ []) (deposit_key s.hash a) d ≡ true → DepositCause s g' next a d
+    pub lie_deposit : (a d : List ℕ) → is_declared s a ≡ true → is_honest s a ≡ true → has_signed ((key_of s.hash label, digest) ∷ []) (deposit_key s.hash a) d ≡ true → ⊥
     lie_deposit a d k h x =
         let p = one_pair (key_of s.hash label) digest (deposit_key s.hash a) d x in
         let e = same_label label (labels.Deposit a) fine (deposit_label a k) p.0 in
         let f : party ≡ a = sym owned ∙ ap label_party e in
-        absurd (both_ways _ lies (subst (λ y. is_honest s y ≡ true) (sym f) h))
+        both_ways _ lies (subst (λ y. is_honest s y ≡ true) (sym f) h)
 
     pub lie_branch : (k : ℕ) (st : Setting) (q : List PathStep) (here : Standing) (choice : Choice) (i : ℕ) (b : term.Branch) (a d : List ℕ) → compiled_at s w k ≡ Some st → position_at s.hash st q ≡ Some (here, choice) → slice_get (branches choice) i ≡ Some b
         → is_among a (people st) ≡ true → is_honest s a ≡ true → has_signed ((key_of s.hash label, digest) ∷ []) (key_of s.hash (branch_label k (q ++ To i ∷ []) a)) d ≡ true → BranchCause s g' next k st q here i b a d
@@ -124,7 +128,7 @@ module _ (s : Setup) (size : HashesBytes s.hash) (few_contracts : length s.contr
     pairs_are = ap (λ (x : Option Setting). branch_pair s party held.contract (held_path held j) (prepared_in s x (held_path held j))) fine.compiled
         ∙ ap (λ x. branch_pair s party held.contract (held_path held j) (option_map (prepared s.hash) x)) (draft_of_branch s.hash fine.setting held.position fine.here fine.choice j c fine.stands has)
 
-    pub authorised_deposit : (a d : List ℕ) → is_declared s a ≡ true → has_signed ((key_of s.hash label, digest) ∷ []) (deposit_key s.hash a) d ≡ true → DepositCause s g' next a d
+    pub authorised_deposit : (a d : List ℕ) → is_declared s a ≡ true → has_signed ((key_of s.hash label, digest) ∷ []) (deposit_key s.hash a) d ≡ true → ⊥
     authorised_deposit a d k x =
         let p = one_pair (key_of s.hash label) digest (deposit_key s.hash a) d x in
         let e = same_label label (labels.Deposit a) label_fine (deposit_label a k) p.0 in

@@ -1,57 +1,55 @@
 -- Whatever an accepted transaction is to the contracts, its steps are legal, and money agrees after them.
-use Rattle.std.proofs.Common.{◌≡◌, ℕ, zero, suc, ◌+◌, ◌<◌, ◌≤◌, List, [], ◌∷◌, ◌++◌, length, map, reverse, Bool, true, false, not, Option, Some, None, refl, sym, ap, ◌∙◌, subst, arith, inl, inr}
-use Rattle.std.specs.Prelude.{◌==◌, ◌&&◌, ◌||◌, ◌⊎◌, slice_get, is_some, nat_le}
-use Rattle.std.specs.List.{list_all, list_any, flat_map, sum_by}
+use Rattle.std.proofs.Common.{◌≡◌, ℕ, suc, ◌+◌, ◌≤◌, List, [], ◌∷◌, ◌++◌, length, map, reverse, Bool, true, not, Option, Some, None, refl, sym, ap, ◌∙◌, subst, arith, inl, inr}
+use Rattle.std.specs.Prelude.{◌==◌, slice_get, nat_le}
+use Rattle.std.specs.List.{list_all, flat_map, sum_by}
 use Rattle.std.specs.Option.{is_none}
-use Rattle.std.proofs.lemmas.Bool.{and_parts, and_from, ne_eqb}
+use Rattle.std.proofs.lemmas.Bool.{and_from, ne_eqb}
 use Rattle.std.proofs.lemmas.Bool.Decides.{nat_tests}
 use Rattle.std.proofs.lemmas.List.Sums.{sum_by-cons}
 use Rattle.spec_data.specs.Lists.{is_among}
-use Rattle.spec_terms.specs.Term as term
-use Rattle.spec_terms.specs.Term.{Choice, branches}
+use Rattle.spec_terms.specs.Term.{branches}
 use Rattle.spec_bitcoin.specs.declared.tx.TxIn.{TxIn}
 use Rattle.spec_bitcoin.specs.declared.tx.Tx.{Tx}
-use Rattle.spec_bitcoin.specs.Spelling.{IsTransaction}
 use Rattle.spec_bitcoin.specs.Digests.{txid, digest}
 use Rattle.spec_bitcoin.specs.Keys.{is_valid}
 use Rattle.spec_bitcoin.specs.Verdict as verdict
 use Rattle.spec_bitcoin.specs.Verdict.{total_of}
 use Rattle.spec_calculus.specs.Configuration.{Configuration}
-use Rattle.spec_calculus.specs.Steps.{moved, after, Legal}
+use Rattle.spec_calculus.specs.Steps.{after, Legal}
 use Rattle.spec_compiler.specs.Statements.{Opens}
-use Rattle.spec_run.specs.Setup.{Setup, people_at}
-use Rattle.spec_run.specs.World.{Held, Output, World, is_deposit, output_at}
+use Rattle.spec_run.specs.Setup.{Setup}
+use Rattle.spec_run.specs.World.{Held, World, is_deposit, output_at}
 use Rattle.spec_run.specs.Owners.{deposit_value}
 use Rattle.spec_run.specs.Conditions.{HashesBytes}
 use Rattle.spec_run.specs.Ledger.{spend_from, made_from, branch_holds, held_path, items_of, initial_of, first_held, branch_count, first_number, first_witness, Kind, Begins, Takes, Moves, kind_by, kind_of, new_held}
-use Rattle.spec_run.specs.Steps.{move_of, move_steps, kind_steps}
-use Rattle.theory_run.proofs.Found.{values_at, value_or_zero}
-use Rattle.theory_run.proofs.Hashed.{NoClash}
-use Rattle.theory_run.proofs.Legal.{auth_all}
+use Rattle.spec_run.specs.Steps.{kind_steps}
+use Rattle.theory_world.proofs.Preimages.{IsNumbered}
+use Rattle.theory_world.proofs.Found.{values_at, value_or_zero}
+use Rattle.theory_world.proofs.Hashed.{NoClash}
 use Rattle.theory_run.proofs.Moved.{AgreeOnMoney, CanMove, legal_move, ends-move, agree_move}
 use Rattle.theory_run.proofs.Keeping.{KeptSecrets, Begins as BeginsWith, committed_by}
 use Rattle.theory_run.proofs.Commits.{Constant}
-use Rattle.theory_run.proofs.Positions.{Is_in}
-use Rattle.theory_run.proofs.Accepting.{Accepting, AllSpent, IsSpent, HeardAll, first_strings}
+use Rattle.theory_world.proofs.Positions.{Is_in}
+use Rattle.theory_world.proofs.Accepting.{Accepting, AllSpent, IsSpent, HeardAll, first_strings}
 use Rattle.theory_run.proofs.Kept.{KeptBook}
 use Rattle.theory_run.proofs.Spending.{DraftsFit, Checked}
 use Rattle.theory_run.proofs.Entering.{First, first, first_holds, held_is_first, initial_is}
 use Rattle.theory_run.proofs.Enters.{Taking}
 use Rattle.theory_run.proofs.Kinded.{under_script, participant_declared, counted, looked_branch, first_taken}
-use Rattle.theory_run.proofs.Standing.{term_branches}
-use Rattle.theory_run.proofs.Mentions.{branch_named, payee_mentioned}
+use Rattle.theory_world.proofs.Standing.{term_branches}
+use Rattle.theory_world.proofs.Mentions.{branch_named, payee_mentioned}
 use Rattle.theory_script.proofs.Chosen.{opened_is_chosen}
 use Rattle.spec_compiler.specs.Witness.{chosen, chosen_by}
 use Rattle.spec_terms.specs.declared.path.PathStep.TheVariants.{Branch as To}
 use Rattle.theory_run.proofs.Beginnings.{StepFrame, legal_begin, frame_begin, agree_begin}
 use Rattle.theory_run.proofs.Tested.{PromisesNamed, among_stack}
-use Rattle.theory_run.proofs.Decided.{tested_by, BranchTaken, branch_taken}
+use Rattle.theory_run.proofs.Decided.{tested_by, branch_taken}
 
 le_test : (a b : ℕ) → a ≤ b → nat_le a b ≡ true
 le_test a b h = grind (arith, nat_tests, h)
 
 module _ (s : Setup) (size : HashesBytes s.hash) (few_contracts : length s.contracts ≤ 16) (g : Configuration) (w : World) (kept : KeptBook s g w) (fit : DraftsFit s w) (check : Checked s w) (hs : List (List ℕ)) (clear : NoClash s.hash hs) (sub : (t : List ℕ) → is_among t w.hashed ≡ true → is_among t hs ≡ true)
-    (tx : Tx) (fits : IsTransaction tx) (spent : List ℕ) (acc : Accepting s w tx spent) (all : HeardAll s w hs tx) where
+    (tx : Tx) (fits : IsNumbered tx) (spent : List ℕ) (acc : Accepting s w tx spent) (all : HeardAll s w hs tx) where
   abbrev fst : First s size g w kept fit check hs clear sub tx fits spent acc all
   fst = first s size g w kept fit check hs clear sub tx fits spent acc all
 

@@ -1,25 +1,23 @@
 -- Runs one after another, and authorisations of a move.
-use Rattle.std.proofs.Common.{◌≡◌, ℕ, ◌+◌, List, [], ◌∷◌, ◌++◌, map, Bool, true, false, not, cond, Option, Some, None, refl, sym, ap, ◌∙◌, arith, append_assoc, append-nil, inl, inr}
-use Rattle.std.specs.Prelude.{◌==◌, ◌&&◌, ◌||◌}
-use Rattle.std.specs.List.{filter, list_all, list_any}
+use Rattle.std.proofs.Common.{◌≡◌, ℕ, List, [], ◌∷◌, ◌++◌, map, Bool, true, false, not, cond, refl, sym, ap, ◌∙◌, append-nil, inl, inr}
+use Rattle.std.specs.List.{filter, list_all}
 use Rattle.std.specs.Str.{bytes_eq}
 use Rattle.std.specs.Cmp.Lexicographic.{pointwise}
 use Rattle.std.proofs.lemmas.Bool.{and_parts, and_from, or_left, or_right, or_cases, eq-eqb}
-use Rattle.spec_data.specs.Lists.{first_false, AllTrue, is_among}
+use Rattle.spec_data.specs.Lists.{AllTrue, is_among}
 use Rattle.spec_data.proofs.ListLemmas.{all_true-first_false}
 use Rattle.spec_calculus.specs.declared.step.Owner.{Owner}
 use Rattle.spec_calculus.specs.declared.step.Owner.TheVariants.{Party, Outside}
 use Rattle.spec_calculus.specs.declared.step.Move.{Move}
 use Rattle.spec_calculus.specs.declared.step.Step.{Step}
-use Rattle.spec_calculus.specs.declared.step.Step.TheVariants as steps
 use Rattle.spec_calculus.specs.declared.parts.MoveAuthorisation.{MoveAuthorisation}
 use Rattle.spec_calculus.specs.Configuration.{Configuration}
 use Rattle.spec_calculus.specs.Same.{owner_eq, output_eq, move_eq}
 use Rattle.spec_calculus.specs.Moves.{spends_live, owns_one, has_authorised, with_authorisation, without_move}
 use Rattle.spec_calculus.specs.Steps.{premises, fails, effect, after, Legal}
 use Rattle.spec_run.specs.Steps.{auth_move}
-use Rattle.theory_run.proofs.Same.{bytes-true, bytes_refl}
-use Rattle.theory_run.proofs.Tests.{filter-append, any-append}
+use Rattle.theory_world.proofs.Same.{bytes-true, bytes_refl}
+use Rattle.theory_world.proofs.Tests.{filter-append, any-append}
 
 pub passes : (g : Configuration) (step : Step) → AllTrue (premises g step) → fails g step ≡ 0
 passes g step h = all_true-first_false 1 (premises g step) h

@@ -1,14 +1,12 @@
 -- An accepted transaction of deposits is a legal move, and money agrees after it.
 use Rattle.std.proofs.Common.{◌≡◌, ℕ, suc, ◌+◌, List, [], ◌∷◌, ◌++◌, length, map, Bool, true, false, not, Option, Some, None, refl, sym, ap, ◌∙◌, subst, arith, append-nil, length-append, cond, inl, inr}
 use Rattle.std.specs.Prelude.{if◌then◌else◌, ◌==◌, ◌&&◌, ◌||◌, nat_le, slice_get, is_some, ◌⊎◌}
-use Rattle.std.specs.List.{filter, list_all, list_any, fold, sum_by, cons_option}
+use Rattle.std.specs.List.{filter, list_all, list_any, sum_by, cons_option}
 use Rattle.std.specs.Option.{is_none}
 use Rattle.std.specs.Str.{bytes_eq}
-use Rattle.std.proofs.lemmas.Bool.{and_parts, and_from, or_left, or_right, or_cases, eq-eqb, false_from_ne_true, not-true}
-use Rattle.std.proofs.lemmas.Bool.Decides.{nat_tests}
+use Rattle.std.proofs.lemmas.Bool.{and_from, or_left, or_right, or_cases, false_from_ne_true}
 use Rattle.spec_data.specs.Lists.{has_number, are_distinct, is_among}
 use Rattle.spec_bitcoin.specs.declared.tx.Tx.{Tx}
-use Rattle.spec_bitcoin.specs.declared.tx.TxOut.{TxOut}
 use Rattle.spec_bitcoin.specs.Digests.{txid}
 use Rattle.spec_bitcoin.specs.Verdict.{total_of}
 use Rattle.spec_calculus.specs.declared.step.Owner.{Owner}
@@ -22,14 +20,14 @@ use Rattle.spec_calculus.specs.Moves.{deposit_at, is_live, value_of, owner_of as
 use Rattle.spec_calculus.specs.Steps.{effect, after, Legal}
 use Rattle.spec_run.specs.Setup.{Setup}
 use Rattle.spec_run.specs.World.{Held, Output, World, output_at, is_deposit}
-use Rattle.spec_run.specs.Owners.{owner_by, owner_of, deposit_value}
+use Rattle.spec_run.specs.Owners.{owner_of, deposit_value}
 use Rattle.spec_run.specs.Ledger.{spend_from, made_from}
 use Rattle.spec_run.specs.Steps.{parties_once, moved_output, move_of, auth_move, owners_of, move_steps}
 use Rattle.spec_run.specs.Agreement.{active_by, active_in, actives_from, deposits_from}
-use Rattle.theory_run.proofs.Tests.{all_has, all_alike, any_alike, all_then, all_map, any_map, all_filter, sum_map, length_map}
-use Rattle.theory_run.proofs.Same.{bytes-true, bytes_refl}
-use Rattle.theory_run.proofs.Outputs.{deposit_of, deposit-at, active-named, actives-append, actives-spent, actives-new, deposits-append, deposits-spent, deposits-new, nothing_held, length-spend_from, length-made_from}
-use Rattle.theory_run.proofs.Legal.{passes, after-append, legal_append, after-auths, auth_all, all_there, all_gone, legal_auths, owner_refl}
+use Rattle.theory_world.proofs.Tests.{all_has, all_alike, any_alike, all_then, all_map, any_map, all_filter, sum_map, length_map}
+use Rattle.theory_world.proofs.Same.{bytes-true, bytes_refl}
+use Rattle.theory_world.proofs.Outputs.{deposit_of, deposit-at, active-named, actives-append, actives-spent, actives-new, deposits-append, deposits-spent, deposits-new, nothing_held, length-spend_from, length-made_from}
+use Rattle.theory_run.proofs.Legal.{passes, after-append, legal_append, after-auths, auth_all, all_there, all_gone, legal_auths}
 
 -- ---- what a party owns
 

@@ -1,9 +1,9 @@
 -- What every run keeps holds at its opening.
-use Rattle.std.proofs.Common.{◌≡◌, ℕ, zero, suc, ◌+◌, ◌<◌, ◌≤◌, ◌^◌, List, [], ◌∷◌, ◌++◌, length, map, Bool, true, false, Option, Some, None, refl, sym, ap, ◌∙◌, subst, arith, inl, inr, lit<}
-use Rattle.std.specs.Prelude.{◌==◌, ◌&&◌, ◌||◌, ◌⊎◌, slice_get, if◌then◌else◌}
+use Rattle.std.proofs.Common.{◌≡◌, ℕ, zero, suc, ◌+◌, ◌<◌, List, [], ◌∷◌, ◌++◌, length, map, Bool, true, false, Option, Some, None, refl, sym, ap, ◌∙◌, subst, arith, inl, inr}
+use Rattle.std.specs.Prelude.{slice_get, if◌then◌else◌}
 use Rattle.std.specs.List.{list_all}
 use Rattle.std.specs.Str.{bytes_eq}
-use Rattle.std.proofs.lemmas.Bool.{and_parts, and_from, or_left, or_right, or_cases, both_ways}
+use Rattle.std.proofs.lemmas.Bool.{and_parts, or_left, or_right, or_cases, both_ways}
 use Rattle.spec_data.specs.Lists.{is_among}
 use Rattle.spec_terms.specs.Advert.{Advert}
 use Rattle.spec_bitcoin.specs.declared.tx.TxOut.{TxOut}
@@ -11,8 +11,7 @@ use Rattle.spec_bitcoin.specs.declared.label.Label.TheVariants as labels
 use Rattle.spec_bitcoin.specs.Spelling.{stripped, IsPlace}
 use Rattle.spec_bitcoin.specs.Digests.{txid, txid_strings, opening_transaction}
 use Rattle.spec_bitcoin.specs.Keys.{label_text}
-use Rattle.spec_calculus.specs.declared.step.Owner.{Owner}
-use Rattle.spec_calculus.specs.declared.step.Owner.TheVariants.{Party, Outside}
+use Rattle.spec_calculus.specs.declared.step.Owner.TheVariants.{Party}
 use Rattle.spec_calculus.specs.Moves.{made}
 use Rattle.spec_calculus.specs.Steps.{owned}
 use Rattle.spec_compiler.specs.Setting.{Setting, deposit_key}
@@ -21,21 +20,21 @@ use Rattle.spec_run.specs.Setup.{Setup, is_declared, contract_at}
 use Rattle.spec_run.specs.World.{Output}
 use Rattle.spec_run.specs.Owners.{paid_to, owner_among, owner_by}
 use Rattle.spec_run.specs.Compiled.{compiled_by, compiled_at}
-use Rattle.spec_run.specs.Conditions.{HashesBytes, IsSetup}
+use Rattle.spec_run.specs.Conditions.{IsSetup}
 use Rattle.spec_run.specs.Event.{opening_outputs, opening_strings, opening_world, opening_collision}
 use Rattle.spec_run.specs.Ledger.{made_from}
 use Rattle.spec_run.specs.Steps.{moved_output}
 use Rattle.spec_run.specs.Translation.{opening_configuration}
 use Rattle.spec_run.specs.Agreement.{Agree, is_placed}
 use Rattle.theory_bitcoin.proofs.Labels.{one_label}
-use Rattle.theory_run.proofs.Same.{bytes-true, bytes_refl}
-use Rattle.theory_run.proofs.Tests.{length_map, map_map}
-use Rattle.theory_run.proofs.Outputs.{nothing_held, length-made_from, deposits-new, actives-new}
+use Rattle.theory_world.proofs.Same.{bytes-true, bytes_refl}
+use Rattle.theory_world.proofs.Tests.{length_map}
+use Rattle.theory_world.proofs.Outputs.{nothing_held, length-made_from, deposits-new, actives-new}
 use Rattle.theory_run.proofs.Moved.{AgreeOnMoney}
-use Rattle.theory_run.proofs.Hashed.{NoClash, no_clash, no_clash_none, among_left, among_right, among_head, among_tail, all_new}
+use Rattle.theory_world.proofs.Hashed.{NoClash, no_clash, no_clash_none, among_left, among_right, among_head, among_tail, all_new}
 use Rattle.theory_run.proofs.Keeping.{KeptSecrets}
-use Rattle.theory_run.proofs.Book.{key-apart}
-use Rattle.theory_run.proofs.Later.{get-made}
+use Rattle.theory_world.proofs.Book.{key-apart}
+use Rattle.theory_world.proofs.Later.{get-made}
 use Rattle.theory_run.proofs.Kept.{KeptBook}
 
 -- ---- lists
@@ -110,7 +109,7 @@ module _ (s : Setup) (hs : List (List ℕ)) (clear : NoClash s.hash hs) (labelle
 -- ---- the opening
 
 module _ (s : Setup) (is : IsSetup s) (opens : opening_collision s ≡ None) where
-  clear : NoClash s.hash (opening_world s).hashed
+  pub clear : NoClash s.hash (opening_world s).hashed
   clear = no_clash s.hash [] (opening_strings s) (no_clash_none s.hash) opens
 
   abbrev deposit_labels : List (List ℕ)

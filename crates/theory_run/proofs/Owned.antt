@@ -1,15 +1,13 @@
 -- Whose an output is that pays a declared party.
-use Rattle.std.proofs.Common.{◌≡◌, ℕ, List, [], ◌∷◌, ◌++◌, Bool, true, false, refl, sym, ap, ◌∙◌, subst, inl, inr}
-use Rattle.std.specs.Prelude.{if◌then◌else◌, ◌||◌}
+use Rattle.std.proofs.Common.{◌≡◌, ℕ, List, [], ◌∷◌, ◌++◌, Bool, true, false, refl, sym, ap, subst, inl, inr}
+use Rattle.std.specs.Prelude.{if◌then◌else◌}
 use Rattle.std.specs.Str.{bytes_eq}
 use Rattle.std.proofs.lemmas.Bool.{or_cases, or_left, or_right, both_ways}
 use Rattle.std.proofs.lemmas.List.{append_cancel_right}
 use Rattle.spec_data.specs.Lists.{is_among}
 use Rattle.spec_bitcoin.specs.declared.label.Label.{Label}
 use Rattle.spec_bitcoin.specs.declared.label.Label.TheVariants as labels
-use Rattle.spec_bitcoin.specs.Keys.{label_text, pay_to}
-use Rattle.spec_calculus.specs.declared.step.Owner.{Owner}
-use Rattle.spec_calculus.specs.declared.step.Owner.TheVariants.{Party, Outside}
+use Rattle.spec_calculus.specs.declared.step.Owner.TheVariants.{Party}
 use Rattle.spec_calculus.specs.Configuration.{Configuration}
 use Rattle.spec_compiler.specs.Setting.{deposit_key}
 use Rattle.spec_compiler.specs.Transactions.{party_script}
@@ -17,9 +15,9 @@ use Rattle.spec_run.specs.Setup.{Setup, is_declared}
 use Rattle.spec_run.specs.World.{World}
 use Rattle.spec_run.specs.Owners.{paid_to, owner_among, owner_by}
 use Rattle.theory_bitcoin.proofs.Labels.{one_label}
-use Rattle.theory_run.proofs.Same.{bytes-true, bytes_refl}
-use Rattle.theory_run.proofs.Hashed.{NoClash}
-use Rattle.theory_run.proofs.Book.{key-apart}
+use Rattle.theory_world.proofs.Same.{bytes-true, bytes_refl}
+use Rattle.theory_world.proofs.Hashed.{NoClash}
+use Rattle.theory_world.proofs.Book.{key-apart}
 use Rattle.theory_run.proofs.Kept.{KeptBook}
 
 module _ (s : Setup) (g : Configuration) (w : World) (kept : KeptBook s g w) (hs : List (List ℕ)) (clear : NoClash s.hash hs) (sub : (t : List ℕ) → is_among t w.hashed ≡ true → is_among t hs ≡ true) where

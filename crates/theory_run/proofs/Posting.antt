@@ -1,9 +1,9 @@
 -- Strings that are posted, and what of secrets lasts where none are.
 use Rattle.std.proofs.Common.{◌≡◌, ℕ, List, [], ◌∷◌, ◌++◌, map, Bool, true, false, not, cond, Option, Some, None, refl, sym, ap, ◌∙◌, subst, arith, append-nil, inl, inr}
-use Rattle.std.specs.Prelude.{◌==◌, ◌&&◌, ◌||◌, is_some, if◌then◌else◌}
-use Rattle.std.specs.List.{find, list_any, list_all}
+use Rattle.std.specs.Prelude.{◌&&◌, ◌||◌, is_some, if◌then◌else◌}
+use Rattle.std.specs.List.{find}
 use Rattle.std.specs.Str.{bytes_eq}
-use Rattle.std.proofs.lemmas.Bool.{and_parts, and_from, or_left, or_right, not_from_false, not-true, false_from_ne_true, both_ways}
+use Rattle.std.proofs.lemmas.Bool.{and_parts, and_from, or_left, false_from_ne_true, both_ways}
 use Rattle.spec_data.specs.Lists.{is_among}
 use Rattle.spec_calculus.specs.declared.parts.Revealed.{Revealed}
 use Rattle.spec_calculus.specs.Configuration.{Configuration}
@@ -16,10 +16,10 @@ use Rattle.spec_run.specs.Draft.{is_allowed, is_guessed, guess}
 use Rattle.spec_run.specs.Committing.{is_secret_long, used_digests}
 use Rattle.spec_run.specs.Revealing.{fits}
 use Rattle.spec_run.specs.Secrets.{all_secrets, digest_at, is_shown, shown, newly_shown}
-use Rattle.spec_run.specs.Steps.{reveal_step, reveals}
-use Rattle.theory_run.proofs.Same.{bytes-true, bytes_refl}
-use Rattle.theory_run.proofs.Tests.{any-append}
-use Rattle.theory_run.proofs.Hashed.{NoClash, no_clash, among-append, among_left, among_right, among_split, all_more, all_new, any_then, any_found, find_any}
+use Rattle.spec_run.specs.Steps.{reveals}
+use Rattle.theory_world.proofs.Same.{bytes-true, bytes_refl}
+use Rattle.theory_world.proofs.Tests.{any-append}
+use Rattle.theory_world.proofs.Hashed.{NoClash, no_clash, among-append, among_split, all_more, all_new, any_then, any_found, find_any}
 use Rattle.theory_run.proofs.Secrets.{has_secret, different_secrets, after-reveals}
 use Rattle.theory_run.proofs.Keeping.{Begins, KeptSecrets, is_own, committed_by, reveals_legal, reveals_agree}
 
@@ -109,6 +109,23 @@ pub record IsRevealer (s : Setup) (w : World) (al : Option (List ℕ × List ℕ
   pub allowed : allows al x.party x.secret ≡ true
   pub digest : digest_at w.promises x ≡ Some (s.hash secret)
 
+pub revealed_by : (s : Setup) (z : List (List ℕ)) (g : Configuration) (w next : World) (hs ps : List (List ℕ)) (al : Option (List ℕ × List ℕ)) → KeptSecrets s z g w
+    → next.promises ≡ w.promises → next.posted ≡ w.posted ++ ps → next.hashed ≡ noted_all w.hashed hs → collision s.hash w.hashed hs ≡ None → guess s w.posted ps al ≡ None → ((t : List ℕ) → is_among t ps ≡ true → is_among t hs ≡ true)
+    → (x : Revealed) → shown s next x ≡ true → shown s w x ≡ false → is_honest s x.party ≡ true → IsRevealer s w al x
+revealed_by s z g w next hs ps al k ec ep eh clear unguessed heard x sh hid honest =
+    let clear' : NoClash s.hash next.hashed = rw eh (no_clash s.hash w.hashed hs k.clear clear) in
+    let heard' : (t : List ℕ) → is_among t next.posted ≡ true → is_among t next.hashed ≡ true = λ t h.
+    rw eh (elim (among_split t w.posted ps (rw ep at h)) [ inl a ↦ all_more w.hashed hs t (k.heard t a) | inr b ↦ all_new w.hashed hs t (heard t b) ]) in
+    let shows : is_shown s next.posted (digest_at w.promises x) ≡ true = rw ec at sh in
+    let o = is_own-some s w.hashed (held_secret s x.party x.secret) (digest_at w.promises x) (k.own x honest) (shown-is_some s next.posted (digest_at w.promises x) shows) in
+    let e = o.digest in
+    let t = o.secret in
+    let th : is_among t next.hashed ≡ true = rw eh (all_more w.hashed hs t o.heard) in
+    let there = posted_own s t o.long next.hashed next.posted clear' heard' th (rw e at shows) in
+    let both : (is_among t w.posted || is_among t ps) ≡ true = sym (among-append t w.posted ps) ∙ ap (is_among t) (sym ep) ∙ there in
+    let old : is_among t w.posted ≡ false = false_from_ne_true (is_among t w.posted) (λ q. both_ways _ (rw e at hid) (own_shows s t o.long w.posted q)) in
+    record { secret = t; own = o.own; allowed = not_guessed s w.posted ps al x.party x.secret t unguessed o.own (rw old at both) old; digest = e }
+
 module _ (s : Setup) (z : List (List ℕ)) (apart : different_secrets (all_secrets s) ≡ true) where
   -- strings are hashed and posted, and the secrets that they show are revealed
   pub record Posted (g : Configuration) (w next : World) (al : Option (List ℕ × List ℕ)) : Type 0 where
@@ -146,16 +163,7 @@ module _ (s : Setup) (z : List (List ℕ)) (apart : different_secrets (all_secre
           early = λ a n t o h. rw ec (by_time a n t o (is_among t w.posted) refl (sym (among-append t w.posted ps) ∙ ap (is_among t) (sym ep) ∙ h));
           full = λ x p i. rw ec (k.full x (rw ec at p) i);
         });
-        revealer = λ x sh hid honest.
-            let shows : is_shown s next.posted (digest_at w.promises x) ≡ true = rw ec at sh in
-            let o = is_own-some s w.hashed (held_secret s x.party x.secret) (digest_at w.promises x) (k.own x honest) (shown-is_some s next.posted (digest_at w.promises x) shows) in
-            let e = o.digest in
-            let t = o.secret in
-            let th : is_among t next.hashed ≡ true = rw eh (all_more w.hashed hs t o.heard) in
-            let there = posted_own s t o.long next.hashed next.posted clear' heard' th (rw e at shows) in
-            let both : (is_among t w.posted || is_among t ps) ≡ true = sym (among-append t w.posted ps) ∙ ap (is_among t) (sym ep) ∙ there in
-            let old : is_among t w.posted ≡ false = false_from_ne_true (is_among t w.posted) (λ q. both_ways _ (rw e at hid) (own_shows s t o.long w.posted q)) in
-            record { secret = t; own = o.own; allowed = not_guessed s w.posted ps al x.party x.secret t unguessed o.own (rw old at both) old; digest = e };
+        revealer = revealed_by s z g w next hs ps al k ec ep eh clear unguessed heard;
       }
     where
       by_time : (a n t : List ℕ) → held_secret s a n ≡ Some t → (b : Bool) → is_among t w.posted ≡ b → (is_among t w.posted || is_among t ps) ≡ true → is_among (s.hash t) (used_digests w.promises) ≡ true

@@ -1,20 +1,19 @@
 -- Each commitment is to secrets of its party.
-use Rattle.std.proofs.Common.{◌≡◌, ℕ, List, [], ◌∷◌, ◌++◌, Bool, true, false, Option, Some, None, refl, sym, ap, ◌∙◌, subst, inl, inr}
+use Rattle.std.proofs.Common.{◌≡◌, ℕ, List, [], ◌∷◌, ◌++◌, Bool, true, false, Some, refl, sym, subst, inl, inr}
 use Rattle.std.specs.Prelude.{if◌then◌else◌, ◌||◌, ◌⊎◌}
 use Rattle.std.specs.Str.{bytes_eq}
-use Rattle.std.proofs.lemmas.Bool.{or_left, or_right}
 use Rattle.spec_data.specs.Lists.{is_among, look_up}
 use Rattle.spec_run.specs.Setup.{Setup}
 use Rattle.spec_run.specs.World.{Promise}
 use Rattle.spec_run.specs.Advertising.{arranged, or_else_this}
 use Rattle.spec_run.specs.Committing.{secrets_at}
-use Rattle.theory_run.proofs.Positions.{Is_in}
+use Rattle.theory_world.proofs.Positions.{Is_in}
 use Rattle.theory_run.proofs.Tested.{PromisesNamed}
 
 pub none_named : (s : Setup) → PromisesNamed s []
 none_named s = record { named = λ p i n d h. absurd i }
 
-in_pushed : (ps : List Promise) (q p : Promise) → Is_in p (ps ++ q ∷ []) → (Is_in p ps) ⊎ (p ≡ q)
+pub in_pushed : (ps : List Promise) (q p : Promise) → Is_in p (ps ++ q ∷ []) → (Is_in p ps) ⊎ (p ≡ q)
 in_pushed [] q p (inl e) = inr e
 in_pushed [] q p (inr i) = absurd i
 in_pushed (x ∷ ps) q p (inl e) = inl (inl e)

@@ -1,5 +1,5 @@
 -- The transactions of compiled contracts have numbers within their widths: what they put is bound, and isn't much.
-use Rattle.std.proofs.Common.{◌≡◌, ℕ, zero, suc, ◌+◌, ◌<◌, ◌≤◌, ◌^◌, List, [], ◌∷◌, ◌++◌, length, map, Bool, true, false, not, Option, Some, None, refl, sym, ap, ◌∙◌, subst, arith, inl, inr, lit<}
+use Rattle.std.proofs.Common.{◌≡◌, ℕ, zero, suc, ◌≤◌, List, [], ◌∷◌, length, Bool, true, false, not, Some, None, refl, sym, ap, subst, arith, inl, inr}
 use Rattle.std.specs.Prelude.{◌&&◌, ◌||◌, ◌⊎◌, nat_le, slice_get, if◌then◌else◌}
 use Rattle.std.specs.List.{list_all}
 use Rattle.std.specs.Str.{bytes_eq}
@@ -13,7 +13,8 @@ use Rattle.spec_terms.specs.Core.{core, puts_of, reveals_of}
 use Rattle.spec_terms.specs.Paths.{Spot, position, at_branch, choice_at}
 use Rattle.spec_terms.specs.Balance.{stands}
 use Rattle.spec_terms.specs.Precondition.{Holding, holding, volatile, deposits, secrets, names_of}
-use Rattle.spec_terms.specs.Readable.{max_money, most_deposits, most_secrets, is_readable_pre, is_readable_contract, is_some_list, is_readable_entry}
+use Rattle.spec_data.specs.Ranges.{max_money}
+use Rattle.spec_terms.specs.Readable.{most_deposits, most_secrets, is_readable_pre, is_readable_contract, is_some_list, is_readable_entry}
 use Rattle.spec_terms.specs.Faults.{IsWellFormed, first_place, at_core, are_among}
 use Rattle.spec_terms.specs.declared.pre.Pre.{Pre}
 use Rattle.spec_terms.specs.declared.pre.Pre.TheVariants.{Persistent, Volatile, Secret}
@@ -21,23 +22,24 @@ use Rattle.spec_terms.specs.declared.path.PathStep.{PathStep}
 use Rattle.spec_bitcoin.specs.Spelling.{IsPlace}
 use Rattle.spec_calculus.specs.Configuration.{Configuration}
 use Rattle.spec_compiler.specs.Setting.{Setting}
-use Rattle.spec_compiler.specs.Transactions.{Spent, Standing, deposit, holding_or_none, put_deposits}
+use Rattle.spec_compiler.specs.Transactions.{Spent, Standing, deposit, holding_or_none, put_deposits, tx_of, branch_draft}
 use Rattle.spec_compiler.specs.ByPath.{position_at}
 use Rattle.spec_run.specs.Setup.{Setup}
-use Rattle.spec_run.specs.World.{World}
+use Rattle.spec_run.specs.World.{Output, World, is_advertised}
 use Rattle.spec_run.specs.Compiled.{compiled_at}
 use Rattle.spec_run.specs.Conditions.{IsSetup}
 use Rattle.theory_script.proofs.Spots.{each_at, each_of_branches, each_of_advert}
-use Rattle.theory_run.proofs.Same.{bytes-true, bytes_refl}
-use Rattle.theory_run.proofs.Tests.{length_map}
-use Rattle.theory_run.proofs.Positions.{Is_in}
-use Rattle.theory_run.proofs.Standing.{term_choice}
-use Rattle.theory_run.proofs.Faultless.{no_fault}
-use Rattle.theory_run.proofs.Kept.{KeptBook}
+use Rattle.theory_world.proofs.Preimages.{numbered}
+use Rattle.theory_world.proofs.Same.{bytes-true}
+use Rattle.theory_world.proofs.Tests.{length_map}
+use Rattle.theory_world.proofs.Positions.{Is_in}
+use Rattle.theory_world.proofs.Standing.{term_choice}
+use Rattle.theory_world.proofs.Faultless.{no_fault}
+use Rattle.theory_run.proofs.Kept.{KeptBook, AdvertFine}
 use Rattle.theory_run.proofs.Spending.{DraftsFit}
-use Rattle.theory_run.proofs.Checking.{compiled_checked}
-use Rattle.theory_run.proofs.Fitting.{bound_place, initial_fits}
-use Rattle.theory_run.proofs.Widths.{branch_fits}
+use Rattle.theory_world.proofs.Checking.{compiled_checked}
+use Rattle.theory_run.proofs.Fitting.{bound_place, initial_numbered}
+use Rattle.theory_run.proofs.Widths.{branch_fits, branch_size}
 use Rattle.theory_run.proofs.Readings.{branch_is_readable}
 
 -- ---- different names are no more than those they are among
@@ -108,7 +110,7 @@ core_says g a q choice i b h e t =
 -- ---- puts
 
 -- a volatile deposit's name
-named : (pre : List Pre) (name : List ℕ) → is_among name (names_of (volatile pre)) ≡ true → (h : Holding) × (look_up name (volatile pre) ≡ Some h) × Is_in (name, h) (deposits pre)
+pub named : (pre : List Pre) (name : List ℕ) → is_among name (names_of (volatile pre)) ≡ true → (h : Holding) × (look_up name (volatile pre) ≡ Some h) × Is_in (name, h) (deposits pre)
 named [] name h = cc
 named (Persistent party value n ∷ pre) name h = let r = named pre name h in (r.0, r.1, inr r.2)
 named (Volatile party value n ∷ pre) name h = by_test (bytes_eq n name) refl h (named pre name)
@@ -133,27 +135,37 @@ few_names a h =
     let l = few_volatile a.pre in
     grind (arith, nat_tests, q, l)
 
-module _ (s : Setup) (is : IsSetup s) (g : Configuration) (w : World) (kept : KeptBook s g w) where
+-- what a branch puts are volatile deposits
+pub puts_known : (hash : List ℕ → List ℕ) (st : Setting) → IsWellFormed st.advert → (q : List PathStep) (here : Standing) (choice : Choice) (i : ℕ) (b : term.Branch) → position_at hash st q ≡ Some (here, choice) → slice_get (branches choice) i ≡ Some b
+    → list_all (λ n. is_among n (names_of (volatile st.advert.pre))) (puts_of (core b)) ≡ true
+puts_known hash st well q here choice i b stand there =
+    core_says (λ y. are_among (puts_of y) (names_of (volatile st.advert.pre))) st.advert q choice i b (no_fault st.advert well).1.0 (term_choice hash st q here choice stand) there
+
+module _ (s : Setup) (is : IsSetup s) (w : World) (adverts : (k : ℕ) → is_advertised w k ≡ true → AdvertFine s w k) (placed : (n : ℕ) (o : Output) → slice_get w.outputs n ≡ Some o → IsPlace o.place) where
   put_places : (k : ℕ) (st : Setting) (c : compiled_at s w k ≡ Some st) (puts : List (List ℕ)) → list_all (λ n. is_among n (names_of (volatile st.advert.pre))) puts ≡ true → (x : Spent) → Is_in x (put_deposits s.hash st puts) → IsPlace x.place
   put_places k st c [] h x i = absurd i
   put_places k st c (n ∷ puts) h x (inl e) =
       let r = named st.advert.pre n (and_parts (is_among n (names_of (volatile st.advert.pre))) (list_all (λ m. is_among m (names_of (volatile st.advert.pre))) puts) h).0 in
-      let p = bound_place s is g w kept k st c (n, r.0) r.2 in
+      let p = bound_place s is w adverts placed k st c (n, r.0) r.2 in
       subst (λ (y : Spent). IsPlace y.place) (sym e) p
   put_places k st c (n ∷ puts) h x (inr i) = put_places k st c puts (and_parts (is_among n (names_of (volatile st.advert.pre))) (list_all (λ m. is_among m (names_of (volatile st.advert.pre))) puts) h).1 x i
 
   -- every compiled transaction has numbers within their widths
-  pub drafts_fit : DraftsFit s w
-  drafts_fit = record {
-    initial = λ k st c. initial_fits s is g w kept k st c;
+  pub all_fit : DraftsFit s w
+  all_fit = record {
+    initial = λ k st c. initial_numbered s is w adverts placed k st c;
     branch = λ k st q here choice i b c stand there.
         let well = compiled_checked s is w k st c in
         let ch = term_choice s.hash st q here choice stand in
         let f = no_fault st.advert well in
-        let known = core_says (λ y. are_among (puts_of y) (names_of (volatile st.advert.pre))) st.advert q choice i b f.1.0 ch there in
+        let known = puts_known s.hash st well q here choice i b stand there in
         let once = (and_parts (are_different (puts_of (core b))) (are_different (reveals_of (core b))) (core_says (λ y. are_different (puts_of y) && are_different (reveals_of y)) st.advert q choice i b f.1.1.1.0 ch there)).0 in
         let n = no_more (puts_of (core b)) (names_of (volatile st.advert.pre)) once known in
         let l = few_names st.advert well in
         let m = length_map (λ name. deposit s.hash st name (holding_or_none (look_up name (volatile st.advert.pre)))) (puts_of (core b)) in
-        branch_fits s.hash is.hash st well q here choice i b stand there (branch_is_readable s.hash st well q here choice i b stand there) (put_places k st c (puts_of (core b)) known) (omega (arith, n, l, m));
+        let readable = branch_is_readable s.hash st well q here choice i b stand there in
+        numbered (tx_of (branch_draft s.hash st here i b)) (branch_fits s.hash is.hash st well q here choice i b stand there readable (put_places k st c (puts_of (core b)) known) (omega (arith, n, l, m))) (branch_size s.hash is.hash st here i b readable);
   }
+
+pub drafts_fit : (s : Setup) → IsSetup s → (g : Configuration) (w : World) → KeptBook s g w → DraftsFit s w
+drafts_fit s is g w kept = all_fit s is w kept.adverts kept.placed_fine

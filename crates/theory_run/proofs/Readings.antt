@@ -1,11 +1,12 @@
 -- Each branch of a well-formed compiled contract is as text may have it.
-use Rattle.std.proofs.Common.{◌≡◌, ℕ, zero, suc, List, [], ◌∷◌, ◌++◌, Bool, true, false, Option, Some, None, refl, sym, ap, ◌∙◌, subst}
+use Rattle.std.proofs.Common.{◌≡◌, ℕ, zero, suc, List, [], ◌∷◌, ◌++◌, Bool, true, Option, Some, None, refl, subst}
 use Rattle.std.specs.Prelude.{◌&&◌, nat_le, slice_get, option_map, option_and_then}
 use Rattle.std.proofs.lemmas.Bool.{and_parts}
 use Rattle.spec_terms.specs.Term as term
 use Rattle.spec_terms.specs.Term.{Choice, no_branch, branch, branches, Parts, no_part, part, parts_list, auth, after, put_reveal, withdraw, split}
 use Rattle.spec_terms.specs.Core.{core}
-use Rattle.spec_terms.specs.Readable.{max_money, is_readable_pre, is_readable_contract, is_readable_branch, is_readable_split, is_readable_test, is_readable_count, are_readable, are_readable_parts}
+use Rattle.spec_data.specs.Ranges.{max_money}
+use Rattle.spec_terms.specs.Readable.{is_readable_pre, is_readable_contract, is_readable_branch, is_readable_split, is_readable_test, is_readable_count, are_readable, are_readable_parts}
 use Rattle.spec_terms.specs.Faults.{IsWellFormed}
 use Rattle.spec_terms.specs.declared.path.PathStep.{PathStep}
 use Rattle.spec_terms.specs.declared.path.PathStep.TheVariants.{Branch as To, Part as Into}
@@ -13,7 +14,7 @@ use Rattle.spec_compiler.specs.Setting.{Setting, branch_path}
 use Rattle.spec_compiler.specs.Transactions.{Standing, continued_value, branch_draft, continued, part_standing, root_standing}
 use Rattle.spec_compiler.specs.ByPath as by_path
 use Rattle.spec_compiler.specs.ByPath.{Stand, branch_stand, continued_stand, part_stand, next_stand, stand_from, stand_at, as_position, position_at}
-use Rattle.theory_run.proofs.Standing.{stand_of_branch}
+use Rattle.theory_world.proofs.Standing.{stand_of_branch}
 use Rattle.theory_run.proofs.Widths.{core_is_readable}
 
 abbrev is_fine : Choice → Bool

@@ -1,17 +1,16 @@
 -- Secrets that come to be shown, and the steps that reveal them.
-use Rattle.std.proofs.Common.{◌≡◌, ℕ, List, [], ◌∷◌, ◌++◌, map, Bool, true, false, not, Option, Some, None, refl, sym, ap, ◌∙◌, arith, append_assoc, append-nil, cond}
+use Rattle.std.proofs.Common.{◌≡◌, ℕ, List, [], ◌∷◌, ◌++◌, map, Bool, true, false, not, Option, Some, None, refl, sym, ap, ◌∙◌, arith, append_assoc, append-nil}
 use Rattle.std.specs.Prelude.{◌==◌, ◌&&◌, ◌||◌, is_some}
-use Rattle.std.specs.List.{filter, list_all, list_any}
+use Rattle.std.specs.List.{filter, list_all}
 use Rattle.std.specs.Str.{bytes_eq}
-use Rattle.std.proofs.lemmas.Bool.{and_parts, and_from, or_left, or_right, or_parts, or_from, eqb-true, eq-eqb, not-true, not_from_false, false_from_ne_true, both_ways}
+use Rattle.std.proofs.lemmas.Bool.{and_parts, and_from, or_parts, or_from, eqb-true, eq-eqb, not-true, not_from_false, false_from_ne_true, both_ways}
 use Rattle.spec_calculus.specs.declared.parts.Revealed.{Revealed}
-use Rattle.spec_calculus.specs.declared.step.Step.TheVariants as steps
 use Rattle.spec_calculus.specs.Configuration.{Configuration}
 use Rattle.spec_calculus.specs.Branches.{length_at, is_known, is_revealed}
 use Rattle.spec_calculus.specs.Steps.{effect, after, Legal}
 use Rattle.spec_run.specs.Steps.{reveal_step}
-use Rattle.theory_run.proofs.Same.{bytes-true, bytes_refl}
-use Rattle.theory_run.proofs.Tests.{any-append}
+use Rattle.theory_world.proofs.Same.{bytes-true, bytes_refl}
+use Rattle.theory_world.proofs.Tests.{any-append}
 use Rattle.theory_run.proofs.Legal.{passes}
 
 -- ---- secrets

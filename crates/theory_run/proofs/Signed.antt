@@ -1,6 +1,6 @@
 -- What is kept when parties sign: endorsements, deposits of an initial transaction, branches that ask them, and what a dishonest party likes.
-use Rattle.std.proofs.Common.{◌≡◌, ℕ, zero, suc, ◌+◌, ◌<◌, ◌≤◌, List, [], ◌∷◌, ◌++◌, length, map, Bool, true, false, not, Option, Some, None, refl, sym, ap, ◌∙◌, subst, arith, inl, inr}
-use Rattle.std.specs.Prelude.{◌==◌, ◌&&◌, ◌||◌, ◌⊎◌, slice_get, is_some, if◌then◌else◌}
+use Rattle.std.proofs.Common.{◌≡◌, ℕ, ◌≤◌, List, [], ◌∷◌, ◌++◌, length, map, Bool, true, false, Option, Some, refl, sym, ap, ◌∙◌, subst, inl, inr}
+use Rattle.std.specs.Prelude.{◌&&◌, ◌⊎◌, slice_get, if◌then◌else◌}
 use Rattle.std.specs.Str.{bytes_eq}
 use Rattle.std.proofs.lemmas.Bool.{and_parts, or_cases, both_ways}
 use Rattle.spec_data.specs.Lists.{is_among}
@@ -9,7 +9,7 @@ use Rattle.spec_terms.specs.Term.{Choice, branches}
 use Rattle.spec_terms.specs.Core.{is_asked}
 use Rattle.spec_terms.specs.Precondition.{Holding, persistent}
 use Rattle.spec_terms.specs.declared.path.PathStep.{PathStep}
-use Rattle.spec_terms.specs.declared.path.PathStep.TheVariants.{Branch as To, Part as Into}
+use Rattle.spec_terms.specs.declared.path.PathStep.TheVariants.{Branch as To}
 use Rattle.spec_bitcoin.specs.declared.label.Label.{Label}
 use Rattle.spec_bitcoin.specs.declared.label.Label.TheVariants as labels
 use Rattle.spec_bitcoin.specs.declared.tx.Tx.{Tx}
@@ -18,24 +18,24 @@ use Rattle.spec_calculus.specs.Configuration.{Configuration}
 use Rattle.spec_calculus.specs.Beginning.{is_init_authorised}
 use Rattle.spec_calculus.specs.Branches.{has_branch_authorised}
 use Rattle.spec_compiler.specs.Setting.{Setting, branch_label, deposit_key, people}
-use Rattle.spec_compiler.specs.Transactions.{Spent, Standing, tx_of, digest_of_spent, deposit, persistent_deposits, branch_draft, initial_draft}
+use Rattle.spec_compiler.specs.Transactions.{Spent, Standing, tx_of, digest_of_spent, deposit, branch_draft, initial_draft}
 use Rattle.spec_compiler.specs.Endorsements.{Need}
 use Rattle.spec_compiler.specs.ByPath.{position_at}
 use Rattle.spec_run.specs.Setup.{Setup, is_declared, is_honest, pre_at}
-use Rattle.spec_run.specs.World.{Held, Output, World, is_advertised}
+use Rattle.spec_run.specs.World.{Held, Output, World}
 use Rattle.spec_run.specs.Compiled.{compiled_at}
 use Rattle.spec_run.specs.Conditions.{HashesBytes}
 use Rattle.spec_run.specs.Signing.{signed_all, label_party, needs_at, pairs_of_party, pairs_of_deposits, initial_pairs, authorising_pairs}
 use Rattle.spec_run.specs.Steps.{is_bound_live}
-use Rattle.theory_run.proofs.Same.{bytes-true, bytes_refl}
-use Rattle.theory_run.proofs.Hashed.{NoClash}
-use Rattle.theory_run.proofs.Positions.{Is_in}
-use Rattle.theory_run.proofs.Later.{lasts_refl, compiled_is}
-use Rattle.theory_run.proofs.Book.{signed_more, signed_back}
-use Rattle.theory_run.proofs.Kept.{KeptBook, HeldFine, DepositCause, needed, started, BranchCause, Frame, signs}
+use Rattle.theory_world.proofs.Same.{bytes-true}
+use Rattle.theory_world.proofs.Hashed.{NoClash}
+use Rattle.theory_world.proofs.Positions.{Is_in}
+use Rattle.theory_world.proofs.Later.{lasts_refl, compiled_is}
+use Rattle.theory_world.proofs.Book.{signed_more, signed_back}
+use Rattle.theory_run.proofs.Kept.{KeptBook, HeldFine, DepositCause, Needed, needed, Started, started, BranchCause, Frame, signs}
 use Rattle.theory_run.proofs.Spending.{Checked}
 use Rattle.theory_run.proofs.Labelled.{IsHeard, same_label, deposit_label, heard_label, behind_last, label_contract, label_path, lie_deposit, lie_branch, pairs_are, authorised_deposit, authorised_branch}
-use Rattle.theory_run.proofs.Endorsed.{need_of_pair, NeedIs, branch_need, put_need, need_is}
+use Rattle.theory_world.proofs.Endorsed.{need_of_pair, NeedIs, branch_need, put_need, need_is}
 
 -- two names of one branch
 pub record SameSpot (st su : Setting) (here there : Standing) (b c : term.Branch) : Type 0 where
@@ -106,7 +106,7 @@ module _ (s : Setup) (size : HashesBytes s.hash) (few_contracts : length s.contr
   sign_kept party label digest lies owned fine =
       let next = after_pairs ((key_of s.hash label, digest) ∷ []) in
       pairs_kept ((key_of s.hash label, digest) ∷ [])
-      (lie_deposit s size few_contracts g w kept check hs clear sub g' next party label digest lies owned fine)
+      (λ a d k h x. absurd (lie_deposit s size few_contracts g w kept check hs clear sub g' next party label digest lies owned fine a d k h x))
       (lie_branch s size few_contracts g w kept check hs clear sub g' next party label digest lies owned fine)
 
   -- ---- a branch that asks the party
@@ -118,7 +118,7 @@ module _ (s : Setup) (size : HashesBytes s.hash) (few_contracts : length s.contr
       let pairs : List Pair = (key_of s.hash (branch_label held.contract (held.position ++ To j ∷ []) party), d) ∷ [] in
       let e = pairs_are s size few_contracts g w kept check hs clear sub g' (after_pairs pairs) refl party n o held there fine j c has part now in
       subst (λ ps. KeptBook s g' (after_pairs ps)) (sym e) (pairs_kept pairs
-      (λ a d k h x. authorised_deposit s size few_contracts g w kept check hs clear sub g' (after_pairs pairs) refl party n o held there fine j c has part now a d k x)
+      (λ a d k h x. absurd (authorised_deposit s size few_contracts g w kept check hs clear sub g' (after_pairs pairs) refl party n o held there fine j c has part now a d k x))
       (λ k st q here choice i b a d e t p q' h x. authorised_branch s size few_contracts g w kept check hs clear sub g' (after_pairs pairs) refl party n o held there fine j c has part now k st q here choice i b a d e t p q' x))
 
   -- ---- endorsements
@@ -130,33 +130,40 @@ module _ (s : Setup) (size : HashesBytes s.hash) (few_contracts : length s.contr
     named : st0.contract ≡ k0
     named = ap (λ (y : Setting). y.contract) (compiled_is s w k0 st0 given).is
 
-    endorse_deposits : DepositsNew endorsing
-    endorse_deposits a d decl honest x = by_need r.0 (need_is s.hash st0 r.0 r.1) r.3 r.4
+    -- the need of a deposit's pair is the party's own
+    pub endorse_needed : (a d : List ℕ) → is_declared s a ≡ true → has_signed endorsing (deposit_key s.hash a) d ≡ true → (h : Needed s (after_pairs endorsing) a d) × (h.contract ≡ k0) × (party ≡ a)
+    endorse_needed a d decl x = by_need r.0 (need_is s.hash st0 r.0 r.1) r.2 r.3 r.4
       where
         r : (n : Need) × Is_in n (needs_at s st0) × (n.party ≡ party) × (n.key ≡ deposit_key s.hash a) × (n.digest ≡ d)
         r = need_of_pair party (needs_at s st0) (deposit_key s.hash a) d x
 
-        by_need : (n : Need) → NeedIs s.hash st0 n → n.key ≡ deposit_key s.hash a → n.digest ≡ d → DepositCause s g' (after_pairs endorsing) a d
-        by_need n (branch_need path dr br part free key dig) nk nd =
+        by_need : (n : Need) → NeedIs s.hash st0 n → n.party ≡ party → n.key ≡ deposit_key s.hash a → n.digest ≡ d → (h : Needed s (after_pairs endorsing) a d) × (h.contract ≡ k0) × (party ≡ a)
+        by_need n (branch_need path dr br part free key dig) np nk nd =
             let l = heard_label s size few_contracts g w kept check hs clear sub k0 st0 br.is_branch.position br.here br.is_branch.choice br.index br.branch n.party given br.is_branch.stands br.is_branch.there part in
             let e : key_of s.hash (branch_label k0 (br.is_branch.position ++ To br.index ∷ []) n.party) ≡ deposit_key s.hash a = sym (λ m. key_of s.hash (branch_label (named m) (br.is_branch.path_is m) n.party)) ∙ sym key ∙ nk in
             let z = same_label s size few_contracts g w kept check hs clear sub (branch_label k0 (br.is_branch.position ++ To br.index ∷ []) n.party) (labels.Deposit a) l (deposit_label s size few_contracts g w kept check hs clear sub a decl) e in
             cc
-        by_need n (put_need path dr br key y i dig) nk nd = needed (record {
-          contract = k0;
-          setting = st0;
-          compiled = given;
-          position = br.is_branch.position;
-          here = br.here;
-          choice = br.is_branch.choice;
-          stands = br.is_branch.stands;
-          index = br.index;
-          branch = br.branch;
-          there = br.is_branch.there;
-          spent = y;
-          put = i;
-          is = sym nd ∙ dig;
-        })
+        by_need n (put_need path dr br key y i dig) np nk nd =
+            let own : deposit_key s.hash party ≡ deposit_key s.hash a = ap (deposit_key s.hash) (sym np) ∙ sym key ∙ nk in
+            let z = same_label s size few_contracts g w kept check hs clear sub (labels.Deposit party) (labels.Deposit a) (deposit_label s size few_contracts g w kept check hs clear sub party declared) (deposit_label s size few_contracts g w kept check hs clear sub a decl) own in (
+              record {
+                contract = k0;
+                setting = st0;
+                compiled = given;
+                position = br.is_branch.position;
+                here = br.here;
+                choice = br.is_branch.choice;
+                stands = br.is_branch.stands;
+                index = br.index;
+                branch = br.branch;
+                there = br.is_branch.there;
+                spent = y;
+                put = i;
+                is = sym nd ∙ dig;
+              },
+              refl,
+              ap label_party z,
+            )
 
     endorse_branches : BranchesNew endorsing
     endorse_branches k st q here choice i b a d c e t p honest x = by_need r.0 (need_is s.hash st0 r.0 r.1) r.2 r.3 r.4
@@ -195,7 +202,7 @@ module _ (s : Setup) (size : HashesBytes s.hash) (few_contracts : length s.contr
                 }
 
     pub endorse_kept : KeptBook s g' (after_pairs endorsing)
-    endorse_kept = pairs_kept endorsing endorse_deposits endorse_branches
+    endorse_kept = pairs_kept endorsing (λ a d decl honest x. needed (endorse_needed a d decl x).0) endorse_branches
 
     -- ---- deposits of the initial transaction
 
@@ -203,12 +210,12 @@ module _ (s : Setup) (size : HashesBytes s.hash) (few_contracts : length s.contr
       abbrev starting : List Pair
       starting = initial_pairs s party (Some st0)
 
-      start_deposits : DepositsNew starting
-      start_deposits a d decl honest x =
+      pub start_started : (a d : List ℕ) → is_declared s a ≡ true → has_signed starting (deposit_key s.hash a) d ≡ true → (h : Started s g' (after_pairs starting) a d) × (h.contract ≡ k0) × (party ≡ a)
+      start_started a d decl x =
           let r = pair_of_deposit s st0 (tx_of (initial_draft s.hash st0)) party (persistent st0.advert.pre) (deposit_key s.hash a) d x in
           let z = same_label s size few_contracts g w kept check hs clear sub (labels.Deposit party) (labels.Deposit a) (deposit_label s size few_contracts g w kept check hs clear sub party declared) (deposit_label s size few_contracts g w kept check hs clear sub a decl) r.0 in
           let pa : party ≡ a = ap label_party z in
-          started (record { contract = k0; setting = st0; compiled = given; spent = r.1.0; persists = r.1.1; is = r.1.2; authorised = λ e i o l. now e i (o ∙ sym pa) l })
+          (record { contract = k0; setting = st0; compiled = given; spent = r.1.0; persists = r.1.1; is = r.1.2; authorised = λ e i o l. now e i (o ∙ sym pa) l }, refl, pa)
 
       start_branches : BranchesNew starting
       start_branches k st q here choice i b a d c e t p honest x =
@@ -218,4 +225,4 @@ module _ (s : Setup) (size : HashesBytes s.hash) (few_contracts : length s.contr
           cc
 
       pub init_kept : KeptBook s g' (after_pairs starting)
-      init_kept = pairs_kept starting start_deposits start_branches
+      init_kept = pairs_kept starting (λ a d decl honest x. started (start_started a d decl x).0) start_branches

@@ -1,8 +1,8 @@
 -- What is kept after an event in which nothing reaches the ledger and no contract is advertised or committed: parties sign, post or wait.
-use Rattle.std.proofs.Common.{◌≡◌, ℕ, ◌+◌, ◌≤◌, List, [], ◌∷◌, ◌++◌, length, Bool, true, false, not, Option, Some, None, refl, sym, ap, ◌∙◌, subst, arith, inl, inr}
+use Rattle.std.proofs.Common.{◌≡◌, ℕ, ◌+◌, ◌≤◌, List, [], ◌∷◌, ◌++◌, length, Bool, true, false, Option, Some, None, refl, sym, ap, ◌∙◌, subst}
 use Rattle.std.specs.Prelude.{◌&&◌, slice_get, is_some, if◌then◌else◌}
 use Rattle.std.specs.Str.{bytes_eq}
-use Rattle.std.proofs.lemmas.Bool.{and_parts, and_from, not-false}
+use Rattle.std.proofs.lemmas.Bool.{and_from, not-false}
 use Rattle.spec_data.specs.Lists.{is_among, first_reason}
 use Rattle.spec_data.proofs.ListLemmas.{no_reason-none_true}
 use Rattle.spec_terms.specs.Term as term
@@ -22,10 +22,9 @@ use Rattle.spec_compiler.specs.Setting.{Setting, people}
 use Rattle.spec_run.specs.declared.event.Event.{Event}
 use Rattle.spec_run.specs.declared.event.Event.TheVariants as events
 use Rattle.spec_run.specs.declared.outcome.Reason.{Reason}
-use Rattle.spec_terms.specs.Advert.{Advert}
 use Rattle.spec_run.specs.Setup.{Setup, is_declared, contract_at, pre_at}
 use Rattle.spec_run.specs.Messages.{noted_all, collision}
-use Rattle.spec_run.specs.World.{Held, Output, World, output_at, active_held, held_at}
+use Rattle.spec_run.specs.World.{Held, Output, World, active_held, held_at}
 use Rattle.spec_run.specs.Compiled.{compiled_at}
 use Rattle.spec_run.specs.Conditions.{HashesBytes}
 use Rattle.spec_run.specs.Draft.{Draft, done, posting, refused, unless, settled}
@@ -34,16 +33,16 @@ use Rattle.spec_run.specs.Signing.{with_pairs, endorsing_pairs, endorse_row, end
 use Rattle.spec_run.specs.Revealing.{own_secret, reveal_row, reveal_draft}
 use Rattle.spec_run.specs.Event.{mine_row, mine_draft}
 use Rattle.spec_run.specs.Steps.{is_of_party, is_bound_live, init_steps, steps_of}
-use Rattle.theory_run.proofs.Same.{bytes-true, bytes_refl}
-use Rattle.theory_run.proofs.Hashed.{NoClash, no_clash, among_head, all_more, all_new}
-use Rattle.theory_run.proofs.Positions.{Is_in}
-use Rattle.theory_run.proofs.Standing.{term_branches}
-use Rattle.theory_run.proofs.Mentions.{branch_named, asked_mentioned}
+use Rattle.theory_world.proofs.Same.{bytes-true, bytes_refl}
+use Rattle.theory_world.proofs.Hashed.{NoClash, no_clash, among_head, all_more, all_new}
+use Rattle.theory_world.proofs.Positions.{Is_in}
+use Rattle.theory_world.proofs.Standing.{term_branches}
+use Rattle.theory_world.proofs.Mentions.{branch_named, asked_mentioned}
 use Rattle.theory_run.proofs.Kept.{KeptBook, HeldFine}
 use Rattle.theory_run.proofs.Spending.{Checked}
-use Rattle.theory_run.proofs.Later.{compiled_is}
+use Rattle.theory_world.proofs.Later.{compiled_is}
 use Rattle.theory_run.proofs.Signed.{quiet_kept, sign_kept, authorise_kept, endorse_kept, init_kept}
-use Rattle.theory_run.proofs.Staying.{inits_stay, asked_stay, auth_inits_new, branch_new, filter_in}
+use Rattle.theory_world.proofs.Staying.{inits_stay, asked_stay, auth_inits_new, branch_new, filter_in}
 
 -- an output that is active
 pub record IsActive (w : World) (n : ℕ) (held : Held) : Type 0 where
@@ -63,8 +62,14 @@ active w n held h = by_output (slice_get w.outputs n) refl h
     by_output (Some o) e q = by_live o e o.live q
 
 -- the contract of what is held
-held_contract : (s : Setup) (w : World) (held : Held) (o : Output) (hf : HeldFine s w o held) → contract_at s held.contract ≡ Some hf.setting.advert
+pub held_contract : (s : Setup) (w : World) (held : Held) (o : Output) (hf : HeldFine s w o held) → contract_at s held.contract ≡ Some hf.setting.advert
 held_contract s w held o hf = let ci = compiled_is s w held.contract hf.setting hf.compiled in ci.there ∙ ap (λ (y : Setting). Some y.advert) (sym ci.is)
+
+-- a start authorises each of its party's deposits that is bound to a live one
+pub now_authorised : (s : Setup) (g : Configuration) (w : World) (contract : ℕ) (party : List ℕ) (e : List ℕ × Holding) → Is_in e (persistent (pre_at s contract)) → (e.1).owner ≡ party → is_bound_live w contract e ≡ true → is_init_authorised (after g (init_steps s w contract party)).init_authorised contract (e.0) ≡ true
+now_authorised s g w contract party e i o l =
+    let t : (is_of_party party e && is_bound_live w contract e) ≡ true = and_from _ _ (subst (λ y. bytes_eq (e.1).owner y ≡ true) o (bytes_refl (e.1).owner)) l in
+    auth_inits_new contract _ g e (filter_in (λ d. is_of_party party d && is_bound_live w contract d) (persistent (pre_at s contract)) e i t)
 
 -- the strings are those of the whole run
 module _ (s : Setup) (size : HashesBytes s.hash) (few_contracts : length s.contracts ≤ 16) (strings : List (List ℕ)) (g : Configuration) (w : World) (kept : KeptBook s g w) (check : Checked s w) (clear : NoClash s.hash w.hashed) where
@@ -124,15 +129,10 @@ module _ (s : Setup) (size : HashesBytes s.hash) (few_contracts : length s.contr
       xs : List Step
       xs = init_steps s w contract party
 
-      now : (e : List ℕ × Holding) → Is_in e (persistent (pre_at s contract)) → (e.1).owner ≡ party → is_bound_live w contract e ≡ true → is_init_authorised (after g xs).init_authorised contract (e.0) ≡ true
-      now e i o l =
-          let t : (is_of_party party e && is_bound_live w contract e) ≡ true = and_from _ _ (subst (λ y. bytes_eq (e.1).owner y ≡ true) o (bytes_refl (e.1).owner)) l in
-          auth_inits_new contract _ g e (filter_in (λ d. is_of_party party d && is_bound_live w contract d) (persistent (pre_at s contract)) e i t)
-
       by_compiled : (o : Option Setting) → compiled_at s w contract ≡ o → KeptAfter (events.Init contract party) (done (with_pairs w (initial_pairs s party o)) [])
       by_compiled None c apart = quiet (after g xs) [] (w.posted ++ []) w.tip (inits_stay xs g) (asked_stay xs g) apart
       by_compiled (Some st) c apart =
-          init_kept s size few_contracts g w kept check w.hashed clear (λ t h. h) (after g xs) w.tip (w.posted ++ []) (inits_stay xs g) (asked_stay xs g) party declared contract st c now
+          init_kept s size few_contracts g w kept check w.hashed clear (λ t h. h) (after g xs) w.tip (w.posted ++ []) (inits_stay xs g) (asked_stay xs g) party declared contract st c (now_authorised s g w contract party)
 
   pub authorise_after : (party : List ℕ) (n j : ℕ) → KeptAfter (events.Authorise party n j) (authorise_draft s w party n j)
   authorise_after party n j = unless_after (events.Authorise party n j) (first_reason (authorise_row s w party n j)) [] _ (λ r.

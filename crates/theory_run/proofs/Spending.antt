@@ -1,38 +1,37 @@
 -- Whose signature an accepted transaction has, and which compiled transaction it then is.
-use Rattle.std.proofs.Common.{◌≡◌, ℕ, zero, suc, ◌+◌, ◌<◌, List, [], ◌∷◌, ◌++◌, length, map, reverse, Bool, true, false, not, Option, Some, None, refl, sym, ap, ◌∙◌, subst, arith, inl, inr}
-use Rattle.std.specs.Prelude.{◌==◌, ◌&&◌, ◌||◌, ◌⊎◌, slice_get, is_some, if◌then◌else◌, option_map}
-use Rattle.std.specs.List.{list_any, list_all, flat_map, AllByRecursion}
+use Rattle.std.proofs.Common.{◌≡◌, ℕ, List, [], ◌∷◌, ◌++◌, length, map, reverse, Bool, true, false, Some, refl, sym, ap, ◌∙◌, subst, arith, inl, inr}
+use Rattle.std.specs.Prelude.{◌||◌, slice_get, if◌then◌else◌, option_map}
+use Rattle.std.specs.List.{list_all, flat_map}
 use Rattle.std.specs.Str.{bytes_eq}
-use Rattle.std.proofs.lemmas.Bool.{and_parts, and_from, or_left, or_right, or_cases, both_ways}
+use Rattle.std.proofs.lemmas.Bool.{and_parts, or_left, or_right, or_cases}
 use Rattle.std.proofs.lemmas.List.Concat.{flat_map-cons}
 use Rattle.spec_data.specs.Lists.{is_among}
 use Rattle.spec_terms.specs.Term as term
 use Rattle.spec_terms.specs.Term.{Choice, branches}
-use Rattle.spec_terms.specs.Core.{core, lock}
+use Rattle.spec_terms.specs.Core.{lock}
 use Rattle.spec_terms.specs.Precondition.{secrets, names_of}
 use Rattle.spec_terms.specs.declared.path.PathStep.{PathStep}
-use Rattle.spec_terms.specs.declared.path.PathStep.TheVariants.{Branch as To, Part as Into}
-use Rattle.spec_bitcoin.specs.declared.tx.OutPoint.{OutPoint}
+use Rattle.spec_terms.specs.declared.path.PathStep.TheVariants.{Branch as To}
 use Rattle.spec_bitcoin.specs.declared.tx.TxIn.{TxIn}
 use Rattle.spec_bitcoin.specs.declared.tx.Tx.{Tx}
 use Rattle.spec_bitcoin.specs.declared.label.Label.TheVariants as labels
 use Rattle.spec_terms.specs.Faults.{IsWellFormed}
 use Rattle.spec_terms.specs.Paths.{path_eq}
-use Rattle.spec_bitcoin.specs.Spelling.{stripped, IsPlace, IsInput, IsTransaction}
-use Rattle.spec_bitcoin.specs.Digests.{double, txid_strings, shared_strings, preimage, digest, digest_strings}
-use Rattle.spec_bitcoin.specs.Keys.{Pair, key_of, label_text, has_signed, is_valid, pay_to}
+use Rattle.spec_bitcoin.specs.Spelling.{stripped, IsPlace}
+use Rattle.spec_bitcoin.specs.Digests.{txid_strings, shared_strings, preimage, digest}
+use Rattle.spec_bitcoin.specs.Keys.{key_of, label_text, has_signed, is_valid, pay_to}
 use Rattle.spec_bitcoin.specs.Meaning.{script_meaning}
 use Rattle.spec_bitcoin.specs.Verdict.{script_of, items_of}
 use Rattle.spec_calculus.specs.Configuration.{Configuration}
 use Rattle.spec_compiler.specs.Setting.{Setting, branch_path, branch_label, branch_keys, deposit_key, people, position_script}
-use Rattle.spec_compiler.specs.Transactions.{Draft, Spent, Standing, input_of, tx_of, digest_of_spent, put_deposits, persistent_deposits, branch_draft, initial_draft, party_script}
+use Rattle.spec_compiler.specs.Transactions.{Draft, Spent, Standing, input_of, tx_of, digest_of_spent, branch_draft, initial_draft, party_script}
 use Rattle.spec_compiler.specs.Compilation.{drafts, scripts}
 use Rattle.spec_compiler.specs.ByPath as by_path
 use Rattle.spec_compiler.specs.ByPath.{position_at}
 use Rattle.spec_compiler.specs.Hashed.{path_labels, spent_strings, draft_strings, compiled_strings}
 use Rattle.spec_compiler.specs.Scripts.{digest_of}
-use Rattle.spec_compiler.specs.Statements.{are_valid, Opens, IsHash, has_size, IsCompiled}
-use Rattle.spec_run.specs.Setup.{Setup, is_declared, is_honest, people_of}
+use Rattle.spec_compiler.specs.Statements.{are_valid, Opens, has_size, IsCompiled}
+use Rattle.spec_run.specs.Setup.{Setup, is_declared, people_of}
 use Rattle.spec_run.specs.World.{Held, Output, World}
 use Rattle.spec_run.specs.Owners.{paid_to}
 use Rattle.spec_run.specs.Compiled.{compiled_at}
@@ -41,17 +40,17 @@ use Rattle.theory_script.proofs.Opened.{opens_exactly}
 use Rattle.theory_script.proofs.Deposits.{deposit_meaning}
 use Rattle.theory_script.proofs.ScriptListing.{scripts_are_listed}
 use Rattle.theory_script.proofs.Stands.{position_stands}
-use Rattle.theory_script.specs.Listed.{at_path, StandsAt}
-use Rattle.theory_run.proofs.Same.{bytes-true, bytes_refl}
-use Rattle.theory_run.proofs.Hashed.{NoClash, among_left, among_right, among_head, among_tail}
-use Rattle.theory_run.proofs.Preimages.{SameSigned, HeardLists, heard_lists, double-apart, preimage-apart}
-use Rattle.theory_run.proofs.Bare.{bare, NoScripts, signed-bare}
-use Rattle.theory_run.proofs.Positions.{Is_in, in_left, in_right, covered, branch_here, drafts_strings, drafts_labels}
-use Rattle.theory_run.proofs.Standing.{stand_of_branch, term_choice, position_named}
-use Rattle.theory_run.proofs.Book.{valid_signed}
-use Rattle.theory_run.proofs.Later.{compiled_is}
-use Rattle.theory_run.proofs.Accepting.{IsSpent, HeardInput}
-use Rattle.theory_run.proofs.Kept.{KeptBook, HeldFine, DepositCause, gave, needed, started, Gave, Needed, Started, BranchCause, HeardDigest, AllDead, IsDead}
+use Rattle.theory_script.specs.Listed.{at_path}
+use Rattle.theory_world.proofs.Same.{bytes-true, bytes_refl}
+use Rattle.theory_world.proofs.Hashed.{NoClash, among_left, among_right, among_head, among_tail}
+use Rattle.theory_world.proofs.Preimages.{SameSigned, HeardLists, heard_lists, double-apart, preimage-apart, IsNumbered, AllPlaces}
+use Rattle.theory_world.proofs.Bare.{bare, NoScripts, signed-bare}
+use Rattle.theory_world.proofs.Positions.{Is_in, covered, branch_here, drafts_strings, drafts_labels}
+use Rattle.theory_world.proofs.Standing.{stand_of_branch, position_named}
+use Rattle.theory_world.proofs.Book.{valid_signed}
+use Rattle.theory_world.proofs.Later.{compiled_is}
+use Rattle.theory_world.proofs.Accepting.{IsSpent}
+use Rattle.theory_run.proofs.Kept.{KeptBook, HeldFine, DepositCause, gave, needed, started, Gave, Needed, Started, HeardDigest}
 
 -- ---- drafts
 
@@ -59,9 +58,9 @@ pub draft_no_scripts : (spends : List Spent) → NoScripts (map input_of spends)
 draft_no_scripts [] = tt
 draft_no_scripts (x ∷ spends) = (refl, draft_no_scripts spends)
 
-input_place : (spends : List Spent) (x : Spent) → AllByRecursion IsInput (map input_of spends) → Is_in x spends → IsPlace x.place
+input_place : (spends : List Spent) (x : Spent) → AllPlaces (map input_of spends) → Is_in x spends → IsPlace x.place
 input_place [] x h i = absurd i
-input_place (y ∷ spends) x h (inl e) = subst (λ (z : Spent). IsPlace z.place) (sym e) h.0.prev
+input_place (y ∷ spends) x h (inl e) = subst (λ (z : Spent). IsPlace z.place) (sym e) h.0
 input_place (y ∷ spends) x h (inr i) = input_place spends x h.1 i
 
 inner_strings : (hash : List ℕ → List ℕ) (tx : Tx) (spends : List Spent) (x : Spent) (t : List ℕ) → Is_in x spends → is_among t (spent_strings hash tx x) ≡ true → is_among t (flat_map (spent_strings hash tx) spends) ≡ true
@@ -144,9 +143,9 @@ module _ (hash : List ℕ → List ℕ) (st : Setting) (hs : List (List ℕ)) (h
 
 -- every compiled transaction has numbers within their widths
 pub record DraftsFit (s : Setup) (w : World) : Type 0 where
-  pub initial : (k : ℕ) (st : Setting) → compiled_at s w k ≡ Some st → IsTransaction (tx_of (initial_draft s.hash st))
+  pub initial : (k : ℕ) (st : Setting) → compiled_at s w k ≡ Some st → IsNumbered (tx_of (initial_draft s.hash st))
   pub branch : (k : ℕ) (st : Setting) (q : List PathStep) (here : Standing) (choice : Choice) (i : ℕ) (b : term.Branch) → compiled_at s w k ≡ Some st → position_at s.hash st q ≡ Some (here, choice) → slice_get (branches choice) i ≡ Some b
-      → IsTransaction (tx_of (branch_draft s.hash st here i b))
+      → IsNumbered (tx_of (branch_draft s.hash st here i b))
 
 -- digests of a contract's secrets have 32 bytes, and the contract has passed the check
 pub record Checked (s : Setup) (w : World) : Type 0 where
@@ -168,13 +167,13 @@ each_valid valid (x ∷ sigs) (k ∷ keys) key h i =
     ]
 
 module _ (s : Setup) (size : HashesBytes s.hash) (g : Configuration) (w : World) (kept : KeptBook s g w) (fit : DraftsFit s w) (check : Checked s w) (hs : List (List ℕ)) (clear : NoClash s.hash hs) (sub : (t : List ℕ) → is_among t w.hashed ≡ true → is_among t hs ≡ true)
-    (tx : Tx) (fits : IsTransaction tx) (scripts_none : NoScripts tx.inputs) (lists : HeardLists s.hash hs tx) where
+    (tx : Tx) (fits : IsNumbered tx) (scripts_none : NoScripts tx.inputs) (lists : HeardLists s.hash hs tx) where
   -- equal digests come from transactions that are the same but for witnesses
-  same_digest : (d : Draft) (x : Spent) (i : TxIn) (script : List ℕ) (v : ℕ) → IsTransaction (tx_of d) → HeardDraft s.hash hs d → Is_in x d.spends → IsPlace i.prev → HeardDigest s hs tx i script v
+  same_digest : (d : Draft) (x : Spent) (i : TxIn) (script : List ℕ) (v : ℕ) → IsNumbered (tx_of d) → HeardDraft s.hash hs d → Is_in x d.spends → IsPlace i.prev → HeardDigest s hs tx i script v
       → digest s.hash tx i script v ≡ digest_of_spent s.hash (tx_of d) x → bare tx ≡ bare (tx_of d)
   same_digest d x i script v df dh xi pi h e =
       let m = double-apart s.hash hs clear (preimage s.hash tx i script v) (preimage s.hash (tx_of d) (input_of x) x.script x.value) h.first h.second (draft_preimage s.hash hs d dh x xi) (draft_preimage_hash s.hash hs d dh x xi) e in
-      let q = preimage-apart s.hash size hs clear tx (tx_of d) fits df lists (draft_lists s.hash hs d dh) i (input_of x) pi (input_place d.spends x df.inputs xi) script x.script v x.value m in
+      let q = preimage-apart s.hash size hs clear tx (tx_of d) fits df lists (draft_lists s.hash hs d dh) i (input_of x) pi (input_place d.spends x df.places xi) script x.script v x.value m in
       signed-bare tx (tx_of d) q scripts_none (draft_no_scripts d.spends)
 
   heard_at : (k : ℕ) (st : Setting) → compiled_at s w k ≡ Some st → (t : List ℕ) → is_among t (compiled_strings s.hash st) ≡ true → is_among t hs ≡ true
@@ -202,11 +201,21 @@ module _ (s : Setup) (size : HashesBytes s.hash) (g : Configuration) (w : World)
     pub cause : (d : List ℕ) × Started s g w a d
 
   -- a gift with the same digest spends the same places
-  same_gift : (a d : List ℕ) (i : TxIn) (script : List ℕ) (v : ℕ) → IsPlace i.prev → HeardDigest s hs tx i script v → (h : Gave s w a d) → digest s.hash tx i script v ≡ d → SameSigned tx h.tx
+  pub same_gift : (a d : List ℕ) (i : TxIn) (script : List ℕ) (v : ℕ) → IsPlace i.prev → HeardDigest s hs tx i script v → (h : Gave s w a d) → digest s.hash tx i script v ≡ d → SameSigned tx h.tx
   same_gift a d i script v pi k h e =
       let m = double-apart s.hash hs clear (preimage s.hash tx i script v) (preimage s.hash h.tx h.input (party_script s.hash a) h.value) k.first k.second (sub _ h.heard.first) (sub _ h.heard.second) (e ∙ h.is) in
       let l : HeardLists s.hash hs h.tx = record { places = sub _ h.lists.places; places_hash = sub _ h.lists.places_hash; sequences = sub _ h.lists.sequences; sequences_hash = sub _ h.lists.sequences_hash; outputs = sub _ h.lists.outputs; outputs_hash = sub _ h.lists.outputs_hash } in
       preimage-apart s.hash size hs clear tx h.tx fits h.fits lists l i h.input pi h.prev script (party_script s.hash a) v h.value m
+
+  -- one with the digest of a put is its branch's, and one with that of a start is the initial transaction
+  pub same_put : (a d : List ℕ) (i : TxIn) (script : List ℕ) (v : ℕ) → IsPlace i.prev → HeardDigest s hs tx i script v → digest s.hash tx i script v ≡ d → (h : Needed s w a d) → bare tx ≡ bare (tx_of (branch_draft s.hash h.setting h.here h.index h.branch))
+  same_put a d i script v pi k e h =
+      let dh = branch_heard s.hash h.setting hs (heard_at h.contract h.setting h.compiled) h.position h.here h.choice h.index h.branch h.stands h.there in
+      same_digest (branch_draft s.hash h.setting h.here h.index h.branch) h.spent i script v (fit.branch h.contract h.setting h.position h.here h.choice h.index h.branch h.compiled h.stands h.there) dh (inr h.put) pi k (e ∙ h.is)
+
+  pub same_start : (a d : List ℕ) (i : TxIn) (script : List ℕ) (v : ℕ) → IsPlace i.prev → HeardDigest s hs tx i script v → digest s.hash tx i script v ≡ d → (h : Started s g w a d) → bare tx ≡ bare (tx_of (initial_draft s.hash h.setting))
+  same_start a d i script v pi k e h =
+      same_digest (initial_draft s.hash h.setting) h.spent i script v (fit.initial h.contract h.setting h.compiled) (initial_heard s.hash h.setting hs (heard_at h.contract h.setting h.compiled)) h.persists pi k (e ∙ h.is)
 
   -- what a cause says of a transaction with that digest
   pub data Cause (a : List ℕ) : Type 0 where
@@ -216,24 +225,20 @@ module _ (s : Setup) (size : HashesBytes s.hash) (g : Configuration) (w : World)
 
   pub cause_of : (a d : List ℕ) (i : TxIn) (script : List ℕ) (v : ℕ) → IsPlace i.prev → HeardDigest s hs tx i script v → digest s.hash tx i script v ≡ d → DepositCause s g w a d → Cause a
   cause_of a d i script v pi k e (gave h) = gift_cause d h (same_gift a d i script v pi k h e)
-  cause_of a d i script v pi k e (needed h) =
-      let dh = branch_heard s.hash h.setting hs (heard_at h.contract h.setting h.compiled) h.position h.here h.choice h.index h.branch h.stands h.there in
-      put_cause (record {
-        contract = h.contract;
-        setting = h.setting;
-        compiled = h.compiled;
-        position = h.position;
-        here = h.here;
-        choice = h.choice;
-        stands = h.stands;
-        index = h.index;
-        branch = h.branch;
-        there = h.there;
-        is = same_digest (branch_draft s.hash h.setting h.here h.index h.branch) h.spent i script v (fit.branch h.contract h.setting h.position h.here h.choice h.index h.branch h.compiled h.stands h.there) dh (inr h.put) pi k (e ∙ h.is);
-      })
-  cause_of a d i script v pi k e (started h) =
-      let dh = initial_heard s.hash h.setting hs (heard_at h.contract h.setting h.compiled) in
-      start_cause (record { contract = h.contract; setting = h.setting; compiled = h.compiled; is = same_digest (initial_draft s.hash h.setting) h.spent i script v (fit.initial h.contract h.setting h.compiled) dh h.persists pi k (e ∙ h.is); cause = (d, h) })
+  cause_of a d i script v pi k e (needed h) = put_cause (record {
+    contract = h.contract;
+    setting = h.setting;
+    compiled = h.compiled;
+    position = h.position;
+    here = h.here;
+    choice = h.choice;
+    stands = h.stands;
+    index = h.index;
+    branch = h.branch;
+    there = h.there;
+    is = same_put a d i script v pi k e h;
+  })
+  cause_of a d i script v pi k e (started h) = start_cause (record { contract = h.contract; setting = h.setting; compiled = h.compiled; is = same_start a d i script v pi k e h; cause = (d, h) })
 
   -- the pair of a party's deposit that is spent stands in the book
   pub deposit_signed : (n : ℕ) (i : TxIn) (sp : IsSpent s w tx n i) (h : is_among (script_of i.witness) hs ≡ true) (a : List ℕ) → is_declared s a ≡ true → sp.output.script ≡ paid_to s a

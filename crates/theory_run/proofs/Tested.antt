@@ -1,7 +1,7 @@
 -- What an accepted put or reveal shows: its secrets are revealed, and its test is true of their lengths.
-use Rattle.std.proofs.Common.{◌≡◌, ℕ, zero, suc, ◌+◌, List, [], ◌∷◌, ◌++◌, length, map, reverse, Bool, true, false, not, Option, Some, None, refl, sym, ap, ◌∙◌, subst, inl, inr}
-use Rattle.std.specs.Prelude.{◌-◌, if◌then◌else◌, ◌==◌, ◌&&◌, ◌||◌, ◌⊎◌, slice_get, is_some, nat_le}
-use Rattle.std.specs.List.{find, list_all, list_any, AllByRecursion}
+use Rattle.std.proofs.Common.{◌≡◌, ℕ, zero, suc, List, [], ◌∷◌, ◌++◌, length, map, reverse, Bool, true, false, not, Option, Some, None, refl, sym, ap, ◌∙◌, subst, inl, inr}
+use Rattle.std.specs.Prelude.{◌-◌, if◌then◌else◌, ◌==◌, ◌&&◌, ◌||◌, slice_get, is_some}
+use Rattle.std.specs.List.{find, list_all, list_any}
 use Rattle.std.specs.Option.{option_map}
 use Rattle.std.specs.Str.{bytes_eq}
 use Rattle.std.proofs.lemmas.Bool.{and_parts, and_from, or_cases, or_left, or_right, eqb-true, both_ways}
@@ -9,8 +9,7 @@ use Rattle.std.proofs.lemmas.List.{reverse-append}
 use Rattle.spec_data.specs.Lists.{is_among, are_different, look_up}
 use Rattle.spec_terms.specs.Term as term
 use Rattle.spec_terms.specs.Term.{Choice, branches}
-use Rattle.spec_terms.specs.Core.{core, puts_of, reveals_of, test_of}
-use Rattle.spec_terms.specs.Value.{holds}
+use Rattle.spec_terms.specs.Core.{core, puts_of, reveals_of}
 use Rattle.spec_terms.specs.Advert.{Advert}
 use Rattle.spec_terms.specs.Paths.{Spot, position, at_branch, choice_at}
 use Rattle.spec_terms.specs.Parties.{participants, add_new, add_all, choice_mentions}
@@ -22,25 +21,23 @@ use Rattle.spec_terms.specs.declared.path.PathStep.{PathStep}
 use Rattle.spec_bitcoin.specs.Verdict.{items_of}
 use Rattle.spec_calculus.specs.declared.parts.Revealed.{Revealed}
 use Rattle.spec_calculus.specs.Configuration.{Configuration}
-use Rattle.spec_calculus.specs.Branches.{length_at, known_length, is_revealed, is_revealed_by, are_revealed, length_by, secret_length, secret_lengths}
+use Rattle.spec_calculus.specs.Branches.{length_at, known_length, is_revealed_by, are_revealed, length_by, secret_length, secret_lengths}
 use Rattle.spec_compiler.specs.Scripts.{digest_of}
-use Rattle.spec_compiler.specs.Setting.{Setting}
 use Rattle.spec_compiler.specs.Statements.{is_secret, are_secrets, lengths_of}
 use Rattle.spec_run.specs.Setup.{Setup, pre_of, pre_at, is_honest, held_secret}
 use Rattle.spec_run.specs.World.{Promise, World, digests_at, is_promise_of, has_promised, have_promised}
 use Rattle.spec_run.specs.Committing.{secrets_at, is_secret_long}
 use Rattle.spec_run.specs.Revealing.{fits, fitting}
-use Rattle.spec_run.specs.Secrets.{digest_at, is_shown, shown, secret_size, length_in_run}
-use Rattle.theory_script.proofs.Spots.{EachChoice, each_at, each_of_branches, each_of_advert}
-use Rattle.theory_run.proofs.Same.{bytes-true, bytes_refl}
-use Rattle.theory_run.proofs.Tests.{all_among}
-use Rattle.theory_run.proofs.Hashed.{NoClash, among_left, among_right, among_head, among_split, any_then, find_any}
-use Rattle.theory_run.proofs.Faultless.{no_fault}
+use Rattle.spec_run.specs.Secrets.{digest_at, is_shown, secret_size, length_in_run}
+use Rattle.theory_script.proofs.Spots.{each_at, each_of_branches, each_of_advert}
+use Rattle.theory_world.proofs.Same.{bytes-true, bytes_refl}
+use Rattle.theory_world.proofs.Hashed.{among_left, among_right, among_head, among_split, any_then, find_any}
+use Rattle.theory_world.proofs.Faultless.{no_fault}
 use Rattle.theory_run.proofs.AllSecrets.{different_names}
 use Rattle.theory_run.proofs.Commits.{each}
-use Rattle.theory_run.proofs.Positions.{Is_in}
+use Rattle.theory_world.proofs.Positions.{Is_in}
 use Rattle.theory_run.proofs.Keeping.{KeptSecrets, Begins, length_at-by}
-use Rattle.theory_run.proofs.Posting.{IsOwn, is_own-some}
+use Rattle.theory_run.proofs.Posting.{is_own-some}
 use Rattle.theory_run.proofs.Numbers.{looked_in, in_looked, named_looked}
 
 -- ---- what the check of a contract sees to
@@ -97,21 +94,21 @@ fold_more : (xs names : List (List ℕ)) (a : List ℕ) → is_among a names ≡
 fold_more [] names a h = h
 fold_more (x ∷ xs) names a h = fold_more xs (add_new names x) a (new_more names x a h)
 
-added : (xs names : List (List ℕ)) (a : List ℕ) → is_among a xs ≡ true → is_among a (add_all names xs) ≡ true
+pub added : (xs names : List (List ℕ)) (a : List ℕ) → is_among a xs ≡ true → is_among a (add_all names xs) ≡ true
 added [] names a h = cc
 added (x ∷ xs) names a h = elim (or_cases (bytes_eq x a) (is_among a xs) h) [
   | inl q ↦ fold_more xs (add_new names x) a (subst (λ y. is_among y (add_new names x) ≡ true) (bytes-true x a q) (new_there names x))
   | inr q ↦ added xs (add_new names x) a q
 ]
 
-secret_party : (pre : List Pre) (x : List ℕ × List ℕ) → Is_in x (secrets pre) → is_among (x.1) (map party_of pre) ≡ true
+pub secret_party : (pre : List Pre) (x : List ℕ × List ℕ) → Is_in x (secrets pre) → is_among (x.1) (map party_of pre) ≡ true
 secret_party [] x h = absurd h
 secret_party (Persistent party value name ∷ pre) x h = or_right (bytes_eq party (x.1)) _ (secret_party pre x h)
 secret_party (Volatile party value name ∷ pre) x h = or_right (bytes_eq party (x.1)) _ (secret_party pre x h)
 secret_party (Secret party name ∷ pre) x (inl e) = or_left _ _ (subst (λ y. bytes_eq party y ≡ true) (ap (λ (y : List ℕ × List ℕ). y.1) (sym e)) (bytes_refl party))
 secret_party (Secret party name ∷ pre) x (inr i) = or_right (bytes_eq party (x.1)) _ (secret_party pre x i)
 
-secret_among : (ss : List (List ℕ × List ℕ)) (n a : List ℕ) → Is_in (n, a) ss → is_among n (names_of_party a ss) ≡ true
+pub secret_among : (ss : List (List ℕ × List ℕ)) (n a : List ℕ) → Is_in (n, a) ss → is_among n (names_of_party a ss) ≡ true
 secret_among [] n a h = absurd h
 secret_among (q ∷ ss) n a (inl e) = by_test (bytes_eq (q.1) a) refl
   where
@@ -168,7 +165,7 @@ secrets_different (Secret party name ∷ pre) h =
 pub record PromisesNamed (s : Setup) (ps : List Promise) : Type 0 where
   pub named : (p : Promise) → Is_in p ps → (n d : List ℕ) → look_up n p.digests ≡ Some d → is_among n (secrets_at s p.contract p.party) ≡ true
 
-look_append : (n : List ℕ) (xs ys : List (List ℕ × List ℕ)) → digest_of (xs ++ ys) n ≡ (if is_some (look_up n xs) then digest_of xs n else digest_of ys n)
+pub look_append : (n : List ℕ) (xs ys : List (List ℕ × List ℕ)) → digest_of (xs ++ ys) n ≡ (if is_some (look_up n xs) then digest_of xs n else digest_of ys n)
 look_append n [] ys = refl
 look_append n (x ∷ xs) ys = by_test (bytes_eq (x.0) n) (look_append n xs ys)
   where
@@ -177,7 +174,7 @@ look_append n (x ∷ xs) ys = by_test (bytes_eq (x.0) n) (look_append n xs ys)
     by_test true e = refl
     by_test false e = e
 
-digest_looked : (n d : List ℕ) (xs : List (List ℕ × List ℕ)) → look_up n xs ≡ Some d → digest_of xs n ≡ d
+pub digest_looked : (n d : List ℕ) (xs : List (List ℕ × List ℕ)) → look_up n xs ≡ Some d → digest_of xs n ≡ d
 digest_looked n d [] h = cc
 digest_looked n d (x ∷ xs) h = by_test (bytes_eq (x.0) n) h (digest_looked n d xs)
   where

@@ -1,27 +1,28 @@
 -- The numbers of a branch's transaction are within their widths.
-use Rattle.std.proofs.Common.{◌≡◌, ℕ, zero, suc, ◌+◌, ◌-◌, ◌<◌, ◌≤◌, ◌^◌, List, [], ◌∷◌, ◌++◌, length, map, Bool, true, false, Option, Some, None, refl, sym, ap, ◌∙◌, subst, arith, inl, inr, lit<}
-use Rattle.std.specs.Prelude.{◌&&◌, nat_le, slice_get, option_map, option_and_then, max}
-use Rattle.std.specs.List.{list_all, AllByRecursion}
+use Rattle.std.proofs.Common.{◌≡◌, ℕ, suc, ◌+◌, ◌-◌, ◌<◌, ◌≤◌, ◌^◌, List, [], ◌∷◌, ◌++◌, length, true, Some, refl, sym, ap, subst, arith, inl, inr}
+use Rattle.std.specs.Prelude.{◌&&◌, nat_le, slice_get}
+use Rattle.std.specs.List.{AllByRecursion, flat_map}
 use Rattle.std.proofs.lemmas.Bool.{and_parts}
 use Rattle.std.proofs.lemmas.Bool.Decides.{nat_tests}
 use Rattle.spec_terms.specs.Term as term
 use Rattle.spec_terms.specs.Term.{Choice, no_branch, branch, branches, Parts, no_part, part, parts_list, auth, after, put_reveal, withdraw, split}
 use Rattle.spec_terms.specs.Core.{core, lock, puts_of}
-use Rattle.spec_terms.specs.Readable.{max_money, last_height, is_readable_branch, is_readable_split, is_readable_count, are_readable, are_readable_parts, is_some_list, most_parts}
+use Rattle.spec_data.specs.Ranges.{max_money, last_height}
+use Rattle.spec_terms.specs.Readable.{is_readable_branch, is_readable_split, is_readable_count, are_readable, are_readable_parts, is_some_list, most_parts}
 use Rattle.spec_terms.specs.Faults.{IsWellFormed}
 use Rattle.spec_terms.specs.declared.path.PathStep.{PathStep}
-use Rattle.spec_terms.specs.declared.path.PathStep.TheVariants.{Branch as To, Part as Into}
-use Rattle.spec_bitcoin.specs.Spelling.{IsPlace, IsOutput, IsTransaction}
+use Rattle.spec_terms.specs.declared.path.PathStep.TheVariants.{Branch as To}
+use Rattle.spec_bitcoin.specs.Spelling.{IsPlace, IsOutput, IsTransaction, output_bytes}
 use Rattle.spec_compiler.specs.Setting.{Setting, branch_path, position_script}
 use Rattle.spec_compiler.specs.Transactions.{Spent, Standing, input_of, tx_of, party_script, continued_value, put_deposits, part_position, part_outputs, core_outputs, branch_draft}
 use Rattle.spec_compiler.specs.ByPath.{position_at}
 use Rattle.spec_run.specs.Conditions.{HashesBytes}
-use Rattle.theory_run.proofs.Tests.{length_map}
-use Rattle.theory_run.proofs.Positions.{Is_in}
-use Rattle.theory_run.proofs.Standing.{put_position}
-use Rattle.theory_run.proofs.Balances.{position_little}
-use Rattle.theory_run.proofs.Places.{position_place}
-use Rattle.theory_run.proofs.Fitting.{inputs_fit, output_fits}
+use Rattle.theory_world.proofs.Tests.{length_map}
+use Rattle.theory_world.proofs.Positions.{Is_in}
+use Rattle.theory_world.proofs.Standing.{put_position}
+use Rattle.theory_world.proofs.Balances.{position_little}
+use Rattle.theory_world.proofs.Places.{position_place}
+use Rattle.theory_run.proofs.Fitting.{inputs_fit, output_fits, pays_size, AllShort, short_bytes}
 
 -- ---- a branch that text may have
 
@@ -66,7 +67,7 @@ module _ (hash : List ℕ → List ℕ) (size : HashesBytes hash) (st : Setting)
   outputs_fit path v (auth party body) r l f = tt
   outputs_fit path v (after height body) r l f = tt
 
-  outputs_few : (path : List PathStep) (v : ℕ) (c : term.Branch) → is_readable_branch c ≡ true → length (core_outputs hash st path v c) < 2 ^ 64
+  outputs_few : (path : List PathStep) (v : ℕ) (c : term.Branch) → is_readable_branch c ≡ true → length (core_outputs hash st path v c) ≤ 64
   outputs_few path v (put_reveal puts reveals test next) r = omega arith
   outputs_few path v (withdraw party) r = omega arith
   outputs_few path v (split ps) r =
@@ -77,6 +78,24 @@ module _ (hash : List ℕ → List ℕ) (size : HashesBytes hash) (st : Setting)
       omega (arith, n, e)
   outputs_few path v (auth party body) r = omega arith
   outputs_few path v (after height body) r = omega arith
+
+  parts_short : (path : List PathStep) (k : ℕ) (ps : Parts) → AllShort (part_outputs hash st path k ps)
+  parts_short path k no_part = tt
+  parts_short path k (part v c ps) = (pays_size hash size (position_script hash st (part_position path k) c) v, parts_short path (k + 1) ps)
+
+  outputs_short : (path : List PathStep) (v : ℕ) (c : term.Branch) → AllShort (core_outputs hash st path v c)
+  outputs_short path v (put_reveal puts reveals test next) = (pays_size hash size (position_script hash st path next) (continued_value st v puts), tt)
+  outputs_short path v (withdraw party) = (pays_size hash size (party_script hash party) (v - st.advert.fee), tt)
+  outputs_short path v (split ps) = parts_short path 0 ps
+  outputs_short path v (auth party body) = tt
+  outputs_short path v (after height body) = tt
+
+  -- its outputs have few bytes
+  pub branch_size : (here : Standing) (i : ℕ) (b : term.Branch) → is_readable_branch b ≡ true → length (flat_map output_bytes (tx_of (branch_draft hash st here i b)).outputs) < 2 ^ 32
+  branch_size here i b readable =
+      let n = outputs_few (branch_path here.position i) here.output.value (core b) (core_is_readable b readable) in
+      let l = short_bytes (core_outputs hash st (branch_path here.position i) here.output.value (core b)) (outputs_short (branch_path here.position i) here.output.value (core b)) in
+      omega (arith, n, l)
 
   -- the transaction of a readable branch whose puts lie at places, and are few
   pub branch_fits : IsWellFormed st.advert → (q : List PathStep) (here : Standing) (choice : Choice) (i : ℕ) (b : term.Branch) → position_at hash st q ≡ Some (here, choice) → slice_get (branches choice) i ≡ Some b → is_readable_branch b ≡ true
@@ -91,7 +110,7 @@ module _ (hash : List ℕ → List ℕ) (size : HashesBytes hash) (st : Setting)
         some = omega arith;
         few_inputs = omega (arith, n, few);
         inputs = inputs_fit (here.output ∷ put_deposits hash st (puts_of (core b))) (λ x j. elim j [ inl e ↦ subst (λ (y : Spent). IsPlace y.place) (sym e) (position_place hash size st well q here choice stands) | inr k ↦ places x k ]);
-        few_outputs = outputs_few (branch_path here.position i) here.output.value (core b) r;
+        few_outputs = let f = outputs_few (branch_path here.position i) here.output.value (core b) r in omega (arith, f);
         outputs = outputs_fit (branch_path here.position i) here.output.value (core b) r v
             (λ puts reveals test next e. position_little hash st well (q ++ To i ∷ []) _ next (put_position hash st q here choice i b puts reveals test next stands there e));
         lock = omega (arith, l);

@@ -1,15 +1,21 @@
 //! What follows of runs: each theorem is the contract of a function that does nothing.
 #![tactic(auto)]
 
-ghost use Rattle.spec_run.specs.Statements.{ValueTheorem, RefusalTheorem};
+ghost use Rattle.spec_run.specs.Statements.{SimulationTheorem, LicenceTheorem, HonestDepositsTheorem};
 
-/// What the live outputs are worth never grows, and stays the same after every event that isn't
-/// accepted.
-pub fn value_theorem()
-    ensures { ValueTheorem }
+/// Every run of events is, step by step, a legal run of the calculus, and configuration and world
+/// agree at the opening and after every event.
+pub fn simulation_theorem()
+    ensures { SimulationTheorem }
 {}
 
-/// A refused event leaves all as it was, but for the messages that were hashed.
-pub fn refusal_theorem()
-    ensures { RefusalTheorem }
+/// Honest parties authorise only by their own events.
+pub fn licence_theorem()
+    ensures { LicenceTheorem }
+{}
+
+/// An honest party's live deposit goes only by its own gift, or by a transaction of a contract that
+/// it endorsed or started.
+pub fn honest_deposits_theorem()
+    ensures { HonestDepositsTheorem }
 {}

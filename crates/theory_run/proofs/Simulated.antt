@@ -1,0 +1,79 @@
+-- Every run is, step by step, a legal run of the calculus, and both agree throughout.
+use Rattle.std.proofs.Common.{◌≡◌, ℕ, List, true, None, refl}
+use Rattle.spec_calculus.specs.Configuration.{Configuration}
+use Rattle.spec_calculus.specs.Steps.{after}
+use Rattle.spec_run.specs.declared.event.Event.{Event}
+use Rattle.spec_run.specs.declared.outcome.Record.{Record}
+use Rattle.spec_run.specs.Setup.{Setup}
+use Rattle.spec_run.specs.Messages.{collision}
+use Rattle.spec_run.specs.World.{World}
+use Rattle.spec_run.specs.Conditions.{IsSetup, IsEvent}
+use Rattle.spec_run.specs.Draft.{settled, guess}
+use Rattle.spec_run.specs.Secrets.{all_secrets}
+use Rattle.spec_run.specs.Event.{draft, opening_world, last_world}
+use Rattle.spec_run.specs.Steps.{steps_of}
+use Rattle.spec_run.specs.Translation.{opening_configuration}
+use Rattle.spec_run.specs.Statements.{IsRun, IsSimulated, simulated, SimulationTheorem}
+use Rattle.theory_run.proofs.Secrets.{different_secrets}
+use Rattle.theory_run.proofs.AllSecrets.{all_different}
+use Rattle.theory_run.proofs.Keeping.{Begins}
+use Rattle.theory_run.proofs.Opening.{opening_money, opening_secrets, opening_agrees}
+use Rattle.theory_run.proofs.Followed.{agree_all}
+use Rattle.theory_run.proofs.Following.{Keeps, holds_throughout}
+use Rattle.theory_run.proofs.Bookkeeping.{KeptBooks, checks, fits, opening_keeps, keeps_after}
+use Rattle.theory_run.proofs.Tracking.{Tracks, IsTracked}
+use Rattle.theory_run.proofs.TrackEvery.{tracked_after}
+
+-- what every run keeps: the configuration tracks the world, and signatures, outputs, contracts and commitments are fine
+pub record KeptRun (s : Setup) (z : List (List ℕ)) (g : Configuration) (w : World) : Type 0 where
+  pub tracks : Tracks s z g w
+  pub books : KeptBooks s g w
+
+module _ (s : Setup) (setup : IsSetup s) (z : List (List ℕ)) (g : Configuration) (w : World) (kept : KeptRun s z g w) where
+  apart : different_secrets (all_secrets s) ≡ true
+  apart = all_different s setup.contracts
+
+  module _ (e : Event) (is : IsEvent s e) (calm : collision s.hash w.hashed (draft s w e).hashes ≡ None) (unguessed : guess s w.posted (draft s w e).posts (draft s w e).allowed ≡ None) (begins : Begins z (settled w (draft s w e)).posted) where
+    abbrev next : World
+    next = settled w (draft s w e)
+
+    abbrev there : Configuration
+    there = after g (steps_of s z g w (settled w (draft s w e)) e (draft s w e))
+
+    pub followed : IsTracked s z g w e (draft s w e)
+    followed = tracked_after s setup z apart g w kept.tracks kept.books.book (fits s setup g w kept.books) (checks s setup g w kept.books) kept.books.promises.named e is calm unguessed begins
+
+    pub run_after : KeptRun s z (after g (steps_of s z g w (settled w (draft s w e)) e (draft s w e))) (settled w (draft s w e))
+    run_after = record { tracks = followed.tracks; books = keeps_after s setup z g w kept.books e is calm }
+
+    pub simulates : IsSimulated s z g w e (draft s w e) (settled w (draft s w e))
+    simulates = record {
+      legal = followed.legal;
+      agrees = agree_all s there next run_after.books.book z run_after.tracks.money run_after.tracks.secrets run_after.tracks.advertised;
+    }
+
+-- at the opening
+pub opening_run : (s : Setup) (es : List Event) → IsRun s es → (z : List (List ℕ)) → KeptRun s z (opening_configuration s) (opening_world s)
+opening_run s es run z = record {
+  tracks = record {
+    money = opening_money s run.setup run.opens;
+    secrets = opening_secrets s run.setup run.opens z;
+    constant = record { parties = refl; honest = refl; contracts = refl };
+    advertised = refl;
+  };
+  books = opening_keeps s run.setup run.opens;
+}
+
+abbrev kept_by : Setup → List (List ℕ) → List Record → Configuration → World → Type 0
+kept_by s z before g w = KeptRun s z g w
+
+pub simulation : SimulationTheorem
+simulation s es run =
+    let z = (last_world s es).posted in
+    let keeps : Keeps s (simulated s) (kept_by s z) z = record {
+      step = λ before g w e k is calm unguessed begins. (simulates s run.setup z g w k e is calm unguessed begins, run_after s run.setup z g w k e is calm unguessed begins);
+    } in
+    record {
+      opening = opening_agrees s run.setup run.opens;
+      events = holds_throughout s (simulated s) (kept_by s z) es keeps run.events (opening_run s es run z);
+    }

@@ -1,0 +1,5 @@
+use Rattle.theory_run.proofs.Honest.{licence}
+use Rattle.theory_run.proofs.licence_theorem.Goals as goal
+
+pub returns : goal.returns
+returns c = licence

@@ -1,5 +1,0 @@
-use Rattle.theory_run.proofs.Worth.{values_keep}
-use Rattle.theory_run.proofs.value_theorem.Goals as goal
-
-pub returns : goal.returns
-returns c = values_keep

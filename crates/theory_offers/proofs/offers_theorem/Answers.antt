@@ -1,0 +1,5 @@
+use Rattle.theory_offers.proofs.Whole.{kept_offers}
+use Rattle.theory_offers.proofs.offers_theorem.Goals as goal
+
+pub returns : goal.returns
+returns c = kept_offers

@@ -1,0 +1,10 @@
+//! What follows of the offers at the end of a run: the theorem is the contract of a function that does nothing.
+#![tactic(auto)]
+
+ghost use Rattle.spec_run.specs.Statements.{OffersTheorem};
+
+/// Every enabled and authorised contract step after a run has a compiled transaction that the
+/// ledger accepts, and its event leads to the step.
+pub fn offers_theorem()
+    ensures { OffersTheorem }
+{}

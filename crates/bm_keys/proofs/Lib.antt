@@ -1,0 +1,4 @@
+mod Collided
+mod NumberAt
+mod Steps
+mod LabelLemmas

@@ -1,0 +1,75 @@
+//! Keys, and what is made of them.
+
+ghost use Rattle.std.specs.Prelude.{◌≡◌, IfOk, IfErr, OnOk, is_some, ◌∷◌, []};
+ghost use Rattle.bm_hash.specs.Messages.{evidence_of};
+ghost use Rattle.bm_hash.specs.Trails.{HashedAlong, StopsAlong};
+ghost use Rattle.spec_bitcoin.specs.Keys as spec;
+
+use crate::texts::label_text;
+use bm_hash::{Hash32, Trail, TrailError};
+use spec_bitcoin::Label;
+use std::alloc::Global;
+
+fn has_collided<H: Hash32 + Drop>(trail: &Trail<H>) -> bool
+    ensures { result ≡ is_some (evidence_of (H.digest_of trail.now.hasher) trail.now.messages) }
+{
+    trail.evidence().is_some()
+}
+
+fn key_with(digest: &[u8; 32]) -> [u8; 33]
+    ensures { result ≡ 2 ∷ digest.now }
+{
+    let mut key = [2; 33];
+    key[1..].copy_from_slice(digest);
+    key
+}
+
+/// The key of a label: byte 02 and the hash of the label's text, which is hashed.
+#[tactic(auto, using(crate::proofs::Collided::stops_collided, crate::proofs::Collided::stops_at_first))]
+pub fn key<H: Hash32 + Drop>(
+    alloc: Global,
+    trail: &mut Trail<H>,
+    label: &Label,
+) -> Result<[u8; 33], TrailError>
+    ensures hasher { trail.new.hasher ≡ trail.old.hasher }
+    ensures key { IfOk result (λ key. key ≡ spec.key_of (H.digest_of trail.old.hasher) label.now) }
+    ensures ok { OnOk result (HashedAlong H.digest_of trail.old trail.new (spec.label_text label.now ∷ [])) }
+    ensures err { IfErr result (StopsAlong H.digest_of trail.old trail.new (spec.label_text label.now ∷ [])) }
+{
+    if has_collided(trail) {
+        return Err(TrailError::Collided);
+    }
+    let text = label_text(alloc, label)?;
+    let digest = trail.hash(&text)?;
+    Ok(key_with(&digest))
+}
+
+/// The script of a deposit: a push of the key, and CHECKSIG.
+pub fn deposit_script(key: &[u8; 33]) -> [u8; 35]
+    ensures { result ≡ spec.deposit_script key.now }
+{
+    let mut script = [33; 35];
+    script[1..34].copy_from_slice(key);
+    script[34] = 0xac;
+    script
+}
+
+/// What an output pays to whose script has this hash: a witness program of version 0, by BIP 141.
+pub fn pay_to(program: &[u8; 32]) -> [u8; 34]
+    ensures { result ≡ spec.pay_to program.now }
+{
+    let mut script = [0; 34];
+    script[1] = 32;
+    script[2..].copy_from_slice(program);
+    script
+}
+
+/// The signature of a digest by a key: an ideal one, with the hash type ALL.
+pub fn signature(key: &[u8; 33], digest: &[u8; 32]) -> [u8; 66]
+    ensures { result ≡ spec.signature_of key.now digest.now }
+{
+    let mut signature = [1; 66];
+    signature[33..65].copy_from_slice(digest);
+    signature[..33].copy_from_slice(key);
+    signature
+}

@@ -1,0 +1,18 @@
+//! Labels, their texts and keys, and the scripts and signatures that are made of keys.
+#![tactic(auto)]
+
+mod keyed;
+mod pieces;
+mod reading;
+mod texts;
+
+pub use bm_hash::{Hash32, Trail, TrailError};
+pub use keyed::{deposit_script, key, pay_to, signature};
+pub use reading::{LabelError, read_label};
+pub use spec_bitcoin::Label;
+pub use spec_data::Name;
+pub use spec_terms::{Path, PathStep};
+pub use texts::label_text;
+
+#[cfg(test)]
+mod tests;

@@ -1,5 +1,6 @@
 -- One pair more in a list and its set, and one less.
-use Rattle.std.proofs.Common.{◌≡◌, ℕ, List, [], ◌∷◌, ◌++◌, Bool, true, false, not, ◌&&◌, ◌||◌, cond, refl, sym, ap, ◌∙◌}
+use Rattle.std.proofs.Common.{◌≡◌, ℕ, List, [], ◌∷◌, ◌++◌, length, Bool, true, false, not, ◌&&◌, ◌||◌, cond, refl, sym, ap, ◌∙◌, arith}
+use Rattle.std.specs.Prelude.{◌≢◌, ◌==◌}
 use Rattle.std.specs.Str.{bytes_eq}
 use Rattle.std.specs.Ordering.{nat_cmp, ordering_then, is_eq}
 use Rattle.std.specs.declared.cmp.Ordering.{Ordering}
@@ -11,7 +12,7 @@ use Rattle.std.proofs.lemmas.Slice.Eq.{bytes_eq-Decides}
 use Rattle.std.proofs.lemmas.Map.Text.{is_eq-slice_cmp}
 use Rattle.std.proofs.lemmas.Bool.{and_parts}
 use Rattle.spec_bitcoin.specs.Keys.{Pair, has_signed}
-use Rattle.bm_book.specs.Indexed.{pair_cmp, are_different_pairs, IsIndexed}
+use Rattle.bm_book.specs.Indexed.{pair_cmp, are_different_pairs, are_keys, IsIndexed}
 
 -- ---- equal pairs
 
@@ -79,11 +80,42 @@ different-front (q ∷ qs) k all =
     let apart = neither_of (is_pair k q) (has_signed qs q.0 q.1) (ap not (sym (has_signed-push qs k q)) ∙ parts.0) in
     (rw apart.1 front.0, rw (is_pair-sym q k, apart.0) front.1)
 
+-- ---- the sizes of keys
+
+sized_as : (n m : ℕ) → n == m ≡ true → n ≡ m
+sized_as n m h = grind arith
+
+same_size : (n m : ℕ) → n ≡ m → n == m ≡ true
+same_size n m h = grind arith
+
+-- a key of another size has signed nothing
+pub unsized_unsigned : (pairs : List Pair) (key digest : List ℕ) → are_keys pairs ≡ true → length key ≢ 33 → has_signed pairs key digest ≡ false
+unsized_unsigned [] key digest all other = refl
+unsized_unsigned (p ∷ ps) key digest all other =
+    let parts = and_parts (length p.0 == 33) (are_keys ps) all in
+    elim (bytes_eq p.0 key) as (λ b. bytes_eq p.0 key ≡ b → (b && bytes_eq p.1 digest) || has_signed ps key digest ≡ false) [
+      | true ↦ λ t. absurd (other (sym (ap length ((bytes_eq-Decides p.0 key).0 t)) ∙ sized_as (length p.0) 33 parts.0))
+      | false ↦ λ t. unsized_unsigned ps key digest parts.1 other
+    ] refl
+
+are_keys-push : (pairs : List Pair) (k : Pair) → are_keys pairs ≡ true → length k.0 ≡ 33 → are_keys (pairs ++ k ∷ []) ≡ true
+are_keys-push [] k all size = let here = same_size (length k.0) 33 size in rw here refl
+are_keys-push (q ∷ qs) k all size =
+    let parts = and_parts (length q.0 == 33) (are_keys qs) all in
+    rw parts.0 (are_keys-push qs k parts.1 size)
+
+are_keys-front : (pairs : List Pair) (k : Pair) → are_keys (pairs ++ k ∷ []) ≡ true → are_keys pairs ≡ true
+are_keys-front [] k all = refl
+are_keys-front (q ∷ qs) k all =
+    let parts = and_parts (length q.0 == 33) (are_keys (qs ++ k ∷ [])) all in
+    rw parts.0 (are_keys-front qs k parts.1)
+
 -- ---- the set with one pair more, and one less
 
-pub indexed_more : (pairs next : List Pair) (s t : BTreeSet Pair) (k : Pair) → IsIndexed pairs s → has_signed pairs k.0 k.1 ≡ false → next ≡ pairs ++ k ∷ [] → ((p : Pair) → sorted.contains pair_cmp t p ≡ cond (is_eq (pair_cmp k p)) true (sorted.contains pair_cmp s p)) → IsIndexed next t
-indexed_more pairs next s t k is new e updates = rw e (record {
+pub indexed_more : (pairs next : List Pair) (s t : BTreeSet Pair) (k : Pair) → IsIndexed pairs s → length k.0 ≡ 33 → has_signed pairs k.0 k.1 ≡ false → next ≡ pairs ++ k ∷ [] → ((p : Pair) → sorted.contains pair_cmp t p ≡ cond (is_eq (pair_cmp k p)) true (sorted.contains pair_cmp s p)) → IsIndexed next t
+indexed_more pairs next s t k is size new e updates = rw e (record {
   different = different-push pairs k is.different new;
+  sized = are_keys-push pairs k is.sized size;
   has = λ p. updates p ∙ ap (λ b. cond b true (sorted.contains pair_cmp s p)) (is_eq-pair_cmp k p) ∙ ap (cond (is_pair k p) true) (is.has p) ∙ sym (has_signed-push pairs k p);
 })
 
@@ -101,6 +133,7 @@ indexed_less pairs front s t k is e updates =
     let parts = different-front front k (ap are_different_pairs (sym e) ∙ is.different) in
     record {
       different = parts.0;
+      sized = are_keys-front front k (ap are_keys (sym e) ∙ is.sized);
       has = λ p.
           updates p
           ∙ ap (λ b. cond b false (sorted.contains pair_cmp s p)) (is_eq-pair_cmp k p)

@@ -1,5 +1,6 @@
 -- A list of different pairs with an ordered set of the same pairs; of this project, from no standard.
-use Rattle.std.specs.Prelude.{◌≡◌, List, [], ◌∷◌, Bool, true, not, ◌&&◌}
+use Rattle.std.specs.Prelude.{◌≡◌, List, [], ◌∷◌, length, Bool, true, not, ◌&&◌, ◌==◌}
+use Rattle.std.specs.List.{list_all}
 use Rattle.std.specs.Ordering.{nat_cmp, ordering_then}
 use Rattle.std.specs.Cmp.Lexicographic.{slice_cmp}
 use Rattle.std.specs.BTreeSet as sorted
@@ -16,7 +17,12 @@ abbrev pub are_different_pairs : List Pair → Bool
 are_different_pairs [] = true
 are_different_pairs (p ∷ ps) = not (has_signed ps (p.0) (p.1)) && are_different_pairs ps
 
--- the pairs of the list are different, and those of the set
+-- whether each pair's key has the 33 bytes of a key
+abbrev pub are_keys : List Pair → Bool
+are_keys pairs = list_all (λ p. length p.0 == 33) pairs
+
+-- the pairs of the list are different, of keys, and those of the set
 pub record IsIndexed (pairs : List Pair) (index : BTreeSet Pair) : Type 0 where
   pub different : are_different_pairs pairs ≡ true
+  pub sized : are_keys pairs ≡ true
   pub has : (p : Pair) → sorted.contains pair_cmp index p ≡ has_signed pairs (p.0) (p.1)

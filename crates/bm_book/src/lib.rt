@@ -1,7 +1,7 @@
 //! The book of signatures: which key has signed which digest.
 #![tactic(auto)]
 
-ghost use Rattle.std.specs.Prelude.{◌≡◌, ◌<◌, ◌≤◌, ◌-◌, ◌++◌, ◌∷◌, [], OnOk, OnErr, if◌then◌else◌, length, take, vec_len};
+ghost use Rattle.std.specs.Prelude.{◌≡◌, ◌<◌, ◌≤◌, ◌-◌, ◌++◌, ◌∷◌, [], OnOk, OnErr, if◌then◌else◌, length, take, true, vec_len};
 ghost use Rattle.spec_bitcoin.specs.Keys.{has_signed};
 ghost use Rattle.bm_book.specs.Indexed.{IsIndexed};
 
@@ -12,6 +12,14 @@ use std::marker::Model;
 
 /// A key and a digest that it has signed.
 type Pair = ([u8; 33], [u8; 32]);
+
+// A key has its size by its type.
+fn pair_of(key: &[u8; 33], digest: &[u8; 32]) -> Pair
+    ensures pair { result ≡ (key.now, digest.now) }
+    ensures sized { length key.now ≡ 33 }
+{
+    (*key, *digest)
+}
 
 /// The different pairs of key and digest, in order of signing. A set of the same pairs answers
 /// whether one is there.
@@ -58,6 +66,17 @@ impl Book {
         self.index.contains(&(*key, *digest))
     }
 
+    /// Whether these bytes are a key that has signed the digest. Bytes of another length are no key.
+    pub fn has_signed(&self, key: &[u8], digest: &[u8; 32]) -> bool
+        ensures signed { result ≡ has_signed self.now key.now digest.now }
+        ensures sized { result ≡ true → length key.now ≡ 33 }
+    {
+        match <[u8; 33]>::try_from(key) {
+            Ok(key) => self.index.contains(&(key, *digest)),
+            Err(_) => false,
+        }
+    }
+
     /// Adds a pair at the end, unless it is there.
     pub fn sign(&mut self, key: [u8; 33], digest: [u8; 32]) -> Result<(), OutOfMemory>
         ensures ok { OnOk result (self.new ≡ (if has_signed self.old key digest then self.old else self.old ++ (key, digest) ∷ [])) }
@@ -66,8 +85,9 @@ impl Book {
         if self.has(&key, &digest) {
             return Ok(());
         }
-        self.pairs.push((key, digest))?;
-        if let Err(error) = self.index.insert((key, digest)) {
+        let pair = pair_of(&key, &digest);
+        self.pairs.push(pair)?;
+        if let Err(error) = self.index.insert(pair) {
             let _ = self.pairs.pop();
             return Err(AllocError::from(error));
         }

@@ -1,0 +1,6 @@
+mod Births
+mod Chained
+mod Numbering
+mod Rows
+mod Spending
+mod Witnesses

@@ -1,0 +1,6 @@
+use Rattle.std.proofs.Common.{◌≡◌, drop, map}
+use Rattle.spec_bitcoin.specs.Live.{without}
+use Rattle.bm_ledger.proofs.outputs.remove_spent.Given as goal
+
+abbrev pub invariant-loop-input : goal.invariant-loop-input
+invariant-loop-input l = without l.live.entries (map (λ i. i.prev) (drop l.input-index l.inputs)) ≡ without l.fn.live.entries (map (λ i. i.prev) l.inputs)

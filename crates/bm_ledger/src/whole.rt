@@ -1,0 +1,133 @@
+//! The conditions on a transaction as a whole.
+
+ghost use Rattle.std.specs.Prelude.{◌≡◌, ◌<◌, ◌^◌, length, nat_lt, is_none, IfSome};
+ghost use Rattle.std.specs.List.{list_any};
+ghost use Rattle.spec_data.specs.Lists.{first_reason};
+ghost use Rattle.spec_data.specs.Ranges.{max_money};
+ghost use Rattle.spec_bitcoin.specs.Live.{same_place};
+ghost use Rattle.spec_bitcoin.specs.Verdict as spec;
+
+use crate::outputs::{Live, find, value_of};
+use spec_bitcoin::{OutPoint, Refusal, Tx, TxIn, TxOut};
+
+/// The most satoshi that there are.
+const MAX_MONEY: u64 = 2_100_000_000_000_000;
+
+// One of the inputs spends the output at a place.
+fn spends(inputs: &[TxIn], place: &OutPoint) -> bool
+    ensures { result ≡ list_any (λ i. same_place i.prev place.now) inputs.now }
+{
+    inputs.iter().any(|input| input.prev == *place)
+}
+
+// Two inputs spend one output.
+fn repeats(inputs: &[TxIn]) -> bool
+    ensures { result ≡ spec.has_repeat inputs.now }
+{
+    let mut rest = inputs;
+    while let Some((first, others)) = rest.split_first() {
+        if spends(others, &first.prev) {
+            return true;
+        }
+        rest = others;
+    }
+    false
+}
+
+fn missing_at(live: &Live, inputs: &[TxIn]) -> Option<usize>
+    ensures value { result ≡ spec.first_missing live.now.entries inputs.now }
+    ensures within { IfSome result (λ k. k < length inputs.now) }
+{
+    inputs
+        .iter()
+        .position(|input| !live.contains_key(&input.prev))
+}
+
+// The first input whose output isn't live.
+fn missing(live: &Live, inputs: &[TxIn]) -> Option<u32>
+    requires { length inputs.now < 2 ^ 32 }
+    ensures { result ≡ spec.first_missing live.now.entries inputs.now }
+{
+    match missing_at(live, inputs) {
+        Some(k) => Some(k as u32),
+        None => None,
+    }
+}
+
+// The sum of the outputs, unless it is more than there can be. One output of more makes it so.
+fn sum_of(outputs: &[TxOut]) -> Option<u64>
+    ensures none { is_none result ≡ nat_lt max_money (spec.total_of outputs.now) }
+    ensures some { IfSome result (λ total. total ≡ spec.total_of outputs.now) }
+{
+    let mut total = 0;
+    for output in outputs {
+        if output.value > MAX_MONEY - total {
+            return None;
+        }
+        total += output.value;
+    }
+    Some(total)
+}
+
+// The inputs sum to less than this. What is needed is lowered input by input, so that no sum can overflow.
+fn is_short(live: &Live, inputs: &[TxIn], total: u64) -> bool
+    ensures { result ≡ nat_lt (spec.spent_total live.now.entries inputs.now) total }
+{
+    let mut need = total;
+    for input in inputs {
+        need = need.saturating_sub(value_of(live, &input.prev));
+    }
+    need > 0
+}
+
+// One of the sequences lets the lock bind.
+fn heeds_lock(inputs: &[TxIn]) -> bool
+    ensures { result ≡ spec.heeds_lock inputs.now }
+{
+    inputs.iter().any(|input| input.sequence != u32::MAX)
+}
+
+// The lock binds, and it isn't reached or isn't a height.
+fn is_early(tip: u32, tx: &Tx) -> bool
+    ensures { result ≡ spec.is_not_final tip tx.now }
+{
+    if !heeds_lock(tx.inputs.as_slice()) {
+        return false;
+    }
+    if tx.lock == 0 {
+        return false;
+    }
+    if tip < tx.lock {
+        return true;
+    }
+    500_000_000 <= tx.lock
+}
+
+/// What is wrong with a transaction as a whole, if anything is.
+pub(crate) fn whole_refusal(tip: u32, live: &Live, tx: &Tx) -> Option<Refusal>
+    requires { length tx.now.inputs < 2 ^ 32 }
+    ensures { result ≡ first_reason (spec.whole_row tip live.now.entries tx.now) }
+{
+    if tx.inputs.is_empty() {
+        return Some(Refusal::NoInput);
+    }
+    if tx.outputs.is_empty() {
+        return Some(Refusal::NoOutput);
+    }
+    if repeats(tx.inputs.as_slice()) {
+        return Some(Refusal::InputRepeated);
+    }
+    if let Some(k) = missing(live, tx.inputs.as_slice()) {
+        return Some(Refusal::MissingInput(k));
+    }
+    let Some(total) = sum_of(tx.outputs.as_slice()) else {
+        return Some(Refusal::ValueLimit);
+    };
+    if is_short(live, tx.inputs.as_slice(), total) {
+        return Some(Refusal::InsufficientIn);
+    }
+    if is_early(tip, tx) {
+        return Some(Refusal::NotFinal);
+    }
+    None
+}

@@ -1,0 +1,4 @@
+pub mod Gives
+pub mod Entries
+pub mod HeadingView
+pub mod Refusals

@@ -9,7 +9,8 @@ use Rattle.std.proofs.lemmas.Bool.{and_from, not-false, ltb-false, le-leb, eq-eq
 use Rattle.std.proofs.lemmas.Slice.Eq.{bytes_eq-Decides}
 use Rattle.spec_data.specs.Lists.{are_distinct}
 use Rattle.spec_calculus.specs.Configuration.{Configuration}
-use Rattle.spec_calculus.specs.Steps.{after, Legal, owned, last_height}
+use Rattle.spec_data.specs.Ranges.{last_height}
+use Rattle.spec_calculus.specs.Steps.{after, Legal, owned}
 use Rattle.spec_calculus.specs.Moves as calculus
 use Rattle.spec_calculus.specs.Same.{owner_eq, output_eq, move_eq}
 use Rattle.spec_calculus.specs.declared.parts.Deposit.{Deposit}

@@ -8,14 +8,15 @@ use Rattle.spec_calculus.specs.Configuration.{Configuration}
 use Rattle.spec_calculus.specs.Steps.{Legal}
 use Rattle.bitml.specs.declared.event.Event.{Event}
 use Rattle.bitml.specs.declared.event.Run.{Run}
-use Rattle.bitml.specs.declared.tool.Reply.{Reply}
-use Rattle.bitml.specs.declared.tool.TheConstants.{MAX_SIZE}
+use Rattle.bitml.specs.declared.reply.Reply.{Reply}
+use Rattle.bitml.specs.declared.tool.Verb.{Verb}
+use Rattle.bitml.specs.declared.tool.Verb.TheVariants.{Play, Check}
 use Rattle.bitml.specs.World.{World, next}
 use Rattle.bitml.specs.Steps.{steps_of, configuration_after}
 use Rattle.bitml.specs.Agreement.{Agrees, IsLicensed}
 use Rattle.bitml.specs.Reading.{read_of}
 use Rattle.bitml.specs.Run.{first_world, first_configuration}
-use Rattle.bitml.specs.Tool.{command_of, usage_reply, read_reply}
+use Rattle.bitml.specs.Tool.{Command, command_of, most_bytes, usage_reply, read_reply}
 
 -- ---- what holds of every run that is played
 
@@ -43,10 +44,11 @@ abbrev pub ShowsRun : Result Run ℕ → Type 0
 ShowsRun (Ok run) = IsFaithful run
 ShowsRun (Err line) = Unit {0}
 
--- the same of what a read answered
-abbrev pub Shows : Result (List ℕ) ReadError → Type 0
-Shows (Ok bytes) = ShowsRun (read_of bytes)
-Shows (Err error) = Unit {0}
+-- the same of what a read answered, where it is to be played
+abbrev pub Shows : Verb → Result (List ℕ) ReadError → Type 0
+Shows Play (Ok bytes) = ShowsRun (read_of bytes)
+Shows Play (Err error) = Unit {0}
+Shows Check answer = Unit {0}
 
 -- ---- how a call ends
 
@@ -78,16 +80,17 @@ pub record Around : Type 0 where
 abbrev pub around : Option Told → ℕ → Option (List ℕ) → ℕ → Around
 around told read_faults written write_faults = record { told = told; read_faults = read_faults; written = written; write_faults = write_faults }
 
--- the file of this name is asked for, and no other; the reply to what was read is given, and the run that it shows is faithful; or memory was wanting
-pub record Plays (name : List ℕ) (before now : Around) (status : ℕ) : Type 0 where
+-- the file of this name is asked for, up to the size that the command allows, and no other; the reply to what was read is
+-- given, and a run that it shows is faithful; or memory was wanting
+pub record Serves (verb : Verb) (name : List ℕ) (before now : Around) (status : ℕ) : Type 0 where
   pub answer : Result (List ℕ) ReadError
-  pub reads : Reads before.told now.told name MAX_SIZE answer
-  pub ends : (Shows answer × Ends (read_reply answer) before.written now.written status) ⊎ GivesUp before.written now.written status
+  pub reads : Reads before.told now.told name (most_bytes verb) answer
+  pub ends : (Shows verb answer × Ends (read_reply verb answer) before.written now.written status) ⊎ GivesUp before.written now.written status
 
 -- words that are no command ask for no file, and the reply is the usage
-abbrev pub Runs : Option (List ℕ) → Around → Around → ℕ → Type 0
+abbrev pub Runs : Option Command → Around → Around → ℕ → Type 0
 Runs None before now status = (now.told ≡ before.told) × Ends usage_reply before.written now.written status
-Runs (Some name) before now status = Plays name before now status
+Runs (Some command) before now status = Serves (command.0) (command.1) before now status
 
 -- The headline: what a call with these words does to what stands around it, and its status.
 pub record Headline (words : List (List ℕ)) (before now : Around) (status : ℕ) : Type 0 where

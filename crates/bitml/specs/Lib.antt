@@ -1,5 +1,6 @@
 pub mod Agreement
 pub mod Headline
+pub mod Judging
 pub mod Lines
 pub mod Reading
 pub mod Run

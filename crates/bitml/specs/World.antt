@@ -3,7 +3,7 @@ use Rattle.std.specs.Prelude.{ℕ, ◌+◌, Bool, true, false, ◌&&◌, not, co
 use Rattle.std.specs.List.{slice_get}
 use Rattle.std.specs.Str.{bytes_eq}
 use Rattle.spec_data.specs.Lists.{has_number, are_distinct}
-use Rattle.spec_calculus.specs.Steps.{last_height}
+use Rattle.spec_data.specs.Ranges.{last_height}
 use Rattle.bitml.specs.declared.event.Event.{Event}
 use Rattle.bitml.specs.declared.event.Event.TheVariants.{Give, Mine}
 use Rattle.bitml.specs.declared.event.Refusal.{Refusal}

@@ -1,6 +1,9 @@
-//! Plays runs of contracts on a ledger and in the calculus at once.
+//! Reads, judges and prints contracts, and plays runs on a ledger and in the calculus at once.
 #![tactic(auto)]
 
+mod check;
+#[cfg(test)]
+mod check_tests;
 mod event;
 mod ledger;
 mod lines;
@@ -8,6 +11,8 @@ mod play;
 mod print;
 mod read;
 mod read_run;
+mod refusal;
+mod reply;
 #[cfg(test)]
 mod tests;
 mod tool;

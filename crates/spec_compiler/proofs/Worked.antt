@@ -14,9 +14,10 @@ use Rattle.spec_bitcoin.specs.declared.script.Op.TheVariants.{Push, Code}
 use Rattle.spec_compiler.specs.Scripts.{branch_ops, demands, output_ops}
 use Rattle.spec_compiler.specs.Setting.{Setting, branch_label, branch_keys, position_demands, position_script}
 use Rattle.spec_compiler.specs.Witness.{witness_of, chosen_by}
-use Rattle.spec_compiler.specs.Transactions.{Draft, tx_of, initial_draft}
-use Rattle.spec_compiler.specs.Compilation.{drafts, compilation}
-use Rattle.spec_compiler.specs.ByPath.{draft_at}
+use Rattle.spec_compiler.specs.declared.unsigned.Unsigned.{Unsigned}
+use Rattle.spec_compiler.specs.Transactions.{tx_of, initial_unsigned}
+use Rattle.spec_compiler.specs.Compilation.{path_transactions, compilation}
+use Rattle.spec_compiler.specs.ByPath.{unsigned_at}
 use Rattle.spec_compiler.specs.Hashed.{compiled_strings}
 use Rattle.spec_compiler.specs.Endorsements.{needs}
 
@@ -85,7 +86,7 @@ are_same [] = Unit {0}
 are_same (t ∷ []) = Unit {0}
 are_same (t ∷ (u ∷ ts)) = (t ≡ u) × are_same (u ∷ ts)
 
-either_same : are_same (map (λ p. tx_of p.1) (drafts weigh eithers))
+either_same : are_same (map (λ p. tx_of p.1) (path_transactions weigh eithers))
 either_same = (refl, tt)
 
 -- but each is signed by keys of its own
@@ -121,17 +122,17 @@ divided = branch (split (part 5 (branch (withdraw A) no_branch) (part 3 (branch 
 abbrev divides : Setting
 divides = record (setting (Persistent A 10 (codes "x") ∷ []) divided) { advert = record { pre = Persistent A 10 (codes "x") ∷ []; fee = 1; root = divided } }
 
-abbrev values : Draft → List ℕ
+abbrev values : Unsigned → List ℕ
 values d = map (λ o. o.value) d.outputs
 
-first_value : values (initial_draft weigh divides) ≡ 9 ∷ []
+first_value : values (initial_unsigned weigh divides) ≡ 9 ∷ []
 first_value = refl
 
-later_values : map {B = List PathStep × List ℕ} (λ p. (p.0, values p.1)) (drafts weigh divides) ≡ (To 0 ∷ [], 5 ∷ (3 ∷ [])) ∷ ((To 0 ∷ (Into 0 ∷ (To 0 ∷ [])), 4 ∷ []) ∷ ((To 0 ∷ (Into 1 ∷ (To 0 ∷ [])), 2 ∷ []) ∷ []))
+later_values : map {B = List PathStep × List ℕ} (λ p. (p.0, values p.1)) (path_transactions weigh divides) ≡ (To 0 ∷ [], 5 ∷ (3 ∷ [])) ∷ ((To 0 ∷ (Into 0 ∷ (To 0 ∷ [])), 4 ∷ []) ∷ ((To 0 ∷ (Into 1 ∷ (To 0 ∷ [])), 2 ∷ []) ∷ []))
 later_values = refl
 
 -- each transaction is also found by its path
-found : map (λ p. draft_at weigh divides p.0) (drafts weigh divides) ≡ map (λ p. Some p.1) (drafts weigh divides)
+found : map (λ p. unsigned_at weigh divides p.0) (path_transactions weigh divides) ≡ map (λ p. Some p.1) (path_transactions weigh divides)
 found = refl
 
 -- ---- what is waited for

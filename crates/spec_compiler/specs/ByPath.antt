@@ -8,7 +8,8 @@ use Rattle.spec_terms.specs.declared.path.PathStep.TheVariants.{Branch as To, Pa
 use Rattle.spec_bitcoin.specs.declared.tx.OutPoint.{OutPoint}
 use Rattle.spec_compiler.specs.declared.prepared.Prepared.{Prepared}
 use Rattle.spec_compiler.specs.Setting.{Setting, branch_path}
-use Rattle.spec_compiler.specs.Transactions.{Draft, Standing, prepared, continued_value, branch_draft, continued, part_standing, root_standing}
+use Rattle.spec_compiler.specs.declared.unsigned.Unsigned.{Unsigned}
+use Rattle.spec_compiler.specs.Transactions.{Standing, prepared, continued_value, branch_unsigned, continued, part_standing, root_standing}
 
 -- what stands at the end of a path: a position with its branches, or branch i of a position
 pub data Stand : Type 0 where
@@ -22,7 +23,7 @@ branch_stand here choice i = option_map (at_branch here i) (slice_get (branches 
 -- the position at which a branch with this core goes on
 abbrev pub continued_stand : (List ℕ → List ℕ) → Setting → Standing → ℕ → term.Branch → term.Branch → Option (Standing × Choice)
 continued_stand hash s here i b (put_reveal puts reveals test next) =
-    Some (continued hash s (branch_path here.position i) (branch_draft hash s here i b) (continued_value s here.output.value puts) next, next)
+    Some (continued hash s (branch_path here.position i) (branch_unsigned hash s here i b) (continued_value s here.output.value puts) next, next)
 continued_stand hash s here i b (withdraw party) = None
 continued_stand hash s here i b (split parts) = None
 continued_stand hash s here i b (auth party body) = None
@@ -33,7 +34,7 @@ abbrev pub part_stand : (List ℕ → List ℕ) → Setting → Standing → ℕ
 part_stand hash s here i b k (put_reveal puts reveals test next) = None
 part_stand hash s here i b k (withdraw party) = None
 part_stand hash s here i b k (split parts) =
-    option_map (λ (p : ℕ × Choice). at_position (part_standing hash s (branch_path here.position i) (branch_draft hash s here i b) k p.0 p.1) p.1) (slice_get (parts_list parts) k)
+    option_map (λ (p : ℕ × Choice). at_position (part_standing hash s (branch_path here.position i) (branch_unsigned hash s here i b) k p.0 p.1) p.1) (slice_get (parts_list parts) k)
 part_stand hash s here i b k (auth party body) = None
 part_stand hash s here i b k (after height body) = None
 
@@ -58,9 +59,9 @@ as_position hash s (at_position here choice) = Some (here, choice)
 as_position hash s (at_branch here i b) = continued_stand hash s here i b (core b)
 
 -- the transaction of the branch
-abbrev pub as_draft : (List ℕ → List ℕ) → Setting → Stand → Option Draft
-as_draft hash s (at_position here choice) = None
-as_draft hash s (at_branch here i b) = Some (branch_draft hash s here i b)
+abbrev pub as_unsigned : (List ℕ → List ℕ) → Setting → Stand → Option Unsigned
+as_unsigned hash s (at_position here choice) = None
+as_unsigned hash s (at_branch here i b) = Some (branch_unsigned hash s here i b)
 
 -- the position of this name, with its branches
 abbrev pub position_at : (List ℕ → List ℕ) → Setting → List PathStep → Option (Standing × Choice)
@@ -71,8 +72,8 @@ abbrev pub place_at : (List ℕ → List ℕ) → Setting → List PathStep → 
 place_at hash s position = option_map (λ (p : Standing × Choice). p.0.output.place) (position_at hash s position)
 
 -- the transaction of a path
-abbrev pub draft_at : (List ℕ → List ℕ) → Setting → List PathStep → Option Draft
-draft_at hash s path = option_and_then (as_draft hash s) (stand_at hash s path)
+abbrev pub unsigned_at : (List ℕ → List ℕ) → Setting → List PathStep → Option Unsigned
+unsigned_at hash s path = option_and_then (as_unsigned hash s) (stand_at hash s path)
 
 abbrev pub prepared_at : (List ℕ → List ℕ) → Setting → List PathStep → Option Prepared
-prepared_at hash s path = option_map (prepared hash) (draft_at hash s path)
+prepared_at hash s path = option_map (prepared hash) (unsigned_at hash s path)

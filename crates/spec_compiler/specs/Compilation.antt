@@ -6,36 +6,37 @@ use Rattle.spec_terms.specs.Core.{lock}
 use Rattle.spec_terms.specs.declared.path.PathStep.{PathStep}
 use Rattle.spec_compiler.specs.declared.prepared.Prepared.{Prepared}
 use Rattle.spec_compiler.specs.Setting.{Setting, branch_path, position_script}
-use Rattle.spec_compiler.specs.Transactions.{Draft, Standing, prepared, continued_value, part_position, core_draft, continued, part_standing, initial_draft, root_standing}
+use Rattle.spec_compiler.specs.declared.unsigned.Unsigned.{Unsigned}
+use Rattle.spec_compiler.specs.Transactions.{Standing, prepared, continued_value, part_position, core_unsigned, continued, part_standing, initial_unsigned, root_standing}
 
 -- ---- the transactions by path
 
 abbrev mutual
   -- of the branches of a position from number i on, with all that stands under them
-  pub choice_drafts : (List ℕ → List ℕ) → Setting → Standing → ℕ → Choice → List (List PathStep × Draft)
-  choice_drafts hash s here i no_branch = []
-  choice_drafts hash s here i (branch b bs) = branch_drafts hash s here i (lock b) b ++ choice_drafts hash s here (i + 1) bs
+  pub choice_transactions : (List ℕ → List ℕ) → Setting → Standing → ℕ → Choice → List (List PathStep × Unsigned)
+  choice_transactions hash s here i no_branch = []
+  choice_transactions hash s here i (branch b bs) = branch_transactions hash s here i (lock b) b ++ choice_transactions hash s here (i + 1) bs
 
   -- of branch i of a position, which has this lock
-  pub branch_drafts : (List ℕ → List ℕ) → Setting → Standing → ℕ → ℕ → term.Branch → List (List PathStep × Draft)
-  branch_drafts hash s here i l (auth party body) = branch_drafts hash s here i l body
-  branch_drafts hash s here i l (after height body) = branch_drafts hash s here i l body
-  branch_drafts hash s here i l (put_reveal puts reveals test next) =
-      (branch_path here.position i, core_draft hash s here i l (put_reveal puts reveals test next))
-      ∷ choice_drafts hash s (continued hash s (branch_path here.position i) (core_draft hash s here i l (put_reveal puts reveals test next)) (continued_value s here.output.value puts) next) 0 next
-  branch_drafts hash s here i l (withdraw party) = (branch_path here.position i, core_draft hash s here i l (withdraw party)) ∷ []
-  branch_drafts hash s here i l (split parts) =
-      (branch_path here.position i, core_draft hash s here i l (split parts))
-      ∷ parts_drafts hash s (branch_path here.position i) (core_draft hash s here i l (split parts)) 0 parts
+  pub branch_transactions : (List ℕ → List ℕ) → Setting → Standing → ℕ → ℕ → term.Branch → List (List PathStep × Unsigned)
+  branch_transactions hash s here i l (auth party body) = branch_transactions hash s here i l body
+  branch_transactions hash s here i l (after height body) = branch_transactions hash s here i l body
+  branch_transactions hash s here i l (put_reveal puts reveals test next) =
+      (branch_path here.position i, core_unsigned hash s here i l (put_reveal puts reveals test next))
+      ∷ choice_transactions hash s (continued hash s (branch_path here.position i) (core_unsigned hash s here i l (put_reveal puts reveals test next)) (continued_value s here.output.value puts) next) 0 next
+  branch_transactions hash s here i l (withdraw party) = (branch_path here.position i, core_unsigned hash s here i l (withdraw party)) ∷ []
+  branch_transactions hash s here i l (split parts) =
+      (branch_path here.position i, core_unsigned hash s here i l (split parts))
+      ∷ parts_transactions hash s (branch_path here.position i) (core_unsigned hash s here i l (split parts)) 0 parts
 
   -- of the parts from number k on of the split at a path, which this transaction makes
-  pub parts_drafts : (List ℕ → List ℕ) → Setting → List PathStep → Draft → ℕ → Parts → List (List PathStep × Draft)
-  parts_drafts hash s path made k no_part = []
-  parts_drafts hash s path made k (part v c ps) = choice_drafts hash s (part_standing hash s path made k v c) 0 c ++ parts_drafts hash s path made (k + 1) ps
+  pub parts_transactions : (List ℕ → List ℕ) → Setting → List PathStep → Unsigned → ℕ → Parts → List (List PathStep × Unsigned)
+  parts_transactions hash s path made k no_part = []
+  parts_transactions hash s path made k (part v c ps) = choice_transactions hash s (part_standing hash s path made k v c) 0 c ++ parts_transactions hash s path made (k + 1) ps
 
 -- the transaction of each path
-abbrev pub drafts : (List ℕ → List ℕ) → Setting → List (List PathStep × Draft)
-drafts hash s = choice_drafts hash s (root_standing hash s) 0 s.advert.root
+abbrev pub path_transactions : (List ℕ → List ℕ) → Setting → List (List PathStep × Unsigned)
+path_transactions hash s = choice_transactions hash s (root_standing hash s) 0 s.advert.root
 
 -- ---- the scripts by position
 
@@ -73,7 +74,7 @@ pub record Compilation : Type 0 where
 
 abbrev pub compilation : (List ℕ → List ℕ) → Setting → Compilation
 compilation hash s = record {
-  init = prepared hash (initial_draft hash s);
-  paths = map (λ p. (p.0, prepared hash p.1)) (drafts hash s);
+  init = prepared hash (initial_unsigned hash s);
+  paths = map (λ p. (p.0, prepared hash p.1)) (path_transactions hash s);
   scripts = scripts hash s;
 }

@@ -14,27 +14,17 @@ use Rattle.spec_bitcoin.specs.declared.tx.Tx.{Tx}
 use Rattle.spec_bitcoin.specs.Digests.{txid, digest}
 use Rattle.spec_bitcoin.specs.Keys.{pay_to, deposit_script}
 use Rattle.spec_compiler.specs.declared.prepared.Prepared.{Prepared}
+use Rattle.spec_compiler.specs.declared.unsigned.Spent.{Spent}
+use Rattle.spec_compiler.specs.declared.unsigned.Unsigned.{Unsigned}
 use Rattle.spec_compiler.specs.Setting.{Setting, branch_path, deposit_key, position_script}
 
 -- ---- transactions and what they spend
-
--- an output that a transaction spends: where it lies, the script that its spender shows, and its value in satoshi
-pub record Spent : Type 0 where
-  pub place : OutPoint
-  pub script : List ℕ
-  pub value : ℕ
-
--- a transaction without witnesses, by what it spends, what it makes and its lock
-pub record Draft : Type 0 where
-  pub spends : List Spent
-  pub outputs : List TxOut
-  pub lock : ℕ
 
 -- an input with a sequence under which the lock binds
 abbrev pub input_of : Spent → TxIn
 input_of spent = record { prev = spent.place; script_sig = []; sequence = 0xfffffffe; witness = [] }
 
-abbrev pub tx_of : Draft → Tx
+abbrev pub tx_of : Unsigned → Tx
 tx_of d = record { version = 2; inputs = map input_of d.spends; outputs = d.outputs; lock = d.lock }
 
 -- the digest of the input that spends this
@@ -42,11 +32,11 @@ abbrev pub digest_of_spent : (List ℕ → List ℕ) → Tx → Spent → List �
 digest_of_spent hash tx spent = digest hash tx (input_of spent) spent.script spent.value
 
 -- the transaction with its txid and the digest of each input
-abbrev pub prepared : (List ℕ → List ℕ) → Draft → Prepared
+abbrev pub prepared : (List ℕ → List ℕ) → Unsigned → Prepared
 prepared hash d = record { tx = tx_of d; txid = txid hash (tx_of d); digests = map (digest_of_spent hash (tx_of d)) d.spends }
 
 -- where output k of the transaction lies
-abbrev pub output_place : (List ℕ → List ℕ) → Draft → ℕ → OutPoint
+abbrev pub output_place : (List ℕ → List ℕ) → Unsigned → ℕ → OutPoint
 output_place hash d k = record { txid = txid hash (tx_of d); vout = k }
 
 -- an output for whoever shows this script and what it asks for
@@ -110,26 +100,26 @@ core_outputs hash s path balance (auth party body) = []
 core_outputs hash s path balance (after height body) = []
 
 -- the transaction of branch i of a position, by its lock and its core: the output of the position, and then the deposits that are put
-abbrev pub core_draft : (List ℕ → List ℕ) → Setting → Standing → ℕ → ℕ → term.Branch → Draft
-core_draft hash s here i height b = record {
+abbrev pub core_unsigned : (List ℕ → List ℕ) → Setting → Standing → ℕ → ℕ → term.Branch → Unsigned
+core_unsigned hash s here i height b = record {
   spends = here.output ∷ put_deposits hash s (puts_of b);
   outputs = core_outputs hash s (branch_path here.position i) here.output.value b;
   lock = height;
 }
 
 -- the transaction of branch i of a position
-abbrev pub branch_draft : (List ℕ → List ℕ) → Setting → Standing → ℕ → term.Branch → Draft
-branch_draft hash s here i b = core_draft hash s here i (lock b) (core b)
+abbrev pub branch_unsigned : (List ℕ → List ℕ) → Setting → Standing → ℕ → term.Branch → Unsigned
+branch_unsigned hash s here i b = core_unsigned hash s here i (lock b) (core b)
 
 -- the position at which a put goes on, at the path of its branch
-abbrev pub continued : (List ℕ → List ℕ) → Setting → List PathStep → Draft → ℕ → Choice → Standing
+abbrev pub continued : (List ℕ → List ℕ) → Setting → List PathStep → Unsigned → ℕ → Choice → Standing
 continued hash s path made value next = record {
   position = path;
   output = record { place = output_place hash made 0; script = position_script hash s path next; value = value };
 }
 
 -- the position of part k of the split at a path
-abbrev pub part_standing : (List ℕ → List ℕ) → Setting → List PathStep → Draft → ℕ → ℕ → Choice → Standing
+abbrev pub part_standing : (List ℕ → List ℕ) → Setting → List PathStep → Unsigned → ℕ → ℕ → Choice → Standing
 part_standing hash s path made k value next = record {
   position = part_position path k;
   output = record { place = output_place hash made k; script = position_script hash s (part_position path k) next; value = value };
@@ -141,8 +131,8 @@ part_standing hash s path made k value next = record {
 abbrev pub root_value : Setting → ℕ
 root_value s = total_of (persistent s.advert.pre) - s.advert.fee
 
-abbrev pub initial_draft : (List ℕ → List ℕ) → Setting → Draft
-initial_draft hash s = record {
+abbrev pub initial_unsigned : (List ℕ → List ℕ) → Setting → Unsigned
+initial_unsigned hash s = record {
   spends = persistent_deposits hash s;
   outputs = pays hash (position_script hash s [] s.advert.root) (root_value s) ∷ [];
   lock = 0;
@@ -152,5 +142,5 @@ initial_draft hash s = record {
 abbrev pub root_standing : (List ℕ → List ℕ) → Setting → Standing
 root_standing hash s = record {
   position = [];
-  output = record { place = output_place hash (initial_draft hash s) 0; script = position_script hash s [] s.advert.root; value = root_value s };
+  output = record { place = output_place hash (initial_unsigned hash s) 0; script = position_script hash s [] s.advert.root; value = root_value s };
 }

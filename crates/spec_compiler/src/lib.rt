@@ -3,5 +3,7 @@
 #![tactic(auto)]
 
 pub mod prepared;
+pub mod unsigned;
 
 pub use prepared::Prepared;
+pub use unsigned::{Spent, Unsigned};

@@ -11,7 +11,7 @@ use Rattle.spec_bitcoin.specs.Keys.{signature_of}
 use Rattle.spec_compiler.specs.declared.prepared.Prepared.{Prepared}
 use Rattle.spec_compiler.specs.Setting.{Setting, branch_keys, position_script}
 use Rattle.spec_compiler.specs.Scripts.{digest_of}
-use Rattle.spec_compiler.specs.Transactions.{prepared, initial_draft}
+use Rattle.spec_compiler.specs.Transactions.{prepared, initial_unsigned}
 use Rattle.spec_compiler.specs.ByPath.{prepared_at}
 use Rattle.spec_compiler.specs.Endorsements.{put_owner}
 use Rattle.spec_compiler.specs.Witness.{witness_of}
@@ -51,7 +51,7 @@ initial_witnesses s setting made = deposit_witnesses s (map (λ d. (d.1).owner) 
 -- the initial transaction with its witnesses
 abbrev pub initial_transaction : Setup → Setting → Tx
 initial_transaction s setting =
-    with_witnesses (prepared s.hash (initial_draft s.hash setting)).tx (initial_witnesses s setting (prepared s.hash (initial_draft s.hash setting)))
+    with_witnesses (prepared s.hash (initial_unsigned s.hash setting)).tx (initial_witnesses s setting (prepared s.hash (initial_unsigned s.hash setting)))
 
 -- the contract is there, and it is compiled
 abbrev pub fire_init_row : Setup → World → ℕ → List (Bool × Reason)

@@ -22,7 +22,7 @@ use Rattle.spec_bitcoin.specs.Digests.{txid}
 use Rattle.spec_bitcoin.specs.Live.{Entry, Chain, same_place}
 use Rattle.spec_bitcoin.specs.Verdict.{verdict, transaction_strings}
 use Rattle.spec_compiler.specs.Setting.{Setting}
-use Rattle.spec_compiler.specs.Transactions.{tx_of, initial_draft}
+use Rattle.spec_compiler.specs.Transactions.{tx_of, initial_unsigned}
 use Rattle.spec_compiler.specs.Witness.{chosen_by}
 use Rattle.spec_run.specs.declared.outcome.Outcome.TheVariants as outcomes
 use Rattle.spec_run.specs.declared.outcome.Reason.{Reason}
@@ -86,7 +86,7 @@ same_bare a b = (a.version == b.version) && pointwise same_input a.inputs b.inpu
 -- whether it is the initial transaction of a contract that is compiled so
 abbrev pub is_initial : Setup → Tx → Option Setting → Bool
 is_initial s tx None = false
-is_initial s tx (Some setting) = same_bare tx (tx_of (initial_draft s.hash setting))
+is_initial s tx (Some setting) = same_bare tx (tx_of (initial_unsigned s.hash setting))
 
 -- the first contract from number k on whose initial transaction it is
 abbrev pub initial_from : Setup → World → Tx → ℕ → List Advert → Option ℕ

@@ -19,8 +19,9 @@ use Rattle.spec_bitcoin.specs.declared.tx.Tx.{Tx}
 use Rattle.spec_bitcoin.specs.Keys.{Pair, key_of, has_signed}
 use Rattle.spec_compiler.specs.declared.prepared.Prepared.{Prepared}
 use Rattle.spec_compiler.specs.Setting.{Setting, branch_path, branch_label, deposit_key, people}
-use Rattle.spec_compiler.specs.Transactions.{Draft, Standing, tx_of, digest_of_spent, prepared, deposit, holding_or_none, put_deposits, branch_draft}
-use Rattle.spec_compiler.specs.Compilation.{drafts}
+use Rattle.spec_compiler.specs.declared.unsigned.Unsigned.{Unsigned}
+use Rattle.spec_compiler.specs.Transactions.{Standing, tx_of, digest_of_spent, prepared, deposit, holding_or_none, put_deposits, branch_unsigned}
+use Rattle.spec_compiler.specs.Compilation.{path_transactions}
 use Rattle.spec_compiler.specs.ByPath as by_path
 use Rattle.spec_compiler.specs.ByPath.{position_at}
 use Rattle.spec_compiler.specs.Endorsements.{put_owner, branch_needs, put_needs, needs_of, path_needs, is_met, is_endorsed}
@@ -43,24 +44,24 @@ module _ (hash : List ℕ → List ℕ) (st : Setting) (book : List Pair) (q : L
   abbrev path : List PathStep
   path = branch_path here.position i
 
-  abbrev made : Draft
-  made = branch_draft hash st here i b
+  abbrev made : Unsigned
+  made = branch_unsigned hash st here i b
 
-  listed : Is_in (branch_path here.position i, branch_draft hash st here i b) (drafts hash st)
+  listed : Is_in (branch_path here.position i, branch_unsigned hash st here i b) (path_transactions hash st)
   listed = covered hash st (q ++ To i ∷ []) (by_path.at_branch here i b) (stand_of_branch hash st q here choice i b stands there) _ (branch_here hash st here i (lock b) b)
 
-  in_all : (ds : List (List PathStep × Draft)) (d : List PathStep × Draft) → Is_in d ds → list_all (is_met book) (flat_map (λ (p : List PathStep × Prepared). path_needs hash st.contract st.advert p.0 p.1) (map {B = List PathStep × Prepared} (λ (p : List PathStep × Draft). (p.0, prepared hash p.1)) ds)) ≡ true
+  in_all : (ds : List (List PathStep × Unsigned)) (d : List PathStep × Unsigned) → Is_in d ds → list_all (is_met book) (flat_map (λ (p : List PathStep × Prepared). path_needs hash st.contract st.advert p.0 p.1) (map {B = List PathStep × Prepared} (λ (p : List PathStep × Unsigned). (p.0, prepared hash p.1)) ds)) ≡ true
       → list_all (is_met book) (path_needs hash st.contract st.advert (d.0) (prepared hash (d.1))) ≡ true
   in_all [] d k h = absurd k
   in_all (x ∷ ds) d k h =
-      let e = flat_map-cons (λ (p : List PathStep × Prepared). path_needs hash st.contract st.advert p.0 p.1) (x.0, prepared hash x.1) (map {B = List PathStep × Prepared} (λ (p : List PathStep × Draft). (p.0, prepared hash p.1)) ds) in
-      let a = sym (all-append (is_met book) (path_needs hash st.contract st.advert (x.0) (prepared hash (x.1))) (flat_map (λ (p : List PathStep × Prepared). path_needs hash st.contract st.advert p.0 p.1) (map {B = List PathStep × Prepared} (λ (p : List PathStep × Draft). (p.0, prepared hash p.1)) ds))) ∙ ap (list_all (is_met book)) (sym e) ∙ h in
+      let e = flat_map-cons (λ (p : List PathStep × Prepared). path_needs hash st.contract st.advert p.0 p.1) (x.0, prepared hash x.1) (map {B = List PathStep × Prepared} (λ (p : List PathStep × Unsigned). (p.0, prepared hash p.1)) ds) in
+      let a = sym (all-append (is_met book) (path_needs hash st.contract st.advert (x.0) (prepared hash (x.1))) (flat_map (λ (p : List PathStep × Prepared). path_needs hash st.contract st.advert p.0 p.1) (map {B = List PathStep × Prepared} (λ (p : List PathStep × Unsigned). (p.0, prepared hash p.1)) ds))) ∙ ap (list_all (is_met book)) (sym e) ∙ h in
       let two = and_parts _ _ a in
       by_place k two.0 (λ j. in_all ds d j two.1)
     where
       by_place : (d ≡ x) ⊎ Is_in d ds → list_all (is_met book) (path_needs hash st.contract st.advert (x.0) (prepared hash (x.1))) ≡ true → (Is_in d ds → list_all (is_met book) (path_needs hash st.contract st.advert (d.0) (prepared hash (d.1))) ≡ true)
           → list_all (is_met book) (path_needs hash st.contract st.advert (d.0) (prepared hash (d.1))) ≡ true
-      by_place (inl e) f ih = subst (λ (y : List PathStep × Draft). list_all (is_met book) (path_needs hash st.contract st.advert (y.0) (prepared hash (y.1))) ≡ true) (sym e) f
+      by_place (inl e) f ih = subst (λ (y : List PathStep × Unsigned). list_all (is_met book) (path_needs hash st.contract st.advert (y.0) (prepared hash (y.1))) ≡ true) (sym e) f
       by_place (inr j) f ih = ih j
 
   path_is : branch_path here.position i ≡ q ++ To i ∷ []
@@ -70,7 +71,7 @@ module _ (hash : List ℕ → List ℕ) (st : Setting) (book : List Pair) (q : L
   at_is = ap (at st.advert.root) path_is ∙ term_branches hash st q here choice i stands ∙ there
 
   needs_met : list_all (is_met book) (branch_needs hash st.contract st.advert path b (digest_of_spent hash (tx_of made) here.output) ++ put_needs hash st.advert path (puts_of (core b)) (map (digest_of_spent hash (tx_of made)) (put_deposits hash st (puts_of (core b))))) ≡ true
-  needs_met = sym (ap (λ o. list_all (is_met book) (option_map_or (λ c. needs_of hash st.contract st.advert path c (prepared hash made).digests) o [])) at_is) ∙ in_all (drafts hash st) (path, made) listed endorsed
+  needs_met = sym (ap (λ o. list_all (is_met book) (option_map_or (λ c. needs_of hash st.contract st.advert path c (prepared hash made).digests) o [])) at_is) ∙ in_all (path_transactions hash st) (path, made) listed endorsed
 
   two : (list_all (is_met book) (branch_needs hash st.contract st.advert path b (digest_of_spent hash (tx_of made) here.output)) ≡ true) × (list_all (is_met book) (put_needs hash st.advert path (puts_of (core b)) (map (digest_of_spent hash (tx_of made)) (put_deposits hash st (puts_of (core b))))) ≡ true)
   two = and_parts _ _ (sym (all-append (is_met book) (branch_needs hash st.contract st.advert path b (digest_of_spent hash (tx_of made) here.output)) (put_needs hash st.advert path (puts_of (core b)) (map (digest_of_spent hash (tx_of made)) (put_deposits hash st (puts_of (core b)))))) ∙ needs_met)

@@ -20,7 +20,7 @@ use Rattle.spec_terms.specs.declared.place.Place.{Place}
 use Rattle.spec_terms.specs.declared.path.PathStep.{PathStep}
 use Rattle.spec_terms.specs.declared.path.PathStep.TheVariants.{Branch as To, Part as Into}
 use Rattle.spec_compiler.specs.Setting.{Setting, branch_path}
-use Rattle.spec_compiler.specs.Transactions.{Standing, branch_draft, continued_value, part_standing, root_standing}
+use Rattle.spec_compiler.specs.Transactions.{Standing, branch_unsigned, continued_value, part_standing, root_standing}
 use Rattle.spec_compiler.specs.ByPath as by_path
 use Rattle.spec_compiler.specs.ByPath.{Stand, branch_stand, continued_stand, part_stand, next_stand, stand_from, stand_at, as_position, position_at}
 use Rattle.theory_script.proofs.Spots as spots
@@ -162,10 +162,10 @@ module _ (hash : List ℕ → List ℕ) (st : Setting) where
   part_good here i k b (withdraw party) next h e = cc
   part_good here i k b (split parts) next h e = by_part (slice_get (parts_list parts) k) refl e
     where
-      by_part : (o : Option (ℕ × Choice)) → slice_get (parts_list parts) k ≡ o → option_map (λ (p : ℕ × Choice). by_path.at_position (part_standing hash st (branch_path here.position i) (branch_draft hash st here i b) k p.0 p.1) p.1) o ≡ Some next → Good next
+      by_part : (o : Option (ℕ × Choice)) → slice_get (parts_list parts) k ≡ o → option_map (λ (p : ℕ × Choice). by_path.at_position (part_standing hash st (branch_path here.position i) (branch_unsigned hash st here i b) k p.0 p.1) p.1) o ≡ Some next → Good next
       by_part None f x = cc
       by_part (Some p) f x =
-          let z : by_path.at_position (part_standing hash st (branch_path here.position i) (branch_draft hash st here i b) k p.0 p.1) p.1 ≡ next = cc in
+          let z : by_path.at_position (part_standing hash st (branch_path here.position i) (branch_unsigned hash st here i b) k p.0 p.1) p.1 ≡ next = cc in
           subst Good z (part_at ds fee parts k p h f)
   part_good here i k b (auth party body) next h e = cc
   part_good here i k b (after height body) next h e = cc

@@ -10,7 +10,7 @@ use Rattle.spec_calculus.specs.declared.step.Step.TheVariants as steps
 use Rattle.spec_calculus.specs.Configuration.{Configuration}
 use Rattle.spec_calculus.specs.Steps.{fails}
 use Rattle.spec_compiler.specs.Setting.{Setting}
-use Rattle.spec_compiler.specs.Transactions.{tx_of, prepared, initial_draft}
+use Rattle.spec_compiler.specs.Transactions.{tx_of, prepared, initial_unsigned}
 use Rattle.spec_run.specs.declared.event.Event.{Event}
 use Rattle.spec_run.specs.declared.event.Event.TheVariants as events
 use Rattle.spec_run.specs.declared.header.HeldSecret.{HeldSecret}
@@ -59,8 +59,8 @@ module _ (s : Setup) (setup : IsSetup s) (z : List (List ℕ)) (g : Configuratio
   abbrev ns : List ℕ
   ns = numbers s setup z g w agree kept secrets more k may
 
-  tx_bare : bare tx ≡ bare (tx_of (initial_draft s.hash (setting w k may.advert)))
-  tx_bare = with-bare (tx_of (initial_draft s.hash (setting w k may.advert))) (initial_witnesses s (setting w k may.advert) (prepared s.hash (initial_draft s.hash (setting w k may.advert))))
+  tx_bare : bare tx ≡ bare (tx_of (initial_unsigned s.hash (setting w k may.advert)))
+  tx_bare = with-bare (tx_of (initial_unsigned s.hash (setting w k may.advert))) (initial_witnesses s (setting w k may.advert) (prepared s.hash (initial_unsigned s.hash (setting w k may.advert))))
 
   is_initial_of : initial_of s w tx ≡ Some k
   is_initial_of = by_contract (initial_of s w tx) refl
@@ -93,7 +93,7 @@ module _ (s : Setup) (setup : IsSetup s) (z : List (List ℕ)) (g : Configuratio
   begins_kept = record {
     tx = tx;
     spent = ns;
-    made = bitcoin.numbers_from (length w.outputs) (initial_draft s.hash (setting w k may.advert)).outputs;
+    made = bitcoin.numbers_from (length w.outputs) (initial_unsigned s.hash (setting w k may.advert)).outputs;
     fires = ap (initial_by s) may.compiled;
     accepts = start_accepts s setup z g w agree kept secrets more k may;
     leads = subst (λ d. LeadsTo s g w (events.FireInit k) (steps.Init k) (answer s w d)) (sym draft_is) (leads_by s g w (events.FireInit k) (steps.Init k) (accepted s w tx ns) last);

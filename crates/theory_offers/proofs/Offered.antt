@@ -20,7 +20,8 @@ use Rattle.spec_calculus.specs.Beginning.{is_init_authorised}
 use Rattle.spec_calculus.specs.Branches.{has_branch_authorised}
 use Rattle.spec_compiler.specs.Setting.{Setting, branch_label, deposit_key}
 use Rattle.spec_compiler.specs.Statements.{IsHash, is_short}
-use Rattle.spec_compiler.specs.Transactions.{Standing, Spent, tx_of, digest_of_spent, deposit, branch_draft, initial_draft, party_script}
+use Rattle.spec_compiler.specs.declared.unsigned.Spent.{Spent}
+use Rattle.spec_compiler.specs.Transactions.{Standing, tx_of, digest_of_spent, deposit, branch_unsigned, initial_unsigned, party_script}
 use Rattle.spec_compiler.specs.ByPath.{position_at}
 use Rattle.spec_compiler.specs.Endorsements.{is_endorsed}
 use Rattle.spec_run.specs.Setup.{Setup}
@@ -56,11 +57,11 @@ pub record KeptOffers (s : Setup) (g : Configuration) (w : World) : Type 0 where
   pub endorsed : (n : ℕ) (h : Held) (st : Setting) → held_at w n ≡ Some h → compiled_at s w h.contract ≡ Some st → is_endorsed s.hash st w.book ≡ true
   -- a live deposit that a contract may take has its pair in the book
   pub inits : (k : ℕ) (st : Setting) (d : List ℕ × Holding) → compiled_at s w k ≡ Some st → Is_in d (persistent st.advert.pre) → is_init_authorised g.init_authorised k (d.0) ≡ true → is_bound_live w k d ≡ true
-      → has_signed w.book (deposit_key s.hash (d.1).owner) (digest_of_spent s.hash (tx_of (initial_draft s.hash st)) (deposit s.hash st (d.0) (d.1))) ≡ true
+      → has_signed w.book (deposit_key s.hash (d.1).owner) (digest_of_spent s.hash (tx_of (initial_unsigned s.hash st)) (deposit s.hash st (d.0) (d.1))) ≡ true
   -- a branch of an active contract that a party has authorised, and that asks it, has its pair in the book
   pub asked : (n i : ℕ) (a : List ℕ) (h : Held) (st : Setting) (here : Standing) (choice : Choice) (b : term.Branch) → held_at w n ≡ Some h → compiled_at s w h.contract ≡ Some st → position_at s.hash st h.position ≡ Some (here, choice) → slice_get (branches choice) i ≡ Some b
       → is_asked b a ≡ true → has_branch_authorised g.branch_authorised n i a ≡ true
-      → has_signed w.book (key_of s.hash (branch_label h.contract (h.position ++ To i ∷ []) a)) (digest_of_spent s.hash (tx_of (branch_draft s.hash st here i b)) here.output) ≡ true
+      → has_signed w.book (key_of s.hash (branch_label h.contract (h.position ++ To i ∷ []) a)) (digest_of_spent s.hash (tx_of (branch_unsigned s.hash st here i b)) here.output) ≡ true
 
 -- the number of a look-up, 0 without one
 abbrev pub or_zero : Option ℕ → ℕ

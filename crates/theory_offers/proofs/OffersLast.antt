@@ -14,7 +14,7 @@ use Rattle.spec_calculus.specs.Configuration.{Configuration}
 use Rattle.spec_calculus.specs.Beginning.{is_init_authorised}
 use Rattle.spec_calculus.specs.Branches.{has_branch_authorised}
 use Rattle.spec_compiler.specs.Setting.{Setting, branch_label, deposit_key}
-use Rattle.spec_compiler.specs.Transactions.{Standing, tx_of, digest_of_spent, deposit, branch_draft, initial_draft}
+use Rattle.spec_compiler.specs.Transactions.{Standing, tx_of, digest_of_spent, deposit, branch_unsigned, initial_unsigned}
 use Rattle.spec_compiler.specs.Compilation.{compilation}
 use Rattle.spec_compiler.specs.ByPath.{position_at}
 use Rattle.spec_compiler.specs.Endorsements.{needs, is_met, is_endorsed}
@@ -78,10 +78,10 @@ pub signs_offers : (s : Setup) (g g' : Configuration) (w : World) (book : List P
     → ((k : ℕ) (x : List ℕ) → is_init_authorised g'.init_authorised k x ≡ true → (is_init_authorised g.init_authorised k x ≡ true) ⊎ (is_some (compiled_at s w k) ≡ true))
     → ((n i : ℕ) (a : List ℕ) → has_branch_authorised g'.branch_authorised n i a ≡ true → (has_branch_authorised g.branch_authorised n i a ≡ true) ⊎ (is_some (output_at w n) ≡ true))
     → ((k : ℕ) (st : Setting) (d : List ℕ × Holding) → compiled_at s w k ≡ Some st → Is_in d (persistent st.advert.pre) → is_init_authorised g'.init_authorised k (d.0) ≡ true → is_bound_live w k d ≡ true
-    → (is_init_authorised g.init_authorised k (d.0) ≡ true) ⊎ (has_signed book (deposit_key s.hash (d.1).owner) (digest_of_spent s.hash (tx_of (initial_draft s.hash st)) (deposit s.hash st (d.0) (d.1))) ≡ true))
+    → (is_init_authorised g.init_authorised k (d.0) ≡ true) ⊎ (has_signed book (deposit_key s.hash (d.1).owner) (digest_of_spent s.hash (tx_of (initial_unsigned s.hash st)) (deposit s.hash st (d.0) (d.1))) ≡ true))
     → ((n i : ℕ) (a : List ℕ) (h : Held) (st : Setting) (here : Standing) (choice : Choice) (b : term.Branch) → held_at w n ≡ Some h → compiled_at s w h.contract ≡ Some st → position_at s.hash st h.position ≡ Some (here, choice) → slice_get (branches choice) i ≡ Some b
     → is_asked b a ≡ true → has_branch_authorised g'.branch_authorised n i a ≡ true
-    → (has_branch_authorised g.branch_authorised n i a ≡ true) ⊎ (has_signed book (key_of s.hash (branch_label h.contract (h.position ++ To i ∷ []) a)) (digest_of_spent s.hash (tx_of (branch_draft s.hash st here i b)) here.output) ≡ true))
+    → (has_branch_authorised g.branch_authorised n i a ≡ true) ⊎ (has_signed book (key_of s.hash (branch_label h.contract (h.position ++ To i ∷ []) a)) (digest_of_spent s.hash (tx_of (branch_unsigned s.hash st here i b)) here.output) ≡ true))
     → KeptOffers s g' (record w { book = book; hashed = hashed; posted = posted })
 signs_offers s g g' w book hashed posted more constant grows first made inits asked = record {
   constant = constant;
@@ -171,12 +171,12 @@ extends_offers s g g' w next kept more constant outs book tip ei eb stays bindin
       let cw : compiled_at s w k ≡ Some st = subst (λ (y : Setting). compiled_at s w k ≡ Some y) q r.1 in
       let b = bindings k (compiled_is s w k st cw).advertised in
       let lw : is_bound_live w k d ≡ true = by_number (look_up (d.0) (bindings_at w.advertised k)) (subst (λ bs. names_deposit next (look_up (d.0) bs) ≡ true) b l) in
-      subst (λ x. has_signed x (deposit_key s.hash (d.1).owner) (digest_of_spent s.hash (tx_of (initial_draft s.hash st)) (deposit s.hash st (d.0) (d.1))) ≡ true) (sym book) (more.inits k st d cw i o lw);
+      subst (λ x. has_signed x (deposit_key s.hash (d.1).owner) (digest_of_spent s.hash (tx_of (initial_unsigned s.hash st)) (deposit s.hash st (d.0) (d.1))) ≡ true) (sym book) (more.inits k st d cw i o lw);
   asked = λ n i a h st here choice b e c p t q x.
       let f = old_held n h e in
       let r = held_compiled s g w kept n h f in
       let u = same h.contract r.0 st r.1 c in
-      subst (λ y. has_signed y (key_of s.hash (branch_label h.contract (h.position ++ To i ∷ []) a)) (digest_of_spent s.hash (tx_of (branch_draft s.hash st here i b)) here.output) ≡ true) (sym book)
+      subst (λ y. has_signed y (key_of s.hash (branch_label h.contract (h.position ++ To i ∷ []) a)) (digest_of_spent s.hash (tx_of (branch_unsigned s.hash st here i b)) here.output) ≡ true) (sym book)
       (more.asked n i a h st here choice b f (subst (λ (y : Setting). compiled_at s w h.contract ≡ Some y) u r.1) p t q (subst (λ xs. has_branch_authorised xs n i a ≡ true) eb x));
 }
   where

@@ -19,7 +19,7 @@ use Rattle.spec_calculus.specs.Beginning.{is_init_authorised}
 use Rattle.spec_calculus.specs.Branches.{has_branch_authorised}
 use Rattle.spec_calculus.specs.Steps.{after, with_init, with_branch}
 use Rattle.spec_compiler.specs.Setting.{Setting, branch_label, deposit_key}
-use Rattle.spec_compiler.specs.Transactions.{Standing, tx_of, digest_of_spent, prepared, deposit, branch_draft, initial_draft}
+use Rattle.spec_compiler.specs.Transactions.{Standing, tx_of, digest_of_spent, prepared, deposit, branch_unsigned, initial_unsigned}
 use Rattle.spec_compiler.specs.ByPath.{position_at, prepared_at}
 use Rattle.spec_run.specs.Setup.{Setup, pre_at, pre_of}
 use Rattle.spec_run.specs.World.{Held, World, output_at, held_at}
@@ -31,7 +31,7 @@ use Rattle.theory_world.proofs.Tests.{any-append}
 use Rattle.theory_world.proofs.Book.{signed_more, signed_new}
 use Rattle.theory_world.proofs.Positions.{Is_in}
 use Rattle.theory_world.proofs.Later.{compiled_is}
-use Rattle.theory_world.proofs.Standing.{draft_of_branch}
+use Rattle.theory_world.proofs.Standing.{unsigned_of_branch}
 use Rattle.theory_offers.proofs.Offered.{KeptOffers}
 use Rattle.theory_offers.proofs.OffersLast.{signs_offers}
 use Rattle.theory_world.proofs.Endorsed.{in_filter}
@@ -72,12 +72,12 @@ authorise_offers s g w party n i hashed posted more there =
     ])
   where
     new : (m j : ℕ) (a : List ℕ) (h : Held) (st : Setting) (here : Standing) (choice : Choice) (b : term.Branch) → held_at w m ≡ Some h → compiled_at s w h.contract ≡ Some st → position_at s.hash st h.position ≡ Some (here, choice) → slice_get (branches choice) j ≡ Some b
-        → party ≡ a → n ≡ m → i ≡ j → has_signed (authorising_pairs s w party (held_at w n) i) (key_of s.hash (branch_label h.contract (h.position ++ To j ∷ []) a)) (digest_of_spent s.hash (tx_of (branch_draft s.hash st here j b)) here.output) ≡ true
+        → party ≡ a → n ≡ m → i ≡ j → has_signed (authorising_pairs s w party (held_at w n) i) (key_of s.hash (branch_label h.contract (h.position ++ To j ∷ []) a)) (digest_of_spent s.hash (tx_of (branch_unsigned s.hash st here j b)) here.output) ≡ true
     new m j a h st here choice b e c p t ea en ei =
         let key = key_of s.hash (branch_label h.contract (h.position ++ To j ∷ []) a) in
-        let dg = digest_of_spent s.hash (tx_of (branch_draft s.hash st here j b)) here.output in
-        let d : prepared_at s.hash st (h.position ++ To j ∷ []) ≡ Some (prepared s.hash (branch_draft s.hash st here j b)) = ap (option_map (prepared s.hash)) (draft_of_branch s.hash st h.position here choice j b p t) in
-        let f : prepared_in s (compiled_at s w h.contract) (h.position ++ To j ∷ []) ≡ Some (prepared s.hash (branch_draft s.hash st here j b)) = ap (λ o. prepared_in s o (h.position ++ To j ∷ [])) c ∙ d in
+        let dg = digest_of_spent s.hash (tx_of (branch_unsigned s.hash st here j b)) here.output in
+        let d : prepared_at s.hash st (h.position ++ To j ∷ []) ≡ Some (prepared s.hash (branch_unsigned s.hash st here j b)) = ap (option_map (prepared s.hash)) (unsigned_of_branch s.hash st h.position here choice j b p t) in
+        let f : prepared_in s (compiled_at s w h.contract) (h.position ++ To j ∷ []) ≡ Some (prepared s.hash (branch_unsigned s.hash st here j b)) = ap (λ o. prepared_in s o (h.position ++ To j ∷ [])) c ∙ d in
         let pairs : authorising_pairs s w party (held_at w n) i ≡ (key, dg) ∷ [] =
         (λ x. authorising_pairs s w (ea x) (held_at w (en x)) (ei x)) ∙ ap (λ o. authorising_pairs s w a o j) e ∙ ap (branch_pair s a h.contract (h.position ++ To j ∷ [])) f in
         subst (λ xs. has_signed xs key dg ≡ true) (sym pairs) (or_left _ _ (and_from _ _ (bytes_refl key) (bytes_refl dg)))
@@ -170,7 +170,7 @@ init_offers s g w k party hashed posted more st c apart =
     pre_is = let ci = compiled_is s w k st c in ap pre_of ci.there ∙ ap (λ (y : Setting). y.advert.pre) (sym ci.is)
 
     new : (j : ℕ) (su : Setting) (d : List ℕ × Holding) → compiled_at s w j ≡ Some su → Is_in d (persistent su.advert.pre) → k ≡ j → (e : List ℕ × Holding) → Is_in e (filter (λ x. is_of_party party x && is_bound_live w k x) (persistent (pre_at s k))) → e.0 ≡ d.0
-        → has_signed (initial_pairs s party (compiled_at s w k)) (deposit_key s.hash (d.1).owner) (digest_of_spent s.hash (tx_of (initial_draft s.hash su)) (deposit s.hash su (d.0) (d.1))) ≡ true
+        → has_signed (initial_pairs s party (compiled_at s w k)) (deposit_key s.hash (d.1).owner) (digest_of_spent s.hash (tx_of (initial_unsigned s.hash su)) (deposit s.hash su (d.0) (d.1))) ≡ true
     new j su d cj i kj e ie en =
         let both : Some su ≡ Some st = sym cj ∙ ap (compiled_at s w) (sym kj) ∙ c in
         let same : su ≡ st = cc in
@@ -180,7 +180,7 @@ init_offers s g w k party hashed posted more st c apart =
         let ed : e ≡ d = one_deposit (persistent st.advert.pre) e d apart je id en in
         let o : (e.1).owner ≡ party = bytes-true (e.1).owner party (and_parts (is_of_party party e) (is_bound_live w k e) r.1).0 in
         let od : (d.1).owner ≡ party = ap (λ (v : List ℕ × Holding). (v.1).owner) (sym ed) ∙ o in
-        let p = pair_there s st party (tx_of (initial_draft s.hash st)) (persistent st.advert.pre) d id od in
-        let q : has_signed (initial_pairs s party (compiled_at s w k)) (deposit_key s.hash party) (digest_of_spent s.hash (tx_of (initial_draft s.hash st)) (deposit s.hash st (d.0) (d.1))) ≡ true = ap (λ x. has_signed (initial_pairs s party x) (deposit_key s.hash party) (digest_of_spent s.hash (tx_of (initial_draft s.hash st)) (deposit s.hash st (d.0) (d.1)))) c ∙ p in
-        let u : has_signed (initial_pairs s party (compiled_at s w k)) (deposit_key s.hash (d.1).owner) (digest_of_spent s.hash (tx_of (initial_draft s.hash st)) (deposit s.hash st (d.0) (d.1))) ≡ true = subst (λ x. has_signed (initial_pairs s party (compiled_at s w k)) (deposit_key s.hash x) (digest_of_spent s.hash (tx_of (initial_draft s.hash st)) (deposit s.hash st (d.0) (d.1))) ≡ true) (sym od) q in
-        subst (λ (y : Setting). has_signed (initial_pairs s party (compiled_at s w k)) (deposit_key s.hash (d.1).owner) (digest_of_spent s.hash (tx_of (initial_draft s.hash y)) (deposit s.hash y (d.0) (d.1))) ≡ true) (sym same) u
+        let p = pair_there s st party (tx_of (initial_unsigned s.hash st)) (persistent st.advert.pre) d id od in
+        let q : has_signed (initial_pairs s party (compiled_at s w k)) (deposit_key s.hash party) (digest_of_spent s.hash (tx_of (initial_unsigned s.hash st)) (deposit s.hash st (d.0) (d.1))) ≡ true = ap (λ x. has_signed (initial_pairs s party x) (deposit_key s.hash party) (digest_of_spent s.hash (tx_of (initial_unsigned s.hash st)) (deposit s.hash st (d.0) (d.1)))) c ∙ p in
+        let u : has_signed (initial_pairs s party (compiled_at s w k)) (deposit_key s.hash (d.1).owner) (digest_of_spent s.hash (tx_of (initial_unsigned s.hash st)) (deposit s.hash st (d.0) (d.1))) ≡ true = subst (λ x. has_signed (initial_pairs s party (compiled_at s w k)) (deposit_key s.hash x) (digest_of_spent s.hash (tx_of (initial_unsigned s.hash st)) (deposit s.hash st (d.0) (d.1))) ≡ true) (sym od) q in
+        subst (λ (y : Setting). has_signed (initial_pairs s party (compiled_at s w k)) (deposit_key s.hash (d.1).owner) (digest_of_spent s.hash (tx_of (initial_unsigned s.hash y)) (deposit s.hash y (d.0) (d.1))) ≡ true) (sym same) u

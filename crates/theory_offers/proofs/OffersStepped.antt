@@ -14,7 +14,7 @@ use Rattle.spec_calculus.specs.Beginning.{is_init_authorised}
 use Rattle.spec_calculus.specs.Branches.{has_branch_authorised}
 use Rattle.spec_calculus.specs.Steps as calculus
 use Rattle.spec_compiler.specs.Setting.{Setting}
-use Rattle.spec_compiler.specs.Transactions.{input_of, tx_of, deposit, persistent_deposits, initial_draft}
+use Rattle.spec_compiler.specs.Transactions.{input_of, tx_of, deposit, persistent_deposits, initial_unsigned}
 use Rattle.spec_run.specs.Setup.{Setup}
 use Rattle.spec_run.specs.World.{Output, World, is_deposit, bindings_at}
 use Rattle.spec_run.specs.Compiled.{compiled_at}
@@ -140,7 +140,7 @@ module _ (s : Setup) (g : Configuration) (w : World) (kept : KeptBook s g w) (tx
         subst (λ o. names_deposit w o ≡ true) (sym looked) q
 
     -- what the contract's initial transaction takes is gone
-    pub is_gone : bare tx ≡ bare (tx_of (initial_draft s.hash st)) → is_bound_live next k d ≡ false
+    pub is_gone : bare tx ≡ bare (tx_of (initial_unsigned s.hash st)) → is_bound_live next k d ≡ false
     is_gone e =
         let acc = accepting s w tx spent is in
         let j = bare_in (map input_of (persistent_deposits s.hash st)) tx.inputs (input_of (deposit s.hash st (d.0) (d.1))) (sym (ap (λ (y : Tx). y.inputs) e)) (spends_in s.hash st (persistent st.advert.pre) d i) in

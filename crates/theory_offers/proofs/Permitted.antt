@@ -22,7 +22,7 @@ use Rattle.spec_calculus.specs.Steps.{fails, branch_at, withdraw_premises, split
 use Rattle.spec_compiler.specs.Setting.{Setting, branch_path, position_script}
 use Rattle.spec_compiler.specs.Scripts.{digest_of}
 use Rattle.spec_compiler.specs.Statements.{are_secrets, secret_lengths}
-use Rattle.spec_compiler.specs.Transactions.{pays, party_script, part_position, part_outputs, core_outputs, branch_draft}
+use Rattle.spec_compiler.specs.Transactions.{pays, party_script, part_position, part_outputs, core_outputs, branch_unsigned}
 use Rattle.spec_run.specs.declared.event.Event.TheVariants as events
 use Rattle.spec_run.specs.Setup.{Setup, contract_at}
 use Rattle.spec_run.specs.World.{Held, Output, World}
@@ -112,7 +112,7 @@ module _ (s : Setup) (setup : IsSetup s) (g : Configuration) (w : World) (agree 
 
     -- a branch that puts nothing and reveals nothing
     pub quiet_take : (b : term.Branch) → Permitted b → puts_of (core b) ≡ [] → reveals_of (core b) ≡ [] → test_of (core b) ≡ always
-        → 0 < length (branch_draft s.hash fine.setting fine.here i b).outputs → bitcoin.total_of (branch_draft s.hash fine.setting fine.here i b).outputs ≤ fine.here.output.value → MayTake s g w n i
+        → 0 < length (branch_unsigned s.hash fine.setting fine.here i b).outputs → bitcoin.total_of (branch_unsigned s.hash fine.setting fine.here i b).outputs ≤ fine.here.output.value → MayTake s g w n i
     quiet_take b p pe re te makes enough = record {
       output = a.output;
       there = a.there;
@@ -142,7 +142,7 @@ module _ (s : Setup) (setup : IsSetup s) (g : Configuration) (w : World) (agree 
     withdraw_take b p (after height body) e h = cc
     withdraw_take b p (withdraw party) e h =
         let v = fine.here.output.value - fine.setting.advert.fee in
-        let o : (branch_draft s.hash fine.setting fine.here i b).outputs ≡ pays s.hash (party_script s.hash party) v ∷ [] = ap (core_outputs s.hash fine.setting (branch_path fine.here.position i) fine.here.output.value) e in
+        let o : (branch_unsigned s.hash fine.setting fine.here i b).outputs ≡ pays s.hash (party_script s.hash party) v ∷ [] = ap (core_outputs s.hash fine.setting (branch_path fine.here.position i) fine.here.output.value) e in
         let t = ap bitcoin.total_of o ∙ one_total (pays s.hash (party_script s.hash party) v) in
         let l = ap length o in
         takes_kept s setup g w kept check more n i
@@ -158,7 +158,7 @@ module _ (s : Setup) (setup : IsSetup s) (g : Configuration) (w : World) (agree 
     split_take b p (split ps) e h k =
         let q = k ps e in
         let path = branch_path fine.here.position i in
-        let o : (branch_draft s.hash fine.setting fine.here i b).outputs ≡ part_outputs s.hash fine.setting path 0 ps = ap (core_outputs s.hash fine.setting path fine.here.output.value) e in
+        let o : (branch_unsigned s.hash fine.setting fine.here i b).outputs ≡ part_outputs s.hash fine.setting path 0 ps = ap (core_outputs s.hash fine.setting path fine.here.output.value) e in
         let t = ap bitcoin.total_of o ∙ parts_total s.hash fine.setting path 0 ps in
         let l = ap length o in
         let f = some_part s.hash fine.setting path ps q.0 in

@@ -25,7 +25,7 @@ use Rattle.spec_calculus.specs.Branches as calculus
 use Rattle.spec_calculus.specs.Branches.{active_at, are_revealed}
 use Rattle.spec_calculus.specs.Steps.{fails, branch_at, put_reveal_premises}
 use Rattle.spec_compiler.specs.Setting.{Setting, branch_path, position_script}
-use Rattle.spec_compiler.specs.Transactions.{pays, continued_value, core_outputs, branch_draft, put_deposits, holding_or_none}
+use Rattle.spec_compiler.specs.Transactions.{pays, continued_value, core_outputs, branch_unsigned, put_deposits, holding_or_none}
 use Rattle.spec_run.specs.declared.event.Event.TheVariants as events
 use Rattle.spec_run.specs.Setup as setups
 use Rattle.spec_run.specs.Setup.{Setup, contract_at}
@@ -155,7 +155,7 @@ module _ (s : Setup) (setup : IsSetup s) (z : List (List ℕ)) (g : Configuratio
         let same : bindings_of g.advertised k ≡ bindings_at w.advertised k = bindings_same g.advertised k ∙ ap (λ xs. bindings_at xs k) agree.advertised in
         let v = continued_value st f.here.output.value puts in
         let out = pays s.hash (position_script s.hash st (branch_path f.here.position i) next) v in
-        let o : (branch_draft s.hash st f.here i b).outputs ≡ out ∷ [] = ap (core_outputs s.hash st (branch_path f.here.position i) f.here.output.value) e in
+        let o : (branch_unsigned s.hash st f.here i b).outputs ≡ out ∷ [] = ap (core_outputs s.hash st (branch_path f.here.position i) f.here.output.value) e in
         let t = ap bitcoin.total_of o ∙ one_total out in
         let l = ap length o in
         let pw = puts_worth s.hash st (puts_of (core b)) in

@@ -22,7 +22,7 @@ use Rattle.spec_calculus.specs.Beginning as calculus
 use Rattle.spec_calculus.specs.Beginning.{is_there, are_there, bindings_of, is_init_authorised, are_init_authorised, persistent_names, has_committed, have_committed, participants_of}
 use Rattle.spec_calculus.specs.Steps.{fails, init_premises}
 use Rattle.spec_compiler.specs.Setting.{Setting, position_script}
-use Rattle.spec_compiler.specs.Transactions.{tx_of, prepared, pays, deposit, root_value, initial_draft}
+use Rattle.spec_compiler.specs.Transactions.{tx_of, prepared, pays, deposit, root_value, initial_unsigned}
 use Rattle.spec_run.specs.Setup.{Setup, contract_at}
 use Rattle.spec_run.specs.World.{Output, World, is_deposit, bindings_at, has_promised, have_promised}
 use Rattle.spec_run.specs.Compiled.{compiled_at, setting}
@@ -134,7 +134,7 @@ module _ (s : Setup) (setup : IsSetup s) (z : List (List ℕ)) (g : Configuratio
     abbrev pub numbers : List ℕ
     numbers = map (λ (d : List ℕ × Holding). number_of w k (d.0)) (persistent may.advert.pre)
 
-    pub start_asked : Asked s w setup.hash.size kept.apart (initial_draft s.hash (setting w k may.advert)) (initial_witnesses s (setting w k may.advert) (prepared s.hash (initial_draft s.hash (setting w k may.advert)))) numbers
+    pub start_asked : Asked s w setup.hash.size kept.apart (initial_unsigned s.hash (setting w k may.advert)) (initial_witnesses s (setting w k may.advert) (prepared s.hash (initial_unsigned s.hash (setting w k may.advert)))) numbers
     start_asked =
         let one = a_person may.advert may.well in
         let dep = has_deposit may.advert one.0 may.well one.1 in
@@ -144,7 +144,7 @@ module _ (s : Setup) (setup : IsSetup s) (z : List (List ℕ)) (g : Configuratio
         let some = in_some (dep.name, dep.holding) ds dep.there in
         let len = length_map (λ (d : List ℕ × Holding). deposit s.hash (setting w k may.advert) (d.0) (d.1)) ds in
         record {
-          ready = ready_all s setup.hash.size g w kept k (setting w k may.advert) may.compiled (tx_of (initial_draft s.hash (setting w k may.advert))) (λ d. d) ds (λ d i. record { known = persistent_deposit may.advert.pre d i; live = may.live d i; signed = more.inits k (setting w k may.advert) d may.compiled i (may.authorised d i) (may.live d i) });
+          ready = ready_all s setup.hash.size g w kept k (setting w k may.advert) may.compiled (tx_of (initial_unsigned s.hash (setting w k may.advert))) (λ d. d) ds (λ d i. record { known = persistent_deposit may.advert.pre d i; live = may.live d i; signed = more.inits k (setting w k may.advert) d may.compiled i (may.authorised d i) (may.live d i) });
           distinct = numbers_apart s setup.hash.size g w kept k (setting w k may.advert) may.compiled (λ d. d) ds (λ d i. persistent_deposit may.advert.pre d i) (persistent_apart may.advert.pre (different_names may.advert may.well));
           some = omega (arith, some, len);
           makes = omega arith;
@@ -154,5 +154,5 @@ module _ (s : Setup) (setup : IsSetup s) (z : List (List ℕ)) (g : Configuratio
           height = more.height;
         }
 
-    pub start_accepts : verdict_in s w (initial_transaction s (setting w k may.advert)) ≡ verdicts.Accepted numbers (bitcoin.numbers_from (length w.outputs) (initial_draft s.hash (setting w k may.advert)).outputs)
-    start_accepts = accepts s w setup.hash.size kept.apart (initial_draft s.hash (setting w k may.advert)) (initial_witnesses s (setting w k may.advert) (prepared s.hash (initial_draft s.hash (setting w k may.advert)))) numbers start_asked
+    pub start_accepts : verdict_in s w (initial_transaction s (setting w k may.advert)) ≡ verdicts.Accepted numbers (bitcoin.numbers_from (length w.outputs) (initial_unsigned s.hash (setting w k may.advert)).outputs)
+    start_accepts = accepts s w setup.hash.size kept.apart (initial_unsigned s.hash (setting w k may.advert)) (initial_witnesses s (setting w k may.advert) (prepared s.hash (initial_unsigned s.hash (setting w k may.advert)))) numbers start_asked

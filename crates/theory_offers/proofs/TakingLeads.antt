@@ -12,7 +12,8 @@ use Rattle.spec_bitcoin.specs.Verdict as bitcoin
 use Rattle.spec_calculus.specs.declared.step.Step.{Step}
 use Rattle.spec_calculus.specs.Configuration.{Configuration}
 use Rattle.spec_compiler.specs.Setting.{Setting}
-use Rattle.spec_compiler.specs.Transactions.{Spent, input_of, tx_of, prepared, deposit, initial_draft}
+use Rattle.spec_compiler.specs.declared.unsigned.Spent.{Spent}
+use Rattle.spec_compiler.specs.Transactions.{input_of, tx_of, prepared, deposit, initial_unsigned}
 use Rattle.spec_run.specs.declared.event.Event.TheVariants as events
 use Rattle.spec_run.specs.Setup.{Setup, people_at}
 use Rattle.spec_run.specs.World.{Output, World, held_at}
@@ -78,7 +79,7 @@ module _ (s : Setup) (setup : IsSetup s) (g : Configuration) (w : World) (kept :
       by_contract None e = refl
       by_contract (Some j) e =
           let is = initial_is s w tx j e in
-          let b : bare (tx_of (taking.made s setup g w kept check more n i may)) ≡ bare (tx_of (initial_draft s.hash is.setting)) = sym tx_bare ∙ is.is in
+          let b : bare (tx_of (taking.made s setup g w kept check more n i may)) ≡ bare (tx_of (initial_unsigned s.hash is.setting)) = sym tx_bare ∙ is.is in
           let d = first_persistent s.hash is.setting (persistent is.setting.advert.pre) may.fine.here.output _ (ap (λ (y : Tx). y.inputs) b) in
           let a = at_bound s g w kept j is.setting is.compiled (d.0.0) (d.0.1) (persistent_deposit is.setting.advert.pre d.0 d.1) in
           let m = kept.apart n a.number may.output a.bound.output may.there a.bound.there (may.fine.place ∙ d.2 ∙ a.place) in

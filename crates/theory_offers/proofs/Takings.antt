@@ -23,7 +23,8 @@ use Rattle.spec_calculus.specs.Branches.{has_branch_authorised}
 use Rattle.spec_compiler.specs.Setting.{Setting, branch_path, branch_label, people, position_script}
 use Rattle.spec_compiler.specs.Scripts.{digest_of}
 use Rattle.spec_compiler.specs.Statements.{IsCompiled, is_short, is_secret, are_valid, are_secrets, secret_lengths, Opens, Fills}
-use Rattle.spec_compiler.specs.Transactions.{Draft, Standing, tx_of, digest_of_spent, prepared, holding_or_none, branch_draft}
+use Rattle.spec_compiler.specs.declared.unsigned.Unsigned.{Unsigned}
+use Rattle.spec_compiler.specs.Transactions.{Standing, tx_of, digest_of_spent, prepared, holding_or_none, branch_unsigned}
 use Rattle.spec_compiler.specs.ByPath.{prepared_at}
 use Rattle.spec_compiler.specs.Witness.{selectors, witness_stack, witness_of, chosen, chosen_by}
 use Rattle.spec_run.specs.Setup.{Setup, contract_at}
@@ -41,7 +42,7 @@ use Rattle.theory_world.proofs.Same.{bytes_refl}
 use Rattle.theory_world.proofs.Positions.{Is_in}
 use Rattle.theory_world.proofs.Hashed.{among_tail, among_head}
 use Rattle.theory_world.proofs.Later.{compiled_is}
-use Rattle.theory_world.proofs.Standing.{draft_of_branch, position_named, term_choice}
+use Rattle.theory_world.proofs.Standing.{unsigned_of_branch, position_named, term_choice}
 use Rattle.theory_run.proofs.Kept.{KeptBook, HeldFine}
 use Rattle.theory_run.proofs.Spending.{Checked}
 use Rattle.theory_run.proofs.Kinded.{looked_branch}
@@ -136,8 +137,8 @@ pub record MayTake (s : Setup) (g : Configuration) (w : World) (n i : ℕ) : Typ
   pub fits : are_secrets s.hash (shown_strings s w fine.setting (reveals_of (core branch))) (map (digest_of fine.setting.hashes) (reveals_of (core branch))) ≡ true
   pub predicate : holds (secret_lengths (reveals_of (core branch)) (shown_strings s w fine.setting (reveals_of (core branch)))) (test_of (core branch)) ≡ true
   -- what it makes
-  pub makes : 0 < length (branch_draft s.hash fine.setting fine.here i branch).outputs
-  pub enough : bitcoin.total_of (branch_draft s.hash fine.setting fine.here i branch).outputs ≤ worth (branch_draft s.hash fine.setting fine.here i branch).spends
+  pub makes : 0 < length (branch_unsigned s.hash fine.setting fine.here i branch).outputs
+  pub enough : bitcoin.total_of (branch_unsigned s.hash fine.setting fine.here i branch).outputs ≤ worth (branch_unsigned s.hash fine.setting fine.here i branch).spends
 
 module _ (s : Setup) (setup : IsSetup s) (g : Configuration) (w : World) (kept : KeptBook s g w) (check : Checked s w) (more : KeptOffers s g w) (n i : ℕ) (may : MayTake s g w n i) where
   abbrev pub held : Held
@@ -155,8 +156,8 @@ module _ (s : Setup) (setup : IsSetup s) (g : Configuration) (w : World) (kept :
   abbrev pub b : term.Branch
   b = may.branch
 
-  abbrev pub made : Draft
-  made = branch_draft s.hash may.fine.setting may.fine.here i may.branch
+  abbrev pub made : Unsigned
+  made = branch_unsigned s.hash may.fine.setting may.fine.here i may.branch
 
   abbrev pub dg : List ℕ
   dg = digest_of_spent s.hash (tx_of made) may.fine.here.output
@@ -288,6 +289,6 @@ module _ (s : Setup) (setup : IsSetup s) (g : Configuration) (w : World) (kept :
   pub taking_is : taking_by s w (held_at w n) i ≡ Some tx
   taking_is =
       let c : choice_in (contract_at s held.contract) held.position ≡ Some choice = ap (λ a. choice_in a held.position) contract_is ∙ term_choice s.hash st held.position here choice may.fine.stands in
-      let d : prepared_at s.hash st path ≡ Some (prepared s.hash made) = ap (option_map (prepared s.hash)) (draft_of_branch s.hash st held.position here choice i b may.fine.stands may.is_branch) in
+      let d : prepared_at s.hash st path ≡ Some (prepared s.hash made) = ap (option_map (prepared s.hash)) (unsigned_of_branch s.hash st held.position here choice i b may.fine.stands may.is_branch) in
       let p : prepared_by s (compiled_at s w held.contract) path ≡ Some (prepared s.hash made) = ap (λ o. prepared_by s o path) may.fine.compiled ∙ d in
       ap (λ h. taking_by s w h i) held_is ∙ (λ j. taking_with s w held i (may.fine.compiled j) (c j) (branch_is j) (p j))

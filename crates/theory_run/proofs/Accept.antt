@@ -38,7 +38,7 @@ use Rattle.spec_calculus.specs.Branches.{has_branch_authorised}
 use Rattle.theory_world.proofs.Outputs.{length-spend_from}
 use Rattle.theory_world.proofs.Labels.{get_below}
 use Rattle.theory_run.proofs.Kept.{cause_later, KeptBook, HeldFine, BranchCause, SpentFor, AllSpentFor, From, opening_id, Frame, origin_later, held_later, advert_later}
-use Rattle.theory_run.proofs.Spending.{DraftsFit, Checked, deposit_signed}
+use Rattle.theory_run.proofs.Spending.{TransactionsFit, Checked, deposit_signed}
 
 in_strings : (f : TxIn → List (List ℕ)) (is : List TxIn) (i : TxIn) (t : List ℕ) → Is_in i is → is_among t (f i) ≡ true → is_among t (flat_map f is) ≡ true
 in_strings f [] i t k l = absurd k
@@ -79,7 +79,7 @@ spent_for_in s w tx [] i h k = absurd k
 spent_for_in s w tx (x ∷ is) i h (inl e) = subst (SpentFor s w tx) (sym e) h.0
 spent_for_in s w tx (x ∷ is) i h (inr k) = spent_for_in s w tx is i h.1 k
 
-module _ (s : Setup) (size : HashesBytes s.hash) (g : Configuration) (w : World) (kept : KeptBook s g w) (fit : DraftsFit s w) (check : Checked s w) (hs : List (List ℕ)) (clear : NoClash s.hash hs) (sub : (t : List ℕ) → is_among t w.hashed ≡ true → is_among t hs ≡ true)
+module _ (s : Setup) (size : HashesBytes s.hash) (g : Configuration) (w : World) (kept : KeptBook s g w) (fit : TransactionsFit s w) (check : Checked s w) (hs : List (List ℕ)) (clear : NoClash s.hash hs) (sub : (t : List ℕ) → is_among t w.hashed ≡ true → is_among t hs ≡ true)
     (tx : Tx) (fits : IsNumbered tx) (spent : List ℕ) (acc : Accepting s w tx spent) (all : HeardAll s w hs tx) where
   pub scripts_none : NoScripts tx.inputs
   scripts_none = no_scripts s w tx spent tx.inputs acc.spends

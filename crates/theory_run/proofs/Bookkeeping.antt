@@ -15,8 +15,8 @@ use Rattle.spec_run.specs.Translation.{opening_configuration}
 use Rattle.theory_world.proofs.Hashed.{NoClash, no_clash}
 use Rattle.theory_run.proofs.Opening.{clear, opening_book}
 use Rattle.theory_run.proofs.Kept.{KeptBook}
-use Rattle.theory_run.proofs.Spending.{DraftsFit, Checked}
-use Rattle.theory_run.proofs.Putting.{drafts_fit}
+use Rattle.theory_run.proofs.Spending.{TransactionsFit, Checked}
+use Rattle.theory_run.proofs.Putting.{transactions_fit}
 use Rattle.theory_run.proofs.Commitments.{KeptPromises, opening_promises, checked_now}
 use Rattle.theory_run.proofs.Undertakings.{promises_after}
 use Rattle.theory_run.proofs.OwnLabels.{KeptLabels, opening_labels, labels_after}
@@ -36,8 +36,8 @@ pub record KeptBooks (s : Setup) (g : Configuration) (w : World) : Type 0 where
 pub checks : (s : Setup) → IsSetup s → (g : Configuration) (w : World) → KeptBooks s g w → Checked s w
 checks s setup g w keeps = checked_now s setup w keeps.promises
 
-pub fits : (s : Setup) → IsSetup s → (g : Configuration) (w : World) → KeptBooks s g w → DraftsFit s w
-fits s setup g w keeps = drafts_fit s setup g w keeps.book
+pub fits : (s : Setup) → IsSetup s → (g : Configuration) (w : World) → KeptBooks s g w → TransactionsFit s w
+fits s setup g w keeps = transactions_fit s setup g w keeps.book
 
 pub opening_keeps : (s : Setup) → IsSetup s → opening_collision s ≡ None → KeptBooks s (opening_configuration s) (opening_world s)
 opening_keeps s setup opens = record {
@@ -48,7 +48,7 @@ opening_keeps s setup opens = record {
 }
 
 module _ (s : Setup) (setup : IsSetup s) (strings : List (List ℕ)) (g : Configuration) (w : World) (keeps : KeptBooks s g w) where
-  abbrev fit : DraftsFit s w
+  abbrev fit : TransactionsFit s w
   fit = fits s setup g w keeps
 
   abbrev check : Checked s w

@@ -42,7 +42,7 @@ use Rattle.theory_world.proofs.Later.{compiled_is}
 use Rattle.theory_world.proofs.Standing.{term_branches}
 use Rattle.theory_world.proofs.Mentions.{branch_named, asked_mentioned}
 use Rattle.theory_run.proofs.Kept.{KeptBook}
-use Rattle.theory_run.proofs.Spending.{DraftsFit, Checked}
+use Rattle.theory_run.proofs.Spending.{TransactionsFit, Checked}
 use Rattle.theory_run.proofs.Entering.{First, first}
 use Rattle.theory_run.proofs.Enters.{Taking}
 use Rattle.theory_run.proofs.Kinded.{looked_branch}
@@ -52,7 +52,7 @@ use Rattle.theory_run.proofs.Owned.{owner_paid}
 use Rattle.theory_run.proofs.Beginnings.{StepFrame, bindings_same, there_same}
 use Rattle.theory_run.proofs.Awaiting.{asked_all, after-asked, asked_all_more, asked_cover, legal_awaited, lock_reached, active_there, no_deposit_there, none_active, kept_none, part_held, parts_active, parts_no_deposits, parts_counted}
 
-module _ (s : Setup) (size : HashesBytes s.hash) (few_contracts : length s.contracts ≤ 16) (g : Configuration) (w : World) (kept : KeptBook s g w) (fit : DraftsFit s w) (check : Checked s w) (hs : List (List ℕ)) (clear : NoClash s.hash hs) (sub : (t : List ℕ) → is_among t w.hashed ≡ true → is_among t hs ≡ true)
+module _ (s : Setup) (size : HashesBytes s.hash) (few_contracts : length s.contracts ≤ 16) (g : Configuration) (w : World) (kept : KeptBook s g w) (fit : TransactionsFit s w) (check : Checked s w) (hs : List (List ℕ)) (clear : NoClash s.hash hs) (sub : (t : List ℕ) → is_among t w.hashed ≡ true → is_among t hs ≡ true)
     (tx : Tx) (fits : IsNumbered tx) (spent : List ℕ) (acc : Accepting s w tx spent) (all : HeardAll s w hs tx) where
   abbrev fst : First s size g w kept fit check hs clear sub tx fits spent acc all
   fst = first s size g w kept fit check hs clear sub tx fits spent acc all

@@ -39,9 +39,9 @@ use Rattle.theory_world.proofs.Positions.{Is_in}
 use Rattle.theory_world.proofs.Later.{IsCompiledAt, compiled_is, compiled_stays, digests-other, lasts_refl}
 use Rattle.theory_run.proofs.Commits.{digests_looked}
 use Rattle.theory_run.proofs.Kept.{KeptBook, Frame, AdvertFine, cause_later, origin_later, held_later, advert_later, signs}
-use Rattle.theory_run.proofs.Spending.{Checked, DraftsFit}
+use Rattle.theory_run.proofs.Spending.{Checked, TransactionsFit}
 use Rattle.theory_run.proofs.Entering.{persistent_deposit, bound_at}
-use Rattle.theory_run.proofs.Putting.{all_fit, drafts_fit}
+use Rattle.theory_run.proofs.Putting.{all_fit, transactions_fit}
 use Rattle.theory_world.proofs.Staying.{inits_stay, asked_stay}
 use Rattle.theory_run.proofs.Signings.{KeptAfter, unless_after}
 use Rattle.theory_run.proofs.Labelled.{compiled_label}
@@ -109,7 +109,7 @@ module _ (s : Setup) (setup : IsSetup s) (g : Configuration) (w : World) (kept :
     next_adverts : (j : ℕ) → is_advertised next j ≡ true → AdvertFine s next j
     next_adverts j h = advert_later s g g' w next frame j h (kept.adverts j h)
 
-    next_fit : DraftsFit s next
+    next_fit : TransactionsFit s next
     next_fit = all_fit s setup next next_adverts kept.placed_fine
 
     before : (su : Setting) → compiled_at s w k ≡ Some su → ⊥
@@ -144,7 +144,7 @@ module _ (s : Setup) (setup : IsSetup s) (g : Configuration) (w : World) (kept :
     takes_part = subst (λ p. is_among fair.0 p ≡ true) (ap people_of ci.there ∙ ap (λ (y : Setting). people y) (sym ci.is)) fair.1
 
     nothing_made : (q : List PathStep) (here : Standing) (choice : Choice) (n : ℕ) (o : Output) → position_at s.hash st q ≡ Some (here, choice) → slice_get w.outputs n ≡ Some o → o.place ≡ here.output.place → ⊥
-    nothing_made = unmade s setup.hash setup.few_contracts g w kept (drafts_fit s setup g w kept) check next hs_clear sub next_fit next_check heard stays k st now before lies fair.0 takes_part fair.2
+    nothing_made = unmade s setup.hash setup.few_contracts g w kept (transactions_fit s setup g w kept) check next hs_clear sub next_fit next_check heard stays k st now before lies fair.0 takes_part fair.2
 
     nothing_signed : (q : List PathStep) (here : Standing) (choice : Choice) (i : ℕ) (b : term.Branch) (a d : List ℕ) → position_at s.hash st q ≡ Some (here, choice) → slice_get (branches choice) i ≡ Some b → is_among a (people st) ≡ true → is_honest s a ≡ true
         → has_signed w.book (key_of s.hash (branch_label k (q ++ To i ∷ []) a)) d ≡ true → ⊥

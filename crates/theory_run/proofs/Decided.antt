@@ -31,14 +31,14 @@ use Rattle.theory_world.proofs.Accepting.{Accepting, HeardAll}
 use Rattle.theory_world.proofs.Later.{compiled_is}
 use Rattle.theory_world.proofs.Standing.{term_choice}
 use Rattle.theory_run.proofs.Kept.{KeptBook}
-use Rattle.theory_run.proofs.Spending.{DraftsFit, Checked}
+use Rattle.theory_run.proofs.Spending.{TransactionsFit, Checked}
 use Rattle.theory_run.proofs.Entering.{First, first}
 use Rattle.theory_run.proofs.Enters.{Taking}
 use Rattle.theory_run.proofs.Beginnings.{StepFrame}
 use Rattle.theory_run.proofs.Branching.{IsTested, legal_put, legal_withdraw, legal_split, frame_put, frame_withdraw, frame_split, agree_put, agree_withdraw, agree_split}
 use Rattle.theory_run.proofs.Tested.{puts_known, reveals_known, PromisesNamed, all_revealed}
 
-module _ (s : Setup) (size : HashesBytes s.hash) (few_contracts : length s.contracts ≤ 16) (g : Configuration) (w : World) (kept : KeptBook s g w) (fit : DraftsFit s w) (check : Checked s w) (hs : List (List ℕ)) (clear : NoClash s.hash hs) (sub : (t : List ℕ) → is_among t w.hashed ≡ true → is_among t hs ≡ true)
+module _ (s : Setup) (size : HashesBytes s.hash) (few_contracts : length s.contracts ≤ 16) (g : Configuration) (w : World) (kept : KeptBook s g w) (fit : TransactionsFit s w) (check : Checked s w) (hs : List (List ℕ)) (clear : NoClash s.hash hs) (sub : (t : List ℕ) → is_among t w.hashed ≡ true → is_among t hs ≡ true)
     (tx : Tx) (fits : IsNumbered tx) (spent : List ℕ) (acc : Accepting s w tx spent) (all : HeardAll s w hs tx) where
   abbrev fst : First s size g w kept fit check hs clear sub tx fits spent acc all
   fst = first s size g w kept fit check hs clear sub tx fits spent acc all

@@ -18,7 +18,8 @@ use Rattle.spec_bitcoin.specs.Keys.{has_signed}
 use Rattle.spec_bitcoin.specs.Verdict.{script_of}
 use Rattle.spec_calculus.specs.Configuration.{Configuration}
 use Rattle.spec_compiler.specs.Setting.{Setting, deposit_key}
-use Rattle.spec_compiler.specs.Transactions.{Spent, Standing, input_of, tx_of, deposit, holding_or_none, put_deposits, persistent_deposits, branch_draft, initial_draft, party_script}
+use Rattle.spec_compiler.specs.declared.unsigned.Spent.{Spent}
+use Rattle.spec_compiler.specs.Transactions.{Standing, input_of, tx_of, deposit, holding_or_none, put_deposits, persistent_deposits, branch_unsigned, initial_unsigned, party_script}
 use Rattle.spec_compiler.specs.ByPath.{position_at}
 use Rattle.spec_run.specs.declared.outcome.Record.{Record}
 use Rattle.spec_run.specs.Setup.{Setup, is_declared, is_honest, contract_at, pre_of, pre_at}
@@ -36,7 +37,7 @@ use Rattle.theory_world.proofs.Positions.{Is_in}
 use Rattle.theory_world.proofs.Later.{compiled_is}
 use Rattle.theory_world.proofs.Accepting.{IsSpent, AllSpent, Accepting, HeardAll, heard_input, HeardInput}
 use Rattle.theory_run.proofs.Kept.{KeptBook, HeardDigest, AllDead, IsDead, Needed, Started}
-use Rattle.theory_run.proofs.Spending.{DraftsFit, Checked, same_gift, same_put, same_start, deposit_signed}
+use Rattle.theory_run.proofs.Spending.{TransactionsFit, Checked, same_gift, same_put, same_start, deposit_signed}
 use Rattle.theory_run.proofs.Accept.{scripts_none, lists, all_strings_of, bare_in, not_dead}
 use Rattle.theory_run.proofs.Entering.{First, first, initial_first, branch_first, initial_is, not_initial, persistent_deposit, at_bound}
 use Rattle.theory_run.proofs.Enters.{Taking}
@@ -89,7 +90,7 @@ dead_in w (x ∷ is) i h (inr k) = dead_in w is i h.1 k
 pub advert_of : (s : Setup) (w : World) (k : ℕ) (st : Setting) → compiled_at s w k ≡ Some st → contract_at s k ≡ Some st.advert
 advert_of s w k st c = let ci = compiled_is s w k st c in ci.there ∙ ap (λ (y : Setting). Some y.advert) (sym ci.is)
 
-module _ (s : Setup) (setup : IsSetup s) (before : List Record) (g : Configuration) (w : World) (kept : KeptBook s g w) (fit : DraftsFit s w) (check : Checked s w) (leave : KeptLeave s before g w) (clear : NoClash s.hash w.hashed)
+module _ (s : Setup) (setup : IsSetup s) (before : List Record) (g : Configuration) (w : World) (kept : KeptBook s g w) (fit : TransactionsFit s w) (check : Checked s w) (leave : KeptLeave s before g w) (clear : NoClash s.hash w.hashed)
     (hs : List (List ℕ)) (clear_hs : NoClash s.hash hs) (sub : (t : List ℕ) → is_among t w.hashed ≡ true → is_among t hs ≡ true) (tx : Tx) (fits : IsNumbered tx) (spent : List ℕ) (acc : Accepting s w tx spent) (all : HeardAll s w hs tx)
     (a : List ℕ) (declared : is_declared s a ≡ true) (n : ℕ) (i : TxIn) (here : Is_in i tx.inputs) (sp : IsSpent s w tx n i) (paid : sp.output.script ≡ paid_to s a) (free : sp.output.holds ≡ None) where
   -- ---- what it is bound to
@@ -107,7 +108,7 @@ module _ (s : Setup) (setup : IsSetup s) (before : List Record) (g : Configurati
       and_from _ _ (subst (λ y. bytes_eq (d.1).owner y ≡ true) owner (bytes_refl (d.1).owner)) t
 
   -- the initial transaction takes it as a persistent deposit
-  pub begun_takes : (k : ℕ) (st : Setting) → compiled_at s w k ≡ Some st → bare tx ≡ bare (tx_of (initial_draft s.hash st)) → takes_persistent s w k a n ≡ true
+  pub begun_takes : (k : ℕ) (st : Setting) → compiled_at s w k ≡ Some st → bare tx ≡ bare (tx_of (initial_unsigned s.hash st)) → takes_persistent s w k a n ≡ true
   begun_takes k st c e =
       let r = bare_in tx.inputs (map input_of (persistent_deposits s.hash st)) i (ap (λ (x : Tx). x.inputs) e) here in
       let m = in_map input_of (persistent_deposits s.hash st) r.0 r.1 in
@@ -118,7 +119,7 @@ module _ (s : Setup) (setup : IsSetup s) (before : List Record) (g : Configurati
 
   -- the transaction of a branch puts it
   pub branch_puts : (k : ℕ) (st : Setting) (q : List PathStep) (pos : Standing) (choice : Choice) (j : ℕ) (b : term.Branch) → compiled_at s w k ≡ Some st → position_at s.hash st q ≡ Some (pos, choice) → slice_get (branches choice) j ≡ Some b
-      → bare tx ≡ bare (tx_of (branch_draft s.hash st pos j b)) → takes_put s w k (Some b) a n ≡ true
+      → bare tx ≡ bare (tx_of (branch_unsigned s.hash st pos j b)) → takes_put s w k (Some b) a n ≡ true
   branch_puts k st q pos choice j b c stands there e = by_place m.1
     where
       r : (x : TxIn) × Is_in x (map input_of (pos.output ∷ put_deposits s.hash st (puts_of (core b)))) × (x.prev ≡ i.prev)
@@ -169,8 +170,8 @@ module _ (s : Setup) (setup : IsSetup s) (before : List Record) (g : Configurati
   module _ (honest : is_honest s a ≡ true) where
     -- which transaction its party has signed
     pub data Took : Type 0 where
-      put_took : (h : Needed s w a signs) → bare tx ≡ bare (tx_of (branch_draft s.hash h.setting h.here h.index h.branch)) → was_done (is_endorse h.contract a) before ≡ true → Took
-      start_took : (h : Started s g w a signs) → bare tx ≡ bare (tx_of (initial_draft s.hash h.setting)) → was_done (is_init h.contract a) before ≡ true → Took
+      put_took : (h : Needed s w a signs) → bare tx ≡ bare (tx_of (branch_unsigned s.hash h.setting h.here h.index h.branch)) → was_done (is_endorse h.contract a) before ≡ true → Took
+      start_took : (h : Started s g w a signs) → bare tx ≡ bare (tx_of (initial_unsigned s.hash h.setting)) → was_done (is_init h.contract a) before ≡ true → Took
 
     pub took : Took
     took = by_leave (leave.leave a signs declared honest both.1)
@@ -196,7 +197,7 @@ module _ (s : Setup) (setup : IsSetup s) (before : List Record) (g : Configurati
     fst = first s setup.hash g w kept fit check hs clear_hs sub tx fits spent acc all
 
     -- a branch's transaction takes a branch
-    pub put_kind : (h : Needed s w a signs) → bare tx ≡ bare (tx_of (branch_draft s.hash h.setting h.here h.index h.branch))
+    pub put_kind : (h : Needed s w a signs) → bare tx ≡ bare (tx_of (branch_unsigned s.hash h.setting h.here h.index h.branch))
         → (t : Taking s setup.hash setup.few_contracts g w kept fit check hs clear_hs sub tx fits spent acc all (record { contract = h.contract; position = h.position })) × (kind_of s w tx spent ≡ Takes (record { contract = h.contract; position = h.position }) fst.number t.index)
     put_kind h e =
         let held : Held = record { contract = h.contract; position = h.position } in
@@ -212,7 +213,7 @@ module _ (s : Setup) (setup : IsSetup s) (before : List Record) (g : Configurati
             cc
 
     -- an initial transaction begins its contract
-    pub start_kind : (h : Started s g w a signs) → bare tx ≡ bare (tx_of (initial_draft s.hash h.setting)) → kind_of s w tx spent ≡ Begins h.contract
+    pub start_kind : (h : Started s g w a signs) → bare tx ≡ bare (tx_of (initial_unsigned s.hash h.setting)) → kind_of s w tx spent ≡ Begins h.contract
     start_kind h e = by_initial (initial_of s w tx) refl
       where
         by_initial : (o : Option ℕ) → initial_of s w tx ≡ o → kind_of s w tx spent ≡ Begins h.contract

@@ -19,7 +19,9 @@ use Rattle.spec_compiler.specs.Hashed.{compiled_strings}
 use Rattle.spec_bitcoin.specs.Digests.{txid}
 use Rattle.spec_calculus.specs.Configuration.{Configuration}
 use Rattle.spec_compiler.specs.Setting.{Setting}
-use Rattle.spec_compiler.specs.Transactions.{Draft, Spent, Standing, input_of, tx_of, place_or_none, deposit, persistent_deposits, branch_draft, initial_draft, root_standing}
+use Rattle.spec_compiler.specs.declared.unsigned.Spent.{Spent}
+use Rattle.spec_compiler.specs.declared.unsigned.Unsigned.{Unsigned}
+use Rattle.spec_compiler.specs.Transactions.{Standing, input_of, tx_of, place_or_none, deposit, persistent_deposits, branch_unsigned, initial_unsigned, root_standing}
 use Rattle.spec_compiler.specs.ByPath.{position_at}
 use Rattle.spec_run.specs.Setup.{Setup}
 use Rattle.spec_run.specs.World.{Held, Output, World, output_at, active_held, bindings_at, is_advertised}
@@ -34,7 +36,7 @@ use Rattle.theory_world.proofs.Accepting.{IsSpent, AllSpent, Accepting, HeardAll
 use Rattle.theory_world.proofs.Later.{compiled_is}
 use Rattle.theory_world.proofs.Made.{MadeBy, by_initial, by_branch, ByBranch, made_by}
 use Rattle.theory_run.proofs.Kept.{KeptBook, IsBound, AdvertFine}
-use Rattle.theory_run.proofs.Spending.{DraftsFit, Checked, HeardDraft, initial_heard, branch_heard, draft_bytes, draft_bytes_hash, taken, draft_no_scripts}
+use Rattle.theory_run.proofs.Spending.{TransactionsFit, Checked, HeardUnsigned, initial_heard, branch_heard, unsigned_bytes, unsigned_bytes_hash, taken, unsigned_no_scripts}
 use Rattle.theory_run.proofs.Accept.{scripts_none, lists, all_strings_of}
 
 -- ---- which contract's initial transaction it is
@@ -42,11 +44,11 @@ use Rattle.theory_run.proofs.Accept.{scripts_none, lists, all_strings_of}
 pub record IsInitial (s : Setup) (w : World) (tx : Tx) (k : ℕ) : Type 0 where
   pub setting : Setting
   pub compiled : compiled_at s w k ≡ Some setting
-  pub is : bare tx ≡ bare (tx_of (initial_draft s.hash setting))
+  pub is : bare tx ≡ bare (tx_of (initial_unsigned s.hash setting))
 
 initial_one : (s : Setup) (w : World) (tx : Tx) (k : ℕ) (o : Option Setting) → compiled_at s w k ≡ o → is_initial s tx o ≡ true → IsInitial s w tx k
 initial_one s w tx k None e h = cc
-initial_one s w tx k (Some st) e h = record { setting = st; compiled = e; is = same-true tx (tx_of (initial_draft s.hash st)) h }
+initial_one s w tx k (Some st) e h = record { setting = st; compiled = e; is = same-true tx (tx_of (initial_unsigned s.hash st)) h }
 
 initial_some : (s : Setup) (w : World) (tx : Tx) (j k : ℕ) (cs : List Advert) → initial_from s w tx j cs ≡ Some k → IsInitial s w tx k
 initial_some s w tx j k [] h = cc
@@ -73,13 +75,13 @@ initial_none s w tx j (suc m) (d ∷ cs) c e h = let z : suc m + j ≡ m + (j + 
     by_test false q = q
 
 -- where it is none, it is no compiled contract's
-pub not_initial : (s : Setup) (w : World) (tx : Tx) (k : ℕ) (st : Setting) → initial_of s w tx ≡ None → compiled_at s w k ≡ Some st → bare tx ≡ bare (tx_of (initial_draft s.hash st)) → ⊥
+pub not_initial : (s : Setup) (w : World) (tx : Tx) (k : ℕ) (st : Setting) → initial_of s w tx ≡ None → compiled_at s w k ≡ Some st → bare tx ≡ bare (tx_of (initial_unsigned s.hash st)) → ⊥
 not_initial s w tx k st h c e =
     let ci = compiled_is s w k st c in
     let z : k + 0 ≡ k = omega arith in
     let f : is_initial s tx (compiled_at s w k) ≡ false = rw z at (initial_none s w tx 0 k s.contracts ci.advert ci.there h) in
     let g : is_initial s tx (Some st) ≡ false = subst (λ o. is_initial s tx o ≡ false) c f in
-    both_ways _ g (same_from tx (tx_of (initial_draft s.hash st)) e)
+    both_ways _ g (same_from tx (tx_of (initial_unsigned s.hash st)) e)
 
 -- ---- deposits where they are bound
 
@@ -138,7 +140,7 @@ first_persistent hash st (d ∷ ds) x xs h =
 first_place : (x : TxIn) (xs : List TxIn) (y : Spent) (ys : List Spent) → map bare_input (x ∷ xs) ≡ map bare_input (map input_of (y ∷ ys)) → x.prev ≡ y.place
 first_place x xs y ys h = let a : bare_input x ≡ bare_input (input_of y) = cc in ap (λ (z : TxIn). z.prev) a
 
-module _ (s : Setup) (size : HashesBytes s.hash) (g : Configuration) (w : World) (kept : KeptBook s g w) (fit : DraftsFit s w) (check : Checked s w) (hs : List (List ℕ)) (clear : NoClash s.hash hs) (sub : (t : List ℕ) → is_among t w.hashed ≡ true → is_among t hs ≡ true)
+module _ (s : Setup) (size : HashesBytes s.hash) (g : Configuration) (w : World) (kept : KeptBook s g w) (fit : TransactionsFit s w) (check : Checked s w) (hs : List (List ℕ)) (clear : NoClash s.hash hs) (sub : (t : List ℕ) → is_among t w.hashed ≡ true → is_among t hs ≡ true)
     (tx : Tx) (fits : IsNumbered tx) (spent : List ℕ) (acc : Accepting s w tx spent) (all : HeardAll s w hs tx) where
   -- ---- the first input
 
@@ -167,15 +169,15 @@ module _ (s : Setup) (size : HashesBytes s.hash) (g : Configuration) (w : World)
   pub first_holds : first_held w spent ≡ first.spends.output.holds
   first_holds = ap (first_held w) first.spent_is ∙ ap active_held first.spends.there ∙ rw first.spends.live refl
 
-  -- where it is a draft but for witnesses, the first inputs lie at one place
-  pub draft_first : (d : Draft) (x : Spent) (xs : List Spent) → d.spends ≡ x ∷ xs → bare tx ≡ bare (tx_of d) → first.spends.output.place ≡ x.place
-  draft_first d x xs e b =
+  -- where it is an unsigned one but for witnesses, the first inputs lie at one place
+  pub unsigned_first : (d : Unsigned) (x : Spent) (xs : List Spent) → d.spends ≡ x ∷ xs → bare tx ≡ bare (tx_of d) → first.spends.output.place ≡ x.place
+  unsigned_first d x xs e b =
       let i : map bare_input tx.inputs ≡ map bare_input (map input_of d.spends) = ap (λ (y : Tx). y.inputs) b in
       let j : map bare_input (first.input ∷ first.inputs) ≡ map bare_input (map input_of (x ∷ xs)) = ap (map bare_input) (sym first.inputs_is) ∙ i ∙ ap (λ ys. map bare_input (map input_of ys)) e in
       sym first.spends.place ∙ first_place first.input first.inputs x xs j
 
   -- an initial transaction spends what holds nothing
-  pub initial_first : (k : ℕ) (st : Setting) → compiled_at s w k ≡ Some st → bare tx ≡ bare (tx_of (initial_draft s.hash st)) → first.spends.output.holds ≡ None
+  pub initial_first : (k : ℕ) (st : Setting) → compiled_at s w k ≡ Some st → bare tx ≡ bare (tx_of (initial_unsigned s.hash st)) → first.spends.output.holds ≡ None
   initial_first k st c b =
       let i : map bare_input tx.inputs ≡ map bare_input (map input_of (persistent_deposits s.hash st)) = ap (λ (y : Tx). y.inputs) b in
       let j = ap (map bare_input) (sym first.inputs_is) ∙ i in
@@ -187,15 +189,15 @@ module _ (s : Setup) (size : HashesBytes s.hash) (g : Configuration) (w : World)
       ap (λ (y : Output). y.holds) f ∙ a.bound.free
 
   -- a branch's transaction spends what holds its position
-  pub branch_first : (k : ℕ) (st : Setting) (q : List PathStep) (here : Standing) (choice : Choice) (i : ℕ) (b : term.Branch) → compiled_at s w k ≡ Some st → position_at s.hash st q ≡ Some (here, choice) → bare tx ≡ bare (tx_of (branch_draft s.hash st here i b))
+  pub branch_first : (k : ℕ) (st : Setting) (q : List PathStep) (here : Standing) (choice : Choice) (i : ℕ) (b : term.Branch) → compiled_at s w k ≡ Some st → position_at s.hash st q ≡ Some (here, choice) → bare tx ≡ bare (tx_of (branch_unsigned s.hash st here i b))
       → first.spends.output.holds ≡ Some (record { contract = k; position = q })
-  branch_first k st q here choice i b c e h = kept.placed k st q here choice first.number first.spends.output c e first.spends.there (draft_first (branch_draft s.hash st here i b) here.output _ refl h)
+  branch_first k st q here choice i b c e h = kept.placed k st q here choice first.number first.spends.output c e first.spends.there (unsigned_first (branch_unsigned s.hash st here i b) here.output _ refl h)
 
   -- equal ids come from transactions that are the same but for witnesses
-  pub id_bare : (d : Draft) → IsNumbered (tx_of d) → HeardDraft s.hash hs d → txid s.hash tx ≡ txid s.hash (tx_of d) → bare tx ≡ bare (tx_of d)
-  id_bare d df dh e = stripped-apart tx (tx_of d) (scripts_none s size g w kept fit check hs clear sub tx fits spent acc all) (draft_no_scripts d.spends) fits df (double-apart s.hash hs clear (stripped tx) (stripped (tx_of d)) (heard_bytes s w hs tx all) (heard_bytes_hash s w hs tx all) (draft_bytes s.hash hs d dh) (draft_bytes_hash s.hash hs d dh) e)
+  pub id_bare : (d : Unsigned) → IsNumbered (tx_of d) → HeardUnsigned s.hash hs d → txid s.hash tx ≡ txid s.hash (tx_of d) → bare tx ≡ bare (tx_of d)
+  id_bare d df dh e = stripped-apart tx (tx_of d) (scripts_none s size g w kept fit check hs clear sub tx fits spent acc all) (unsigned_no_scripts d.spends) fits df (double-apart s.hash hs clear (stripped tx) (stripped (tx_of d)) (heard_bytes s w hs tx all) (heard_bytes_hash s w hs tx all) (unsigned_bytes s.hash hs d dh) (unsigned_bytes_hash s.hash hs d dh) e)
 
-  pub bare_id : (d : Draft) → bare tx ≡ bare (tx_of d) → txid s.hash tx ≡ txid s.hash (tx_of d)
+  pub bare_id : (d : Unsigned) → bare tx ≡ bare (tx_of d) → txid s.hash tx ≡ txid s.hash (tx_of d)
   bare_id d e = sym (txid-bare s.hash tx) ∙ ap (txid s.hash) e ∙ txid-bare s.hash (tx_of d)
 
   heard_of : (k : ℕ) (st : Setting) → compiled_at s w k ≡ Some st → (t : List ℕ) → is_among t (compiled_strings s.hash st) ≡ true → is_among t hs ≡ true
@@ -203,20 +205,20 @@ module _ (s : Setup) (size : HashesBytes s.hash) (g : Configuration) (w : World)
 
   -- how a position's output is one of this transaction's
   pub data Making (k : ℕ) (st : Setting) (q : List PathStep) (here : Standing) (choice : Choice) (m : ℕ) : Type 0 where
-    initial_making : q ≡ [] → here ≡ root_standing s.hash st → bare tx ≡ bare (tx_of (initial_draft s.hash st)) → Making k st q here choice m
-    branch_making : (bb : ByBranch s.hash st q here choice) → bare tx ≡ bare (tx_of (branch_draft s.hash st bb.from_here bb.index bb.branch)) → m ≡ bb.number → Making k st q here choice m
+    initial_making : q ≡ [] → here ≡ root_standing s.hash st → bare tx ≡ bare (tx_of (initial_unsigned s.hash st)) → Making k st q here choice m
+    branch_making : (bb : ByBranch s.hash st q here choice) → bare tx ≡ bare (tx_of (branch_unsigned s.hash st bb.from_here bb.index bb.branch)) → m ≡ bb.number → Making k st q here choice m
 
   pub making : (k : ℕ) (st : Setting) (q : List PathStep) (here : Standing) (choice : Choice) (m : ℕ) → compiled_at s w k ≡ Some st → position_at s.hash st q ≡ Some (here, choice) → record { txid = txid s.hash tx; vout = m } ≡ here.output.place → Making k st q here choice m
   making k st q here choice m c e p = by_made (made_by s.hash st q here choice e)
     where
       by_made : MadeBy s.hash st q here choice → Making k st q here choice m
       by_made (by_initial a b) =
-          let i : txid s.hash tx ≡ txid s.hash (tx_of (initial_draft s.hash st)) = ap (λ (y : OutPoint). y.txid) p ∙ ap (λ (y : Standing). y.output.place.txid) b in
-          initial_making a b (id_bare (initial_draft s.hash st) (fit.initial k st c) (initial_heard s.hash st hs (heard_of k st c)) i)
+          let i : txid s.hash tx ≡ txid s.hash (tx_of (initial_unsigned s.hash st)) = ap (λ (y : OutPoint). y.txid) p ∙ ap (λ (y : Standing). y.output.place.txid) b in
+          initial_making a b (id_bare (initial_unsigned s.hash st) (fit.initial k st c) (initial_heard s.hash st hs (heard_of k st c)) i)
       by_made (by_branch bb) =
           let ib = bb.is_branch in
-          let i : txid s.hash tx ≡ txid s.hash (tx_of (branch_draft s.hash st bb.from_here bb.index bb.branch)) = ap (λ (y : OutPoint). y.txid) (p ∙ bb.place) in
-          branch_making bb (id_bare (branch_draft s.hash st bb.from_here bb.index bb.branch) (fit.branch k st ib.position bb.from_here ib.choice bb.index bb.branch c ib.stands ib.there) (branch_heard s.hash st hs (heard_of k st c) ib.position bb.from_here ib.choice bb.index bb.branch ib.stands ib.there) i)
+          let i : txid s.hash tx ≡ txid s.hash (tx_of (branch_unsigned s.hash st bb.from_here bb.index bb.branch)) = ap (λ (y : OutPoint). y.txid) (p ∙ bb.place) in
+          branch_making bb (id_bare (branch_unsigned s.hash st bb.from_here bb.index bb.branch) (fit.branch k st ib.position bb.from_here ib.choice bb.index bb.branch c ib.stands ib.there) (branch_heard s.hash st hs (heard_of k st c) ib.position bb.from_here ib.choice bb.index bb.branch ib.stands ib.there) i)
           (ap (λ (y : OutPoint). y.vout) (p ∙ bb.place))
 
   -- where nothing is begun or taken, no position's output is made

@@ -15,7 +15,7 @@ use Rattle.spec_calculus.specs.Configuration.{Configuration}
 use Rattle.spec_compiler.specs.Setting.{Setting, branch_path, position_script}
 use Rattle.spec_compiler.specs.Hashed.{compiled_strings}
 use Rattle.theory_script.proofs.Stands.{position_stands}
-use Rattle.spec_compiler.specs.Transactions.{Standing, tx_of, pays, part_position, part_outputs, core_outputs, continued_value, branch_draft, continued, part_standing, initial_draft, root_standing, root_value, party_script}
+use Rattle.spec_compiler.specs.Transactions.{Standing, tx_of, pays, part_position, part_outputs, core_outputs, continued_value, branch_unsigned, continued, part_standing, initial_unsigned, root_standing, root_value, party_script}
 use Rattle.spec_compiler.specs.ByPath.{position_at}
 use Rattle.spec_run.specs.Setup.{Setup, is_declared}
 use Rattle.spec_run.specs.World.{Held, Output, World, is_advertised}
@@ -32,7 +32,7 @@ use Rattle.theory_world.proofs.Standing.{put_position, split_position, position_
 use Rattle.theory_run.proofs.OnePosition.{pays_same, position_key, same_position}
 use Rattle.theory_world.proofs.Keyed.{no_deposit}
 use Rattle.theory_run.proofs.Kept.{KeptBook, HeldFine, Frame}
-use Rattle.theory_run.proofs.Spending.{DraftsFit, Checked, script_heard}
+use Rattle.theory_run.proofs.Spending.{TransactionsFit, Checked, script_heard}
 use Rattle.theory_run.proofs.Accept.{accepts}
 use Rattle.theory_run.proofs.Entering.{First, first, initial_first, branch_first, bare_id, IsInitial, not_initial, Making, initial_making, branch_making, making, moves_make_none}
 
@@ -48,7 +48,7 @@ part_of hash st path k m no_part x h = cc
 part_of hash st path k zero (part v c ps) x h = let z : 0 + k ≡ k = omega arith in ((v, c), refl, rw z (let e : pays hash (position_script hash st (part_position path k) c) v ≡ x = cc in sym e))
 part_of hash st path k (suc m) (part v c ps) x h = let z : suc m + k ≡ m + (k + 1) = omega arith in rw z (part_of hash st path (k + 1) m ps x h)
 
-module _ (s : Setup) (size : HashesBytes s.hash) (few_contracts : length s.contracts ≤ 16) (g : Configuration) (w : World) (kept : KeptBook s g w) (fit : DraftsFit s w) (check : Checked s w) (hs : List (List ℕ)) (clear : NoClash s.hash hs) (sub : (t : List ℕ) → is_among t w.hashed ≡ true → is_among t hs ≡ true)
+module _ (s : Setup) (size : HashesBytes s.hash) (few_contracts : length s.contracts ≤ 16) (g : Configuration) (w : World) (kept : KeptBook s g w) (fit : TransactionsFit s w) (check : Checked s w) (hs : List (List ℕ)) (clear : NoClash s.hash hs) (sub : (t : List ℕ) → is_among t w.hashed ≡ true → is_among t hs ≡ true)
     (tx : Tx) (fits : IsNumbered tx) (spent : List ℕ) (acc : Accepting s w tx spent) (all : HeardAll s w hs tx) where
   heard_of : (k : ℕ) (st : Setting) → compiled_at s w k ≡ Some st → (t : List ℕ) → is_among t (compiled_strings s.hash st) ≡ true → is_among t hs ≡ true
   heard_of k st c t i = sub t (kept.heard k st c t i)
@@ -63,7 +63,7 @@ module _ (s : Setup) (size : HashesBytes s.hash) (few_contracts : length s.contr
 
   -- an output that makes a position is paid to its script
   making_script : (j : ℕ) (su : Setting) (q : List PathStep) (here : Standing) (choice : Choice) (m : ℕ) (x : TxOut) → compiled_at s w j ≡ Some su → position_at s.hash su q ≡ Some (here, choice) → slice_get tx.outputs m ≡ Some x
-      → (bb : ByBranch s.hash su q here choice) → bare tx ≡ bare (tx_of (branch_draft s.hash su bb.from_here bb.index bb.branch)) → m ≡ bb.number → x.script ≡ pay_to (s.hash (position_script s.hash su q choice))
+      → (bb : ByBranch s.hash su q here choice) → bare tx ≡ bare (tx_of (branch_unsigned s.hash su bb.from_here bb.index bb.branch)) → m ≡ bb.number → x.script ≡ pay_to (s.hash (position_script s.hash su q choice))
   making_script j su q here choice m x c e hx bb i n = by_shape bb.shape
     where
       p : List PathStep
@@ -123,7 +123,7 @@ module _ (s : Setup) (size : HashesBytes s.hash) (few_contracts : length s.contr
       held_new m x h o hx hh ho =
           let z : record { contract = k; position = [] } ≡ h = cc in
           let r = one_of (pays s.hash (position_script s.hash is.setting [] is.setting.advert.root) (root_value is.setting)) x m (ap (λ xs. slice_get xs m) (sym outputs_are) ∙ hx) in
-          let id = bare_id s size g w kept fit check hs clear sub tx fits spent acc all (initial_draft s.hash is.setting) is.is in
+          let id = bare_id s size g w kept fit check hs clear sub tx fits spent acc all (initial_unsigned s.hash is.setting) is.is in
           subst (HeldFine s next o) z (record {
             setting = is.setting;
             compiled = f.compiled k is.setting is.compiled;
@@ -165,7 +165,7 @@ module _ (s : Setup) (size : HashesBytes s.hash) (few_contracts : length s.contr
     pub index : ℕ
     pub branch : term.Branch
     pub there : slice_get (branches fine.choice) index ≡ Some branch
-    pub is : bare tx ≡ bare (tx_of (branch_draft s.hash fine.setting fine.here index branch))
+    pub is : bare tx ≡ bare (tx_of (branch_unsigned s.hash fine.setting fine.here index branch))
     -- whom the branch pays is declared
     pub payee : (p : List ℕ) → core branch ≡ withdraw p → is_declared s p ≡ true
 
@@ -185,8 +185,8 @@ module _ (s : Setup) (size : HashesBytes s.hash) (few_contracts : length s.contr
     outputs_are : (c : term.Branch) → core t.branch ≡ c → tx.outputs ≡ core_outputs s.hash st (branch_path t.fine.here.position t.index) t.fine.here.output.value c
     outputs_are c e = ap (λ (y : Tx). y.outputs) t.is ∙ ap (core_outputs s.hash st (branch_path t.fine.here.position t.index) t.fine.here.output.value) e
 
-    id : txid s.hash tx ≡ txid s.hash (tx_of (branch_draft s.hash st t.fine.here t.index t.branch))
-    id = bare_id s size g w kept fit check hs clear sub tx fits spent acc all (branch_draft s.hash st t.fine.here t.index t.branch) t.is
+    id : txid s.hash tx ≡ txid s.hash (tx_of (branch_unsigned s.hash st t.fine.here t.index t.branch))
+    id = bare_id s size g w kept fit check hs clear sub tx fits spent acc all (branch_unsigned s.hash st t.fine.here t.index t.branch) t.is
 
     -- what new output m is, where it holds something
     pub record NewHeld (m : ℕ) (x : TxOut) (k : Held) : Type 0 where
@@ -203,7 +203,7 @@ module _ (s : Setup) (size : HashesBytes s.hash) (few_contracts : length s.contr
         let p = branch_path t.fine.here.position t.index in
         let r = one_of (pays s.hash (position_script s.hash st p nx) (continued_value st t.fine.here.output.value puts)) x m (ap (λ xs. slice_get xs m) (sym (outputs_are (put_reveal puts reveals test nx) e)) ∙ hx) in
         record {
-          here = continued s.hash st p (branch_draft s.hash st t.fine.here t.index t.branch) (continued_value st t.fine.here.output.value puts) nx;
+          here = continued s.hash st p (branch_unsigned s.hash st t.fine.here t.index t.branch) (continued_value st t.fine.here.output.value puts) nx;
           choice = nx;
           stands = put_position s.hash st h.position t.fine.here t.fine.choice t.index t.branch puts reveals test nx t.fine.stands t.there e;
           contract = refl;
@@ -219,7 +219,7 @@ module _ (s : Setup) (size : HashesBytes s.hash) (few_contracts : length s.contr
         let z : m + 0 ≡ m = omega arith in
         let xe : x ≡ pays s.hash (position_script s.hash st (part_position p m) r.0.1) r.0.0 = rw z at r.2 in
         record {
-          here = part_standing s.hash st p (branch_draft s.hash st t.fine.here t.index t.branch) m r.0.0 r.0.1;
+          here = part_standing s.hash st p (branch_unsigned s.hash st t.fine.here t.index t.branch) m r.0.0 r.0.1;
           choice = r.0.1;
           stands = split_position s.hash st h.position t.fine.here t.fine.choice t.index m t.branch ps r.0 t.fine.stands t.there e r.1;
           contract = refl;

@@ -15,7 +15,7 @@ use Rattle.spec_bitcoin.specs.Reading.{transaction_of}
 use Rattle.spec_calculus.specs.Configuration.{Configuration}
 use Rattle.spec_calculus.specs.Steps.{after}
 use Rattle.spec_compiler.specs.Setting.{Setting}
-use Rattle.spec_compiler.specs.Transactions.{tx_of, prepared, branch_draft, initial_draft}
+use Rattle.spec_compiler.specs.Transactions.{tx_of, prepared, branch_unsigned, initial_unsigned}
 use Rattle.spec_compiler.specs.ByPath.{prepared_at}
 use Rattle.spec_run.specs.declared.event.Event.{Event}
 use Rattle.spec_run.specs.declared.outcome.Reason.TheVariants as reason
@@ -33,10 +33,10 @@ use Rattle.theory_world.proofs.Hashed.{NoClash}
 use Rattle.theory_world.proofs.Preimages.{IsNumbered, numbered}
 use Rattle.theory_world.proofs.Bare.{bare_numbered}
 use Rattle.theory_world.proofs.Acceptable.{with-bare}
-use Rattle.theory_world.proofs.Standing.{term_choice, term_branches, draft_of_branch}
+use Rattle.theory_world.proofs.Standing.{term_choice, term_branches, unsigned_of_branch}
 use Rattle.theory_world.proofs.Worth.{accepted_by}
 use Rattle.theory_run.proofs.Kept.{KeptBook, HeldFine}
-use Rattle.theory_run.proofs.Spending.{DraftsFit, Checked}
+use Rattle.theory_run.proofs.Spending.{TransactionsFit, Checked}
 use Rattle.theory_run.proofs.Reached.{reached_kept}
 use Rattle.theory_world.proofs.Staying.{inits_stay, asked_stay}
 use Rattle.theory_run.proofs.Signings.{IsActive, active, held_contract, KeptAfter, refused_after, unless_after}
@@ -83,7 +83,7 @@ piece_numbered bytes piece tx h =
 
 -- ---- events
 
-module _ (s : Setup) (size : HashesBytes s.hash) (few_contracts : length s.contracts ≤ 16) (strings : List (List ℕ)) (g : Configuration) (w : World) (kept : KeptBook s g w) (fit : DraftsFit s w) (check : Checked s w) (clear : NoClash s.hash w.hashed) where
+module _ (s : Setup) (size : HashesBytes s.hash) (few_contracts : length s.contracts ≤ 16) (strings : List (List ℕ)) (g : Configuration) (w : World) (kept : KeptBook s g w) (fit : TransactionsFit s w) (check : Checked s w) (clear : NoClash s.hash w.hashed) where
   -- whatever the ledger says of a transaction without new signatures
   pub reaches_after : (e : Event) (tx : Tx) → IsNumbered tx → KeptAfter s size few_contracts strings g w kept check clear e (reaches s w w tx)
   reaches_after e tx fine = by_verdict (verdict_in s w tx) refl
@@ -114,7 +114,7 @@ module _ (s : Setup) (size : HashesBytes s.hash) (few_contracts : length s.contr
       by_compiled None c q = cc
       by_compiled (Some st) c q =
           let z : initial_transaction s st ≡ tx = cc in
-          subst IsNumbered z (bare_numbered (initial_transaction s st) (tx_of (initial_draft s.hash st)) (with-bare (tx_of (initial_draft s.hash st)) (initial_witnesses s st (prepared s.hash (initial_draft s.hash st)))) (fit.initial contract st c))
+          subst IsNumbered z (bare_numbered (initial_transaction s st) (tx_of (initial_unsigned s.hash st)) (with-bare (tx_of (initial_unsigned s.hash st)) (initial_witnesses s st (prepared s.hash (initial_unsigned s.hash st)))) (fit.initial contract st c))
 
   pub fire_init_after : (e : Event) (contract : ℕ) → KeptAfter s size few_contracts strings g w kept check clear e (fire_init_draft s w contract)
   fire_init_after e contract = unless_after s size few_contracts strings g w kept check clear e (first_reason (fire_init_row s w contract)) [] (reaches_if s w (initial_by s (compiled_at s w contract))) (λ r. reaches_if_after e (initial_by s (compiled_at s w contract)) (started_numbered contract))
@@ -149,8 +149,8 @@ module _ (s : Setup) (size : HashesBytes s.hash) (few_contracts : length s.contr
           by_branch (Some c) b x =
               let text : at hf.setting.advert.root (held.position ++ To j ∷ []) ≡ Some c = ap (λ o. branch_in o (held_path held j)) (sym (held_contract s w held act.output hf)) ∙ b in
               let there : slice_get (branches hf.choice) j ≡ Some c = sym (term_branches s.hash hf.setting held.position hf.here hf.choice j hf.stands) ∙ text in
-              let d = branch_draft s.hash hf.setting hf.here j c in
-              let made : prepared_at s.hash hf.setting (held_path held j) ≡ Some (prepared s.hash d) = ap (option_map (prepared s.hash)) (draft_of_branch s.hash hf.setting held.position hf.here hf.choice j c hf.stands there) in
+              let d = branch_unsigned s.hash hf.setting hf.here j c in
+              let made : prepared_at s.hash hf.setting (held_path held j) ≡ Some (prepared s.hash d) = ap (option_map (prepared s.hash)) (unsigned_of_branch s.hash hf.setting held.position hf.here hf.choice j c hf.stands there) in
               let y : (let o : Option Tx = Some (taking_transaction s w hf.setting held j hf.choice c (prepared s.hash d)) in o) ≡ Some tx =
               sym (λ i. taking_with s w held j (compiled i) (chosen i) (b i) ((ap (λ o. prepared_by s o (held_path held j)) compiled ∙ made) i)) ∙ x in
               let z : taking_transaction s w hf.setting held j hf.choice c (prepared s.hash d) ≡ tx = cc in

@@ -16,7 +16,8 @@ use Rattle.spec_terms.specs.declared.pre.Pre.TheVariants.{Persistent, Volatile, 
 use Rattle.spec_bitcoin.specs.declared.tx.TxOut.{TxOut}
 use Rattle.spec_bitcoin.specs.Spelling.{IsBytes, IsPlace, IsInput, IsOutput, IsTransaction, long_word, sized, compact, output_bytes}
 use Rattle.spec_compiler.specs.Setting.{Setting, position_script}
-use Rattle.spec_compiler.specs.Transactions.{Spent, input_of, tx_of, pays, deposit, persistent_deposits, root_value, initial_draft}
+use Rattle.spec_compiler.specs.declared.unsigned.Spent.{Spent}
+use Rattle.spec_compiler.specs.Transactions.{input_of, tx_of, pays, deposit, persistent_deposits, root_value, initial_unsigned}
 use Rattle.spec_run.specs.Setup.{Setup, people_of, people_at}
 use Rattle.spec_run.specs.World.{Output, World, is_advertised}
 use Rattle.spec_run.specs.Compiled.{compiled_at}
@@ -145,7 +146,7 @@ module _ (s : Setup) (is : IsSetup s) (w : World) (adverts : (k : ℕ) → is_ad
       some_there (d.name, d.holding) (persistent st.advert.pre) d.there
 
   -- the initial transaction of a compiled contract
-  pub initial_fits : IsTransaction (tx_of (initial_draft s.hash st))
+  pub initial_fits : IsTransaction (tx_of (initial_unsigned s.hash st))
   initial_fits =
       let a = length_map input_of (persistent_deposits s.hash st) in
       let b = length_map (λ (d : List ℕ × Holding). deposit s.hash st d.0 d.1) (persistent st.advert.pre) in
@@ -161,8 +162,8 @@ module _ (s : Setup) (is : IsSetup s) (w : World) (adverts : (k : ℕ) → is_ad
         lock = omega arith;
       }
 
-  pub initial_numbered : IsNumbered (tx_of (initial_draft s.hash st))
+  pub initial_numbered : IsNumbered (tx_of (initial_unsigned s.hash st))
   initial_numbered =
-      let os = (tx_of (initial_draft s.hash st)).outputs in
+      let os = (tx_of (initial_unsigned s.hash st)).outputs in
       let l = short_bytes os (pays_size s.hash is.hash (position_script s.hash st [] st.advert.root) (root_value st), tt) in
-      numbered (tx_of (initial_draft s.hash st)) initial_fits (omega (arith, l))
+      numbered (tx_of (initial_unsigned s.hash st)) initial_fits (omega (arith, l))

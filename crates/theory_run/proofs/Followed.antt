@@ -32,7 +32,7 @@ use Rattle.theory_run.proofs.Keeping.{KeptSecrets, Begins as BeginsWith, committ
 use Rattle.theory_run.proofs.Commits.{Constant}
 use Rattle.theory_world.proofs.Accepting.{Accepting, HeardAll}
 use Rattle.theory_run.proofs.Kept.{KeptBook}
-use Rattle.theory_run.proofs.Spending.{DraftsFit, Checked}
+use Rattle.theory_run.proofs.Spending.{TransactionsFit, Checked}
 use Rattle.theory_run.proofs.Beginnings.{StepFrame}
 use Rattle.theory_run.proofs.Tested.{PromisesNamed}
 use Rattle.theory_run.proofs.Lawful.{IsLawful, lawful}
@@ -102,7 +102,7 @@ kind_same s g rs w tx spent (Begins k) = refl
 kind_same s g rs w tx spent (Takes h n i) = branch_same g rs (people_at s h.contract) n i (held_branch s h i)
 kind_same s g rs w tx spent Moves = refl
 
-module _ (s : Setup) (size : HashesBytes s.hash) (few_contracts : length s.contracts ≤ 16) (g : Configuration) (w : World) (kept : KeptBook s g w) (fit : DraftsFit s w) (check : Checked s w) (hs : List (List ℕ)) (clear : NoClash s.hash hs) (sub : (t : List ℕ) → is_among t w.hashed ≡ true → is_among t hs ≡ true)
+module _ (s : Setup) (size : HashesBytes s.hash) (few_contracts : length s.contracts ≤ 16) (g : Configuration) (w : World) (kept : KeptBook s g w) (fit : TransactionsFit s w) (check : Checked s w) (hs : List (List ℕ)) (clear : NoClash s.hash hs) (sub : (t : List ℕ) → is_among t w.hashed ≡ true → is_among t hs ≡ true)
     (tx : Tx) (fits : IsNumbered tx) (spent : List ℕ) (acc : Accepting s w tx spent) (all : HeardAll s w hs tx)
     (con : Constant s g) (money : AgreeOnMoney s g w) (advertised : g.advertised ≡ w.advertised)
     (z : List (List ℕ)) (next : World) (secrets : KeptSecrets s z (record g { revealed = g.revealed ++ newly_shown s w next }) next) (begins : BeginsWith z next.posted) (named : PromisesNamed s next.promises) (promises : next.promises ≡ w.promises)

@@ -48,7 +48,7 @@ use Rattle.theory_world.proofs.Preimages.{AllPlaces, AllSequences, IsNumbered, H
 use Rattle.theory_world.proofs.Bare.{bare, bare_input, bare_numbered, bare_lists, same_preimage}
 use Rattle.theory_world.proofs.Accepting.{IsSpent, AllSpent, accepting, HeardAll, heard_shared, heard_input}
 use Rattle.theory_run.proofs.Kept.{KeptBook, AllDead, AllFinal, HeardDigest, Gave, gave}
-use Rattle.theory_run.proofs.Spending.{DraftsFit, Checked}
+use Rattle.theory_run.proofs.Spending.{TransactionsFit, Checked}
 use Rattle.theory_world.proofs.Later.{get-spent, get-front}
 use Rattle.theory_run.proofs.Accept.{spent_at, all_strings_of}
 use Rattle.theory_run.proofs.Fitting.{output_fits, pays_size, AllShort, short_bytes}
@@ -124,7 +124,7 @@ given_outputs_short : (s : Setup) → HashesBytes s.hash → (os : List (List �
 given_outputs_short s size [] = tt
 given_outputs_short s size (o ∷ os) = (pays_size s.hash size (party_script s.hash (o.0)) (o.1), given_outputs_short s size os)
 
-module _ (s : Setup) (size : HashesBytes s.hash) (few_contracts : length s.contracts ≤ 16) (strings : List (List ℕ)) (g : Configuration) (w : World) (kept : KeptBook s g w) (fit : DraftsFit s w) (check : Checked s w) (clear : NoClash s.hash w.hashed)
+module _ (s : Setup) (size : HashesBytes s.hash) (few_contracts : length s.contracts ≤ 16) (strings : List (List ℕ)) (g : Configuration) (w : World) (kept : KeptBook s g w) (fit : TransactionsFit s w) (check : Checked s w) (clear : NoClash s.hash w.hashed)
     (party : List ℕ) (declared : is_declared s party ≡ true) (inputs : List ℕ) (outputs : List (List ℕ × ℕ)) where
   abbrev pub pairs : List Pair
   pairs = given_pairs s w party inputs outputs

@@ -44,7 +44,7 @@ use Rattle.theory_world.proofs.Later.{get-spent, get-front}
 use Rattle.theory_world.proofs.Preimages.{IsNumbered}
 use Rattle.theory_world.proofs.Accepting.{Accepting, accepting, HeardAll}
 use Rattle.theory_run.proofs.Kept.{KeptBook}
-use Rattle.theory_run.proofs.Spending.{DraftsFit, Checked}
+use Rattle.theory_run.proofs.Spending.{TransactionsFit, Checked}
 use Rattle.theory_run.proofs.Fired.{piece_numbered, started_numbered, taken_numbered}
 use Rattle.theory_run.proofs.Given.{spent_is}
 use Rattle.theory_run.proofs.Leaves.{KeptLeave}
@@ -94,7 +94,7 @@ gone_spent os news spent n o there live gone = by_test (has_number n spent) refl
         let f = get-front (spend_from 0 spent os) news n o g in
         absurd (both_ways _ (sym (ap is_deposit f) ∙ gone) live)
 
-module _ (s : Setup) (setup : IsSetup s) (before : List Record) (g : Configuration) (w : World) (kept : KeptBook s g w) (fit : DraftsFit s w) (check : Checked s w) (leave : KeptLeave s before g w) (clear : NoClash s.hash w.hashed) where
+module _ (s : Setup) (setup : IsSetup s) (before : List Record) (g : Configuration) (w : World) (kept : KeptBook s g w) (fit : TransactionsFit s w) (check : Checked s w) (leave : KeptLeave s before g w) (clear : NoClash s.hash w.hashed) where
   -- the claim of one event that comes to this draft, unless it collides
   abbrev Claims : Event → Draft → Type 0
   Claims e d = collision s.hash w.hashed d.hashes ≡ None → SpendsWithLeave s before w e d (settled w d)

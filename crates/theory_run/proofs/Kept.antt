@@ -23,7 +23,8 @@ use Rattle.spec_calculus.specs.Configuration.{Configuration}
 use Rattle.spec_calculus.specs.Beginning.{is_init_authorised}
 use Rattle.spec_calculus.specs.Branches.{has_branch_authorised}
 use Rattle.spec_compiler.specs.Setting.{Setting, branch_label, deposit_key, people}
-use Rattle.spec_compiler.specs.Transactions.{Spent, Standing, tx_of, digest_of_spent, put_deposits, persistent_deposits, branch_draft, initial_draft, party_script}
+use Rattle.spec_compiler.specs.declared.unsigned.Spent.{Spent}
+use Rattle.spec_compiler.specs.Transactions.{Standing, tx_of, digest_of_spent, put_deposits, persistent_deposits, branch_unsigned, initial_unsigned, party_script}
 use Rattle.spec_compiler.specs.ByPath.{position_at}
 use Rattle.spec_compiler.specs.Hashed.{compiled_strings}
 use Rattle.spec_run.specs.Setup.{Setup, is_declared, is_honest, contract_at, pre_at, people_at}
@@ -124,7 +125,7 @@ pub record Needed (s : Setup) (w : World) (a d : List ℕ) : Type 0 where
   pub there : slice_get (branches choice) index ≡ Some branch
   pub spent : Spent
   pub put : Is_in spent (put_deposits s.hash setting (puts_of (core branch)))
-  pub is : d ≡ digest_of_spent s.hash (tx_of (branch_draft s.hash setting here index branch)) spent
+  pub is : d ≡ digest_of_spent s.hash (tx_of (branch_unsigned s.hash setting here index branch)) spent
 
 -- a deposit of an initial transaction
 pub record Started (s : Setup) (g : Configuration) (w : World) (a d : List ℕ) : Type 0 where
@@ -133,7 +134,7 @@ pub record Started (s : Setup) (g : Configuration) (w : World) (a d : List ℕ) 
   pub compiled : compiled_at s w contract ≡ Some setting
   pub spent : Spent
   pub persists : Is_in spent (persistent_deposits s.hash setting)
-  pub is : d ≡ digest_of_spent s.hash (tx_of (initial_draft s.hash setting)) spent
+  pub is : d ≡ digest_of_spent s.hash (tx_of (initial_unsigned s.hash setting)) spent
   pub authorised : (e : List ℕ × Holding) → Is_in e (persistent (pre_at s contract)) → (e.1).owner ≡ a → is_bound_live w contract e ≡ true → is_init_authorised g.init_authorised contract (e.0) ≡ true
 
 pub data DepositCause (s : Setup) (g : Configuration) (w : World) (a d : List ℕ) : Type 0 where
@@ -143,7 +144,7 @@ pub data DepositCause (s : Setup) (g : Configuration) (w : World) (a d : List �
 
 -- a branch's one digest, and where the branch asks the party, it has authorised it
 pub record BranchCause (s : Setup) (g : Configuration) (w : World) (k : ℕ) (st : Setting) (q : List PathStep) (here : Standing) (i : ℕ) (b : term.Branch) (a d : List ℕ) : Type 0 where
-  pub is : d ≡ digest_of_spent s.hash (tx_of (branch_draft s.hash st here i b)) here.output
+  pub is : d ≡ digest_of_spent s.hash (tx_of (branch_unsigned s.hash st here i b)) here.output
   pub existed : is_asked b a ≡ true → (n : ℕ) × (o : Output) × (slice_get w.outputs n ≡ Some o) × (o.place ≡ here.output.place)
   pub authorised : is_asked b a ≡ true → (n : ℕ) → held_at w n ≡ Some (record { contract = k; position = q }) → has_branch_authorised g.branch_authorised n i a ≡ true
 

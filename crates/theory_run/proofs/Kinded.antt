@@ -28,7 +28,7 @@ use Rattle.theory_world.proofs.Later.{compiled_is}
 use Rattle.theory_world.proofs.Standing.{term_choice, term_branches}
 use Rattle.theory_world.proofs.Mentions.{branch_named, payee_mentioned, has_deposit}
 use Rattle.theory_run.proofs.Kept.{KeptBook, HeldFine, Frame, HeardDigest}
-use Rattle.theory_run.proofs.Spending.{DraftsFit, Checked, IsTaken, taken}
+use Rattle.theory_run.proofs.Spending.{TransactionsFit, Checked, IsTaken, taken}
 use Rattle.theory_run.proofs.Accept.{scripts_none, lists, all_strings_of}
 use Rattle.theory_run.proofs.Entering.{First, first, first_holds, persistent_deposit, at_bound, initial_is}
 use Rattle.theory_run.proofs.Enters.{Taking, accept_move, accept_begin, accept_branch}
@@ -60,7 +60,7 @@ module _ (s : Setup) (w : World) (h : Held) (o : Output) (hf : HeldFine s w o h)
   pub looked_branch : (i : ℕ) (b : term.Branch) → slice_get (branches hf.choice) i ≡ Some b → held_branch s h i ≡ Some b
   looked_branch i b e = ap (λ a. branch_in a (held_path h i)) contract_is ∙ term_branches s.hash hf.setting h.position hf.here hf.choice i hf.stands ∙ e
 
-module _ (s : Setup) (size : HashesBytes s.hash) (few_contracts : length s.contracts ≤ 16) (g : Configuration) (w : World) (kept : KeptBook s g w) (fit : DraftsFit s w) (check : Checked s w) (hs : List (List ℕ)) (clear : NoClash s.hash hs) (sub : (t : List ℕ) → is_among t w.hashed ≡ true → is_among t hs ≡ true)
+module _ (s : Setup) (size : HashesBytes s.hash) (few_contracts : length s.contracts ≤ 16) (g : Configuration) (w : World) (kept : KeptBook s g w) (fit : TransactionsFit s w) (check : Checked s w) (hs : List (List ℕ)) (clear : NoClash s.hash hs) (sub : (t : List ℕ) → is_among t w.hashed ≡ true → is_among t hs ≡ true)
     (tx : Tx) (fits : IsNumbered tx) (spent : List ℕ) (acc : Accepting s w tx spent) (all : HeardAll s w hs tx) where
   abbrev fst : First s size g w kept fit check hs clear sub tx fits spent acc all
   fst = first s size g w kept fit check hs clear sub tx fits spent acc all

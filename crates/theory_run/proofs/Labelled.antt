@@ -15,7 +15,7 @@ use Rattle.spec_bitcoin.specs.Keys.{key_of, label_text, has_signed, IsLabel}
 use Rattle.spec_calculus.specs.Configuration.{Configuration}
 use Rattle.spec_calculus.specs.Branches.{has_branch_authorised}
 use Rattle.spec_compiler.specs.Setting.{Setting, branch_label, deposit_key, people}
-use Rattle.spec_compiler.specs.Transactions.{Standing, tx_of, digest_of_spent, prepared, branch_draft}
+use Rattle.spec_compiler.specs.Transactions.{Standing, tx_of, digest_of_spent, prepared, branch_unsigned}
 use Rattle.spec_compiler.specs.ByPath.{position_at}
 use Rattle.spec_compiler.specs.Hashed.{compiled_strings}
 use Rattle.spec_run.specs.Setup.{Setup, is_declared, is_honest}
@@ -30,7 +30,7 @@ use Rattle.theory_world.proofs.Hashed.{NoClash}
 use Rattle.theory_world.proofs.Book.{key-apart}
 use Rattle.theory_world.proofs.Labels.{get_below, path_fine}
 use Rattle.theory_world.proofs.Later.{compiled_is}
-use Rattle.theory_world.proofs.Standing.{stand_of_branch, draft_of_branch, view_at}
+use Rattle.theory_world.proofs.Standing.{stand_of_branch, unsigned_of_branch, view_at}
 use Rattle.theory_run.proofs.Kept.{KeptBook, HeldFine, BranchCause}
 use Rattle.theory_run.proofs.Spending.{Checked, label_heard}
 
@@ -116,7 +116,7 @@ module _ (s : Setup) (size : HashesBytes s.hash) (few_contracts : length s.contr
   module _ (g' : Configuration) (next : World) (outs : next.outputs ≡ w.outputs) (party : List ℕ) (n : ℕ) (o : Output) (held : Held) (there : slice_get w.outputs n ≡ Some o) (fine : HeldFine s w o held)
       (j : ℕ) (c : term.Branch) (has : slice_get (branches fine.choice) j ≡ Some c) (part : is_among party (people fine.setting) ≡ true) (now : has_branch_authorised g'.branch_authorised n j party ≡ true) where
     abbrev digest : List ℕ
-    digest = digest_of_spent s.hash (tx_of (branch_draft s.hash fine.setting fine.here j c)) fine.here.output
+    digest = digest_of_spent s.hash (tx_of (branch_unsigned s.hash fine.setting fine.here j c)) fine.here.output
 
     abbrev label : Label
     label = branch_label held.contract (held.position ++ To j ∷ []) party
@@ -126,7 +126,7 @@ module _ (s : Setup) (size : HashesBytes s.hash) (few_contracts : length s.contr
 
     pub pairs_are : authorising_pairs s w party (Some held) j ≡ (key_of s.hash label, digest) ∷ []
     pairs_are = ap (λ (x : Option Setting). branch_pair s party held.contract (held_path held j) (prepared_in s x (held_path held j))) fine.compiled
-        ∙ ap (λ x. branch_pair s party held.contract (held_path held j) (option_map (prepared s.hash) x)) (draft_of_branch s.hash fine.setting held.position fine.here fine.choice j c fine.stands has)
+        ∙ ap (λ x. branch_pair s party held.contract (held_path held j) (option_map (prepared s.hash) x)) (unsigned_of_branch s.hash fine.setting held.position fine.here fine.choice j c fine.stands has)
 
     pub authorised_deposit : (a d : List ℕ) → is_declared s a ≡ true → has_signed ((key_of s.hash label, digest) ∷ []) (deposit_key s.hash a) d ≡ true → ⊥
     authorised_deposit a d k x =
@@ -176,7 +176,7 @@ module _ (s : Setup) (size : HashesBytes s.hash) (few_contracts : length s.contr
 
         found : BranchCause s g' next k st q here i b a d
         found = record {
-          is = sym r.1 ∙ (λ m. digest_of_spent s.hash (tx_of (branch_draft s.hash (settings m) (heres m) (pq.1 m) (bs m))) (heres m).output);
+          is = sym r.1 ∙ (λ m. digest_of_spent s.hash (tx_of (branch_unsigned s.hash (settings m) (heres m) (pq.1 m) (bs m))) (heres m).output);
           existed = λ z. (n, o, subst (λ os. slice_get os n ≡ Some o) (sym outs) there, fine.place ∙ ap (λ (y : Standing). y.output.place) heres);
           authorised = λ z m hm.
               let u = held_there m hm in

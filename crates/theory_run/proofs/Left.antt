@@ -46,7 +46,7 @@ use Rattle.theory_world.proofs.Book.{signed_back}
 use Rattle.theory_world.proofs.Standing.{term_branches}
 use Rattle.theory_world.proofs.Mentions.{branch_named, asked_mentioned}
 use Rattle.theory_run.proofs.Kept.{KeptBook, HeldFine, Frame, gave_later}
-use Rattle.theory_run.proofs.Spending.{DraftsFit, Checked}
+use Rattle.theory_run.proofs.Spending.{TransactionsFit, Checked}
 use Rattle.theory_run.proofs.Labelled.{lie_deposit, pairs_are, authorised_deposit}
 use Rattle.theory_run.proofs.Signed.{endorse_needed, start_started}
 use Rattle.theory_world.proofs.Staying.{inits_stay, asked_stay, branch_new}
@@ -77,7 +77,7 @@ asked_pairs s size few_contracts g w kept check clear party n j held e b asks a 
         authorised_deposit s size few_contracts g w kept check w.hashed clear (λ t i. i) g' w refl party n act.output held act.there hf j c has part now a d decl y
 
 -- a gift that has been made
-given_leave : (s : Setup) (size : HashesBytes s.hash) (few_contracts : length s.contracts ≤ 16) (strings : List (List ℕ)) (before : List Record) (g : Configuration) (w : World) (kept : KeptBook s g w) (fit : DraftsFit s w) (check : Checked s w) (clear : NoClash s.hash w.hashed) (leave : KeptLeave s before g w)
+given_leave : (s : Setup) (size : HashesBytes s.hash) (few_contracts : length s.contracts ≤ 16) (strings : List (List ℕ)) (before : List Record) (g : Configuration) (w : World) (kept : KeptBook s g w) (fit : TransactionsFit s w) (check : Checked s w) (clear : NoClash s.hash w.hashed) (leave : KeptLeave s before g w)
     (party : List ℕ) (declared : is_declared s party ≡ true) (inputs : List ℕ) (outputs : List (List ℕ × ℕ)) (few : length outputs ≤ 262144) (row : NoneTrue (give_row s w party inputs outputs)) (spent made : List ℕ)
     → (let next = with_pairs w (given_pairs s w party inputs outputs) in let tx = gift s w party inputs outputs in let d = accepted s next tx spent in let e = events.Give party inputs outputs in
     verdict_in s next tx ≡ verdicts.Accepted spent made → collision s.hash w.hashed (strings_of s next tx ++ items_of tx) ≡ None → give_draft s w party inputs outputs ≡ d → KeptLeave s (before ++ record_of e d ∷ []) (after g (steps_of s strings g w (settled w d) e d)) (settled w d))
@@ -97,7 +97,7 @@ given_leave s size few_contracts strings before g w kept fit check clear leave p
     subst (λ p. Leave s (before ++ record_of e d ∷ []) (after g xs) (settled w d) p x) same
     (by_gift (gave_later s g (after g xs) own (settled w d) later party x cause) (given_dead s size few_contracts strings g w kept fit check clear party declared inputs outputs few row spent made v apart)))
 
-module _ (s : Setup) (size : HashesBytes s.hash) (few_contracts : length s.contracts ≤ 16) (strings : List (List ℕ)) (before : List Record) (g : Configuration) (w : World) (kept : KeptBook s g w) (fit : DraftsFit s w) (check : Checked s w) (clear : NoClash s.hash w.hashed) (leave : KeptLeave s before g w) where
+module _ (s : Setup) (size : HashesBytes s.hash) (few_contracts : length s.contracts ≤ 16) (strings : List (List ℕ)) (before : List Record) (g : Configuration) (w : World) (kept : KeptBook s g w) (fit : TransactionsFit s w) (check : Checked s w) (clear : NoClash s.hash w.hashed) (leave : KeptLeave s before g w) where
   abbrev After : Event → Draft → Type 0
   After e d = LeaveAfter s strings before g w kept leave e d
 

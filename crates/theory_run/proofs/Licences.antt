@@ -42,7 +42,7 @@ use Rattle.theory_world.proofs.Positions.{Is_in}
 use Rattle.theory_world.proofs.Accepting.{IsSpent, Accepting, HeardAll}
 use Rattle.theory_run.proofs.Kept.{KeptBook, HeldFine}
 use Rattle.theory_world.proofs.Later.{compiled_is}
-use Rattle.theory_run.proofs.Spending.{DraftsFit, Checked}
+use Rattle.theory_run.proofs.Spending.{TransactionsFit, Checked}
 use Rattle.theory_run.proofs.Accept.{spent_at, bare_in}
 use Rattle.theory_run.proofs.Entering.{First, first, first_holds, IsInitial, initial_is, persistent_deposit, AtBound, at_bound}
 use Rattle.theory_run.proofs.Kinded.{looked_branch, first_taken, Taken, kind_opened}
@@ -107,7 +107,7 @@ owner_spent s w spent p h =
     let r = in_map (λ n. owner_of s (output_at w n)) spent (Party p) (in_once (owners_of s w spent) p h) in
     (r.0, number_in spent r.0 r.1, sym r.2)
 
-module _ (s : Setup) (setup : IsSetup s) (before : List Record) (g : Configuration) (w : World) (kept : KeptBook s g w) (fit : DraftsFit s w) (check : Checked s w) (leave : KeptLeave s before g w) (clear : NoClash s.hash w.hashed)
+module _ (s : Setup) (setup : IsSetup s) (before : List Record) (g : Configuration) (w : World) (kept : KeptBook s g w) (fit : TransactionsFit s w) (check : Checked s w) (leave : KeptLeave s before g w) (clear : NoClash s.hash w.hashed)
     (hs : List (List ℕ)) (clear_hs : NoClash s.hash hs) (sub : (t : List ℕ) → is_among t w.hashed ≡ true → is_among t hs ≡ true) (tx : Tx) (fits : IsNumbered tx) (spent : List ℕ) (acc : Accepting s w tx spent) (all : HeardAll s w hs tx) (e : Event) where
   abbrev fst : First s setup.hash g w kept fit check hs clear_hs sub tx fits spent acc all
   fst = first s setup.hash g w kept fit check hs clear_hs sub tx fits spent acc all

@@ -50,7 +50,7 @@ use Rattle.theory_run.proofs.Keeping.{Begins, KeptSecrets}
 use Rattle.theory_run.proofs.Posting.{allows, IsRevealer, is_own-some, revealed_by}
 use Rattle.theory_run.proofs.Commits.{Constant, none_shown}
 use Rattle.theory_run.proofs.Kept.{KeptBook}
-use Rattle.theory_run.proofs.Spending.{DraftsFit, Checked}
+use Rattle.theory_run.proofs.Spending.{TransactionsFit, Checked}
 use Rattle.theory_run.proofs.Entering.{initial_is}
 use Rattle.theory_world.proofs.Endorsed.{in_filter}
 use Rattle.theory_run.proofs.Owned.{owner_paid}
@@ -61,7 +61,7 @@ use Rattle.theory_run.proofs.Leaves.{KeptLeave}
 use Rattle.theory_run.proofs.HonestSpends.{own_given}
 use Rattle.theory_run.proofs.Licences.{licensed_append, licensed_reveals, licensed_moves, licensed_inits, owner_spent, kind_licensed}
 
-module _ (s : Setup) (setup : IsSetup s) (strings : List (List ℕ)) (before : List Record) (g : Configuration) (w : World) (kept : KeptBook s g w) (fit : DraftsFit s w) (check : Checked s w) (leave : KeptLeave s before g w)
+module _ (s : Setup) (setup : IsSetup s) (strings : List (List ℕ)) (before : List Record) (g : Configuration) (w : World) (kept : KeptBook s g w) (fit : TransactionsFit s w) (check : Checked s w) (leave : KeptLeave s before g w)
     (secrets : KeptSecrets s strings g w) (constant : Constant s g) (advertised : g.advertised ≡ w.advertised) where
   clear : NoClash s.hash w.hashed
   clear = secrets.clear

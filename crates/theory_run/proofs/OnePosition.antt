@@ -13,7 +13,7 @@ use Rattle.spec_bitcoin.specs.Scripts.{script_ops}
 use Rattle.spec_compiler.specs.Setting.{Setting, branch_path, branch_label, branch_keys, position_script}
 use Rattle.spec_compiler.specs.Scripts.{demands_from}
 use Rattle.spec_compiler.specs.Statements.{IsCompiled}
-use Rattle.spec_compiler.specs.Transactions.{Standing, tx_of, initial_draft, root_standing}
+use Rattle.spec_compiler.specs.Transactions.{Standing, tx_of, initial_unsigned, root_standing}
 use Rattle.spec_compiler.specs.ByPath.{position_at}
 use Rattle.spec_run.specs.Setup.{Setup}
 use Rattle.spec_run.specs.World.{World}
@@ -69,7 +69,7 @@ module _ (s : Setup) (size : HashesBytes s.hash) (few_contracts : length s.contr
   first_script (o ∷ os) = o.script
 
   -- one contract has an initial transaction
-  pub one_initial : (k j : ℕ) (st su : Setting) → compiled_at s w k ≡ Some st → compiled_at s w j ≡ Some su → bare (tx_of (initial_draft s.hash st)) ≡ bare (tx_of (initial_draft s.hash su)) → k ≡ j
+  pub one_initial : (k j : ℕ) (st su : Setting) → compiled_at s w k ≡ Some st → compiled_at s w j ≡ Some su → bare (tx_of (initial_unsigned s.hash st)) ≡ bare (tx_of (initial_unsigned s.hash su)) → k ≡ j
   one_initial k j st su ck cj e =
       let p : pay_to (s.hash (position_script s.hash st [] st.advert.root)) ≡ pay_to (s.hash (position_script s.hash su [] su.advert.root)) = ap (λ (y : Tx). first_script y.outputs) e in
       let r = same_position k j st su [] [] (root_standing s.hash st) (root_standing s.hash su) st.advert.root su.advert.root ck cj (root_position s.hash st) (root_position s.hash su) p in

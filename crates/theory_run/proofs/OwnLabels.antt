@@ -22,7 +22,7 @@ use Rattle.spec_calculus.specs.declared.parts.Advertised.{Advertised}
 use Rattle.spec_calculus.specs.Configuration.{Configuration}
 use Rattle.spec_compiler.specs.Setting.{Setting, branch_label, deposit_key, people}
 use Rattle.spec_compiler.specs.Endorsements.{Need}
-use Rattle.spec_compiler.specs.Transactions.{tx_of, prepared, initial_draft}
+use Rattle.spec_compiler.specs.Transactions.{tx_of, prepared, initial_unsigned}
 use Rattle.spec_run.specs.declared.event.Event.{Event}
 use Rattle.spec_run.specs.declared.event.Event.TheVariants as events
 use Rattle.spec_run.specs.declared.outcome.Reason.{Reason}
@@ -45,7 +45,7 @@ use Rattle.theory_world.proofs.Same.{bytes-true}
 use Rattle.theory_world.proofs.Tests.{any-append, all_then}
 use Rattle.theory_world.proofs.Hashed.{NoClash, all_more, all_new, among_head}
 use Rattle.theory_world.proofs.Book.{key-apart, signed_back}
-use Rattle.theory_world.proofs.Standing.{term_branches, draft_of_branch}
+use Rattle.theory_world.proofs.Standing.{term_branches, unsigned_of_branch}
 use Rattle.theory_world.proofs.Mentions.{branch_named, asked_mentioned}
 use Rattle.theory_world.proofs.Later.{compiled_is, compiled_from}
 use Rattle.theory_run.proofs.Kept.{KeptBook, HeldFine}
@@ -156,7 +156,7 @@ module _ (s : Setup) (size : HashesBytes s.hash) (few_contracts : length s.contr
 
   started_labels : (party : List ℕ) → is_declared s party ≡ true → (o : Option Setting) (key d : List ℕ) → has_signed (initial_pairs s party o) key d ≡ true → HasLabel s w key
   started_labels party decl None key d h = cc
-  started_labels party decl (Some st) key d h = of_deposit key party decl (pair_of_deposit s st (tx_of (initial_draft s.hash st)) party (persistent st.advert.pre) key d h).0
+  started_labels party decl (Some st) key d h = of_deposit key party decl (pair_of_deposit s st (tx_of (initial_unsigned s.hash st)) party (persistent st.advert.pre) key d h).0
 
   authorised_labels : (party : List ℕ) (n j : ℕ) (o : Option Held) → held_at w n ≡ o → is_some (branch_held s o j) ≡ true → is_among party (asked_by (branch_held s o j)) ≡ true → (key d : List ℕ) → has_signed (authorising_pairs s w party o j) key d ≡ true → HasLabel s w key
   authorised_labels party n j None e b a key d h = cc
@@ -176,7 +176,7 @@ module _ (s : Setup) (size : HashesBytes s.hash) (few_contracts : length s.contr
           let part : is_among party (people hf.setting) ≡ true = branch_named hf.setting.advert (held.position ++ To j ∷ []) c party in_text (asked_mentioned c party q) in
           let l = heard_label s size few_contracts g w kept check w.hashed clear (λ t h. h) held.contract hf.setting held.position hf.here hf.choice j c party hf.compiled hf.stands has part in
           let pairs = ap (λ (x : Option Setting). branch_pair s party held.contract (held_path held j) (prepared_in s x (held_path held j))) hf.compiled
-          ∙ ap (λ x. branch_pair s party held.contract (held_path held j) (option_map (prepared s.hash) x)) (draft_of_branch s.hash hf.setting held.position hf.here hf.choice j c hf.stands has) in
+          ∙ ap (λ x. branch_pair s party held.contract (held_path held j) (option_map (prepared s.hash) x)) (unsigned_of_branch s.hash hf.setting held.position hf.here hf.choice j c hf.stands has) in
           let p = one_pair (key_of s.hash (branch_label held.contract (held.position ++ To j ∷ []) party)) _ key d (subst (λ ps. has_signed ps key d ≡ true) pairs h) in
           old_label key (branch_label held.contract (held.position ++ To j ∷ []) party) l p.0 (λ honest. ap is_some hf.compiled)
 

@@ -22,7 +22,8 @@ use Rattle.spec_terms.specs.declared.path.PathStep.{PathStep}
 use Rattle.spec_bitcoin.specs.Spelling.{IsPlace}
 use Rattle.spec_calculus.specs.Configuration.{Configuration}
 use Rattle.spec_compiler.specs.Setting.{Setting}
-use Rattle.spec_compiler.specs.Transactions.{Spent, Standing, deposit, holding_or_none, put_deposits, tx_of, branch_draft}
+use Rattle.spec_compiler.specs.declared.unsigned.Spent.{Spent}
+use Rattle.spec_compiler.specs.Transactions.{Standing, deposit, holding_or_none, put_deposits, tx_of, branch_unsigned}
 use Rattle.spec_compiler.specs.ByPath.{position_at}
 use Rattle.spec_run.specs.Setup.{Setup}
 use Rattle.spec_run.specs.World.{Output, World, is_advertised}
@@ -36,7 +37,7 @@ use Rattle.theory_world.proofs.Positions.{Is_in}
 use Rattle.theory_world.proofs.Standing.{term_choice}
 use Rattle.theory_world.proofs.Faultless.{no_fault}
 use Rattle.theory_run.proofs.Kept.{KeptBook, AdvertFine}
-use Rattle.theory_run.proofs.Spending.{DraftsFit}
+use Rattle.theory_run.proofs.Spending.{TransactionsFit}
 use Rattle.theory_world.proofs.Checking.{compiled_checked}
 use Rattle.theory_run.proofs.Fitting.{bound_place, initial_numbered}
 use Rattle.theory_run.proofs.Widths.{branch_fits, branch_size}
@@ -151,7 +152,7 @@ module _ (s : Setup) (is : IsSetup s) (w : World) (adverts : (k : ℕ) → is_ad
   put_places k st c (n ∷ puts) h x (inr i) = put_places k st c puts (and_parts (is_among n (names_of (volatile st.advert.pre))) (list_all (λ m. is_among m (names_of (volatile st.advert.pre))) puts) h).1 x i
 
   -- every compiled transaction has numbers within their widths
-  pub all_fit : DraftsFit s w
+  pub all_fit : TransactionsFit s w
   all_fit = record {
     initial = λ k st c. initial_numbered s is w adverts placed k st c;
     branch = λ k st q here choice i b c stand there.
@@ -164,8 +165,8 @@ module _ (s : Setup) (is : IsSetup s) (w : World) (adverts : (k : ℕ) → is_ad
         let l = few_names st.advert well in
         let m = length_map (λ name. deposit s.hash st name (holding_or_none (look_up name (volatile st.advert.pre)))) (puts_of (core b)) in
         let readable = branch_is_readable s.hash st well q here choice i b stand there in
-        numbered (tx_of (branch_draft s.hash st here i b)) (branch_fits s.hash is.hash st well q here choice i b stand there readable (put_places k st c (puts_of (core b)) known) (omega (arith, n, l, m))) (branch_size s.hash is.hash st here i b readable);
+        numbered (tx_of (branch_unsigned s.hash st here i b)) (branch_fits s.hash is.hash st well q here choice i b stand there readable (put_places k st c (puts_of (core b)) known) (omega (arith, n, l, m))) (branch_size s.hash is.hash st here i b readable);
   }
 
-pub drafts_fit : (s : Setup) → IsSetup s → (g : Configuration) (w : World) → KeptBook s g w → DraftsFit s w
-drafts_fit s is g w kept = all_fit s is w kept.adverts kept.placed_fine
+pub transactions_fit : (s : Setup) → IsSetup s → (g : Configuration) (w : World) → KeptBook s g w → TransactionsFit s w
+transactions_fit s is g w kept = all_fit s is w kept.adverts kept.placed_fine

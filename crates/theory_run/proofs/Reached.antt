@@ -19,11 +19,11 @@ use Rattle.theory_world.proofs.Worth.{IsAccepted}
 use Rattle.theory_world.proofs.Later.{lasts_spent, compiled_is, compiled_from, compiled_stays}
 use Rattle.theory_world.proofs.Accepting.{accepting}
 use Rattle.theory_run.proofs.Kept.{KeptBook, Frame}
-use Rattle.theory_run.proofs.Spending.{DraftsFit, Checked}
+use Rattle.theory_run.proofs.Spending.{TransactionsFit, Checked}
 use Rattle.theory_run.proofs.Kinded.{accept_kept}
 
 -- the messages before it may be fewer than those of the world whose signatures it has: those of an event that signs and hands in at once are of before it
-module _ (s : Setup) (size : HashesBytes s.hash) (few_contracts : length s.contracts ≤ 16) (g g' : Configuration) (w : World) (kept : KeptBook s g w) (fit : DraftsFit s w) (check : Checked s w)
+module _ (s : Setup) (size : HashesBytes s.hash) (few_contracts : length s.contracts ≤ 16) (g g' : Configuration) (w : World) (kept : KeptBook s g w) (fit : TransactionsFit s w) (check : Checked s w)
     (inits : (k : ℕ) (x : List ℕ) → is_init_authorised g.init_authorised k x ≡ true → is_init_authorised g'.init_authorised k x ≡ true)
     (asked : (n i : ℕ) (a : List ℕ) → has_branch_authorised g.branch_authorised n i a ≡ true → has_branch_authorised g'.branch_authorised n i a ≡ true)
     (tx : Tx) (fits : IsNumbered tx) (spent : List ℕ) (is : IsAccepted s w tx spent) (seen posts : List (List ℕ)) (clear : NoClash s.hash seen) (apart : collision s.hash seen (strings_of s w tx ++ items_of tx) ≡ None)
@@ -65,7 +65,7 @@ module _ (s : Setup) (size : HashesBytes s.hash) (few_contracts : length s.contr
       g' next refl frame refl (numbered_few tx fits) no_others (λ k h. h) refl
 
 -- where nothing is signed with it
-module _ (s : Setup) (size : HashesBytes s.hash) (few_contracts : length s.contracts ≤ 16) (g g' : Configuration) (w : World) (kept : KeptBook s g w) (fit : DraftsFit s w) (check : Checked s w)
+module _ (s : Setup) (size : HashesBytes s.hash) (few_contracts : length s.contracts ≤ 16) (g g' : Configuration) (w : World) (kept : KeptBook s g w) (fit : TransactionsFit s w) (check : Checked s w)
     (inits : (k : ℕ) (x : List ℕ) → is_init_authorised g.init_authorised k x ≡ true → is_init_authorised g'.init_authorised k x ≡ true)
     (asked : (n i : ℕ) (a : List ℕ) → has_branch_authorised g.branch_authorised n i a ≡ true → has_branch_authorised g'.branch_authorised n i a ≡ true)
     (tx : Tx) (fits : IsNumbered tx) (spent : List ℕ) (is : IsAccepted s w tx spent) (clear : NoClash s.hash w.hashed) (apart : collision s.hash w.hashed (strings_of s w tx ++ items_of tx) ≡ None) where

@@ -11,7 +11,7 @@ use Rattle.spec_terms.specs.Faults.{IsWellFormed}
 use Rattle.spec_terms.specs.declared.path.PathStep.{PathStep}
 use Rattle.spec_terms.specs.declared.path.PathStep.TheVariants.{Branch as To, Part as Into}
 use Rattle.spec_compiler.specs.Setting.{Setting, branch_path}
-use Rattle.spec_compiler.specs.Transactions.{Standing, continued_value, branch_draft, continued, part_standing, root_standing}
+use Rattle.spec_compiler.specs.Transactions.{Standing, continued_value, branch_unsigned, continued, part_standing, root_standing}
 use Rattle.spec_compiler.specs.ByPath as by_path
 use Rattle.spec_compiler.specs.ByPath.{Stand, branch_stand, continued_stand, part_stand, next_stand, stand_from, stand_at, as_position, position_at}
 use Rattle.theory_world.proofs.Standing.{stand_of_branch}
@@ -47,7 +47,7 @@ module _ (hash : List ℕ → List ℕ) (st : Setting) where
 
   at_continued : (here : Standing) (i : ℕ) (b c : term.Branch) (p : Standing × Choice) → is_readable_branch c ≡ true → continued_stand hash st here i b c ≡ Some p → is_fine p.1 ≡ true
   at_continued here i b (put_reveal puts reveals test next) p f h =
-      let z : (let q : Standing × Choice = (continued hash st (branch_path here.position i) (branch_draft hash st here i b) (continued_value st here.output.value puts) next, next) in q) ≡ p = cc in
+      let z : (let q : Standing × Choice = (continued hash st (branch_path here.position i) (branch_unsigned hash st here i b) (continued_value st here.output.value puts) next, next) in q) ≡ p = cc in
       let r = and_parts _ (is_readable_test test && is_fine next) f in
       subst (λ (q : Standing × Choice). is_fine q.1 ≡ true) z (and_parts (is_readable_test test) (is_fine next) r.1).1
   at_continued here i b (withdraw party) p f h = cc
@@ -60,10 +60,10 @@ module _ (hash : List ℕ → List ℕ) (st : Setting) where
   at_part here i k b (withdraw party) end f h = cc
   at_part here i k b (split ps) end f h = by_part (slice_get (parts_list ps) k) refl h
     where
-      by_part : (o : Option (ℕ × Choice)) → slice_get (parts_list ps) k ≡ o → option_map (λ (p : ℕ × Choice). by_path.at_position (part_standing hash st (branch_path here.position i) (branch_draft hash st here i b) k p.0 p.1) p.1) o ≡ Some end → Readable end
+      by_part : (o : Option (ℕ × Choice)) → slice_get (parts_list ps) k ≡ o → option_map (λ (p : ℕ × Choice). by_path.at_position (part_standing hash st (branch_path here.position i) (branch_unsigned hash st here i b) k p.0 p.1) p.1) o ≡ Some end → Readable end
       by_part None e q = cc
       by_part (Some x) e q =
-          let z : by_path.at_position (part_standing hash st (branch_path here.position i) (branch_draft hash st here i b) k x.0 x.1) x.1 ≡ end = cc in
+          let z : by_path.at_position (part_standing hash st (branch_path here.position i) (branch_unsigned hash st here i b) k x.0 x.1) x.1 ≡ end = cc in
           subst Readable z (part_readable ps k x (and_parts (is_readable_split ps) (are_readable_parts ps) f).1 e)
   at_part here i k b (auth party body) end f h = cc
   at_part here i k b (after height body) end f h = cc

@@ -13,7 +13,7 @@ use Rattle.spec_bitcoin.specs.Keys.{key_of, label_text, pay_to}
 use Rattle.spec_bitcoin.specs.Meaning.{script_meaning}
 use Rattle.spec_calculus.specs.Configuration.{Configuration}
 use Rattle.spec_compiler.specs.Setting.{Setting, branch_path, branch_label, branch_keys, deposit_key, people, position_script}
-use Rattle.spec_compiler.specs.Transactions.{Standing, tx_of, initial_draft, root_standing, party_script}
+use Rattle.spec_compiler.specs.Transactions.{Standing, tx_of, initial_unsigned, root_standing, party_script}
 use Rattle.spec_compiler.specs.ByPath.{position_at}
 use Rattle.spec_compiler.specs.Statements.{IsCompiled}
 use Rattle.spec_run.specs.Setup.{Setup, is_declared, people_of}
@@ -75,9 +75,9 @@ module _ (s : Setup) (size : HashesBytes s.hash) (few_contracts : length s.contr
       no_deposit_script [] (root_standing s.hash st) st.advert.root root a declared (sym same)
 
   -- a gift to parties isn't the contract's initial transaction
-  pub gift_starts_nothing : (party : List ℕ) (inputs : List ℕ) (outputs : List (List ℕ × ℕ)) → list_all (λ o. is_declared s (o.0)) outputs ≡ true → 1 ≤ length outputs → bare (gift s w party inputs outputs) ≡ bare (tx_of (initial_draft s.hash st)) → ⊥
+  pub gift_starts_nothing : (party : List ℕ) (inputs : List ℕ) (outputs : List (List ℕ × ℕ)) → list_all (λ o. is_declared s (o.0)) outputs ≡ true → 1 ≤ length outputs → bare (gift s w party inputs outputs) ≡ bare (tx_of (initial_unsigned s.hash st)) → ⊥
   gift_starts_nothing party inputs [] all some e = absurd (omega (arith, some))
   gift_starts_nothing party inputs (o ∷ os) all some e =
-      let outs : given_output s o ∷ map (given_output s) os ≡ (tx_of (initial_draft s.hash st)).outputs = ap (λ (x : Tx). x.outputs) e in
+      let outs : given_output s o ∷ map (given_output s) os ≡ (tx_of (initial_unsigned s.hash st)).outputs = ap (λ (x : Tx). x.outputs) e in
       let first : (given_output s o).script ≡ pay_to (s.hash (root_standing s.hash st).output.script) = cc in
       root_unpaid (o.0) (and_parts (is_declared s (o.0)) (list_all (λ x. is_declared s (x.0)) os) all).0 first

@@ -18,7 +18,8 @@ use Rattle.spec_calculus.specs.Configuration.{Configuration}
 use Rattle.spec_calculus.specs.Beginning.{is_init_authorised}
 use Rattle.spec_calculus.specs.Branches.{has_branch_authorised}
 use Rattle.spec_compiler.specs.Setting.{Setting, branch_label, deposit_key, people}
-use Rattle.spec_compiler.specs.Transactions.{Spent, Standing, tx_of, digest_of_spent, deposit, branch_draft, initial_draft}
+use Rattle.spec_compiler.specs.declared.unsigned.Spent.{Spent}
+use Rattle.spec_compiler.specs.Transactions.{Standing, tx_of, digest_of_spent, deposit, branch_unsigned, initial_unsigned}
 use Rattle.spec_compiler.specs.Endorsements.{Need}
 use Rattle.spec_compiler.specs.ByPath.{position_at}
 use Rattle.spec_run.specs.Setup.{Setup, is_declared, is_honest, pre_at}
@@ -114,7 +115,7 @@ module _ (s : Setup) (size : HashesBytes s.hash) (few_contracts : length s.contr
   pub authorise_kept : (party : List ℕ) (n : ℕ) (o : Output) (held : Held) (there : slice_get w.outputs n ≡ Some o) (fine : HeldFine s w o held) (j : ℕ) (c : term.Branch) → slice_get (branches fine.choice) j ≡ Some c → is_among party (people fine.setting) ≡ true
       → has_branch_authorised g'.branch_authorised n j party ≡ true → KeptBook s g' (after_pairs (authorising_pairs s w party (Some held) j))
   authorise_kept party n o held there fine j c has part now =
-      let d = digest_of_spent s.hash (tx_of (branch_draft s.hash fine.setting fine.here j c)) fine.here.output in
+      let d = digest_of_spent s.hash (tx_of (branch_unsigned s.hash fine.setting fine.here j c)) fine.here.output in
       let pairs : List Pair = (key_of s.hash (branch_label held.contract (held.position ++ To j ∷ []) party), d) ∷ [] in
       let e = pairs_are s size few_contracts g w kept check hs clear sub g' (after_pairs pairs) refl party n o held there fine j c has part now in
       subst (λ ps. KeptBook s g' (after_pairs ps)) (sym e) (pairs_kept pairs
@@ -196,7 +197,7 @@ module _ (s : Setup) (size : HashesBytes s.hash) (few_contracts : length s.contr
                 let ss = same_spot s w k0 k st0 st br.is_branch.position q br.here here br.is_branch.choice choice br.index i br.branch b given br.is_branch.stands br.is_branch.there c e t kc pq.0 pq.1 in
                 let unasked : is_asked b a ≡ false = sym (λ m. is_asked (ss.branches m) (pa m)) ∙ free in
                 record {
-                  is = sym nd ∙ dig ∙ (λ m. digest_of_spent s.hash (tx_of (branch_draft s.hash (ss.settings m) (ss.heres m) (pq.1 m) (ss.branches m))) (ss.heres m).output);
+                  is = sym nd ∙ dig ∙ (λ m. digest_of_spent s.hash (tx_of (branch_unsigned s.hash (ss.settings m) (ss.heres m) (pq.1 m) (ss.branches m))) (ss.heres m).output);
                   existed = λ v. absurd (both_ways _ unasked v);
                   authorised = λ v. absurd (both_ways _ unasked v);
                 }
@@ -212,14 +213,14 @@ module _ (s : Setup) (size : HashesBytes s.hash) (few_contracts : length s.contr
 
       pub start_started : (a d : List ℕ) → is_declared s a ≡ true → has_signed starting (deposit_key s.hash a) d ≡ true → (h : Started s g' (after_pairs starting) a d) × (h.contract ≡ k0) × (party ≡ a)
       start_started a d decl x =
-          let r = pair_of_deposit s st0 (tx_of (initial_draft s.hash st0)) party (persistent st0.advert.pre) (deposit_key s.hash a) d x in
+          let r = pair_of_deposit s st0 (tx_of (initial_unsigned s.hash st0)) party (persistent st0.advert.pre) (deposit_key s.hash a) d x in
           let z = same_label s size few_contracts g w kept check hs clear sub (labels.Deposit party) (labels.Deposit a) (deposit_label s size few_contracts g w kept check hs clear sub party declared) (deposit_label s size few_contracts g w kept check hs clear sub a decl) r.0 in
           let pa : party ≡ a = ap label_party z in
           (record { contract = k0; setting = st0; compiled = given; spent = r.1.0; persists = r.1.1; is = r.1.2; authorised = λ e i o l. now e i (o ∙ sym pa) l }, refl, pa)
 
       start_branches : BranchesNew starting
       start_branches k st q here choice i b a d c e t p honest x =
-          let r = pair_of_deposit s st0 (tx_of (initial_draft s.hash st0)) party (persistent st0.advert.pre) (key_of s.hash (branch_label k (q ++ To i ∷ []) a)) d x in
+          let r = pair_of_deposit s st0 (tx_of (initial_unsigned s.hash st0)) party (persistent st0.advert.pre) (key_of s.hash (branch_label k (q ++ To i ∷ []) a)) d x in
           let z = same_label s size few_contracts g w kept check hs clear sub (labels.Deposit party) (branch_label k (q ++ To i ∷ []) a) (deposit_label s size few_contracts g w kept check hs clear sub party declared)
           (heard_label s size few_contracts g w kept check hs clear sub k st q here choice i b a c e t p) r.0 in
           cc

@@ -24,11 +24,13 @@ use Rattle.spec_bitcoin.specs.Meaning.{script_meaning}
 use Rattle.spec_bitcoin.specs.Verdict.{script_of, items_of}
 use Rattle.spec_calculus.specs.Configuration.{Configuration}
 use Rattle.spec_compiler.specs.Setting.{Setting, branch_path, branch_label, branch_keys, deposit_key, people, position_script}
-use Rattle.spec_compiler.specs.Transactions.{Draft, Spent, Standing, input_of, tx_of, digest_of_spent, branch_draft, initial_draft, party_script}
-use Rattle.spec_compiler.specs.Compilation.{drafts, scripts}
+use Rattle.spec_compiler.specs.declared.unsigned.Spent.{Spent}
+use Rattle.spec_compiler.specs.declared.unsigned.Unsigned.{Unsigned}
+use Rattle.spec_compiler.specs.Transactions.{Standing, input_of, tx_of, digest_of_spent, branch_unsigned, initial_unsigned, party_script}
+use Rattle.spec_compiler.specs.Compilation.{path_transactions, scripts}
 use Rattle.spec_compiler.specs.ByPath as by_path
 use Rattle.spec_compiler.specs.ByPath.{position_at}
-use Rattle.spec_compiler.specs.Hashed.{path_labels, spent_strings, draft_strings, compiled_strings}
+use Rattle.spec_compiler.specs.Hashed.{path_labels, spent_strings, unsigned_strings, compiled_strings}
 use Rattle.spec_compiler.specs.Scripts.{digest_of}
 use Rattle.spec_compiler.specs.Statements.{are_valid, Opens, has_size, IsCompiled}
 use Rattle.spec_run.specs.Setup.{Setup, is_declared, people_of}
@@ -45,18 +47,18 @@ use Rattle.theory_world.proofs.Same.{bytes-true, bytes_refl}
 use Rattle.theory_world.proofs.Hashed.{NoClash, among_left, among_right, among_head, among_tail}
 use Rattle.theory_world.proofs.Preimages.{SameSigned, HeardLists, heard_lists, double-apart, preimage-apart, IsNumbered, AllPlaces}
 use Rattle.theory_world.proofs.Bare.{bare, NoScripts, signed-bare}
-use Rattle.theory_world.proofs.Positions.{Is_in, covered, branch_here, drafts_strings, drafts_labels}
+use Rattle.theory_world.proofs.Positions.{Is_in, covered, branch_here, transactions_strings, transactions_labels}
 use Rattle.theory_world.proofs.Standing.{stand_of_branch, position_named}
 use Rattle.theory_world.proofs.Book.{valid_signed}
 use Rattle.theory_world.proofs.Later.{compiled_is}
 use Rattle.theory_world.proofs.Accepting.{IsSpent}
 use Rattle.theory_run.proofs.Kept.{KeptBook, HeldFine, DepositCause, gave, needed, started, Gave, Needed, Started, HeardDigest}
 
--- ---- drafts
+-- ---- unsigned transactions
 
-pub draft_no_scripts : (spends : List Spent) → NoScripts (map input_of spends)
-draft_no_scripts [] = tt
-draft_no_scripts (x ∷ spends) = (refl, draft_no_scripts spends)
+pub unsigned_no_scripts : (spends : List Spent) → NoScripts (map input_of spends)
+unsigned_no_scripts [] = tt
+unsigned_no_scripts (x ∷ spends) = (refl, unsigned_no_scripts spends)
 
 input_place : (spends : List Spent) (x : Spent) → AllPlaces (map input_of spends) → Is_in x spends → IsPlace x.place
 input_place [] x h i = absurd i
@@ -68,55 +70,55 @@ inner_strings hash tx [] x t i h = absurd i
 inner_strings hash tx (y ∷ spends) x t (inl e) h = subst (λ ts. is_among t ts ≡ true) (sym (flat_map-cons (spent_strings hash tx) y spends)) (among_left t (spent_strings hash tx y) (flat_map (spent_strings hash tx) spends) (subst (λ z. is_among t (spent_strings hash tx z) ≡ true) e h))
 inner_strings hash tx (y ∷ spends) x t (inr i) h = subst (λ ts. is_among t ts ≡ true) (sym (flat_map-cons (spent_strings hash tx) y spends)) (among_right t (spent_strings hash tx y) (flat_map (spent_strings hash tx) spends) (inner_strings hash tx spends x t i h))
 
--- the strings of a draft are among these
-pub record HeardDraft (hash : List ℕ → List ℕ) (hs : List (List ℕ)) (d : Draft) : Type 0 where
-  pub heard : (t : List ℕ) → is_among t (draft_strings hash d) ≡ true → is_among t hs ≡ true
+-- the strings of an unsigned transaction are among these
+pub record HeardUnsigned (hash : List ℕ → List ℕ) (hs : List (List ℕ)) (d : Unsigned) : Type 0 where
+  pub heard : (t : List ℕ) → is_among t (unsigned_strings hash d) ≡ true → is_among t hs ≡ true
 
-module _ (hash : List ℕ → List ℕ) (hs : List (List ℕ)) (d : Draft) (h : HeardDraft hash hs d) where
-  pub draft_lists : HeardLists hash hs (tx_of d)
-  draft_lists = heard_lists hash hs (tx_of d) (λ t i. h.heard t (among_right t (txid_strings hash (tx_of d)) (shared_strings hash (tx_of d) ++ flat_map (spent_strings hash (tx_of d)) d.spends) (among_left t (shared_strings hash (tx_of d)) (flat_map (spent_strings hash (tx_of d)) d.spends) i)))
+module _ (hash : List ℕ → List ℕ) (hs : List (List ℕ)) (d : Unsigned) (h : HeardUnsigned hash hs d) where
+  pub unsigned_lists : HeardLists hash hs (tx_of d)
+  unsigned_lists = heard_lists hash hs (tx_of d) (λ t i. h.heard t (among_right t (txid_strings hash (tx_of d)) (shared_strings hash (tx_of d) ++ flat_map (spent_strings hash (tx_of d)) d.spends) (among_left t (shared_strings hash (tx_of d)) (flat_map (spent_strings hash (tx_of d)) d.spends) i)))
 
   inner : (x : Spent) (t : List ℕ) → Is_in x d.spends → is_among t (spent_strings hash (tx_of d) x) ≡ true → is_among t hs ≡ true
   inner x t i k = h.heard t (among_right t (txid_strings hash (tx_of d)) (shared_strings hash (tx_of d) ++ flat_map (spent_strings hash (tx_of d)) d.spends) (among_right t (shared_strings hash (tx_of d)) (flat_map (spent_strings hash (tx_of d)) d.spends) (inner_strings hash (tx_of d) d.spends x t i k)))
 
-  pub draft_preimage : (x : Spent) → Is_in x d.spends → is_among (preimage hash (tx_of d) (input_of x) x.script x.value) hs ≡ true
-  draft_preimage x i = let m = preimage hash (tx_of d) (input_of x) x.script x.value in inner x m i (among_head m (hash m ∷ []))
+  pub unsigned_preimage : (x : Spent) → Is_in x d.spends → is_among (preimage hash (tx_of d) (input_of x) x.script x.value) hs ≡ true
+  unsigned_preimage x i = let m = preimage hash (tx_of d) (input_of x) x.script x.value in inner x m i (among_head m (hash m ∷ []))
 
-  pub draft_preimage_hash : (x : Spent) → Is_in x d.spends → is_among (hash (preimage hash (tx_of d) (input_of x) x.script x.value)) hs ≡ true
-  draft_preimage_hash x i = let m = preimage hash (tx_of d) (input_of x) x.script x.value in inner x (hash m) i (among_tail (hash m) m (hash m ∷ []) (among_head (hash m) []))
+  pub unsigned_preimage_hash : (x : Spent) → Is_in x d.spends → is_among (hash (preimage hash (tx_of d) (input_of x) x.script x.value)) hs ≡ true
+  unsigned_preimage_hash x i = let m = preimage hash (tx_of d) (input_of x) x.script x.value in inner x (hash m) i (among_tail (hash m) m (hash m ∷ []) (among_head (hash m) []))
 
-  pub draft_bytes : is_among (stripped (tx_of d)) hs ≡ true
-  draft_bytes = h.heard (stripped (tx_of d)) (among_left (stripped (tx_of d)) (txid_strings hash (tx_of d)) (shared_strings hash (tx_of d) ++ flat_map (spent_strings hash (tx_of d)) d.spends) (among_head (stripped (tx_of d)) (hash (stripped (tx_of d)) ∷ [])))
+  pub unsigned_bytes : is_among (stripped (tx_of d)) hs ≡ true
+  unsigned_bytes = h.heard (stripped (tx_of d)) (among_left (stripped (tx_of d)) (txid_strings hash (tx_of d)) (shared_strings hash (tx_of d) ++ flat_map (spent_strings hash (tx_of d)) d.spends) (among_head (stripped (tx_of d)) (hash (stripped (tx_of d)) ∷ [])))
 
-  pub draft_bytes_hash : is_among (hash (stripped (tx_of d))) hs ≡ true
-  draft_bytes_hash = h.heard (hash (stripped (tx_of d))) (among_left (hash (stripped (tx_of d))) (txid_strings hash (tx_of d)) (shared_strings hash (tx_of d) ++ flat_map (spent_strings hash (tx_of d)) d.spends) (among_tail (hash (stripped (tx_of d))) (stripped (tx_of d)) (hash (stripped (tx_of d)) ∷ []) (among_head (hash (stripped (tx_of d))) [])))
+  pub unsigned_bytes_hash : is_among (hash (stripped (tx_of d))) hs ≡ true
+  unsigned_bytes_hash = h.heard (hash (stripped (tx_of d))) (among_left (hash (stripped (tx_of d))) (txid_strings hash (tx_of d)) (shared_strings hash (tx_of d) ++ flat_map (spent_strings hash (tx_of d)) d.spends) (among_tail (hash (stripped (tx_of d))) (stripped (tx_of d)) (hash (stripped (tx_of d)) ∷ []) (among_head (hash (stripped (tx_of d))) [])))
 
 module _ (hash : List ℕ → List ℕ) (st : Setting) (hs : List (List ℕ)) (heard : (t : List ℕ) → is_among t (compiled_strings hash st) ≡ true → is_among t hs ≡ true) where
   abbrev all_labels : List (List ℕ)
-  all_labels = flat_map (λ p. path_labels st p.0) (drafts hash st)
+  all_labels = flat_map (λ p. path_labels st p.0) (path_transactions hash st)
 
   abbrev all_scripts : List (List ℕ)
   all_scripts = map (λ p. p.1) (scripts hash st)
 
-  abbrev all_drafts : List (List ℕ)
-  all_drafts = flat_map (λ p. draft_strings hash p.1) (drafts hash st)
+  abbrev all_unsigned : List (List ℕ)
+  all_unsigned = flat_map (λ p. unsigned_strings hash p.1) (path_transactions hash st)
 
-  pub initial_heard : HeardDraft hash hs (initial_draft hash st)
-  initial_heard = record { heard = λ t i. heard t (among_right t all_labels (all_scripts ++ (draft_strings hash (initial_draft hash st) ++ all_drafts)) (among_right t all_scripts (draft_strings hash (initial_draft hash st) ++ all_drafts) (among_left t (draft_strings hash (initial_draft hash st)) all_drafts i))) }
+  pub initial_heard : HeardUnsigned hash hs (initial_unsigned hash st)
+  initial_heard = record { heard = λ t i. heard t (among_right t all_labels (all_scripts ++ (unsigned_strings hash (initial_unsigned hash st) ++ all_unsigned)) (among_right t all_scripts (unsigned_strings hash (initial_unsigned hash st) ++ all_unsigned) (among_left t (unsigned_strings hash (initial_unsigned hash st)) all_unsigned i))) }
 
   module _ (q : List PathStep) (here : Standing) (choice : Choice) (i : ℕ) (b : term.Branch) (stands : position_at hash st q ≡ Some (here, choice)) (there : slice_get (branches choice) i ≡ Some b) where
-    listed : Is_in (branch_path here.position i, branch_draft hash st here i b) (drafts hash st)
+    listed : Is_in (branch_path here.position i, branch_unsigned hash st here i b) (path_transactions hash st)
     listed = covered hash st (q ++ To i ∷ []) (by_path.at_branch here i b) (stand_of_branch hash st q here choice i b stands there) _ (branch_here hash st here i (lock b) b)
 
-    pub branch_heard : HeardDraft hash hs (branch_draft hash st here i b)
-    branch_heard = record { heard = λ t k. heard t (among_right t all_labels (all_scripts ++ (draft_strings hash (initial_draft hash st) ++ all_drafts)) (among_right t all_scripts (draft_strings hash (initial_draft hash st) ++ all_drafts) (among_right t (draft_strings hash (initial_draft hash st)) all_drafts (drafts_strings hash st (drafts hash st) _ t listed k)))) }
+    pub branch_heard : HeardUnsigned hash hs (branch_unsigned hash st here i b)
+    branch_heard = record { heard = λ t k. heard t (among_right t all_labels (all_scripts ++ (unsigned_strings hash (initial_unsigned hash st) ++ all_unsigned)) (among_right t all_scripts (unsigned_strings hash (initial_unsigned hash st) ++ all_unsigned) (among_right t (unsigned_strings hash (initial_unsigned hash st)) all_unsigned (transactions_strings hash st (path_transactions hash st) _ t listed k)))) }
 
     pub label_heard : (a : List ℕ) → is_among a (people st) ≡ true → is_among (label_text (branch_label st.contract (q ++ To i ∷ []) a)) hs ≡ true
     label_heard a k =
         let e : branch_path here.position i ≡ q ++ To i ∷ [] = ap (λ p. p ++ To i ∷ []) (position_named hash st q here choice stands) in
         let t = label_text (branch_label st.contract (q ++ To i ∷ []) a) in
         let l : is_among t (path_labels st (branch_path here.position i)) ≡ true = subst (λ p. is_among t (path_labels st p) ≡ true) (sym e) (mapped (λ party. label_text (branch_label st.contract (q ++ To i ∷ []) party)) a (people st) k) in
-        heard t (among_left t all_labels (all_scripts ++ (draft_strings hash (initial_draft hash st) ++ all_drafts)) (drafts_labels hash st (drafts hash st) _ t listed l))
+        heard t (among_left t all_labels (all_scripts ++ (unsigned_strings hash (initial_unsigned hash st) ++ all_unsigned)) (transactions_labels hash st (path_transactions hash st) _ t listed l))
       where
         mapped : (f : List ℕ → List ℕ) (x : List ℕ) (xs : List (List ℕ)) → is_among x xs ≡ true → is_among (f x) (map f xs) ≡ true
         mapped f x [] h = cc
@@ -129,7 +131,7 @@ module _ (hash : List ℕ → List ℕ) (st : Setting) (hs : List (List ℕ)) (h
   pub script_heard : (q : List PathStep) (here : Standing) (choice : Choice) → position_at hash st q ≡ Some (here, choice) → is_among here.output.script hs ≡ true
   script_heard q here choice stands =
       let l = scripts_are_listed hash st q ∙ ap (option_map (λ p. p.0.output.script)) stands in
-      heard here.output.script (among_right here.output.script all_labels (all_scripts ++ (draft_strings hash (initial_draft hash st) ++ all_drafts)) (among_left here.output.script all_scripts (draft_strings hash (initial_draft hash st) ++ all_drafts) (found_script q here.output.script (scripts hash st) l)))
+      heard here.output.script (among_right here.output.script all_labels (all_scripts ++ (unsigned_strings hash (initial_unsigned hash st) ++ all_unsigned)) (among_left here.output.script all_scripts (unsigned_strings hash (initial_unsigned hash st) ++ all_unsigned) (found_script q here.output.script (scripts hash st) l)))
     where
       found_script : (q : List PathStep) (x : List ℕ) (es : List (List PathStep × List ℕ)) → at_path q es ≡ Some x → is_among x (map (λ p. p.1) es) ≡ true
       found_script q x [] h = cc
@@ -139,13 +141,13 @@ module _ (hash : List ℕ → List ℕ) (st : Setting) (hs : List (List ℕ)) (h
           by_test true u ih = let z : e.1 ≡ x = cc in or_left _ _ (subst (λ y. bytes_eq e.1 y ≡ true) z (bytes_refl e.1))
           by_test false u ih = or_right (bytes_eq e.1 x) _ (ih u)
 
--- ---- drafts are transactions
+-- ---- unsigned transactions
 
 -- every compiled transaction has numbers within their widths
-pub record DraftsFit (s : Setup) (w : World) : Type 0 where
-  pub initial : (k : ℕ) (st : Setting) → compiled_at s w k ≡ Some st → IsNumbered (tx_of (initial_draft s.hash st))
+pub record TransactionsFit (s : Setup) (w : World) : Type 0 where
+  pub initial : (k : ℕ) (st : Setting) → compiled_at s w k ≡ Some st → IsNumbered (tx_of (initial_unsigned s.hash st))
   pub branch : (k : ℕ) (st : Setting) (q : List PathStep) (here : Standing) (choice : Choice) (i : ℕ) (b : term.Branch) → compiled_at s w k ≡ Some st → position_at s.hash st q ≡ Some (here, choice) → slice_get (branches choice) i ≡ Some b
-      → IsNumbered (tx_of (branch_draft s.hash st here i b))
+      → IsNumbered (tx_of (branch_unsigned s.hash st here i b))
 
 -- digests of a contract's secrets have 32 bytes, and the contract has passed the check
 pub record Checked (s : Setup) (w : World) : Type 0 where
@@ -166,15 +168,15 @@ each_valid valid (x ∷ sigs) (k ∷ keys) key h i =
       | inr q ↦ each_valid valid sigs keys key p.1 q
     ]
 
-module _ (s : Setup) (size : HashesBytes s.hash) (g : Configuration) (w : World) (kept : KeptBook s g w) (fit : DraftsFit s w) (check : Checked s w) (hs : List (List ℕ)) (clear : NoClash s.hash hs) (sub : (t : List ℕ) → is_among t w.hashed ≡ true → is_among t hs ≡ true)
+module _ (s : Setup) (size : HashesBytes s.hash) (g : Configuration) (w : World) (kept : KeptBook s g w) (fit : TransactionsFit s w) (check : Checked s w) (hs : List (List ℕ)) (clear : NoClash s.hash hs) (sub : (t : List ℕ) → is_among t w.hashed ≡ true → is_among t hs ≡ true)
     (tx : Tx) (fits : IsNumbered tx) (scripts_none : NoScripts tx.inputs) (lists : HeardLists s.hash hs tx) where
   -- equal digests come from transactions that are the same but for witnesses
-  same_digest : (d : Draft) (x : Spent) (i : TxIn) (script : List ℕ) (v : ℕ) → IsNumbered (tx_of d) → HeardDraft s.hash hs d → Is_in x d.spends → IsPlace i.prev → HeardDigest s hs tx i script v
+  same_digest : (d : Unsigned) (x : Spent) (i : TxIn) (script : List ℕ) (v : ℕ) → IsNumbered (tx_of d) → HeardUnsigned s.hash hs d → Is_in x d.spends → IsPlace i.prev → HeardDigest s hs tx i script v
       → digest s.hash tx i script v ≡ digest_of_spent s.hash (tx_of d) x → bare tx ≡ bare (tx_of d)
   same_digest d x i script v df dh xi pi h e =
-      let m = double-apart s.hash hs clear (preimage s.hash tx i script v) (preimage s.hash (tx_of d) (input_of x) x.script x.value) h.first h.second (draft_preimage s.hash hs d dh x xi) (draft_preimage_hash s.hash hs d dh x xi) e in
-      let q = preimage-apart s.hash size hs clear tx (tx_of d) fits df lists (draft_lists s.hash hs d dh) i (input_of x) pi (input_place d.spends x df.places xi) script x.script v x.value m in
-      signed-bare tx (tx_of d) q scripts_none (draft_no_scripts d.spends)
+      let m = double-apart s.hash hs clear (preimage s.hash tx i script v) (preimage s.hash (tx_of d) (input_of x) x.script x.value) h.first h.second (unsigned_preimage s.hash hs d dh x xi) (unsigned_preimage_hash s.hash hs d dh x xi) e in
+      let q = preimage-apart s.hash size hs clear tx (tx_of d) fits df lists (unsigned_lists s.hash hs d dh) i (input_of x) pi (input_place d.spends x df.places xi) script x.script v x.value m in
+      signed-bare tx (tx_of d) q scripts_none (unsigned_no_scripts d.spends)
 
   heard_at : (k : ℕ) (st : Setting) → compiled_at s w k ≡ Some st → (t : List ℕ) → is_among t (compiled_strings s.hash st) ≡ true → is_among t hs ≡ true
   heard_at k st c t i = sub t (kept.heard k st c t i)
@@ -191,13 +193,13 @@ module _ (s : Setup) (size : HashesBytes s.hash) (g : Configuration) (w : World)
     pub index : ℕ
     pub branch : term.Branch
     pub there : slice_get (branches choice) index ≡ Some branch
-    pub is : bare tx ≡ bare (tx_of (branch_draft s.hash setting here index branch))
+    pub is : bare tx ≡ bare (tx_of (branch_unsigned s.hash setting here index branch))
 
   pub record IsStart (a : List ℕ) : Type 0 where
     pub contract : ℕ
     pub setting : Setting
     pub compiled : compiled_at s w contract ≡ Some setting
-    pub is : bare tx ≡ bare (tx_of (initial_draft s.hash setting))
+    pub is : bare tx ≡ bare (tx_of (initial_unsigned s.hash setting))
     pub cause : (d : List ℕ) × Started s g w a d
 
   -- a gift with the same digest spends the same places
@@ -208,14 +210,14 @@ module _ (s : Setup) (size : HashesBytes s.hash) (g : Configuration) (w : World)
       preimage-apart s.hash size hs clear tx h.tx fits h.fits lists l i h.input pi h.prev script (party_script s.hash a) v h.value m
 
   -- one with the digest of a put is its branch's, and one with that of a start is the initial transaction
-  pub same_put : (a d : List ℕ) (i : TxIn) (script : List ℕ) (v : ℕ) → IsPlace i.prev → HeardDigest s hs tx i script v → digest s.hash tx i script v ≡ d → (h : Needed s w a d) → bare tx ≡ bare (tx_of (branch_draft s.hash h.setting h.here h.index h.branch))
+  pub same_put : (a d : List ℕ) (i : TxIn) (script : List ℕ) (v : ℕ) → IsPlace i.prev → HeardDigest s hs tx i script v → digest s.hash tx i script v ≡ d → (h : Needed s w a d) → bare tx ≡ bare (tx_of (branch_unsigned s.hash h.setting h.here h.index h.branch))
   same_put a d i script v pi k e h =
       let dh = branch_heard s.hash h.setting hs (heard_at h.contract h.setting h.compiled) h.position h.here h.choice h.index h.branch h.stands h.there in
-      same_digest (branch_draft s.hash h.setting h.here h.index h.branch) h.spent i script v (fit.branch h.contract h.setting h.position h.here h.choice h.index h.branch h.compiled h.stands h.there) dh (inr h.put) pi k (e ∙ h.is)
+      same_digest (branch_unsigned s.hash h.setting h.here h.index h.branch) h.spent i script v (fit.branch h.contract h.setting h.position h.here h.choice h.index h.branch h.compiled h.stands h.there) dh (inr h.put) pi k (e ∙ h.is)
 
-  pub same_start : (a d : List ℕ) (i : TxIn) (script : List ℕ) (v : ℕ) → IsPlace i.prev → HeardDigest s hs tx i script v → digest s.hash tx i script v ≡ d → (h : Started s g w a d) → bare tx ≡ bare (tx_of (initial_draft s.hash h.setting))
+  pub same_start : (a d : List ℕ) (i : TxIn) (script : List ℕ) (v : ℕ) → IsPlace i.prev → HeardDigest s hs tx i script v → digest s.hash tx i script v ≡ d → (h : Started s g w a d) → bare tx ≡ bare (tx_of (initial_unsigned s.hash h.setting))
   same_start a d i script v pi k e h =
-      same_digest (initial_draft s.hash h.setting) h.spent i script v (fit.initial h.contract h.setting h.compiled) (initial_heard s.hash h.setting hs (heard_at h.contract h.setting h.compiled)) h.persists pi k (e ∙ h.is)
+      same_digest (initial_unsigned s.hash h.setting) h.spent i script v (fit.initial h.contract h.setting h.compiled) (initial_heard s.hash h.setting hs (heard_at h.contract h.setting h.compiled)) h.persists pi k (e ∙ h.is)
 
   -- what a cause says of a transaction with that digest
   pub data Cause (a : List ℕ) : Type 0 where
@@ -262,7 +264,7 @@ module _ (s : Setup) (size : HashesBytes s.hash) (g : Configuration) (w : World)
     pub opened : Opens s.hash (is_valid w.book (digest s.hash tx i hf.here.output.script o.value)) hf.setting h.position hf.choice (reverse (items_of i.witness))
     pub script : script_of i.witness ≡ hf.here.output.script
     pub signed : (a : List ℕ) → is_among a (people hf.setting) ≡ true → has_signed w.book (key_of s.hash (branch_label h.contract (h.position ++ To opened.i ∷ []) a)) (digest s.hash tx i hf.here.output.script o.value) ≡ true
-    pub is : bare tx ≡ bare (tx_of (branch_draft s.hash hf.setting hf.here opened.i opened.b))
+    pub is : bare tx ≡ bare (tx_of (branch_unsigned s.hash hf.setting hf.here opened.i opened.b))
 
   pub taken : (n : ℕ) (i : TxIn) (sp : IsSpent s w tx n i) (hi : is_among (script_of i.witness) hs ≡ true) (hd : HeardDigest s hs tx i (script_of i.witness) sp.output.value) (h : Held) (hf : HeldFine s w sp.output h)
       → IsPlace i.prev → IsTaken i sp.output h hf
@@ -294,7 +296,7 @@ module _ (s : Setup) (size : HashesBytes s.hash) (g : Configuration) (w : World)
         opened = op;
         script = x;
         signed = sg;
-        is = same_digest (branch_draft s.hash st here op.i op.b) here.output i here.output.script sp.output.value (fit.branch h.contract st h.position here hf.choice op.i op.b hf.compiled hf.stands op.is_branch) dh (inl refl) pi hd' bc.is;
+        is = same_digest (branch_unsigned s.hash st here op.i op.b) here.output i here.output.script sp.output.value (fit.branch h.contract st h.position here hf.choice op.i op.b hf.compiled hf.stands op.is_branch) dh (inl refl) pi hd' bc.is;
       }
     where
       mapped_key : (f : List ℕ → List ℕ) (x : List ℕ) (xs : List (List ℕ)) → is_among x xs ≡ true → is_among (f x) (map f xs) ≡ true

@@ -24,7 +24,7 @@ use Rattle.theory_run.proofs.Keeping.{KeptSecrets, Begins}
 use Rattle.theory_run.proofs.Posting.{Posted, posted}
 use Rattle.theory_run.proofs.Tested.{PromisesNamed}
 use Rattle.theory_run.proofs.Kept.{KeptBook}
-use Rattle.theory_run.proofs.Spending.{DraftsFit, Checked}
+use Rattle.theory_run.proofs.Spending.{TransactionsFit, Checked}
 use Rattle.theory_run.proofs.Followed.{accepted_legal, accepted_frame, accepted_money, accepted_secrets, accepted_constant}
 use Rattle.theory_world.proofs.Bookless.{kind_same, steps_same}
 use Rattle.theory_run.proofs.Moved.{AgreeOnMoney}
@@ -32,7 +32,7 @@ use Rattle.theory_run.proofs.Tracking.{Tracks, IsTracked}
 
 -- the book may have more pairs than before the event, and what is kept may rest on more messages
 module _ (s : Setup) (setup : IsSetup s) (z : List (List ℕ)) (apart : different_secrets (all_secrets s) ≡ true) (g : Configuration) (w : World) (tracks : Tracks s z g w) (book : List Pair) (known : List (List ℕ))
-    (kept : KeptBook s g (record w { book = book; hashed = known })) (fit : DraftsFit s (record w { book = book; hashed = known })) (check : Checked s (record w { book = book; hashed = known })) (named : PromisesNamed s w.promises)
+    (kept : KeptBook s g (record w { book = book; hashed = known })) (fit : TransactionsFit s (record w { book = book; hashed = known })) (check : Checked s (record w { book = book; hashed = known })) (named : PromisesNamed s w.promises)
     (tx : Tx) (fits : Numbered tx) (spent : List ℕ) (is : IsAccepted s (record w { book = book; hashed = known }) tx spent) (clear : collision s.hash w.hashed (strings_of s w tx ++ items_of tx) ≡ None) (unguessed : guess s w.posted (items_of tx) None ≡ None)
     (within : (t : List ℕ) → is_among t known ≡ true → is_among t (noted_all w.hashed (strings_of s w tx ++ items_of tx)) ≡ true) where
   abbrev seen : World

@@ -28,7 +28,7 @@ use Rattle.theory_world.proofs.Preimages.{IsNumbered}
 use Rattle.theory_world.proofs.Worth.{accepted_by}
 use Rattle.theory_run.proofs.Tested.{PromisesNamed}
 use Rattle.theory_run.proofs.Kept.{KeptBook}
-use Rattle.theory_run.proofs.Spending.{DraftsFit, Checked}
+use Rattle.theory_run.proofs.Spending.{TransactionsFit, Checked}
 use Rattle.theory_run.proofs.Fired.{piece_numbered, started_numbered, taken_numbered}
 use Rattle.theory_run.proofs.Given.{gift_numbered, signed_kept}
 use Rattle.theory_run.proofs.Tracking.{Tracks, Tracked, refused_tracked, unless_tracked, endorse_tracked, sign_tracked, mine_tracked}
@@ -38,7 +38,7 @@ use Rattle.theory_run.proofs.TrackAdverts.{advertise_tracked}
 use Rattle.theory_run.proofs.TrackAccepted.{accepted_tracked}
 
 module _ (s : Setup) (setup : IsSetup s) (z : List (List ℕ)) (apart : different_secrets (all_secrets s) ≡ true) (g : Configuration) (w : World) (tracks : Tracks s z g w)
-    (kept : KeptBook s g w) (fit : DraftsFit s w) (check : Checked s w) (named : PromisesNamed s w.promises) where
+    (kept : KeptBook s g w) (fit : TransactionsFit s w) (check : Checked s w) (named : PromisesNamed s w.promises) where
   -- ---- a transaction reaches the ledger
 
   reaches_tracked : (e : Event) (tx : Tx) → IsNumbered tx → Tracked s z g w e (reaches s w w tx)

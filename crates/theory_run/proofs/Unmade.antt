@@ -14,7 +14,9 @@ use Rattle.spec_bitcoin.specs.Digests.{txid, digest, opening_transaction}
 use Rattle.spec_calculus.specs.Configuration.{Configuration}
 use Rattle.spec_compiler.specs.Setting.{Setting, people}
 use Rattle.spec_compiler.specs.Hashed.{compiled_strings}
-use Rattle.spec_compiler.specs.Transactions.{Draft, Spent, Standing, input_of, tx_of, deposit, persistent_deposits, branch_draft, initial_draft, party_script}
+use Rattle.spec_compiler.specs.declared.unsigned.Spent.{Spent}
+use Rattle.spec_compiler.specs.declared.unsigned.Unsigned.{Unsigned}
+use Rattle.spec_compiler.specs.Transactions.{Standing, input_of, tx_of, deposit, persistent_deposits, branch_unsigned, initial_unsigned, party_script}
 use Rattle.spec_compiler.specs.ByPath.{position_at}
 use Rattle.spec_run.specs.Setup.{Setup, is_declared, is_honest}
 use Rattle.spec_run.specs.World.{Output, World}
@@ -30,7 +32,7 @@ use Rattle.theory_world.proofs.Endorsed.{in_map}
 use Rattle.theory_world.proofs.Made.{MadeBy, by_initial, by_branch, ByBranch, made_by}
 use Rattle.theory_world.proofs.Mentions.{HasDeposit, has_deposit}
 use Rattle.theory_run.proofs.Kept.{KeptBook, DepositCause, HeardDigest, AllFinal, SpentFor, From, opening_id}
-use Rattle.theory_run.proofs.Spending.{DraftsFit, Checked, HeardDraft, initial_heard, branch_heard, draft_bytes, draft_bytes_hash, draft_no_scripts, Cause, gift_cause, put_cause, start_cause, cause_of}
+use Rattle.theory_run.proofs.Spending.{TransactionsFit, Checked, HeardUnsigned, initial_heard, branch_heard, unsigned_bytes, unsigned_bytes_hash, unsigned_no_scripts, Cause, gift_cause, put_cause, start_cause, cause_of}
 use Rattle.theory_run.proofs.Accept.{bare_in, spent_for_in}
 use Rattle.theory_world.proofs.Positions.{in_some}
 use Rattle.theory_run.proofs.OnePosition.{one_initial}
@@ -42,7 +44,7 @@ in_images f (y ∷ xs) x (inr i) = inr (in_images f xs x i)
 
 -- ---- sequences
 
--- no input of a gift has the sequence of a draft's
+-- no input of a gift has the sequence of a contract's transaction
 not_final : (spends : List Spent) (xs ys : List TxIn) → map bare_input xs ≡ map bare_input (map input_of spends) → map (λ i. i.sequence) xs ≡ map (λ i. i.sequence) ys → AllFinal ys → (x : TxIn) → Is_in x xs → ⊥
 not_final spends [] ys e f h x i = absurd i
 not_final [] (x ∷ xs) ys e f h y i = cc
@@ -65,24 +67,24 @@ pub record Lies (s : Setup) (w : World) (st : Setting) (d : List ℕ × Holding)
   pub declared : is_declared s (d.1).owner ≡ true
 
 -- a contract that is compiled in the second world and isn't in the first, where all contracts of the first stay compiled
-module _ (s : Setup) (size : HashesBytes s.hash) (few_contracts : length s.contracts ≤ 16) (g : Configuration) (w : World) (kept : KeptBook s g w) (fit : DraftsFit s w) (check : Checked s w)
-    (next : World) (clear : NoClash s.hash next.hashed) (sub : (t : List ℕ) → is_among t w.hashed ≡ true → is_among t next.hashed ≡ true) (next_fit : DraftsFit s next) (next_check : Checked s next)
+module _ (s : Setup) (size : HashesBytes s.hash) (few_contracts : length s.contracts ≤ 16) (g : Configuration) (w : World) (kept : KeptBook s g w) (fit : TransactionsFit s w) (check : Checked s w)
+    (next : World) (clear : NoClash s.hash next.hashed) (sub : (t : List ℕ) → is_among t w.hashed ≡ true → is_among t next.hashed ≡ true) (next_fit : TransactionsFit s next) (next_check : Checked s next)
     (heard : (j : ℕ) (su : Setting) → compiled_at s next j ≡ Some su → (t : List ℕ) → is_among t (compiled_strings s.hash su) ≡ true → is_among t next.hashed ≡ true)
     (stays : (j : ℕ) (su : Setting) → compiled_at s w j ≡ Some su → compiled_at s next j ≡ Some su)
     (k : ℕ) (st : Setting) (now : compiled_at s next k ≡ Some st) (before : (su : Setting) → compiled_at s w k ≡ Some su → ⊥)
     (lies : (d : List ℕ × Holding) → Is_in d (persistent st.advert.pre) → Lies s w st d) (a : List ℕ) (part : is_among a (people st) ≡ true) (honest : is_honest s a ≡ true) where
-  -- an output of a transaction of this draft's id was made by an accepted one that is the same but for witnesses
-  by_id : (d : Draft) (x : Spent) → Is_in x d.spends → IsNumbered (tx_of d) → HeardDraft s.hash next.hashed d → (n : ℕ) (o : Output) → slice_get w.outputs n ≡ Some o → o.place.txid ≡ txid s.hash (tx_of d) → ((id : List ℕ) (f : From s w id) → bare f.tx ≡ bare (tx_of d) → ⊥) → ⊥
+  -- an output of a transaction of this one's id was made by an accepted one that is the same but for witnesses
+  by_id : (d : Unsigned) (x : Spent) → Is_in x d.spends → IsNumbered (tx_of d) → HeardUnsigned s.hash next.hashed d → (n : ℕ) (o : Output) → slice_get w.outputs n ≡ Some o → o.place.txid ≡ txid s.hash (tx_of d) → ((id : List ℕ) (f : From s w id) → bare f.tx ≡ bare (tx_of d) → ⊥) → ⊥
   by_id d x i fd hd n o there e go = by_origin (kept.origin n o there)
     where
       by_origin : (o.place.txid ≡ opening_id s) ⊎ From s w o.place.txid → ⊥
       by_origin (inl f) =
           let op = opening_transaction (opening_outputs s) in
-          let m = double-apart s.hash next.hashed clear (stripped op) (stripped (tx_of d)) (sub _ kept.opened.0) (sub _ kept.opened.1) (draft_bytes s.hash next.hashed d hd) (draft_bytes_hash s.hash next.hashed d hd) (sym f ∙ e) in
+          let m = double-apart s.hash next.hashed clear (stripped op) (stripped (tx_of d)) (sub _ kept.opened.0) (sub _ kept.opened.1) (unsigned_bytes s.hash next.hashed d hd) (unsigned_bytes_hash s.hash next.hashed d hd) (sym f ∙ e) in
           inputless_apart op (tx_of d) refl (in_some (input_of x) (tx_of d).inputs (in_images input_of d.spends x i)) m
       by_origin (inr f) =
-          let m = double-apart s.hash next.hashed clear (stripped f.tx) (stripped (tx_of d)) (sub _ f.first) (sub _ f.second) (draft_bytes s.hash next.hashed d hd) (draft_bytes_hash s.hash next.hashed d hd) (sym f.is ∙ e) in
-          go o.place.txid f (stripped-apart f.tx (tx_of d) f.no_scripts (draft_no_scripts d.spends) f.fits fd m)
+          let m = double-apart s.hash next.hashed clear (stripped f.tx) (stripped (tx_of d)) (sub _ f.first) (sub _ f.second) (unsigned_bytes s.hash next.hashed d hd) (unsigned_bytes_hash s.hash next.hashed d hd) (sym f.is ∙ e) in
+          go o.place.txid f (stripped-apart f.tx (tx_of d) f.no_scripts (unsigned_no_scripts d.spends) f.fits fd m)
 
   -- ---- the root
 
@@ -92,8 +94,8 @@ module _ (s : Setup) (size : HashesBytes s.hash) (few_contracts : length s.contr
   persists : Is_in (deposit s.hash st dep.name dep.holding) (persistent_deposits s.hash st)
   persists = in_images (λ (e : List ℕ × Holding). deposit s.hash st (e.0) (e.1)) (persistent st.advert.pre) (dep.name, dep.holding) dep.there
 
-  -- what the accepted transaction spent where the draft spends this
-  module _ (id : List ℕ) (f : From s w id) (d : Draft) (same : bare f.tx ≡ bare (tx_of d)) where
+  -- what the accepted transaction spent where the unsigned one spends this
+  module _ (id : List ℕ) (f : From s w id) (d : Unsigned) (same : bare f.tx ≡ bare (tx_of d)) where
     record SpentThere (x : Spent) : Type 0 where
       pub input : TxIn
       pub among : Is_in input f.tx.inputs
@@ -106,14 +108,14 @@ module _ (s : Setup) (size : HashesBytes s.hash) (few_contracts : length s.contr
         record { input = r.0; among = r.1; prev = r.2; spent = spent_for_in s w f.tx f.tx.inputs r.0 f.spent r.1 }
 
   -- no initial transaction was accepted
-  not_begun : (id : List ℕ) (f : From s w id) → bare f.tx ≡ bare (tx_of (initial_draft s.hash st)) → ⊥
+  not_begun : (id : List ℕ) (f : From s w id) → bare f.tx ≡ bare (tx_of (initial_unsigned s.hash st)) → ⊥
   not_begun id f same = by_cause (cause_of s size g w kept fit check next.hashed clear sub f.tx f.fits f.no_scripts lists a dig sp.input (party_script s.hash a) so.output.value placed digest_heard refl cause)
     where
       bound : Lies s w st (dep.name, dep.holding)
       bound = lies (dep.name, dep.holding) dep.there
 
-      sp : SpentThere id f (initial_draft s.hash st) same (deposit s.hash st dep.name dep.holding)
-      sp = spent_there id f (initial_draft s.hash st) same (deposit s.hash st dep.name dep.holding) persists
+      sp : SpentThere id f (initial_unsigned s.hash st) same (deposit s.hash st dep.name dep.holding)
+      sp = spent_there id f (initial_unsigned s.hash st) same (deposit s.hash st dep.name dep.holding) persists
 
       so : SpentFor s w f.tx sp.input
       so = sp.spent
@@ -150,7 +152,7 @@ module _ (s : Setup) (size : HashesBytes s.hash) (few_contracts : length s.contr
       by_cause (gift_cause d h q) = not_final (persistent_deposits s.hash st) f.tx.inputs h.tx.inputs (ap (λ (y : Tx). y.inputs) same) q.sequences h.final sp.input sp.among
       -- a put spends what holds a position first, a bound deposit holds none
       by_cause (put_cause p) =
-          let r = bare_in (map input_of (branch_draft s.hash p.setting p.here p.index p.branch).spends) (map input_of (persistent_deposits s.hash st)) (input_of p.here.output) (ap (λ (y : Tx). y.inputs) (sym p.is ∙ same)) (inl refl) in
+          let r = bare_in (map input_of (branch_unsigned s.hash p.setting p.here p.index p.branch).spends) (map input_of (persistent_deposits s.hash st)) (input_of p.here.output) (ap (λ (y : Tx). y.inputs) (sym p.is ∙ same)) (inl refl) in
           let x = in_map input_of (persistent_deposits s.hash st) r.0 r.1 in
           let y = in_map (λ (e : List ℕ × Holding). deposit s.hash st (e.0) (e.1)) (persistent st.advert.pre) x.0 x.1 in
           let l = lies y.0 y.1 in
@@ -180,10 +182,10 @@ module _ (s : Setup) (size : HashesBytes s.hash) (few_contracts : length s.contr
 
       by_made : MadeBy s.hash st q here choice
           → ((q' : List PathStep) (here' : Standing) (choice' : Choice) (n' : ℕ) (o' : Output) → length q' < m → position_at s.hash st q' ≡ Some (here', choice') → slice_get w.outputs n' ≡ Some o' → o'.place ≡ here'.output.place → ⊥) → ⊥
-      by_made (by_initial root at) ih = by_id (initial_draft s.hash st) (deposit s.hash st dep.name dep.holding) persists (next_fit.initial k st now) (initial_heard s.hash st next.hashed (heard k st now)) n o there (ap (λ (y : OutPoint). y.txid) p ∙ ap (λ (y : Standing). y.output.place.txid) at) not_begun
+      by_made (by_initial root at) ih = by_id (initial_unsigned s.hash st) (deposit s.hash st dep.name dep.holding) persists (next_fit.initial k st now) (initial_heard s.hash st next.hashed (heard k st now)) n o there (ap (λ (y : OutPoint). y.txid) p ∙ ap (λ (y : Standing). y.output.place.txid) at) not_begun
       by_made (by_branch bb) ih =
           let ib = bb.is_branch in
-          let d = branch_draft s.hash st bb.from_here bb.index bb.branch in
+          let d = branch_unsigned s.hash st bb.from_here bb.index bb.branch in
           by_id d bb.from_here.output (inl refl) (next_fit.branch k st ib.position bb.from_here ib.choice bb.index bb.branch now ib.stands ib.there) (branch_heard s.hash st next.hashed (heard k st now) ib.position bb.from_here ib.choice bb.index bb.branch ib.stands ib.there)
           n o there (ap (λ (y : OutPoint). y.txid) (p ∙ bb.place)) (λ id f same.
           let sp = spent_there id f d same bb.from_here.output (inl refl) in

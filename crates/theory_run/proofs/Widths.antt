@@ -14,7 +14,8 @@ use Rattle.spec_terms.specs.declared.path.PathStep.{PathStep}
 use Rattle.spec_terms.specs.declared.path.PathStep.TheVariants.{Branch as To}
 use Rattle.spec_bitcoin.specs.Spelling.{IsPlace, IsOutput, IsTransaction, output_bytes}
 use Rattle.spec_compiler.specs.Setting.{Setting, branch_path, position_script}
-use Rattle.spec_compiler.specs.Transactions.{Spent, Standing, input_of, tx_of, party_script, continued_value, put_deposits, part_position, part_outputs, core_outputs, branch_draft}
+use Rattle.spec_compiler.specs.declared.unsigned.Spent.{Spent}
+use Rattle.spec_compiler.specs.Transactions.{Standing, input_of, tx_of, party_script, continued_value, put_deposits, part_position, part_outputs, core_outputs, branch_unsigned}
 use Rattle.spec_compiler.specs.ByPath.{position_at}
 use Rattle.spec_run.specs.Conditions.{HashesBytes}
 use Rattle.theory_world.proofs.Tests.{length_map}
@@ -91,7 +92,7 @@ module _ (hash : List ℕ → List ℕ) (size : HashesBytes hash) (st : Setting)
   outputs_short path v (after height body) = tt
 
   -- its outputs have few bytes
-  pub branch_size : (here : Standing) (i : ℕ) (b : term.Branch) → is_readable_branch b ≡ true → length (flat_map output_bytes (tx_of (branch_draft hash st here i b)).outputs) < 2 ^ 32
+  pub branch_size : (here : Standing) (i : ℕ) (b : term.Branch) → is_readable_branch b ≡ true → length (flat_map output_bytes (tx_of (branch_unsigned hash st here i b)).outputs) < 2 ^ 32
   branch_size here i b readable =
       let n = outputs_few (branch_path here.position i) here.output.value (core b) (core_is_readable b readable) in
       let l = short_bytes (core_outputs hash st (branch_path here.position i) here.output.value (core b)) (outputs_short (branch_path here.position i) here.output.value (core b)) in
@@ -99,7 +100,7 @@ module _ (hash : List ℕ → List ℕ) (size : HashesBytes hash) (st : Setting)
 
   -- the transaction of a readable branch whose puts lie at places, and are few
   pub branch_fits : IsWellFormed st.advert → (q : List PathStep) (here : Standing) (choice : Choice) (i : ℕ) (b : term.Branch) → position_at hash st q ≡ Some (here, choice) → slice_get (branches choice) i ≡ Some b → is_readable_branch b ≡ true
-      → ((x : Spent) → Is_in x (put_deposits hash st (puts_of (core b))) → IsPlace x.place) → length (put_deposits hash st (puts_of (core b))) + 1 < 2 ^ 64 → IsTransaction (tx_of (branch_draft hash st here i b))
+      → ((x : Spent) → Is_in x (put_deposits hash st (puts_of (core b))) → IsPlace x.place) → length (put_deposits hash st (puts_of (core b))) + 1 < 2 ^ 64 → IsTransaction (tx_of (branch_unsigned hash st here i b))
   branch_fits well q here choice i b stands there readable places few =
       let l = lock_low b readable in
       let r = core_is_readable b readable in

@@ -12,9 +12,10 @@ use Rattle.spec_terms.specs.declared.path.PathStep.{PathStep}
 use Rattle.spec_terms.specs.declared.path.PathStep.TheVariants.{Branch as To, Part as Into}
 use Rattle.spec_compiler.specs.declared.prepared.Prepared.{Prepared}
 use Rattle.spec_compiler.specs.Setting.{Setting, branch_path}
-use Rattle.spec_compiler.specs.Transactions.{Draft, Standing, prepared, continued_value, core_draft, continued, part_position, part_standing, root_standing}
-use Rattle.spec_compiler.specs.Compilation.{choice_drafts, branch_drafts, parts_drafts, drafts, compilation}
-use Rattle.spec_compiler.specs.ByPath.{Stand, at_position, at_branch, branch_stand, next_stand, stand_from, stand_at, as_draft, draft_at, prepared_at}
+use Rattle.spec_compiler.specs.declared.unsigned.Unsigned.{Unsigned}
+use Rattle.spec_compiler.specs.Transactions.{Standing, prepared, continued_value, core_unsigned, continued, part_position, part_standing, root_standing}
+use Rattle.spec_compiler.specs.Compilation.{choice_transactions, branch_transactions, parts_transactions, path_transactions, compilation}
+use Rattle.spec_compiler.specs.ByPath.{Stand, at_position, at_branch, branch_stand, next_stand, stand_from, stand_at, as_unsigned, unsigned_at, prepared_at}
 use Rattle.theory_script.specs.Listed.{at_path}
 use Rattle.theory_script.proofs.Stands.{stand_from-step, next_core, is_next_core}
 
@@ -111,132 +112,132 @@ module _ (hash : List ℕ → List ℕ) (s : Setting) where
   known_from here c f = record { at = λ j. let z : 0 + j ≡ j = omega arith in subst (λ (n : ℕ). stand_at hash s (branch_path here.position n) ≡ option_map (at_branch here n) (slice_get (branches c) j)) (sym z) (f j) }
 
   -- the parts from number k on are those that stand there
-  pub record KnownParts (path : List PathStep) (made : Draft) (k : ℕ) (rest : Parts) : Type 0 where
+  pub record KnownParts (path : List PathStep) (made : Unsigned) (k : ℕ) (rest : Parts) : Type 0 where
     pub at : (j : ℕ) → stand_at hash s (part_position path (k + j)) ≡ option_map (λ (p : ℕ × Choice). at_position (part_standing hash s path made (k + j) p.0 p.1) p.1) (slice_get (parts_list rest) j)
 
-  pub part_here : (path : List PathStep) (made : Draft) (k v : ℕ) (c : Choice) (ps : Parts) → KnownParts path made k (part v c ps) → stand_at hash s (part_position path k) ≡ Some (at_position (part_standing hash s path made k v c) c)
+  pub part_here : (path : List PathStep) (made : Unsigned) (k v : ℕ) (c : Choice) (ps : Parts) → KnownParts path made k (part v c ps) → stand_at hash s (part_position path k) ≡ Some (at_position (part_standing hash s path made k v c) c)
   part_here path made k v c ps h = let z : k + 0 ≡ k = omega arith in subst (λ (n : ℕ). stand_at hash s (part_position path n) ≡ Some (at_position (part_standing hash s path made n v c) c)) z (h.at 0)
 
-  pub part_more : (path : List PathStep) (made : Draft) (k v : ℕ) (c : Choice) (ps : Parts) → KnownParts path made k (part v c ps) → KnownParts path made (k + 1) ps
+  pub part_more : (path : List PathStep) (made : Unsigned) (k v : ℕ) (c : Choice) (ps : Parts) → KnownParts path made k (part v c ps) → KnownParts path made (k + 1) ps
   part_more path made k v c ps h = record { at = λ j. let z : k + suc j ≡ k + 1 + j = omega arith in subst (λ (n : ℕ). stand_at hash s (part_position path n) ≡ option_map (λ (p : ℕ × Choice). at_position (part_standing hash s path made n p.0 p.1) p.1) (slice_get (parts_list ps) j)) z (h.at (suc j)) }
 
   pub known_continued : (here : Standing) (i : ℕ) (w : term.Branch) (puts reveals : List (List ℕ)) (test : Test) (next : Choice) → stand_at hash s (branch_path here.position i) ≡ Some (at_branch here i w) → core w ≡ put_reveal puts reveals test next
-      → Known (continued hash s (branch_path here.position i) (core_draft hash s here i (lock w) (put_reveal puts reveals test next)) (continued_value s here.output.value puts) next) 0 next
+      → Known (continued hash s (branch_path here.position i) (core_unsigned hash s here i (lock w) (put_reveal puts reveals test next)) (continued_value s here.output.value puts) next) 0 next
   known_continued here i w puts reveals test next h e =
       known_from _ next (λ j. one_further (branch_path here.position i) (To j) (at_branch here i w) h ∙ rw (e, e) refl)
 
   pub known_parts : (here : Standing) (i : ℕ) (w : term.Branch) (parts : Parts) → stand_at hash s (branch_path here.position i) ≡ Some (at_branch here i w) → core w ≡ split parts
-      → KnownParts (branch_path here.position i) (core_draft hash s here i (lock w) (split parts)) 0 parts
+      → KnownParts (branch_path here.position i) (core_unsigned hash s here i (lock w) (split parts)) 0 parts
   known_parts here i w parts h e =
       record { at = λ j. let z : 0 + j ≡ j = omega arith in rw z (one_further (branch_path here.position i) (Into j) (at_branch here i w) h ∙ rw (e, e) refl) }
 
-  pub part_known : (path : List PathStep) (made : Draft) (k v : ℕ) (c : Choice) → stand_at hash s (part_position path k) ≡ Some (at_position (part_standing hash s path made k v c) c) → Known (part_standing hash s path made k v c) 0 c
+  pub part_known : (path : List PathStep) (made : Unsigned) (k v : ℕ) (c : Choice) → stand_at hash s (part_position path k) ≡ Some (at_position (part_standing hash s path made k v c) c) → Known (part_standing hash s path made k v c) 0 c
   part_known path made k v c h = known_from _ c (λ j. one_further (part_position path k) (To j) (at_position (part_standing hash s path made k v c) c) h)
 
   -- the transaction of a branch that stands there
-  draft_here : (here : Standing) (i : ℕ) (w c : term.Branch) → stand_at hash s (branch_path here.position i) ≡ Some (at_branch here i w) → core w ≡ c → draft_at hash s (branch_path here.position i) ≡ Some (core_draft hash s here i (lock w) c)
-  draft_here here i w c h e = ap (option_and_then (as_draft hash s)) h ∙ ap (λ (x : term.Branch). Some (core_draft hash s here i (lock w) x)) e
+  unsigned_here : (here : Standing) (i : ℕ) (w c : term.Branch) → stand_at hash s (branch_path here.position i) ≡ Some (at_branch here i w) → core w ≡ c → unsigned_at hash s (branch_path here.position i) ≡ Some (core_unsigned hash s here i (lock w) c)
+  unsigned_here here i w c h e = ap (option_and_then (as_unsigned hash s)) h ∙ ap (λ (x : term.Branch). Some (core_unsigned hash s here i (lock w) x)) e
 
   mutual
-    choice_right : (here : Standing) (i : ℕ) (c : Choice) → Known here i c → AreRight (draft_at hash s) (choice_drafts hash s here i c)
+    choice_right : (here : Standing) (i : ℕ) (c : Choice) → Known here i c → AreRight (unsigned_at hash s) (choice_transactions hash s here i c)
     choice_right here i no_branch k = tt
     choice_right here i (branch b bs) k =
-        right-append (draft_at hash s) (branch_drafts hash s here i (lock b) b) (choice_drafts hash s here (i + 1) bs) (branch_right here i b b (known_here here i b bs k) refl) (choice_right here (i + 1) bs (known_more here i b bs k))
+        right-append (unsigned_at hash s) (branch_transactions hash s here i (lock b) b) (choice_transactions hash s here (i + 1) bs) (branch_right here i b b (known_here here i b bs k) refl) (choice_right here (i + 1) bs (known_more here i b bs k))
 
-    branch_right : (here : Standing) (i : ℕ) (w b : term.Branch) → stand_at hash s (branch_path here.position i) ≡ Some (at_branch here i w) → core w ≡ core b → AreRight (draft_at hash s) (branch_drafts hash s here i (lock w) b)
+    branch_right : (here : Standing) (i : ℕ) (w b : term.Branch) → stand_at hash s (branch_path here.position i) ≡ Some (at_branch here i w) → core w ≡ core b → AreRight (unsigned_at hash s) (branch_transactions hash s here i (lock w) b)
     branch_right here i w (auth party body) h e = branch_right here i w body h e
     branch_right here i w (after height body) h e = branch_right here i w body h e
     branch_right here i w (put_reveal puts reveals test next) h e =
-        (draft_here here i w (put_reveal puts reveals test next) h e, choice_right _ 0 next (known_continued here i w puts reveals test next h e))
-    branch_right here i w (withdraw party) h e = (draft_here here i w (withdraw party) h e, tt)
-    branch_right here i w (split parts) h e = (draft_here here i w (split parts) h e, parts_right (branch_path here.position i) _ 0 parts (known_parts here i w parts h e))
+        (unsigned_here here i w (put_reveal puts reveals test next) h e, choice_right _ 0 next (known_continued here i w puts reveals test next h e))
+    branch_right here i w (withdraw party) h e = (unsigned_here here i w (withdraw party) h e, tt)
+    branch_right here i w (split parts) h e = (unsigned_here here i w (split parts) h e, parts_right (branch_path here.position i) _ 0 parts (known_parts here i w parts h e))
 
-    parts_right : (path : List PathStep) (made : Draft) (k : ℕ) (ps : Parts) → KnownParts path made k ps → AreRight (draft_at hash s) (parts_drafts hash s path made k ps)
+    parts_right : (path : List PathStep) (made : Unsigned) (k : ℕ) (ps : Parts) → KnownParts path made k ps → AreRight (unsigned_at hash s) (parts_transactions hash s path made k ps)
     parts_right path made k no_part h = tt
     parts_right path made k (part v c ps) h =
-        right-append (draft_at hash s) (choice_drafts hash s (part_standing hash s path made k v c) 0 c) (parts_drafts hash s path made (k + 1) ps) (choice_right _ 0 c (part_known path made k v c (part_here path made k v c ps h))) (parts_right path made (k + 1) ps (part_more path made k v c ps h))
+        right-append (unsigned_at hash s) (choice_transactions hash s (part_standing hash s path made k v c) 0 c) (parts_transactions hash s path made (k + 1) ps) (choice_right _ 0 c (part_known path made k v c (part_here path made k v c ps h))) (parts_right path made (k + 1) ps (part_more path made k v c ps h))
 
-  pub drafts_right : AreRight (draft_at hash s) (drafts hash s)
-  drafts_right = choice_right (root_standing hash s) 0 s.advert.root (known_from (root_standing hash s) s.advert.root (λ j. last_of (branch_stand (root_standing hash s) s.advert.root j)))
+  pub transactions_right : AreRight (unsigned_at hash s) (path_transactions hash s)
+  transactions_right = choice_right (root_standing hash s) 0 s.advert.root (known_from (root_standing hash s) s.advert.root (λ j. last_of (branch_stand (root_standing hash s) s.advert.root j)))
 
   -- ---- and each path is in the list
 
   -- the transactions under a branch with this core
-  abbrev under : Standing → ℕ → ℕ → term.Branch → List (List PathStep × Draft)
+  abbrev under : Standing → ℕ → ℕ → term.Branch → List (List PathStep × Unsigned)
   under here i l (put_reveal puts reveals test next) =
-      choice_drafts hash s (continued hash s (branch_path here.position i) (core_draft hash s here i l (put_reveal puts reveals test next)) (continued_value s here.output.value puts) next) 0 next
-  under here i l (split parts) = parts_drafts hash s (branch_path here.position i) (core_draft hash s here i l (split parts)) 0 parts
+      choice_transactions hash s (continued hash s (branch_path here.position i) (core_unsigned hash s here i l (put_reveal puts reveals test next)) (continued_value s here.output.value puts) next) 0 next
+  under here i l (split parts) = parts_transactions hash s (branch_path here.position i) (core_unsigned hash s here i l (split parts)) 0 parts
   under here i l (withdraw party) = []
   under here i l (auth party body) = []
   under here i l (after height body) = []
 
-  drafts_are : (here : Standing) (i l : ℕ) (b : term.Branch) → branch_drafts hash s here i l b ≡ (branch_path here.position i, core_draft hash s here i l (core b)) ∷ under here i l (core b)
-  drafts_are here i l (auth party body) = drafts_are here i l body
-  drafts_are here i l (after height body) = drafts_are here i l body
-  drafts_are here i l (put_reveal puts reveals test next) = refl
-  drafts_are here i l (withdraw party) = refl
-  drafts_are here i l (split parts) = refl
+  transactions_are : (here : Standing) (i l : ℕ) (b : term.Branch) → branch_transactions hash s here i l b ≡ (branch_path here.position i, core_unsigned hash s here i l (core b)) ∷ under here i l (core b)
+  transactions_are here i l (auth party body) = transactions_are here i l body
+  transactions_are here i l (after height body) = transactions_are here i l body
+  transactions_are here i l (put_reveal puts reveals test next) = refl
+  transactions_are here i l (withdraw party) = refl
+  transactions_are here i l (split parts) = refl
 
-  own_path : (here : Standing) (i l : ℕ) (b : term.Branch) → has_path (branch_path here.position i) (branch_drafts hash s here i l b) ≡ true
+  own_path : (here : Standing) (i l : ℕ) (b : term.Branch) → has_path (branch_path here.position i) (branch_transactions hash s here i l b) ≡ true
   own_path here i l b =
-      ap (has_path (branch_path here.position i)) (drafts_are here i l b) ∙ or_left _ (has_path (branch_path here.position i) (under here i l (core b))) (path_same (branch_path here.position i))
+      ap (has_path (branch_path here.position i)) (transactions_are here i l b) ∙ or_left _ (has_path (branch_path here.position i) (under here i l (core b))) (path_same (branch_path here.position i))
 
-  under_within : (here : Standing) (i l : ℕ) (b : term.Branch) → Within (under here i l (core b)) (branch_drafts hash s here i l b)
-  under_within here i l b = subst (λ (es : List (List PathStep × Draft)). Within (under here i l (core b)) es) (sym (drafts_are here i l b)) (within_more _ (under here i l (core b)))
+  under_within : (here : Standing) (i l : ℕ) (b : term.Branch) → Within (under here i l (core b)) (branch_transactions hash s here i l b)
+  under_within here i l b = subst (λ (es : List (List PathStep × Unsigned)). Within (under here i l (core b)) es) (sym (transactions_are here i l b)) (within_more _ (under here i l (core b)))
 
   -- the transactions of one branch are among those of its choice
-  branch_within : (here : Standing) (i : ℕ) (c : Choice) (j : ℕ) (b : term.Branch) → slice_get (branches c) j ≡ Some b → Within (branch_drafts hash s here (i + j) (lock b) b) (choice_drafts hash s here i c)
+  branch_within : (here : Standing) (i : ℕ) (c : Choice) (j : ℕ) (b : term.Branch) → slice_get (branches c) j ≡ Some b → Within (branch_transactions hash s here (i + j) (lock b) b) (choice_transactions hash s here i c)
   branch_within here i no_branch j b e = cc
   branch_within here i (branch d bs) zero b e =
       let same : d ≡ b = some_same e in
       let z : i + 0 ≡ i = omega arith in
-      subst (λ (n : ℕ). Within (branch_drafts hash s here n (lock b) b) (choice_drafts hash s here i (branch d bs))) (sym z)
-      (subst (λ (x : term.Branch). Within (branch_drafts hash s here i (lock x) x) (choice_drafts hash s here i (branch d bs))) same (within_front (branch_drafts hash s here i (lock d) d) (choice_drafts hash s here (i + 1) bs)))
+      subst (λ (n : ℕ). Within (branch_transactions hash s here n (lock b) b) (choice_transactions hash s here i (branch d bs))) (sym z)
+      (subst (λ (x : term.Branch). Within (branch_transactions hash s here i (lock x) x) (choice_transactions hash s here i (branch d bs))) same (within_front (branch_transactions hash s here i (lock d) d) (choice_transactions hash s here (i + 1) bs)))
   branch_within here i (branch d bs) (suc j) b e =
       let z : i + suc j ≡ i + 1 + j = omega arith in
-      subst (λ (n : ℕ). Within (branch_drafts hash s here n (lock b) b) (choice_drafts hash s here i (branch d bs))) (sym z)
-      (within_all (branch_within here (i + 1) bs j b e) (within_back (branch_drafts hash s here i (lock d) d) (choice_drafts hash s here (i + 1) bs)))
+      subst (λ (n : ℕ). Within (branch_transactions hash s here n (lock b) b) (choice_transactions hash s here i (branch d bs))) (sym z)
+      (within_all (branch_within here (i + 1) bs j b e) (within_back (branch_transactions hash s here i (lock d) d) (choice_transactions hash s here (i + 1) bs)))
 
   -- those of one part are among those of its split
-  part_within : (path : List PathStep) (made : Draft) (k : ℕ) (ps : Parts) (j : ℕ) (p : ℕ × Choice) → slice_get (parts_list ps) j ≡ Some p → Within (choice_drafts hash s (part_standing hash s path made (k + j) p.0 p.1) 0 p.1) (parts_drafts hash s path made k ps)
+  part_within : (path : List PathStep) (made : Unsigned) (k : ℕ) (ps : Parts) (j : ℕ) (p : ℕ × Choice) → slice_get (parts_list ps) j ≡ Some p → Within (choice_transactions hash s (part_standing hash s path made (k + j) p.0 p.1) 0 p.1) (parts_transactions hash s path made k ps)
   part_within path made k no_part j p e = cc
   part_within path made k (part v c ps) zero p e =
       let same : (v, c) ≡ p = some_same e in
       let z : k + 0 ≡ k = omega arith in
-      subst (λ (n : ℕ). Within (choice_drafts hash s (part_standing hash s path made n p.0 p.1) 0 p.1) (parts_drafts hash s path made k (part v c ps))) (sym z)
-      (subst (λ (x : ℕ × Choice). Within (choice_drafts hash s (part_standing hash s path made k x.0 x.1) 0 x.1) (parts_drafts hash s path made k (part v c ps))) same (within_front (choice_drafts hash s (part_standing hash s path made k v c) 0 c) (parts_drafts hash s path made (k + 1) ps)))
+      subst (λ (n : ℕ). Within (choice_transactions hash s (part_standing hash s path made n p.0 p.1) 0 p.1) (parts_transactions hash s path made k (part v c ps))) (sym z)
+      (subst (λ (x : ℕ × Choice). Within (choice_transactions hash s (part_standing hash s path made k x.0 x.1) 0 x.1) (parts_transactions hash s path made k (part v c ps))) same (within_front (choice_transactions hash s (part_standing hash s path made k v c) 0 c) (parts_transactions hash s path made (k + 1) ps)))
   part_within path made k (part v c ps) (suc j) p e =
       let z : k + suc j ≡ k + 1 + j = omega arith in
-      subst (λ (n : ℕ). Within (choice_drafts hash s (part_standing hash s path made n p.0 p.1) 0 p.1) (parts_drafts hash s path made k (part v c ps))) (sym z)
-      (within_all (part_within path made (k + 1) ps j p e) (within_back (choice_drafts hash s (part_standing hash s path made k v c) 0 c) (parts_drafts hash s path made (k + 1) ps)))
+      subst (λ (n : ℕ). Within (choice_transactions hash s (part_standing hash s path made n p.0 p.1) 0 p.1) (parts_transactions hash s path made k (part v c ps))) (sym z)
+      (within_all (part_within path made (k + 1) ps j p e) (within_back (choice_transactions hash s (part_standing hash s path made k v c) 0 c) (parts_transactions hash s path made (k + 1) ps)))
 
   -- what stands at the path has its transactions in the list
   abbrev Held : List PathStep → Stand → Type 0
-  Held path (at_position here c) = (here.position ≡ path) × Within (choice_drafts hash s here 0 c) (drafts hash s)
-  Held path (at_branch here i b) = (branch_path here.position i ≡ path) × Within (branch_drafts hash s here i (lock b) b) (drafts hash s)
+  Held path (at_position here c) = (here.position ≡ path) × Within (choice_transactions hash s here 0 c) (path_transactions hash s)
+  Held path (at_branch here i b) = (branch_path here.position i ≡ path) × Within (branch_transactions hash s here i (lock b) b) (path_transactions hash s)
 
   abbrev IfHeld : List PathStep → Option Stand → Type 0
   IfHeld path None = Unit {0}
   IfHeld path (Some p) = Held path p
 
-  held_branch : (path : List PathStep) (here : Standing) (c : Choice) (j : ℕ) (o : Option term.Branch) → slice_get (branches c) j ≡ o → branch_path here.position j ≡ path → Within (choice_drafts hash s here 0 c) (drafts hash s) → IfHeld path (option_map (at_branch here j) o)
+  held_branch : (path : List PathStep) (here : Standing) (c : Choice) (j : ℕ) (o : Option term.Branch) → slice_get (branches c) j ≡ o → branch_path here.position j ≡ path → Within (choice_transactions hash s here 0 c) (path_transactions hash s) → IfHeld path (option_map (at_branch here j) o)
   held_branch path here c j None e same w = tt
   held_branch path here c j (Some b) e same w =
       let z : 0 + j ≡ j = omega arith in
-      (same, within_all (subst (λ (n : ℕ). Within (branch_drafts hash s here n (lock b) b) (choice_drafts hash s here 0 c)) z (branch_within here 0 c j b e)) w)
+      (same, within_all (subst (λ (n : ℕ). Within (branch_transactions hash s here n (lock b) b) (choice_transactions hash s here 0 c)) z (branch_within here 0 c j b e)) w)
 
-  held_part : (path : List PathStep) (made : Draft) (ps : Parts) (k : ℕ) (o : Option (ℕ × Choice)) → slice_get (parts_list ps) k ≡ o → Within (parts_drafts hash s path made 0 ps) (drafts hash s) → IfHeld (part_position path k) (option_map (λ (p : ℕ × Choice). at_position (part_standing hash s path made k p.0 p.1) p.1) o)
+  held_part : (path : List PathStep) (made : Unsigned) (ps : Parts) (k : ℕ) (o : Option (ℕ × Choice)) → slice_get (parts_list ps) k ≡ o → Within (parts_transactions hash s path made 0 ps) (path_transactions hash s) → IfHeld (part_position path k) (option_map (λ (p : ℕ × Choice). at_position (part_standing hash s path made k p.0 p.1) p.1) o)
   held_part path made ps k None e w = tt
   held_part path made ps k (Some p) e w =
       let z : 0 + k ≡ k = omega arith in
-      (refl, within_all (subst (λ (n : ℕ). Within (choice_drafts hash s (part_standing hash s path made n p.0 p.1) 0 p.1) (parts_drafts hash s path made 0 ps)) z (part_within path made 0 ps k p e)) w)
+      (refl, within_all (subst (λ (n : ℕ). Within (choice_transactions hash s (part_standing hash s path made n p.0 p.1) 0 p.1) (parts_transactions hash s path made 0 ps)) z (part_within path made 0 ps k p e)) w)
 
   -- one step further from a branch, by its core
-  held_core : (path : List PathStep) (here : Standing) (i : ℕ) (w c : term.Branch) (step : PathStep) → core w ≡ c → branch_path here.position i ≡ path → Within (under here i (lock w) c) (drafts hash s) → IfHeld (path ++ step ∷ []) (next_core hash s here i w c step)
+  held_core : (path : List PathStep) (here : Standing) (i : ℕ) (w c : term.Branch) (step : PathStep) → core w ≡ c → branch_path here.position i ≡ path → Within (under here i (lock w) c) (path_transactions hash s) → IfHeld (path ++ step ∷ []) (next_core hash s here i w c step)
   held_core path here i w (put_reveal puts reveals test next) (To j) e same h = rw e (held_branch (path ++ To j ∷ []) _ next j (slice_get (branches next) j) refl (ap (λ (p : List PathStep). p ++ To j ∷ []) same) h)
   held_core path here i w (put_reveal puts reveals test next) (Into k) e same h = tt
   held_core path here i w (split parts) (To j) e same h = tt
-  held_core path here i w (split parts) (Into k) e same h = rw e (subst (λ (p : List PathStep). IfHeld (p ++ Into k ∷ []) (option_map (λ (q : ℕ × Choice). at_position (part_standing hash s (branch_path here.position i) (core_draft hash s here i (lock w) (split parts)) k q.0 q.1) q.1) (slice_get (parts_list parts) k))) same (held_part (branch_path here.position i) _ parts k (slice_get (parts_list parts) k) refl h))
+  held_core path here i w (split parts) (Into k) e same h = rw e (subst (λ (p : List PathStep). IfHeld (p ++ Into k ∷ []) (option_map (λ (q : ℕ × Choice). at_position (part_standing hash s (branch_path here.position i) (core_unsigned hash s here i (lock w) (split parts)) k q.0 q.1) q.1) (slice_get (parts_list parts) k))) same (held_part (branch_path here.position i) _ parts k (slice_get (parts_list parts) k) refl h))
   held_core path here i w (auth party body) (To j) e same h = tt
   held_core path here i w (auth party body) (Into k) e same h = tt
   held_core path here i w (after height body) (To j) e same h = tt
@@ -250,26 +251,26 @@ module _ (hash : List ℕ → List ℕ) (s : Setting) where
   held_next path (at_branch here i b) step h =
       subst (λ (o : Option Stand). IfHeld (path ++ step ∷ []) o) (sym (is_next_core hash s here i b step)) (held_core path here i b (core b) step refl h.0 (within_all (under_within here i (lock b) b) h.1))
 
-  reached_if : (path steps : List PathStep) (d : Draft) (o : Option Stand) → IfHeld path o → ((p : Stand) → Held path p → option_and_then (as_draft hash s) (stand_from hash s p steps) ≡ Some d → has_path (path ++ steps) (drafts hash s) ≡ true)
-      → option_and_then (as_draft hash s) (option_and_then (λ (p : Stand). stand_from hash s p steps) o) ≡ Some d → has_path (path ++ steps) (drafts hash s) ≡ true
+  reached_if : (path steps : List PathStep) (d : Unsigned) (o : Option Stand) → IfHeld path o → ((p : Stand) → Held path p → option_and_then (as_unsigned hash s) (stand_from hash s p steps) ≡ Some d → has_path (path ++ steps) (path_transactions hash s) ≡ true)
+      → option_and_then (as_unsigned hash s) (option_and_then (λ (p : Stand). stand_from hash s p steps) o) ≡ Some d → has_path (path ++ steps) (path_transactions hash s) ≡ true
   reached_if path steps d None h k e = cc
   reached_if path steps d (Some p) h k e = k p h e
 
-  reached : (path steps : List PathStep) (d : Draft) (p : Stand) → Held path p → option_and_then (as_draft hash s) (stand_from hash s p steps) ≡ Some d → has_path (path ++ steps) (drafts hash s) ≡ true
+  reached : (path steps : List PathStep) (d : Unsigned) (p : Stand) → Held path p → option_and_then (as_unsigned hash s) (stand_from hash s p steps) ≡ Some d → has_path (path ++ steps) (path_transactions hash s) ≡ true
   reached path [] d (at_position here c) h e = cc
   reached path [] d (at_branch here i b) h e =
       let has = h.1.has (branch_path here.position i) (own_path here i (lock b) b) in
-      subst (λ (q : List PathStep). has_path q (drafts hash s) ≡ true) (h.0 ∙ sym (append-nil path)) has
+      subst (λ (q : List PathStep). has_path q (path_transactions hash s) ≡ true) (h.0 ∙ sym (append-nil path)) has
   reached path (step ∷ steps) d p h e =
-      subst (λ (q : List PathStep). has_path q (drafts hash s) ≡ true) (append_assoc path (step ∷ []) steps)
+      subst (λ (q : List PathStep). has_path q (path_transactions hash s) ≡ true) (append_assoc path (step ∷ []) steps)
       (reached_if (path ++ step ∷ []) steps d (next_stand hash s step p) (held_next path p step h) (λ q k l. reached (path ++ step ∷ []) steps d q k l) e)
 
-  drafts_listed : (path : List PathStep) → at_path path (drafts hash s) ≡ draft_at hash s path
-  drafts_listed path = list_is (draft_at hash s) path (drafts hash s) drafts_right (λ d e. reached [] path d (at_position (root_standing hash s) s.advert.root) (refl, within_same (drafts hash s)) e)
+  transactions_listed : (path : List PathStep) → at_path path (path_transactions hash s) ≡ unsigned_at hash s path
+  transactions_listed path = list_is (unsigned_at hash s) path (path_transactions hash s) transactions_right (λ d e. reached [] path d (at_position (root_standing hash s) s.advert.root) (refl, within_same (path_transactions hash s)) e)
 
   -- ---- with txids and digests
 
-  mapped : (path : List PathStep) (es : List (List PathStep × Draft)) → at_path path (map {B = List PathStep × Prepared} (λ e. (e.0, prepared hash e.1)) es) ≡ option_map (prepared hash) (at_path path es)
+  mapped : (path : List PathStep) (es : List (List PathStep × Unsigned)) → at_path path (map {B = List PathStep × Prepared} (λ e. (e.0, prepared hash e.1)) es) ≡ option_map (prepared hash) (at_path path es)
   mapped path [] = refl
   mapped path (e ∷ es) = by_test (path_eq e.0 path) (mapped path es)
     where
@@ -278,4 +279,4 @@ module _ (hash : List ℕ → List ℕ) (s : Setting) where
       by_test false h = h
 
   pub paths_are_listed : (path : List PathStep) → at_path path (compilation hash s).paths ≡ prepared_at hash s path
-  paths_are_listed path = mapped path (drafts hash s) ∙ ap (option_map (prepared hash)) (drafts_listed path)
+  paths_are_listed path = mapped path (path_transactions hash s) ∙ ap (option_map (prepared hash)) (transactions_listed path)

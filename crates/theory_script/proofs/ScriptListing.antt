@@ -8,7 +8,8 @@ use Rattle.spec_terms.specs.Core.{core, lock}
 use Rattle.spec_terms.specs.declared.path.PathStep.{PathStep}
 use Rattle.spec_terms.specs.declared.path.PathStep.TheVariants.{Branch as To, Part as Into}
 use Rattle.spec_compiler.specs.Setting.{Setting, branch_path, position_script}
-use Rattle.spec_compiler.specs.Transactions.{Draft, Standing, core_draft, part_position, part_standing, root_standing}
+use Rattle.spec_compiler.specs.declared.unsigned.Unsigned.{Unsigned}
+use Rattle.spec_compiler.specs.Transactions.{Standing, core_unsigned, part_position, part_standing, root_standing}
 use Rattle.spec_compiler.specs.Compilation.{choice_scripts, branch_scripts, parts_scripts, scripts}
 use Rattle.spec_compiler.specs.ByPath.{Stand, at_position, at_branch, branch_stand, continued_stand, next_stand, stand_from, stand_at, as_position, position_at}
 use Rattle.theory_script.specs.Listed.{at_path}
@@ -44,7 +45,7 @@ module _ (hash : List ℕ → List ℕ) (s : Setting) where
     branch_right here i w (withdraw party) h e = tt
     branch_right here i w (split parts) h e = parts_right (branch_path here.position i) _ 0 parts (known_parts hash s here i w parts h e)
 
-    parts_right : (path : List PathStep) (made : Draft) (k : ℕ) (ps : Parts) → KnownParts hash s path made k ps → AreRight script_at (parts_scripts hash s path k ps)
+    parts_right : (path : List PathStep) (made : Unsigned) (k : ℕ) (ps : Parts) → KnownParts hash s path made k ps → AreRight script_at (parts_scripts hash s path k ps)
     parts_right path made k no_part h = tt
     parts_right path made k (part v c ps) h =
         let here = part_here hash s path made k v c ps h in (
@@ -115,7 +116,7 @@ module _ (hash : List ℕ → List ℕ) (s : Setting) where
       let z : 0 + j ≡ j = omega arith in
       (same, within_all (subst (λ (n : ℕ). Within (branch_scripts hash s (branch_path here.position n) b) (choice_scripts hash s here.position 0 c)) z (branch_within here.position 0 c j b e)) w)
 
-  held_part : (path : List PathStep) (made : Draft) (ps : Parts) (k : ℕ) (o : Option (ℕ × Choice)) → slice_get (parts_list ps) k ≡ o → Within (parts_scripts hash s path 0 ps) (scripts hash s) → IfHeld (part_position path k) (option_map (λ (p : ℕ × Choice). at_position (part_standing hash s path made k p.0 p.1) p.1) o)
+  held_part : (path : List PathStep) (made : Unsigned) (ps : Parts) (k : ℕ) (o : Option (ℕ × Choice)) → slice_get (parts_list ps) k ≡ o → Within (parts_scripts hash s path 0 ps) (scripts hash s) → IfHeld (part_position path k) (option_map (λ (p : ℕ × Choice). at_position (part_standing hash s path made k p.0 p.1) p.1) o)
   held_part path made ps k None e w = tt
   held_part path made ps k (Some p) e w =
       let z : 0 + k ≡ k = omega arith in
@@ -126,7 +127,7 @@ module _ (hash : List ℕ → List ℕ) (s : Setting) where
       rw e (held_branch (path ++ To j ∷ []) _ next j (slice_get (branches next) j) refl (ap (λ (p : List PathStep). p ++ To j ∷ []) same) (within_all (within_more _ (choice_scripts hash s (branch_path here.position i) 0 next)) h))
   held_core path here i w (put_reveal puts reveals test next) (Into k) e same h = tt
   held_core path here i w (split parts) (To j) e same h = tt
-  held_core path here i w (split parts) (Into k) e same h = rw e (subst (λ (p : List PathStep). IfHeld (p ++ Into k ∷ []) (option_map (λ (q : ℕ × Choice). at_position (part_standing hash s (branch_path here.position i) (core_draft hash s here i (lock w) (split parts)) k q.0 q.1) q.1) (slice_get (parts_list parts) k))) same (held_part (branch_path here.position i) (core_draft hash s here i (lock w) (split parts)) parts k (slice_get (parts_list parts) k) refl h))
+  held_core path here i w (split parts) (Into k) e same h = rw e (subst (λ (p : List PathStep). IfHeld (p ++ Into k ∷ []) (option_map (λ (q : ℕ × Choice). at_position (part_standing hash s (branch_path here.position i) (core_unsigned hash s here i (lock w) (split parts)) k q.0 q.1) q.1) (slice_get (parts_list parts) k))) same (held_part (branch_path here.position i) (core_unsigned hash s here i (lock w) (split parts)) parts k (slice_get (parts_list parts) k) refl h))
   held_core path here i w (auth party body) (To j) e same h = tt
   held_core path here i w (auth party body) (Into k) e same h = tt
   held_core path here i w (after height body) (To j) e same h = tt

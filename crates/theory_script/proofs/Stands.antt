@@ -10,7 +10,8 @@ use Rattle.spec_terms.specs.Paths.{Spot, below, next_spot, spot_from, as_choice,
 use Rattle.spec_terms.specs.declared.path.PathStep.{PathStep}
 use Rattle.spec_terms.specs.declared.path.PathStep.TheVariants.{Branch as To, Part as Into}
 use Rattle.spec_compiler.specs.Setting.{Setting, branch_path, position_script}
-use Rattle.spec_compiler.specs.Transactions.{Draft, Standing, branch_draft, part_position, part_standing, root_standing}
+use Rattle.spec_compiler.specs.declared.unsigned.Unsigned.{Unsigned}
+use Rattle.spec_compiler.specs.Transactions.{Standing, branch_unsigned, part_position, part_standing, root_standing}
 use Rattle.spec_compiler.specs.ByPath.{Stand, at_position, at_branch, branch_stand, continued_stand, part_stand, next_stand, stand_from, stand_at, as_position, position_at}
 use Rattle.theory_script.specs.Listed.{StandsAt}
 
@@ -51,7 +52,7 @@ module _ (hash : List ℕ → List ℕ) (s : Setting) where
   to_branch path here i None e = tt
   to_branch path here i (Some b) e = (e, refl)
 
-  to_part : (path : List PathStep) (made : Draft) (k : ℕ) (o : Option (ℕ × Choice)) → IfAgrees (part_position path k) (option_map (λ (p : ℕ × Choice). at_position (part_standing hash s path made k p.0 p.1) p.1) o) (option_map (λ (p : ℕ × Choice). paths.position p.1) o)
+  to_part : (path : List PathStep) (made : Unsigned) (k : ℕ) (o : Option (ℕ × Choice)) → IfAgrees (part_position path k) (option_map (λ (p : ℕ × Choice). at_position (part_standing hash s path made k p.0 p.1) p.1) o) (option_map (λ (p : ℕ × Choice). paths.position p.1) o)
   to_part path made k None = tt
   to_part path made k (Some p) = (refl, refl, refl)
 
@@ -68,7 +69,7 @@ module _ (hash : List ℕ → List ℕ) (s : Setting) where
   from_core path here i d (put_reveal puts reveals test next) (To j) e = to_branch (path ++ To j ∷ []) _ j (slice_get (branches next) j) (ap (λ (p : List PathStep). p ++ To j ∷ []) e)
   from_core path here i d (put_reveal puts reveals test next) (Into k) e = tt
   from_core path here i d (split parts) (To j) e = tt
-  from_core path here i d (split parts) (Into k) e = subst (λ (p : List PathStep). IfAgrees (p ++ Into k ∷ []) (next_core here i d (split parts) (Into k)) (below (split parts) (Into k))) e (to_part (branch_path here.position i) (branch_draft hash s here i d) k (slice_get (parts_list parts) k))
+  from_core path here i d (split parts) (Into k) e = subst (λ (p : List PathStep). IfAgrees (p ++ Into k ∷ []) (next_core here i d (split parts) (Into k)) (below (split parts) (Into k))) e (to_part (branch_path here.position i) (branch_unsigned hash s here i d) k (slice_get (parts_list parts) k))
   from_core path here i d (auth party body) (To j) e = tt
   from_core path here i d (auth party body) (Into k) e = tt
   from_core path here i d (after height body) (To j) e = tt

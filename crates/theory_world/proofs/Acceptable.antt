@@ -20,7 +20,9 @@ use Rattle.spec_bitcoin.specs.Meaning.{script_meaning}
 use Rattle.spec_data.specs.Ranges.{max_money}
 use Rattle.spec_bitcoin.specs.Verdict.{has_repeat, first_missing, whole_row, pays_to_script, program_of, script_of, items_of, is_long, input_row, input_refusal, inputs_refusal, refusal_of, spent_number, spent_value, spent_total, total_of, is_not_final, heeds_lock, numbers_from, verdict_for}
 use Rattle.spec_compiler.specs.Statements.{IsHash, is_short}
-use Rattle.spec_compiler.specs.Transactions.{Draft, Spent, input_of, tx_of, digest_of_spent}
+use Rattle.spec_compiler.specs.declared.unsigned.Spent.{Spent}
+use Rattle.spec_compiler.specs.declared.unsigned.Unsigned.{Unsigned}
+use Rattle.spec_compiler.specs.Transactions.{input_of, tx_of, digest_of_spent}
 use Rattle.spec_run.specs.Setup.{Setup}
 use Rattle.spec_run.specs.World.{Output, World}
 use Rattle.spec_run.specs.Ledger.{live_from, tx_out, chain_of, verdict_in}
@@ -260,7 +262,7 @@ module _ (s : Setup) (w : World) (size : IsHash s.hash) (apart : (m n : ℕ) (o 
       or_from _ _ b (no_repeat tx xs us ns h.1 p.1)
 
   -- all that the ledger asks of a compiled transaction
-  pub record Asked (d : Draft) (us : List (List (List ℕ))) (ns : List ℕ) : Type 0 where
+  pub record Asked (d : Unsigned) (us : List (List (List ℕ))) (ns : List ℕ) : Type 0 where
     pub ready : AllReady s w (tx_of d) d.spends us ns
     pub distinct : are_distinct ns ≡ true
     pub some : 0 < length d.spends
@@ -270,7 +272,7 @@ module _ (s : Setup) (w : World) (size : IsHash s.hash) (apart : (m n : ℕ) (o 
     pub reached : d.lock ≤ w.tip
     pub height : w.tip ≤ 499999999
 
-  pub accepts : (d : Draft) (us : List (List (List ℕ))) (ns : List ℕ) → Asked d us ns
+  pub accepts : (d : Unsigned) (us : List (List (List ℕ))) (ns : List ℕ) → Asked d us ns
       → verdict_in s w (with_witnesses (tx_of d) us) ≡ verdicts.Accepted ns (numbers_from (length w.outputs) d.outputs)
   accepts d us ns a =
       let tx = with_witnesses (tx_of d) us in

@@ -20,7 +20,7 @@ use Rattle.spec_terms.specs.declared.place.Place.{Place}
 use Rattle.spec_terms.specs.declared.path.PathStep.{PathStep}
 use Rattle.spec_terms.specs.declared.path.PathStep.TheVariants.{Branch as To, Part as Into}
 use Rattle.spec_compiler.specs.Setting.{Setting, branch_path}
-use Rattle.spec_compiler.specs.Transactions.{Standing, continued_value, part_position, branch_draft, continued, part_standing, root_value, root_standing}
+use Rattle.spec_compiler.specs.Transactions.{Standing, continued_value, part_position, branch_unsigned, continued, part_standing, root_value, root_standing}
 use Rattle.spec_compiler.specs.ByPath as by_path
 use Rattle.spec_compiler.specs.ByPath.{Stand, branch_stand, continued_stand, part_stand, next_stand, stand_from, stand_at, as_position, position_at}
 use Rattle.theory_world.proofs.Tests.{all-append}
@@ -140,7 +140,7 @@ module _ (hash : List ℕ → List ℕ) (s : Setting) where
 
   continued_fine : (here : Standing) (i : ℕ) (b c : term.Branch) (p : Standing × Choice) → core b ≡ c → Fine (by_path.at_branch here i b) → continued_stand hash s here i b c ≡ Some p → Fine (by_path.at_position p.0 p.1)
   continued_fine here i b (put_reveal puts reveals test next) p e f h =
-      let z : (let q : Standing × Choice = (continued hash s (branch_path here.position i) (branch_draft hash s here i b) (continued_value s here.output.value puts) next, next) in q) ≡ p = cc in
+      let z : (let q : Standing × Choice = (continued hash s (branch_path here.position i) (branch_unsigned hash s here i b) (continued_value s here.output.value puts) next, next) in q) ≡ p = cc in
       let c : below_branch (branch_path here.position i) here.output.value b ≡ below_branch (branch_path here.position i) here.output.value (put_reveal puts reveals test next) = below_core (branch_path here.position i) here.output.value b ∙ ap (below_branch (branch_path here.position i) here.output.value) e in
       subst (λ (q : Standing × Choice). Fine (by_path.at_position q.0 q.1)) z (put_fine (branch_path here.position i) here.output.value puts reveals test next (subst all_fine c f.1))
   continued_fine here i b (withdraw party) p e f h = cc
@@ -153,10 +153,10 @@ module _ (hash : List ℕ → List ℕ) (s : Setting) where
   split_fine here i k b (withdraw party) st e f h = cc
   split_fine here i k b (split ps) st e f h = by_part (slice_get (parts_list ps) k) refl h
     where
-      by_part : (o : Option (ℕ × Choice)) → slice_get (parts_list ps) k ≡ o → option_map (λ (p : ℕ × Choice). by_path.at_position (part_standing hash s (branch_path here.position i) (branch_draft hash s here i b) k p.0 p.1) p.1) o ≡ Some st → Fine st
+      by_part : (o : Option (ℕ × Choice)) → slice_get (parts_list ps) k ≡ o → option_map (λ (p : ℕ × Choice). by_path.at_position (part_standing hash s (branch_path here.position i) (branch_unsigned hash s here i b) k p.0 p.1) p.1) o ≡ Some st → Fine st
       by_part None g q = cc
       by_part (Some x) g q =
-          let z : by_path.at_position (part_standing hash s (branch_path here.position i) (branch_draft hash s here i b) k x.0 x.1) x.1 ≡ st = cc in
+          let z : by_path.at_position (part_standing hash s (branch_path here.position i) (branch_unsigned hash s here i b) k x.0 x.1) x.1 ≡ st = cc in
           let n : k + 0 ≡ k = omega arith in
           let c : below_branch (branch_path here.position i) here.output.value b ≡ below_branch (branch_path here.position i) here.output.value (split ps) = below_core (branch_path here.position i) here.output.value b ∙ ap (below_branch (branch_path here.position i) here.output.value) e in
           let r = part_fine (branch_path here.position i) 0 k ps x g (subst all_fine c f.1) in

@@ -17,13 +17,15 @@ use Rattle.spec_bitcoin.specs.declared.tx.Tx.{Tx}
 use Rattle.spec_bitcoin.specs.Keys.{key_of, has_signed}
 use Rattle.spec_compiler.specs.declared.prepared.Prepared.{Prepared}
 use Rattle.spec_compiler.specs.Setting.{Setting, branch_label, deposit_key, people}
-use Rattle.spec_compiler.specs.Transactions.{Draft, Spent, Standing, tx_of, digest_of_spent, put_deposits, prepared, branch_draft}
-use Rattle.spec_compiler.specs.Compilation.{drafts, compilation}
+use Rattle.spec_compiler.specs.declared.unsigned.Spent.{Spent}
+use Rattle.spec_compiler.specs.declared.unsigned.Unsigned.{Unsigned}
+use Rattle.spec_compiler.specs.Transactions.{Standing, tx_of, digest_of_spent, put_deposits, prepared, branch_unsigned}
+use Rattle.spec_compiler.specs.Compilation.{path_transactions, compilation}
 use Rattle.spec_compiler.specs.Endorsements.{Need, needs, path_needs, needs_of, branch_needs, put_needs}
 use Rattle.spec_compiler.specs.ByPath as by_path
-use Rattle.spec_compiler.specs.ByPath.{Stand, stand_at, as_draft, draft_at, position_at}
+use Rattle.spec_compiler.specs.ByPath.{Stand, stand_at, as_unsigned, unsigned_at, position_at}
 use Rattle.spec_run.specs.Signing.{pairs_of_party}
-use Rattle.theory_script.proofs.Listing.{AreRight, drafts_right}
+use Rattle.theory_script.proofs.Listing.{AreRight, transactions_right}
 use Rattle.theory_world.proofs.Same.{bytes-true, bytes_refl}
 use Rattle.theory_world.proofs.Positions.{Is_in}
 use Rattle.theory_world.proofs.Standing.{term_branch}
@@ -80,36 +82,36 @@ need_of_pair party (n ∷ ns) k d h = by_test (bytes_eq n.party party) refl h (�
     ]
     by_test false e x ih = later (ih x)
 
-right_in : (f : List PathStep → Option Draft) (es : List (List PathStep × Draft)) (e : List PathStep × Draft) → AreRight f es → Is_in e es → f (e.0) ≡ Some (e.1)
+right_in : (f : List PathStep → Option Unsigned) (es : List (List PathStep × Unsigned)) (e : List PathStep × Unsigned) → AreRight f es → Is_in e es → f (e.0) ≡ Some (e.1)
 right_in f [] e h k = absurd k
-right_in f (x ∷ es) e h (inl q) = subst (λ (y : List PathStep × Draft). f (y.0) ≡ Some (y.1)) (sym q) h.0
+right_in f (x ∷ es) e h (inl q) = subst (λ (y : List PathStep × Unsigned). f (y.0) ≡ Some (y.1)) (sym q) h.0
 right_in f (x ∷ es) e h (inr k) = right_in f es e h.1 k
 
 module _ (hash : List ℕ → List ℕ) (st : Setting) where
   -- the branch of a need
-  pub record AtBranch (path : List PathStep) (d : Draft) : Type 0 where
+  pub record AtBranch (path : List PathStep) (d : Unsigned) : Type 0 where
     pub here : Standing
     pub index : ℕ
     pub branch : term.Branch
     pub is_branch : IsBranch hash st path here index branch
     pub in_text : at st.advert.root path ≡ Some branch
-    pub draft_is : d ≡ branch_draft hash st here index branch
+    pub unsigned_is : d ≡ branch_unsigned hash st here index branch
 
-  at_draft : (path : List PathStep) (d : Draft) → draft_at hash st path ≡ Some d → AtBranch path d
-  at_draft path d h = by_stand (stand_at hash st path) refl h
+  at_unsigned : (path : List PathStep) (d : Unsigned) → unsigned_at hash st path ≡ Some d → AtBranch path d
+  at_unsigned path d h = by_stand (stand_at hash st path) refl h
     where
-      by_stand : (o : Option Stand) → stand_at hash st path ≡ o → option_and_then (as_draft hash st) o ≡ Some d → AtBranch path d
+      by_stand : (o : Option Stand) → stand_at hash st path ≡ o → option_and_then (as_unsigned hash st) o ≡ Some d → AtBranch path d
       by_stand None e x = cc
       by_stand (Some (by_path.at_position a c)) e x = cc
       by_stand (Some (by_path.at_branch a i b)) e x =
-          let z : branch_draft hash st a i b ≡ d = cc in
-          record { here = a; index = i; branch = b; is_branch = known hash st path (by_path.at_branch a i b) e; in_text = term_branch hash st path a i b e; draft_is = sym z }
+          let z : branch_unsigned hash st a i b ≡ d = cc in
+          record { here = a; index = i; branch = b; is_branch = known hash st path (by_path.at_branch a i b) e; in_text = term_branch hash st path a i b e; unsigned_is = sym z }
 
   pub data NeedIs (n : Need) : Type 0 where
-    branch_need : (path : List PathStep) (d : Draft) (a : AtBranch path d) → is_among n.party (people st) ≡ true → is_asked a.branch n.party ≡ false → n.key ≡ key_of hash (branch_label st.contract path n.party)
-        → n.digest ≡ digest_of_spent hash (tx_of (branch_draft hash st a.here a.index a.branch)) a.here.output → NeedIs n
-    put_need : (path : List PathStep) (d : Draft) (a : AtBranch path d) → n.key ≡ deposit_key hash n.party → (x : Spent) → Is_in x (put_deposits hash st (puts_of (core a.branch)))
-        → n.digest ≡ digest_of_spent hash (tx_of (branch_draft hash st a.here a.index a.branch)) x → NeedIs n
+    branch_need : (path : List PathStep) (d : Unsigned) (a : AtBranch path d) → is_among n.party (people st) ≡ true → is_asked a.branch n.party ≡ false → n.key ≡ key_of hash (branch_label st.contract path n.party)
+        → n.digest ≡ digest_of_spent hash (tx_of (branch_unsigned hash st a.here a.index a.branch)) a.here.output → NeedIs n
+    put_need : (path : List PathStep) (d : Unsigned) (a : AtBranch path d) → n.key ≡ deposit_key hash n.party → (x : Spent) → Is_in x (put_deposits hash st (puts_of (core a.branch)))
+        → n.digest ≡ digest_of_spent hash (tx_of (branch_unsigned hash st a.here a.index a.branch)) x → NeedIs n
 
   put_in : (tx : Tx) (path : List PathStep) (names : List (List ℕ)) (n : Need) → Is_in n (put_needs hash st.advert path names (map (digest_of_spent hash tx) (put_deposits hash st names)))
       → (n.key ≡ deposit_key hash n.party) × ((x : Spent) × Is_in x (put_deposits hash st names) × (n.digest ≡ digest_of_spent hash tx x))
@@ -120,9 +122,9 @@ module _ (hash : List ℕ → List ℕ) (st : Setting) where
   )
   put_in tx path (m ∷ names) n (inr k) = let r = put_in tx path names n k in (r.0, (r.1.0, inr r.1.1, r.1.2))
 
-  branch_in : (path : List PathStep) (d : Draft) (a : AtBranch path d) (n : Need) → Is_in n (branch_needs hash st.contract st.advert path a.branch (digest_of_spent hash (tx_of (branch_draft hash st a.here a.index a.branch)) a.here.output)) → NeedIs n
+  branch_in : (path : List PathStep) (d : Unsigned) (a : AtBranch path d) (n : Need) → Is_in n (branch_needs hash st.contract st.advert path a.branch (digest_of_spent hash (tx_of (branch_unsigned hash st a.here a.index a.branch)) a.here.output)) → NeedIs n
   branch_in path d a n h =
-      let r = in_map {B = Need} (λ party. record { path = path; party = party; key = key_of hash (branch_label st.contract path party); digest = digest_of_spent hash (tx_of (branch_draft hash st a.here a.index a.branch)) a.here.output }) (filter (λ party. not (is_asked a.branch party)) (participants st.advert)) n h in
+      let r = in_map {B = Need} (λ party. record { path = path; party = party; key = key_of hash (branch_label st.contract path party); digest = digest_of_spent hash (tx_of (branch_unsigned hash st a.here a.index a.branch)) a.here.output }) (filter (λ party. not (is_asked a.branch party)) (participants st.advert)) n h in
       let f = in_filter (λ party. not (is_asked a.branch party)) (participants st.advert) r.0 r.1 in
       let p : n.party ≡ r.0 = ap (λ (y : Need). y.party) r.2 in
       branch_need path d a (subst (λ y. is_among y (people st) ≡ true) (sym p) (in_among (participants st.advert) r.0 f.0)) (subst (λ y. is_asked a.branch y ≡ false) (sym p) (not-true _ f.1)) (ap (λ (y : Need). y.key) r.2 ∙ ap (λ y. key_of hash (branch_label st.contract path y)) (sym p)) (ap (λ (y : Need). y.digest) r.2)
@@ -136,24 +138,24 @@ module _ (hash : List ℕ → List ℕ) (st : Setting) where
   need_is n h = by_path_of (in_flat (λ (p : List PathStep × Prepared). path_needs hash st.contract st.advert p.0 p.1) (compilation hash st).paths n h)
     where
       by_path_of : ((p : List PathStep × Prepared) × Is_in p (compilation hash st).paths × Is_in n (path_needs hash st.contract st.advert p.0 p.1)) → NeedIs n
-      by_path_of r = by_draft (in_map {B = List PathStep × Prepared} (λ (p : List PathStep × Draft). (p.0, prepared hash p.1)) (drafts hash st) r.0 r.1)
+      by_path_of r = by_unsigned (in_map {B = List PathStep × Prepared} (λ (p : List PathStep × Unsigned). (p.0, prepared hash p.1)) (path_transactions hash st) r.0 r.1)
         where
-          by_draft : ((p : List PathStep × Draft) × Is_in p (drafts hash st) × (r.0 ≡ (p.0, prepared hash p.1))) → NeedIs n
-          by_draft q = by_needs (in_joined (branch_needs hash st.contract st.advert (q.0.0) a.branch (digest_of_spent hash (tx_of (branch_draft hash st a.here a.index a.branch)) a.here.output)) _ n wanted)
+          by_unsigned : ((p : List PathStep × Unsigned) × Is_in p (path_transactions hash st) × (r.0 ≡ (p.0, prepared hash p.1))) → NeedIs n
+          by_unsigned q = by_needs (in_joined (branch_needs hash st.contract st.advert (q.0.0) a.branch (digest_of_spent hash (tx_of (branch_unsigned hash st a.here a.index a.branch)) a.here.output)) _ n wanted)
             where
               a : AtBranch (q.0.0) (q.0.1)
-              a = at_draft (q.0.0) (q.0.1) (right_in (draft_at hash st) (drafts hash st) q.0 (drafts_right hash st) q.1)
+              a = at_unsigned (q.0.0) (q.0.1) (right_in (unsigned_at hash st) (path_transactions hash st) q.0 (transactions_right hash st) q.1)
 
               made : (x : List PathStep × Prepared) → r.0 ≡ x → Is_in n (path_needs hash st.contract st.advert x.0 x.1)
               made x e = subst (λ (y : List PathStep × Prepared). Is_in n (path_needs hash st.contract st.advert y.0 y.1)) e r.2
 
-              wanted : Is_in n (needs_of hash st.contract st.advert (q.0.0) a.branch (prepared hash (branch_draft hash st a.here a.index a.branch)).digests)
-              wanted = subst (λ (y : Draft). Is_in n (needs_of hash st.contract st.advert (q.0.0) a.branch (prepared hash y).digests)) a.draft_is
+              wanted : Is_in n (needs_of hash st.contract st.advert (q.0.0) a.branch (prepared hash (branch_unsigned hash st a.here a.index a.branch)).digests)
+              wanted = subst (λ (y : Unsigned). Is_in n (needs_of hash st.contract st.advert (q.0.0) a.branch (prepared hash y).digests)) a.unsigned_is
                   (subst (λ o. Is_in n (option_map_or (λ b. needs_of hash st.contract st.advert (q.0.0) b (prepared hash q.0.1).digests) o [])) a.in_text (made (q.0.0, prepared hash q.0.1) q.2))
 
-              by_needs : Is_in n (branch_needs hash st.contract st.advert (q.0.0) a.branch (digest_of_spent hash (tx_of (branch_draft hash st a.here a.index a.branch)) a.here.output))
-                  ⊎ Is_in n (put_needs hash st.advert (q.0.0) (puts_of (core a.branch)) (map (digest_of_spent hash (tx_of (branch_draft hash st a.here a.index a.branch))) (put_deposits hash st (puts_of (core a.branch))))) → NeedIs n
+              by_needs : Is_in n (branch_needs hash st.contract st.advert (q.0.0) a.branch (digest_of_spent hash (tx_of (branch_unsigned hash st a.here a.index a.branch)) a.here.output))
+                  ⊎ Is_in n (put_needs hash st.advert (q.0.0) (puts_of (core a.branch)) (map (digest_of_spent hash (tx_of (branch_unsigned hash st a.here a.index a.branch))) (put_deposits hash st (puts_of (core a.branch))))) → NeedIs n
               by_needs (inl k) = branch_in (q.0.0) (q.0.1) a n k
               by_needs (inr k) =
-                  let p = put_in (tx_of (branch_draft hash st a.here a.index a.branch)) (q.0.0) (puts_of (core a.branch)) n k in
+                  let p = put_in (tx_of (branch_unsigned hash st a.here a.index a.branch)) (q.0.0) (puts_of (core a.branch)) n k in
                   put_need (q.0.0) (q.0.1) a p.0 p.1.0 p.1.1 p.1.2

@@ -7,7 +7,7 @@ use Rattle.spec_terms.specs.Core.{core}
 use Rattle.spec_terms.specs.declared.path.PathStep.{PathStep}
 use Rattle.spec_terms.specs.declared.path.PathStep.TheVariants.{Branch as To, Part as Into}
 use Rattle.spec_compiler.specs.Setting.{Setting, branch_path}
-use Rattle.spec_compiler.specs.Transactions.{Standing, continued_value, branch_draft, continued, part_standing, output_place, root_standing}
+use Rattle.spec_compiler.specs.Transactions.{Standing, continued_value, branch_unsigned, continued, part_standing, output_place, root_standing}
 use Rattle.spec_compiler.specs.ByPath as by_path
 use Rattle.spec_compiler.specs.ByPath.{Stand, branch_stand, continued_stand, part_stand, next_stand, stand_from, stand_at, as_position, position_at}
 use Rattle.theory_world.proofs.Standing.{from-append}
@@ -29,7 +29,7 @@ module _ (hash : List ℕ → List ℕ) (s : Setting) where
     pub path : List PathStep
     pub is_branch : IsBranch path from_here index branch
     pub number : ℕ
-    pub place : here.output.place ≡ output_place hash (branch_draft hash s from_here index branch) number
+    pub place : here.output.place ≡ output_place hash (branch_unsigned hash s from_here index branch) number
     pub shape : ((puts reveals : List (List ℕ)) × (test : term.Test) × (core branch ≡ put_reveal puts reveals test choice) × (number ≡ 0) × (q ≡ path)) ⊎ ((ps : Parts) × (value : ℕ) × (core branch ≡ split ps) × (slice_get (parts_list ps) number ≡ Some (value, choice)) × (q ≡ path ++ Into number ∷ []))
 
   pub data MadeBy (q : List PathStep) (here : Standing) (choice : Choice) : Type 0 where
@@ -50,7 +50,7 @@ module _ (hash : List ℕ → List ℕ) (s : Setting) where
 
   continued_known : (here : Standing) (i : ℕ) (b c : term.Branch) (p : Standing × Choice) (path : List PathStep) → core b ≡ c → IsBranch path here i b → continued_stand hash s here i b c ≡ Some p → MadeBy path p.0 p.1
   continued_known here i b (put_reveal puts reveals test next) p path e k h =
-      let z : (let q : Standing × Choice = (continued hash s (branch_path here.position i) (branch_draft hash s here i b) (continued_value s here.output.value puts) next, next) in q) ≡ p = cc in
+      let z : (let q : Standing × Choice = (continued hash s (branch_path here.position i) (branch_unsigned hash s here i b) (continued_value s here.output.value puts) next, next) in q) ≡ p = cc in
       subst (λ (q : Standing × Choice). MadeBy path q.0 q.1) z (by_branch (record { from_here = here; index = i; branch = b; path = path; is_branch = k; number = 0; place = refl; shape = inl (puts, reveals, test, e, refl, refl) }))
   continued_known here i b (withdraw party) p path e k h = cc
   continued_known here i b (split ps) p path e k h = cc
@@ -62,10 +62,10 @@ module _ (hash : List ℕ → List ℕ) (s : Setting) where
   part_known here i j b (withdraw party) st path e k h = cc
   part_known here i j b (split ps) st path e k h = by_slot (slice_get (parts_list ps) j) refl h
     where
-      by_slot : (o : Option (ℕ × Choice)) → slice_get (parts_list ps) j ≡ o → option_map (λ (p : ℕ × Choice). by_path.at_position (part_standing hash s (branch_path here.position i) (branch_draft hash s here i b) j p.0 p.1) p.1) o ≡ Some st → Known st (path ++ Into j ∷ [])
+      by_slot : (o : Option (ℕ × Choice)) → slice_get (parts_list ps) j ≡ o → option_map (λ (p : ℕ × Choice). by_path.at_position (part_standing hash s (branch_path here.position i) (branch_unsigned hash s here i b) j p.0 p.1) p.1) o ≡ Some st → Known st (path ++ Into j ∷ [])
       by_slot None f x = cc
       by_slot (Some p) f x =
-          let z : by_path.at_position (part_standing hash s (branch_path here.position i) (branch_draft hash s here i b) j p.0 p.1) p.1 ≡ st = cc in
+          let z : by_path.at_position (part_standing hash s (branch_path here.position i) (branch_unsigned hash s here i b) j p.0 p.1) p.1 ≡ st = cc in
           subst (λ y. Known y (path ++ Into j ∷ [])) z (by_branch (record { from_here = here; index = i; branch = b; path = path; is_branch = k; number = j; place = refl; shape = inr (ps, p.0, e, f, refl) }))
   part_known here i j b (auth party body) st path e k h = cc
   part_known here i j b (after height body) st path e k h = cc

@@ -11,7 +11,8 @@ use Rattle.spec_terms.specs.declared.path.PathStep.TheVariants.{Branch as To, Pa
 use Rattle.spec_bitcoin.specs.Spelling.{stripped, IsPlace}
 use Rattle.spec_bitcoin.specs.Keys.{IsStep}
 use Rattle.spec_compiler.specs.Setting.{Setting, branch_path}
-use Rattle.spec_compiler.specs.Transactions.{Draft, Standing, tx_of, output_place, continued_value, branch_draft, continued, part_standing, initial_draft, root_standing}
+use Rattle.spec_compiler.specs.declared.unsigned.Unsigned.{Unsigned}
+use Rattle.spec_compiler.specs.Transactions.{Standing, tx_of, output_place, continued_value, branch_unsigned, continued, part_standing, initial_unsigned, root_standing}
 use Rattle.spec_compiler.specs.ByPath as by_path
 use Rattle.spec_compiler.specs.ByPath.{Stand, branch_stand, continued_stand, part_stand, next_stand, stand_from, stand_at, as_position, position_at}
 use Rattle.spec_run.specs.Conditions.{HashesBytes}
@@ -23,7 +24,7 @@ module _ (hash : List ℕ → List ℕ) (size : HashesBytes hash) (st : Setting)
   Placed (by_path.at_position here choice) = IsPlace here.output.place
   Placed (by_path.at_branch here i b) = IsPlace here.output.place
 
-  made_place : (d : Draft) (k : ℕ) → k < 2 ^ 32 → IsPlace (output_place hash d k)
+  made_place : (d : Unsigned) (k : ℕ) → k < 2 ^ 32 → IsPlace (output_place hash d k)
   made_place d k h = record { txid = size.bytes (hash (stripped (tx_of d))); size = size.size (hash (stripped (tx_of d))); vout = h }
 
   branch_placed : (here : Standing) (choice : Choice) (i : ℕ) (end : Stand) → IsPlace here.output.place → branch_stand here choice i ≡ Some end → Placed end
@@ -35,8 +36,8 @@ module _ (hash : List ℕ → List ℕ) (size : HashesBytes hash) (st : Setting)
 
   continued_placed : (here : Standing) (i : ℕ) (b c : term.Branch) (p : Standing × Choice) → continued_stand hash st here i b c ≡ Some p → IsPlace p.0.output.place
   continued_placed here i b (put_reveal puts reveals test next) p h =
-      let z : (let q : Standing × Choice = (continued hash st (branch_path here.position i) (branch_draft hash st here i b) (continued_value st here.output.value puts) next, next) in q) ≡ p = cc in
-      subst (λ (q : Standing × Choice). IsPlace q.0.output.place) z (made_place (branch_draft hash st here i b) 0 (omega arith))
+      let z : (let q : Standing × Choice = (continued hash st (branch_path here.position i) (branch_unsigned hash st here i b) (continued_value st here.output.value puts) next, next) in q) ≡ p = cc in
+      subst (λ (q : Standing × Choice). IsPlace q.0.output.place) z (made_place (branch_unsigned hash st here i b) 0 (omega arith))
   continued_placed here i b (withdraw party) p h = cc
   continued_placed here i b (split parts) p h = cc
   continued_placed here i b (auth party body) p h = cc
@@ -47,11 +48,11 @@ module _ (hash : List ℕ → List ℕ) (size : HashesBytes hash) (st : Setting)
   part_placed here i k b (withdraw party) end l h = cc
   part_placed here i k b (split ps) end l h = by_part (slice_get (parts_list ps) k) h
     where
-      by_part : (o : Option (ℕ × Choice)) → option_map (λ (p : ℕ × Choice). by_path.at_position (part_standing hash st (branch_path here.position i) (branch_draft hash st here i b) k p.0 p.1) p.1) o ≡ Some end → Placed end
+      by_part : (o : Option (ℕ × Choice)) → option_map (λ (p : ℕ × Choice). by_path.at_position (part_standing hash st (branch_path here.position i) (branch_unsigned hash st here i b) k p.0 p.1) p.1) o ≡ Some end → Placed end
       by_part None q = cc
       by_part (Some x) q =
-          let z : by_path.at_position (part_standing hash st (branch_path here.position i) (branch_draft hash st here i b) k x.0 x.1) x.1 ≡ end = cc in
-          subst Placed z (made_place (branch_draft hash st here i b) k l)
+          let z : by_path.at_position (part_standing hash st (branch_path here.position i) (branch_unsigned hash st here i b) k x.0 x.1) x.1 ≡ end = cc in
+          subst Placed z (made_place (branch_unsigned hash st here i b) k l)
   part_placed here i k b (auth party body) end l h = cc
   part_placed here i k b (after height body) end l h = cc
 
@@ -81,7 +82,7 @@ module _ (hash : List ℕ → List ℕ) (size : HashesBytes hash) (st : Setting)
       placed : (end : Stand) → stand_at hash st q ≡ Some end → Placed end
       placed end e =
           let v = view_at hash st q ∙ ap (option_map _) e in
-          from_placed q (by_path.at_position (root_standing hash st) st.advert.root) end (path_fine st.advert q _ well v) (made_place (initial_draft hash st) 0 (omega arith)) e
+          from_placed q (by_path.at_position (root_standing hash st) st.advert.root) end (path_fine st.advert q _ well v) (made_place (initial_unsigned hash st) 0 (omega arith)) e
 
       by_end : (end : Stand) → Placed end → as_position hash st end ≡ Some (here, choice) → IsPlace here.output.place
       by_end (by_path.at_position a c) f e = let z : (let p : Standing × Choice = (a, c) in p) ≡ (here, choice) = cc in subst (λ (p : Standing × Choice). IsPlace p.0.output.place) z f

@@ -10,11 +10,12 @@ use Rattle.spec_terms.specs.Core.{core, lock}
 use Rattle.spec_terms.specs.declared.path.PathStep.{PathStep}
 use Rattle.spec_terms.specs.declared.path.PathStep.TheVariants.{Branch as To, Part as Into}
 use Rattle.spec_compiler.specs.Setting.{Setting, branch_path}
-use Rattle.spec_compiler.specs.Transactions.{Draft, Standing, continued_value, core_draft, branch_draft, continued, part_standing, root_standing}
-use Rattle.spec_compiler.specs.Compilation.{choice_drafts, branch_drafts, parts_drafts, drafts}
+use Rattle.spec_compiler.specs.declared.unsigned.Unsigned.{Unsigned}
+use Rattle.spec_compiler.specs.Transactions.{Standing, continued_value, core_unsigned, branch_unsigned, continued, part_standing, root_standing}
+use Rattle.spec_compiler.specs.Compilation.{choice_transactions, branch_transactions, parts_transactions, path_transactions}
 use Rattle.spec_compiler.specs.ByPath as by_path
-use Rattle.spec_compiler.specs.ByPath.{Stand, branch_stand, continued_stand, part_stand, next_stand, stand_from, stand_at, as_position, as_draft, position_at, draft_at}
-use Rattle.spec_compiler.specs.Hashed.{draft_strings, path_labels}
+use Rattle.spec_compiler.specs.ByPath.{Stand, branch_stand, continued_stand, part_stand, next_stand, stand_from, stand_at, as_position, as_unsigned, position_at, unsigned_at}
+use Rattle.spec_compiler.specs.Hashed.{unsigned_strings, path_labels}
 use Rattle.theory_world.proofs.Hashed.{among_left, among_right}
 
 -- ---- an element of a list
@@ -40,21 +41,21 @@ in_right x (y ∷ xs) ys h = inr (in_right x xs ys h)
 
 module _ (hash : List ℕ → List ℕ) (s : Setting) where
   -- the first list is part of the second
-  abbrev pub Within : List (List PathStep × Draft) → List (List PathStep × Draft) → Type 0
-  Within xs ys = (d : List PathStep × Draft) → Is_in d xs → Is_in d ys
+  abbrev pub Within : List (List PathStep × Unsigned) → List (List PathStep × Unsigned) → Type 0
+  Within xs ys = (d : List PathStep × Unsigned) → Is_in d xs → Is_in d ys
 
-  choice_within : (here : Standing) (j i : ℕ) (c : Choice) (b : term.Branch) → slice_get (branches c) i ≡ Some b → Within (branch_drafts hash s here (i + j) (lock b) b) (choice_drafts hash s here j c)
+  choice_within : (here : Standing) (j i : ℕ) (c : Choice) (b : term.Branch) → slice_get (branches c) i ≡ Some b → Within (branch_transactions hash s here (i + j) (lock b) b) (choice_transactions hash s here j c)
   choice_within here j i no_branch b h = cc
   choice_within here j zero (branch d c) b h =
       let e : d ≡ b = cc in
       let z : 0 + j ≡ j = omega arith in
-      λ x k. in_left x (branch_drafts hash s here j (lock d) d) (choice_drafts hash s here (j + 1) c) (subst (λ y. Is_in x (branch_drafts hash s here j (lock y) y)) (sym e) (subst (λ n. Is_in x (branch_drafts hash s here n (lock b) b)) z k))
+      λ x k. in_left x (branch_transactions hash s here j (lock d) d) (choice_transactions hash s here (j + 1) c) (subst (λ y. Is_in x (branch_transactions hash s here j (lock y) y)) (sym e) (subst (λ n. Is_in x (branch_transactions hash s here n (lock b) b)) z k))
   choice_within here j (suc i) (branch d c) b h =
       let z : suc i + j ≡ i + (j + 1) = omega arith in
-      λ x k. in_right x (branch_drafts hash s here j (lock d) d) (choice_drafts hash s here (j + 1) c) (choice_within here (j + 1) i c b h x (subst (λ n. Is_in x (branch_drafts hash s here n (lock b) b)) z k))
+      λ x k. in_right x (branch_transactions hash s here j (lock d) d) (choice_transactions hash s here (j + 1) c) (choice_within here (j + 1) i c b h x (subst (λ n. Is_in x (branch_transactions hash s here n (lock b) b)) z k))
 
   -- the transaction of a branch stands there
-  pub branch_here : (here : Standing) (i l : ℕ) (b : term.Branch) → Is_in (branch_path here.position i, core_draft hash s here i l (core b)) (branch_drafts hash s here i l b)
+  pub branch_here : (here : Standing) (i l : ℕ) (b : term.Branch) → Is_in (branch_path here.position i, core_unsigned hash s here i l (core b)) (branch_transactions hash s here i l b)
   branch_here here i l (auth party body) = branch_here here i l body
   branch_here here i l (after height body) = branch_here here i l body
   branch_here here i l (put_reveal puts reveals test next) = inl refl
@@ -63,40 +64,40 @@ module _ (hash : List ℕ → List ℕ) (s : Setting) where
 
   -- and what stands under it
   put_within : (here : Standing) (i l : ℕ) (b : term.Branch) (puts reveals : List (List ℕ)) (test : term.Test) (next : Choice) → core b ≡ put_reveal puts reveals test next
-      → Within (choice_drafts hash s (continued hash s (branch_path here.position i) (core_draft hash s here i l (put_reveal puts reveals test next)) (continued_value s here.output.value puts) next) 0 next) (branch_drafts hash s here i l b)
+      → Within (choice_transactions hash s (continued hash s (branch_path here.position i) (core_unsigned hash s here i l (put_reveal puts reveals test next)) (continued_value s here.output.value puts) next) 0 next) (branch_transactions hash s here i l b)
   put_within here i l (auth party body) puts reveals test next h = put_within here i l body puts reveals test next h
   put_within here i l (after height body) puts reveals test next h = put_within here i l body puts reveals test next h
   put_within here i l (put_reveal p r t n) puts reveals test next h =
-      λ x k. subst (λ y. Is_in x (branch_drafts hash s here i l y)) (sym h) (inr k)
+      λ x k. subst (λ y. Is_in x (branch_transactions hash s here i l y)) (sym h) (inr k)
   put_within here i l (withdraw party) puts reveals test next h = cc
   put_within here i l (split parts) puts reveals test next h = cc
 
-  parts_within : (path : List PathStep) (made : Draft) (j k : ℕ) (ps : Parts) (p : ℕ × Choice) → slice_get (parts_list ps) k ≡ Some p → Within (choice_drafts hash s (part_standing hash s path made (k + j) p.0 p.1) 0 p.1) (parts_drafts hash s path made j ps)
+  parts_within : (path : List PathStep) (made : Unsigned) (j k : ℕ) (ps : Parts) (p : ℕ × Choice) → slice_get (parts_list ps) k ≡ Some p → Within (choice_transactions hash s (part_standing hash s path made (k + j) p.0 p.1) 0 p.1) (parts_transactions hash s path made j ps)
   parts_within path made j k no_part p h = cc
   parts_within path made j zero (part v c ps) p h =
       let e : (let q : ℕ × Choice = (v, c) in q) ≡ p = cc in
       let z : 0 + j ≡ j = omega arith in
-      λ x i. in_left x (choice_drafts hash s (part_standing hash s path made j v c) 0 c) (parts_drafts hash s path made (j + 1) ps)
-      (subst (λ (q : ℕ × Choice). Is_in x (choice_drafts hash s (part_standing hash s path made j q.0 q.1) 0 q.1)) (sym e) (subst (λ n. Is_in x (choice_drafts hash s (part_standing hash s path made n p.0 p.1) 0 p.1)) z i))
+      λ x i. in_left x (choice_transactions hash s (part_standing hash s path made j v c) 0 c) (parts_transactions hash s path made (j + 1) ps)
+      (subst (λ (q : ℕ × Choice). Is_in x (choice_transactions hash s (part_standing hash s path made j q.0 q.1) 0 q.1)) (sym e) (subst (λ n. Is_in x (choice_transactions hash s (part_standing hash s path made n p.0 p.1) 0 p.1)) z i))
   parts_within path made j (suc k) (part v c ps) p h =
       let z : suc k + j ≡ k + (j + 1) = omega arith in
-      λ x i. in_right x (choice_drafts hash s (part_standing hash s path made j v c) 0 c) (parts_drafts hash s path made (j + 1) ps)
-      (parts_within path made (j + 1) k ps p h x (subst (λ n. Is_in x (choice_drafts hash s (part_standing hash s path made n p.0 p.1) 0 p.1)) z i))
+      λ x i. in_right x (choice_transactions hash s (part_standing hash s path made j v c) 0 c) (parts_transactions hash s path made (j + 1) ps)
+      (parts_within path made (j + 1) k ps p h x (subst (λ n. Is_in x (choice_transactions hash s (part_standing hash s path made n p.0 p.1) 0 p.1)) z i))
 
   split_within : (here : Standing) (i l : ℕ) (b : term.Branch) (ps : Parts) → core b ≡ split ps
-      → Within (parts_drafts hash s (branch_path here.position i) (core_draft hash s here i l (split ps)) 0 ps) (branch_drafts hash s here i l b)
+      → Within (parts_transactions hash s (branch_path here.position i) (core_unsigned hash s here i l (split ps)) 0 ps) (branch_transactions hash s here i l b)
   split_within here i l (auth party body) ps h = split_within here i l body ps h
   split_within here i l (after height body) ps h = split_within here i l body ps h
   split_within here i l (put_reveal p r t n) ps h = cc
   split_within here i l (withdraw party) ps h = cc
-  split_within here i l (split parts) ps h = λ x k. subst (λ y. Is_in x (branch_drafts hash s here i l y)) (sym h) (inr k)
+  split_within here i l (split parts) ps h = λ x k. subst (λ y. Is_in x (branch_transactions hash s here i l y)) (sym h) (inr k)
 
   -- what stands at the end of a path has its transactions in the list
   abbrev pub Covered : Stand → Type 0
-  Covered (by_path.at_position here choice) = Within (choice_drafts hash s here 0 choice) (drafts hash s)
-  Covered (by_path.at_branch here i b) = Within (branch_drafts hash s here i (lock b) b) (drafts hash s)
+  Covered (by_path.at_position here choice) = Within (choice_transactions hash s here 0 choice) (path_transactions hash s)
+  Covered (by_path.at_branch here i b) = Within (branch_transactions hash s here i (lock b) b) (path_transactions hash s)
 
-  branch_covered : (here : Standing) (choice : Choice) (i : ℕ) (st : Stand) → Within (choice_drafts hash s here 0 choice) (drafts hash s) → branch_stand here choice i ≡ Some st → Covered st
+  branch_covered : (here : Standing) (choice : Choice) (i : ℕ) (st : Stand) → Within (choice_transactions hash s here 0 choice) (path_transactions hash s) → branch_stand here choice i ≡ Some st → Covered st
   branch_covered here choice i st w h = by_branch (slice_get (branches choice) i) refl h
     where
       by_branch : (o : Option term.Branch) → slice_get (branches choice) i ≡ o → option_map (by_path.at_branch here i) o ≡ Some st → Covered st
@@ -104,33 +105,33 @@ module _ (hash : List ℕ → List ℕ) (s : Setting) where
       by_branch (Some b) e q =
           let z : by_path.at_branch here i b ≡ st = cc in
           let n : i + 0 ≡ i = omega arith in
-          subst Covered z (λ x k. w x (choice_within here 0 i choice b e x (subst (λ m. Is_in x (branch_drafts hash s here m (lock b) b)) (sym n) k)))
+          subst Covered z (λ x k. w x (choice_within here 0 i choice b e x (subst (λ m. Is_in x (branch_transactions hash s here m (lock b) b)) (sym n) k)))
 
-  continued_covered : (here : Standing) (i : ℕ) (b c : term.Branch) (p : Standing × Choice) → core b ≡ c → Within (branch_drafts hash s here i (lock b) b) (drafts hash s) → continued_stand hash s here i b c ≡ Some p → Within (choice_drafts hash s p.0 0 p.1) (drafts hash s)
+  continued_covered : (here : Standing) (i : ℕ) (b c : term.Branch) (p : Standing × Choice) → core b ≡ c → Within (branch_transactions hash s here i (lock b) b) (path_transactions hash s) → continued_stand hash s here i b c ≡ Some p → Within (choice_transactions hash s p.0 0 p.1) (path_transactions hash s)
   continued_covered here i b (put_reveal puts reveals test next) p e w h =
-      let d : branch_draft hash s here i b ≡ core_draft hash s here i (lock b) (put_reveal puts reveals test next) = ap (core_draft hash s here i (lock b)) e in
-      let z : (let q : Standing × Choice = (continued hash s (branch_path here.position i) (branch_draft hash s here i b) (continued_value s here.output.value puts) next, next) in q) ≡ p = cc in
-      subst (λ (q : Standing × Choice). Within (choice_drafts hash s q.0 0 q.1) (drafts hash s)) z
-      (λ x k. w x (put_within here i (lock b) b puts reveals test next e x (subst (λ y. Is_in x (choice_drafts hash s (continued hash s (branch_path here.position i) y (continued_value s here.output.value puts) next) 0 next)) d k)))
+      let d : branch_unsigned hash s here i b ≡ core_unsigned hash s here i (lock b) (put_reveal puts reveals test next) = ap (core_unsigned hash s here i (lock b)) e in
+      let z : (let q : Standing × Choice = (continued hash s (branch_path here.position i) (branch_unsigned hash s here i b) (continued_value s here.output.value puts) next, next) in q) ≡ p = cc in
+      subst (λ (q : Standing × Choice). Within (choice_transactions hash s q.0 0 q.1) (path_transactions hash s)) z
+      (λ x k. w x (put_within here i (lock b) b puts reveals test next e x (subst (λ y. Is_in x (choice_transactions hash s (continued hash s (branch_path here.position i) y (continued_value s here.output.value puts) next) 0 next)) d k)))
   continued_covered here i b (withdraw party) p e w h = cc
   continued_covered here i b (split parts) p e w h = cc
   continued_covered here i b (auth party body) p e w h = cc
   continued_covered here i b (after height body) p e w h = cc
 
-  part_covered : (here : Standing) (i k : ℕ) (b c : term.Branch) (st : Stand) → core b ≡ c → Within (branch_drafts hash s here i (lock b) b) (drafts hash s) → part_stand hash s here i b k c ≡ Some st → Covered st
+  part_covered : (here : Standing) (i k : ℕ) (b c : term.Branch) (st : Stand) → core b ≡ c → Within (branch_transactions hash s here i (lock b) b) (path_transactions hash s) → part_stand hash s here i b k c ≡ Some st → Covered st
   part_covered here i k b (put_reveal puts reveals test next) st e w h = cc
   part_covered here i k b (withdraw party) st e w h = cc
   part_covered here i k b (split ps) st e w h = by_part (slice_get (parts_list ps) k) refl h
     where
-      by_part : (o : Option (ℕ × Choice)) → slice_get (parts_list ps) k ≡ o → option_map (λ (p : ℕ × Choice). by_path.at_position (part_standing hash s (branch_path here.position i) (branch_draft hash s here i b) k p.0 p.1) p.1) o ≡ Some st → Covered st
+      by_part : (o : Option (ℕ × Choice)) → slice_get (parts_list ps) k ≡ o → option_map (λ (p : ℕ × Choice). by_path.at_position (part_standing hash s (branch_path here.position i) (branch_unsigned hash s here i b) k p.0 p.1) p.1) o ≡ Some st → Covered st
       by_part None f q = cc
       by_part (Some p) f q =
-          let d : branch_draft hash s here i b ≡ core_draft hash s here i (lock b) (split ps) = ap (core_draft hash s here i (lock b)) e in
+          let d : branch_unsigned hash s here i b ≡ core_unsigned hash s here i (lock b) (split ps) = ap (core_unsigned hash s here i (lock b)) e in
           let n : k + 0 ≡ k = omega arith in
-          let z : by_path.at_position (part_standing hash s (branch_path here.position i) (branch_draft hash s here i b) k p.0 p.1) p.1 ≡ st = cc in
-          subst Covered z (λ x j. w x (split_within here i (lock b) b ps e x (parts_within (branch_path here.position i) (core_draft hash s here i (lock b) (split ps)) 0 k ps p f x
-          (subst (λ m. Is_in x (choice_drafts hash s (part_standing hash s (branch_path here.position i) (core_draft hash s here i (lock b) (split ps)) m p.0 p.1) 0 p.1)) (sym n)
-          (subst (λ y. Is_in x (choice_drafts hash s (part_standing hash s (branch_path here.position i) y k p.0 p.1) 0 p.1)) d j)))))
+          let z : by_path.at_position (part_standing hash s (branch_path here.position i) (branch_unsigned hash s here i b) k p.0 p.1) p.1 ≡ st = cc in
+          subst Covered z (λ x j. w x (split_within here i (lock b) b ps e x (parts_within (branch_path here.position i) (core_unsigned hash s here i (lock b) (split ps)) 0 k ps p f x
+          (subst (λ m. Is_in x (choice_transactions hash s (part_standing hash s (branch_path here.position i) (core_unsigned hash s here i (lock b) (split ps)) m p.0 p.1) 0 p.1)) (sym n)
+          (subst (λ y. Is_in x (choice_transactions hash s (part_standing hash s (branch_path here.position i) y k p.0 p.1) 0 p.1)) d j)))))
   part_covered here i k b (auth party body) st e w h = cc
   part_covered here i k b (after height body) st e w h = cc
 
@@ -157,12 +158,12 @@ module _ (hash : List ℕ → List ℕ) (s : Setting) where
   covered path end h = from_covered path (by_path.at_position (root_standing hash s) s.advert.root) end (λ x k. k) h
 
   -- the strings of a listed transaction are among the compiled ones
-  pub drafts_strings : (ds : List (List PathStep × Draft)) (d : List PathStep × Draft) (t : List ℕ) → Is_in d ds → is_among t (draft_strings hash d.1) ≡ true → is_among t (flat_map (λ p. draft_strings hash p.1) ds) ≡ true
-  drafts_strings [] d t h k = absurd h
-  drafts_strings (x ∷ ds) d t (inl e) k = subst (λ ts. is_among t ts ≡ true) (sym (flat_map-cons (λ p. draft_strings hash p.1) x ds)) (among_left t (draft_strings hash x.1) (flat_map (λ p. draft_strings hash p.1) ds) (subst (λ (y : List PathStep × Draft). is_among t (draft_strings hash y.1) ≡ true) e k))
-  drafts_strings (x ∷ ds) d t (inr i) k = subst (λ ts. is_among t ts ≡ true) (sym (flat_map-cons (λ p. draft_strings hash p.1) x ds)) (among_right t (draft_strings hash x.1) (flat_map (λ p. draft_strings hash p.1) ds) (drafts_strings ds d t i k))
+  pub transactions_strings : (ds : List (List PathStep × Unsigned)) (d : List PathStep × Unsigned) (t : List ℕ) → Is_in d ds → is_among t (unsigned_strings hash d.1) ≡ true → is_among t (flat_map (λ p. unsigned_strings hash p.1) ds) ≡ true
+  transactions_strings [] d t h k = absurd h
+  transactions_strings (x ∷ ds) d t (inl e) k = subst (λ ts. is_among t ts ≡ true) (sym (flat_map-cons (λ p. unsigned_strings hash p.1) x ds)) (among_left t (unsigned_strings hash x.1) (flat_map (λ p. unsigned_strings hash p.1) ds) (subst (λ (y : List PathStep × Unsigned). is_among t (unsigned_strings hash y.1) ≡ true) e k))
+  transactions_strings (x ∷ ds) d t (inr i) k = subst (λ ts. is_among t ts ≡ true) (sym (flat_map-cons (λ p. unsigned_strings hash p.1) x ds)) (among_right t (unsigned_strings hash x.1) (flat_map (λ p. unsigned_strings hash p.1) ds) (transactions_strings ds d t i k))
 
-  pub drafts_labels : (ds : List (List PathStep × Draft)) (d : List PathStep × Draft) (t : List ℕ) → Is_in d ds → is_among t (path_labels s d.0) ≡ true → is_among t (flat_map (λ p. path_labels s p.0) ds) ≡ true
-  drafts_labels [] d t h k = absurd h
-  drafts_labels (x ∷ ds) d t (inl e) k = subst (λ ts. is_among t ts ≡ true) (sym (flat_map-cons (λ p. path_labels s p.0) x ds)) (among_left t (path_labels s x.0) (flat_map (λ p. path_labels s p.0) ds) (subst (λ (y : List PathStep × Draft). is_among t (path_labels s y.0) ≡ true) e k))
-  drafts_labels (x ∷ ds) d t (inr i) k = subst (λ ts. is_among t ts ≡ true) (sym (flat_map-cons (λ p. path_labels s p.0) x ds)) (among_right t (path_labels s x.0) (flat_map (λ p. path_labels s p.0) ds) (drafts_labels ds d t i k))
+  pub transactions_labels : (ds : List (List PathStep × Unsigned)) (d : List PathStep × Unsigned) (t : List ℕ) → Is_in d ds → is_among t (path_labels s d.0) ≡ true → is_among t (flat_map (λ p. path_labels s p.0) ds) ≡ true
+  transactions_labels [] d t h k = absurd h
+  transactions_labels (x ∷ ds) d t (inl e) k = subst (λ ts. is_among t ts ≡ true) (sym (flat_map-cons (λ p. path_labels s p.0) x ds)) (among_left t (path_labels s x.0) (flat_map (λ p. path_labels s p.0) ds) (subst (λ (y : List PathStep × Unsigned). is_among t (path_labels s y.0) ≡ true) e k))
+  transactions_labels (x ∷ ds) d t (inr i) k = subst (λ ts. is_among t ts ≡ true) (sym (flat_map-cons (λ p. path_labels s p.0) x ds)) (among_right t (path_labels s x.0) (flat_map (λ p. path_labels s p.0) ds) (transactions_labels ds d t i k))

@@ -9,9 +9,9 @@ use Rattle.spec_terms.specs.Paths.{Spot, below, next_spot, spot_from, as_branch,
 use Rattle.spec_terms.specs.declared.path.PathStep.{PathStep}
 use Rattle.spec_terms.specs.declared.path.PathStep.TheVariants.{Branch as To, Part as Into}
 use Rattle.spec_compiler.specs.Setting.{Setting, branch_path}
-use Rattle.spec_compiler.specs.Transactions.{Standing, continued_value, branch_draft, continued, part_standing, root_standing}
+use Rattle.spec_compiler.specs.Transactions.{Standing, continued_value, branch_unsigned, continued, part_standing, root_standing}
 use Rattle.spec_compiler.specs.ByPath as by_path
-use Rattle.spec_compiler.specs.ByPath.{Stand, branch_stand, continued_stand, part_stand, next_stand, stand_from, stand_at, as_position, as_draft, position_at, draft_at}
+use Rattle.spec_compiler.specs.ByPath.{Stand, branch_stand, continued_stand, part_stand, next_stand, stand_from, stand_at, as_position, as_unsigned, position_at, unsigned_at}
 
 module _ (hash : List ℕ → List ℕ) (s : Setting) where
   -- ---- one step further
@@ -47,20 +47,20 @@ module _ (hash : List ℕ → List ℕ) (s : Setting) where
   stand_of_branch q here choice i b h e = branch_at_position q here choice i h ∙ ap (option_map (by_path.at_branch here i)) e
 
   -- its transaction
-  pub draft_of_branch : (q : List PathStep) (here : Standing) (choice : Choice) (i : ℕ) (b : term.Branch) → position_at hash s q ≡ Some (here, choice) → slice_get (branches choice) i ≡ Some b → draft_at hash s (q ++ To i ∷ []) ≡ Some (branch_draft hash s here i b)
-  draft_of_branch q here choice i b h e = ap (option_and_then (as_draft hash s)) (stand_of_branch q here choice i b h e)
+  pub unsigned_of_branch : (q : List PathStep) (here : Standing) (choice : Choice) (i : ℕ) (b : term.Branch) → position_at hash s q ≡ Some (here, choice) → slice_get (branches choice) i ≡ Some b → unsigned_at hash s (q ++ To i ∷ []) ≡ Some (branch_unsigned hash s here i b)
+  unsigned_of_branch q here choice i b h e = ap (option_and_then (as_unsigned hash s)) (stand_of_branch q here choice i b h e)
 
   -- the position at which a put goes on
   pub put_position : (q : List PathStep) (here : Standing) (choice : Choice) (i : ℕ) (b : term.Branch) (puts reveals : List (List ℕ)) (test : term.Test) (next : Choice) → position_at hash s q ≡ Some (here, choice) → slice_get (branches choice) i ≡ Some b → core b ≡ put_reveal puts reveals test next
-      → position_at hash s (q ++ To i ∷ []) ≡ Some (continued hash s (branch_path here.position i) (branch_draft hash s here i b) (continued_value s here.output.value puts) next, next)
+      → position_at hash s (q ++ To i ∷ []) ≡ Some (continued hash s (branch_path here.position i) (branch_unsigned hash s here i b) (continued_value s here.output.value puts) next, next)
   put_position q here choice i b puts reveals test next h e c = ap (option_and_then (as_position hash s)) (stand_of_branch q here choice i b h e) ∙ ap (continued_stand hash s here i b) c
 
   -- the position of a part
   pub split_position : (q : List PathStep) (here : Standing) (choice : Choice) (i k : ℕ) (b : term.Branch) (ps : Parts) (p : ℕ × Choice) → position_at hash s q ≡ Some (here, choice) → slice_get (branches choice) i ≡ Some b → core b ≡ split ps → slice_get (parts_list ps) k ≡ Some p
-      → position_at hash s ((q ++ To i ∷ []) ++ Into k ∷ []) ≡ Some (part_standing hash s (branch_path here.position i) (branch_draft hash s here i b) k p.0 p.1, p.1)
+      → position_at hash s ((q ++ To i ∷ []) ++ Into k ∷ []) ≡ Some (part_standing hash s (branch_path here.position i) (branch_unsigned hash s here i b) k p.0 p.1, p.1)
   split_position q here choice i k b ps p h e c g =
       ap (option_and_then (as_position hash s)) (from-append (by_path.at_position (root_standing hash s) s.advert.root) (q ++ To i ∷ []) (Into k) ∙ ap (option_and_then (next_stand hash s (Into k))) (stand_of_branch q here choice i b h e) ∙ ap (part_stand hash s here i b k) c
-      ∙ ap (option_map (λ (p : ℕ × Choice). by_path.at_position (part_standing hash s (branch_path here.position i) (branch_draft hash s here i b) k p.0 p.1) p.1)) g)
+      ∙ ap (option_map (λ (p : ℕ × Choice). by_path.at_position (part_standing hash s (branch_path here.position i) (branch_unsigned hash s here i b) k p.0 p.1) p.1)) g)
 
   -- ---- the names of places
 
@@ -77,7 +77,7 @@ module _ (hash : List ℕ → List ℕ) (s : Setting) where
 
   continued_located : (here : Standing) (i : ℕ) (b c : term.Branch) (p : Standing × Choice) (path : List PathStep) → branch_path here.position i ≡ path → continued_stand hash s here i b c ≡ Some p → p.0.position ≡ path
   continued_located here i b (put_reveal puts reveals test next) p path l h =
-      let z : (let q : Standing × Choice = (continued hash s (branch_path here.position i) (branch_draft hash s here i b) (continued_value s here.output.value puts) next, next) in q) ≡ p = cc in
+      let z : (let q : Standing × Choice = (continued hash s (branch_path here.position i) (branch_unsigned hash s here i b) (continued_value s here.output.value puts) next, next) in q) ≡ p = cc in
       ap (λ (q : Standing × Choice). q.0.position) (sym z) ∙ l
   continued_located here i b (withdraw party) p path l h = cc
   continued_located here i b (split parts) p path l h = cc
@@ -89,9 +89,9 @@ module _ (hash : List ℕ → List ℕ) (s : Setting) where
   part_located here i k b (withdraw party) st path l h = cc
   part_located here i k b (split ps) st path l h = by_part (slice_get (parts_list ps) k) h
     where
-      by_part : (o : Option (ℕ × Choice)) → option_map (λ (p : ℕ × Choice). by_path.at_position (part_standing hash s (branch_path here.position i) (branch_draft hash s here i b) k p.0 p.1) p.1) o ≡ Some st → Located st (path ++ Into k ∷ [])
+      by_part : (o : Option (ℕ × Choice)) → option_map (λ (p : ℕ × Choice). by_path.at_position (part_standing hash s (branch_path here.position i) (branch_unsigned hash s here i b) k p.0 p.1) p.1) o ≡ Some st → Located st (path ++ Into k ∷ [])
       by_part None q = cc
-      by_part (Some p) q = let z : by_path.at_position (part_standing hash s (branch_path here.position i) (branch_draft hash s here i b) k p.0 p.1) p.1 ≡ st = cc in subst (λ x. Located x (path ++ Into k ∷ [])) z (ap (λ x. x ++ Into k ∷ []) l)
+      by_part (Some p) q = let z : by_path.at_position (part_standing hash s (branch_path here.position i) (branch_unsigned hash s here i b) k p.0 p.1) p.1 ≡ st = cc in subst (λ x. Located x (path ++ Into k ∷ [])) z (ap (λ x. x ++ Into k ∷ []) l)
   part_located here i k b (auth party body) st path l h = cc
   part_located here i k b (after height body) st path l h = cc
 
@@ -143,7 +143,7 @@ module _ (hash : List ℕ → List ℕ) (s : Setting) where
       by_branch (Some b) = refl
 
   view_below : (here : Standing) (i j : ℕ) (b c : term.Branch) → below c (To j) ≡ option_map view (option_and_then (λ (p : Standing × Choice). branch_stand p.0 p.1 j) (continued_stand hash s here i b c))
-  view_below here i j b (put_reveal puts reveals test next) = view_branch (continued hash s (branch_path here.position i) (branch_draft hash s here i b) (continued_value s here.output.value puts) next) next j
+  view_below here i j b (put_reveal puts reveals test next) = view_branch (continued hash s (branch_path here.position i) (branch_unsigned hash s here i b) (continued_value s here.output.value puts) next) next j
   view_below here i j b (withdraw party) = refl
   view_below here i j b (split parts) = refl
   view_below here i j b (auth party body) = refl
@@ -154,7 +154,7 @@ module _ (hash : List ℕ → List ℕ) (s : Setting) where
   view_part here i k b (withdraw party) = refl
   view_part here i k b (split ps) = by_part (slice_get (parts_list ps) k)
     where
-      by_part : (o : Option (ℕ × Choice)) → option_map (λ p. terms.position p.1) o ≡ option_map view (option_map (λ (p : ℕ × Choice). by_path.at_position (part_standing hash s (branch_path here.position i) (branch_draft hash s here i b) k p.0 p.1) p.1) o)
+      by_part : (o : Option (ℕ × Choice)) → option_map (λ p. terms.position p.1) o ≡ option_map view (option_map (λ (p : ℕ × Choice). by_path.at_position (part_standing hash s (branch_path here.position i) (branch_unsigned hash s here i b) k p.0 p.1) p.1) o)
       by_part None = refl
       by_part (Some p) = refl
   view_part here i k b (auth party body) = refl
@@ -194,7 +194,7 @@ module _ (hash : List ℕ → List ℕ) (s : Setting) where
   term_choice q here choice h = ap (option_and_then as_choice) (view_at q) ∙ by_stand (stand_at hash s q) h
     where
       by_core : (a : Standing) (i : ℕ) (b c : term.Branch) → continued_stand hash s a i b c ≡ Some (here, choice) → continuation c ≡ Some choice
-      by_core a i b (put_reveal puts reveals test next) e = let z : (let p : Standing × Choice = (continued hash s (branch_path a.position i) (branch_draft hash s a i b) (continued_value s a.output.value puts) next, next) in p) ≡ (here, choice) = cc in ap (λ (p : Standing × Choice). Some p.1) z
+      by_core a i b (put_reveal puts reveals test next) e = let z : (let p : Standing × Choice = (continued hash s (branch_path a.position i) (branch_unsigned hash s a i b) (continued_value s a.output.value puts) next, next) in p) ≡ (here, choice) = cc in ap (λ (p : Standing × Choice). Some p.1) z
       by_core a i b (withdraw party) e = cc
       by_core a i b (split parts) e = cc
       by_core a i b (auth party body) e = cc

@@ -9,7 +9,9 @@ use Rattle.std.proofs.lemmas.Slice.Eq.{bytes_eq-Decides}
 use Rattle.std.proofs.lemmas.Bool.{false≢true}
 use Rattle.std.proofs.lemmas.Option.{slice_get-get_or}
 use Rattle.bm_hash.specs.Trails.{HaveApartDigests, IsClash}
-use Rattle.bm_hash.specs.Messages.{Message, message_of, clash, evidence_after, evidence_of, is_noted, noted, place_of}
+use Rattle.spec_data.specs.Lists.{is_among}
+use Rattle.spec_data.specs.Messages.{clash}
+use Rattle.bm_hash.specs.Messages.{Message, message_of, evidence_after, evidence_of, noted, place_of}
 
 -- m stands in the list
 abbrev pub Among : List Message → Message → Type 0
@@ -108,24 +110,24 @@ apart hash before (m ∷ ms) a b h am bm e =
 
 -- ---- a message that is hashed
 
-pub noted_among : (ms : List Message) (m : Message) → is_noted ms m ≡ true → Among ms m
+pub noted_among : (ms : List Message) (m : Message) → is_among m ms ≡ true → Among ms m
 noted_among [] m h = cc
 noted_among (x ∷ xs) m h =
-    elim (bytes_eq x m) as (λ b. bytes_eq x m ≡ b → b || is_noted xs m ≡ true → Among (x ∷ xs) m) [
+    elim (bytes_eq x m) as (λ b. bytes_eq x m ≡ b → b || is_among m xs ≡ true → Among (x ∷ xs) m) [
       | true ↦ λ t s. inl ((bytes_eq-Decides x m).0 t)
       | false ↦ λ t s. inr (noted_among xs m s)
     ] refl h
 
-pub among_noted : (ms : List Message) (m : Message) → Among ms m → is_noted ms m ≡ true
+pub among_noted : (ms : List Message) (m : Message) → Among ms m → is_among m ms ≡ true
 among_noted [] m h = absurd h
 among_noted (x ∷ xs) m h =
-    elim (bytes_eq x m) as (λ b. bytes_eq x m ≡ b → b || is_noted xs m ≡ true) [
+    elim (bytes_eq x m) as (λ b. bytes_eq x m ≡ b → b || is_among m xs ≡ true) [
       | true ↦ λ t. refl
       | false ↦ λ t. ⊎_elim (λ same. let holds = (bytes_eq-Decides x m).1 same in cc) (among_noted xs m) h
     ] refl
 
-unnoted : (ms : List Message) (m : Message) → (Among ms m → ⊥) → is_noted ms m ≡ false
-unnoted ms m absent = elim (is_noted ms m) as (λ b. is_noted ms m ≡ b → b ≡ false) [ true ↦ λ t. absurd (absent (noted_among ms m t)) | false ↦ λ t. refl ] refl
+unnoted : (ms : List Message) (m : Message) → (Among ms m → ⊥) → is_among m ms ≡ false
+unnoted ms m absent = elim (is_among m ms) as (λ b. is_among m ms ≡ b → b ≡ false) [ true ↦ λ t. absurd (absent (noted_among ms m t)) | false ↦ λ t. refl ] refl
 
 -- a message with m's digest is the first with it
 message_at : (hash : Message → Message) (ms : List Message) (m : Message) → message_of hash ms (hash m) ≡ None → Among ms m → ⊥
@@ -151,14 +153,14 @@ find_and_none p q (x ∷ xs) h =
 -- the message is new, with a new digest
 pub hash_fresh : (hash : Message → Message) (ms : List Message) (m : Message) → evidence_of hash ms ≡ None → message_of hash ms (hash m) ≡ None → (noted hash ms m ≡ ms ++ m ∷ []) × (evidence_of hash (ms ++ m ∷ []) ≡ None)
 hash_fresh hash ms m h none =
-    let new : is_noted ms m ≡ false = unnoted ms m (message_at hash ms m none) in
+    let new : is_among m ms ≡ false = unnoted ms m (message_at hash ms m none) in
     let apart : find (λ x. bytes_eq (hash x) (hash m) && not (bytes_eq x m)) ms ≡ None = find_and_none (λ x. bytes_eq (hash x) (hash m)) (λ x. not (bytes_eq x m)) ms none in
     (rw (h, new) refl, evidence_push hash [] ms m ∙ rw (h, apart) refl)
 
 -- the message is there
 pub hash_known : (hash : Message → Message) (ms : List Message) (m : Message) → evidence_of hash ms ≡ None → message_of hash ms (hash m) ≡ Some m → noted hash ms m ≡ ms
 hash_known hash ms m h found =
-    let there : is_noted ms m ≡ true = among_noted ms m (find_among (λ x. bytes_eq (hash x) (hash m)) ms m found).0 in
+    let there : is_among m ms ≡ true = among_noted ms m (find_among (λ x. bytes_eq (hash x) (hash m)) ms m found).0 in
     rw (h, there) refl
 
 -- another message has its digest
@@ -166,7 +168,7 @@ pub hash_clash : (hash : Message → Message) (ms : List Message) (m e : Message
 hash_clash hash ms m e h found other =
     let at = find_among (λ x. bytes_eq (hash x) (hash m)) ms e found in
     let digests : hash e ≡ hash m = (bytes_eq-Decides (hash e) (hash m)).0 at.1 in
-    let new : is_noted ms m ≡ false = unnoted ms m (λ there. let same = apart hash [] ms e m h at.0 there digests in let holds = (bytes_eq-Decides e m).1 same in cc) in
+    let new : is_among m ms ≡ false = unnoted ms m (λ there. let same = apart hash [] ms e m h at.0 there digests in let holds = (bytes_eq-Decides e m).1 same in cc) in
     let it : find (λ x. bytes_eq (hash x) (hash m) && not (bytes_eq x m)) ms ≡ Some e = find_and (λ x. bytes_eq (hash x) (hash m)) (λ x. not (bytes_eq x m)) ms e found (ap not other) in
     (rw (h, new) refl, evidence_push hash [] ms m ∙ rw (h, it) refl)
 

@@ -2,7 +2,9 @@
 
 ghost use Rattle.std.specs.Prelude.{◌≡◌, List, ℕ, IfOk, length, sum, ◌%◌, ◌∷◌, replicate};
 ghost use Rattle.sha2.specs.Sha256.{sha256};
-ghost use Rattle.bm_hash.specs.Digests.{length-sha256, toy_digest, length-toy_digest, twin_digest, length-twin_digest};
+ghost use Rattle.spec_data.specs.Hashes.{IsBytes};
+ghost use Rattle.bm_hash.specs.Digests.{toy_digest, twin_digest, length-sha256, length-toy_digest, length-twin_digest};
+ghost use Rattle.bm_hash.specs.Digests.{bytes-sha256, bytes-toy_digest, bytes-twin_digest};
 
 use sha2::{Digest, Sha256};
 use spec_data::{Bytes, OutOfMemory};
@@ -18,6 +20,8 @@ pub trait Hash32 {
         ensures { result ≡ digest_of self.now message.now };
 
     ghost sized: { (h : Self) (m : List ℕ) → length (digest_of h m) ≡ 32 };
+
+    ghost bytes: { (h : Self) (m : List ℕ) → IsBytes (digest_of h m) };
 }
 
 /// SHA-256.
@@ -28,6 +32,8 @@ impl Hash32 for Sha {
     ghost digest_of = { λ _. sha256 };
 
     ghost sized = { λ _. length-sha256 };
+
+    ghost bytes = { λ _. bytes-sha256 };
 
     fn hash32(&self, message: &[u8]) -> [u8; 32] {
         Sha256::digest(message)
@@ -42,6 +48,8 @@ impl Hash32 for Toy {
     ghost digest_of = { λ _. toy_digest };
 
     ghost sized = { λ _. length-toy_digest };
+
+    ghost bytes = { λ _. bytes-toy_digest };
 
     fn hash32(&self, message: &[u8]) -> [u8; 32] {
         let mut digest = [0; 32];
@@ -77,6 +85,8 @@ impl Hash32 for Twin {
     ghost digest_of = { λ h. twin_digest h.first h.second };
 
     ghost sized = { λ h. length-twin_digest h.first h.second };
+
+    ghost bytes = { λ h. bytes-twin_digest h.first h.second };
 
     fn hash32(&self, message: &[u8]) -> [u8; 32] {
         if message == self.second.as_slice() {

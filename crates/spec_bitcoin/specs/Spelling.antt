@@ -1,7 +1,8 @@
 -- The bytes of a transaction, by BIP 144; counts and lengths are the CompactSize of Bitcoin's messages, in the shortest of its four forms.
-use Rattle.std.specs.Prelude.{◌≡◌, ℕ, ◌<◌, ◌^◌, List, [], ◌∷◌, ◌++◌, length, Bool, true, false, ◌||◌, if◌then◌else◌, nat_lt, slice_index}
+use Rattle.std.specs.Prelude.{◌≡◌, ℕ, ◌<◌, ◌^◌, List, [], ◌∷◌, ◌++◌, length, Bool, true, false, ◌||◌, if◌then◌else◌, nat_lt}
 use Rattle.std.specs.List.{flat_map, AllByRecursion}
 use Rattle.std.specs.Int.{w16, w32, w64, to_le_bytes}
+pub use Rattle.spec_data.specs.Hashes.{IsBytes}
 use Rattle.spec_bitcoin.specs.declared.tx.OutPoint.{OutPoint}
 use Rattle.spec_bitcoin.specs.declared.tx.TxIn.{TxIn}
 use Rattle.spec_bitcoin.specs.declared.tx.TxOut.{TxOut}
@@ -82,10 +83,6 @@ abbrev pub spelling : Tx → List ℕ
 spelling tx = if is_marked tx.inputs then marked tx else stripped tx
 
 -- ---- what has a spelling
-
--- each element is a byte
-abbrev pub IsBytes : List ℕ → Type 0
-IsBytes bytes = (i : ℕ) → slice_index bytes i < 256
 
 -- a byte string whose length a count can say
 pub record IsString (text : List ℕ) : Type 0 where

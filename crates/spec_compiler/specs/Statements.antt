@@ -2,6 +2,7 @@
 use Rattle.std.specs.Prelude.{◌≡◌, ℕ, ◌-◌, ◌≤◌, List, [], ◌∷◌, ◌++◌, length, map, reverse, Bool, true, false, ◌&&◌, nat_le, slice_get, Some, ◌==◌}
 use Rattle.std.specs.List.{list_all}
 use Rattle.std.specs.Str.{bytes_eq}
+pub use Rattle.spec_data.specs.Hashes.{IsHash}
 use Rattle.spec_terms.specs.Term as term
 use Rattle.spec_terms.specs.Term.{Choice, branches}
 use Rattle.spec_terms.specs.Core.{core, reveals_of, test_of}
@@ -71,10 +72,6 @@ pub record Opens (hash : List ℕ → List ℕ) (valid : List ℕ → List ℕ �
   pub signed : are_valid valid signatures (branch_keys hash s (branch_path position i)) ≡ true
 
 -- ---- where the theorems hold
-
--- digests have 32 bytes
-abbrev pub IsHash : (List ℕ → List ℕ) → Type 0
-IsHash hash = (message : List ℕ) → length (hash message) ≡ 32
 
 -- whether a string has so many bytes
 abbrev pub has_size : ℕ → List ℕ → Bool

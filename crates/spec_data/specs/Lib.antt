@@ -1,4 +1,6 @@
 pub mod Digits
+pub mod Hashes
 pub mod Lists
+pub mod Messages
 pub mod Name
 pub mod Ranges

@@ -4,10 +4,10 @@ use Rattle.std.specs.List.{list_all, list_any, AllByRecursion}
 use Rattle.std.specs.Str.{bytes_eq}
 use Rattle.spec_data.specs.Lists.{is_among, are_different}
 use Rattle.spec_terms.specs.Faults.{IsWellFormed}
+pub use Rattle.spec_data.specs.Hashes.{HashesBytes}
 use Rattle.spec_bitcoin.specs.Spelling.{IsBytes}
 use Rattle.spec_data.specs.Ranges.{max_money}
 use Rattle.spec_bitcoin.specs.Keys.{IsLabel}
-use Rattle.spec_compiler.specs.Statements.{IsHash}
 use Rattle.spec_run.specs.declared.header.Header.{Header}
 use Rattle.spec_run.specs.declared.header.HeldSecret.{HeldSecret}
 use Rattle.spec_run.specs.declared.event.Event.{Event}
@@ -44,11 +44,6 @@ pub record IsHeader (header : Header) : Type 0 where
   pub few_deposits : length header.deposits ≤ 1000
 
 -- ---- what never changes
-
--- each digest is of 32 bytes
-pub record HashesBytes (hash : List ℕ → List ℕ) : Type 0 where
-  pub size : IsHash hash
-  pub bytes : (message : List ℕ) → IsBytes (hash message)
 
 pub record IsSetup (s : Setup) : Type 0 where
   pub hash : HashesBytes s.hash

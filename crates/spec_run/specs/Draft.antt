@@ -9,7 +9,7 @@ use Rattle.spec_run.specs.declared.outcome.Outcome.{Outcome}
 use Rattle.spec_run.specs.declared.outcome.Outcome.TheVariants.{Done, Refused}
 use Rattle.spec_run.specs.declared.outcome.Reason.{Reason}
 use Rattle.spec_run.specs.Setup.{Setup}
-use Rattle.spec_run.specs.Messages.{noted_all, collision}
+use Rattle.spec_data.specs.Messages.{noted_all, collision}
 use Rattle.spec_run.specs.World.{World}
 
 pub record Draft : Type 0 where

@@ -15,7 +15,7 @@ use Rattle.spec_run.specs.declared.outcome.Reason.{Reason}
 use Rattle.spec_run.specs.declared.outcome.Reason.TheVariants as reason
 use Rattle.spec_run.specs.declared.outcome.Record.{Record}
 use Rattle.spec_run.specs.Setup.{Setup}
-use Rattle.spec_run.specs.Messages.{noted_all, collision}
+use Rattle.spec_data.specs.Messages.{noted_all, collision}
 use Rattle.spec_run.specs.World.{Held, World}
 use Rattle.spec_run.specs.Draft.{Draft, Answer, Went, Halted, Halt, done, posting, refused, unless, answer}
 use Rattle.spec_run.specs.Owners.{paid_to}

@@ -1,5 +1,4 @@
 pub mod Setup
-pub mod Messages
 pub mod World
 pub mod Draft
 pub mod Owners

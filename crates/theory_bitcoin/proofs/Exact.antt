@@ -1,9 +1,10 @@
 -- A reader is exact for a language: what it takes is spelled, what is spelled is taken whatever follows,
 -- and where it stops the bytes so far begin a text, and the next byte goes on with none.
 use Rattle.std.proofs.Common.{◌≡◌, ℕ, zero, suc, ◌+◌, ◌-◌, ◌<◌, ◌≤◌, Bool, true, false, cond, not, ⊎_elim, List, [], ◌∷◌, ◌++◌, length, take, drop, replicate, ltb, Result, Ok, Err, refl, sym, ap, subst, ◌∙◌, append_assoc, arith, inl, inr, ◌⊎◌}
-use Rattle.std.proofs.lemmas.List.{append-nil, get_or-append-add, get_or_append_left, get_or-append_right, length-append, length-take, length-replicate, get_or-take, get_or_past, get_or-replicate, take_at, drop_at, take-append-drop}
+use Rattle.std.proofs.lemmas.List.{append-nil, get_or-append-add, length-append, length-take, length-replicate, get_or-take, get_or_past, get_or-replicate, take_at, drop_at, take-append-drop}
 use Rattle.std.proofs.lemmas.Bool.{cases_lt, ltb-false, ltb-true, le-ltb}
 use Rattle.spec_bitcoin.specs.Spelling.{IsBytes}
+use Rattle.spec_data.proofs.ByteLemmas.{IsBytes-append}
 use Rattle.spec_bitcoin.specs.Reading.{◌>>=◌, byte_where, choose, chunk, many}
 
 pub IsBytes-back : (a b : List ℕ) → IsBytes (a ++ b) → IsBytes b
@@ -397,13 +398,6 @@ IsBytes-take n bytes h i =
     elim (cases_lt i n) [
       | inl lt ↦ rw (get_or-take n bytes i 0 lt) (h i)
       | inr le ↦ rw (get_or_past (take n bytes) i 0 (omega (arith, length-take n bytes))) (omega arith)
-    ]
-
-pub IsBytes-append : (a b : List ℕ) → IsBytes a → IsBytes b → IsBytes (a ++ b)
-IsBytes-append a b ha hb i =
-    elim (cases_lt i (length a)) [
-      | inl lt ↦ rw (get_or_append_left a b 0 i lt) (ha i)
-      | inr le ↦ rw (get_or-append_right a b (length a) i 0 refl le) (hb (i - length a))
     ]
 
 IsBytes-zeros : (n : ℕ) → IsBytes (replicate n 0)

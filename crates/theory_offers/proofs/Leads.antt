@@ -19,7 +19,7 @@ use Rattle.spec_run.specs.World.{World}
 use Rattle.spec_run.specs.Compiled.{compiled_at, setting}
 use Rattle.spec_run.specs.Conditions.{IsSetup}
 use Rattle.spec_run.specs.Draft.{Draft, unless, settle, settled, answer, guess}
-use Rattle.spec_run.specs.Messages.{collision}
+use Rattle.spec_data.specs.Messages.{collision}
 use Rattle.spec_run.specs.Agreement.{Agree}
 use Rattle.spec_run.specs.Firing.{initial_witnesses, initial_transaction, initial_by, fire_init_row, reaches_if}
 use Rattle.spec_run.specs.Ledger.{judged, accepted, kind_by, kind_of, Begins, first_held, initial_of}

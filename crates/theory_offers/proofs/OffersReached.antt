@@ -14,7 +14,7 @@ use Rattle.spec_run.specs.Setup.{Setup}
 use Rattle.spec_run.specs.World.{World}
 use Rattle.spec_run.specs.Compiled.{setting, compiled_at}
 use Rattle.spec_run.specs.Draft.{settled}
-use Rattle.spec_run.specs.Messages.{noted_all}
+use Rattle.spec_data.specs.Messages.{noted_all}
 use Rattle.spec_run.specs.Ledger.{Kind, verdict_in, strings_of, items_of, reason_of, accepted, judged, reaches, initial_of, new_held, begun_after, kind_of, spend_from, made_from}
 use Rattle.spec_run.specs.Signing.{signed_all, with_pairs}
 use Rattle.spec_run.specs.Steps.{accepted_steps, steps_of}

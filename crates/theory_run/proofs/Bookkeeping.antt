@@ -6,7 +6,7 @@ use Rattle.spec_run.specs.declared.event.Event.{Event}
 use Rattle.spec_run.specs.declared.event.Event.TheVariants as events
 use Rattle.spec_run.specs.Setup.{Setup}
 use Rattle.spec_run.specs.World.{World}
-use Rattle.spec_run.specs.Messages.{collision}
+use Rattle.spec_data.specs.Messages.{collision}
 use Rattle.spec_run.specs.Conditions.{IsSetup, IsEvent}
 use Rattle.spec_run.specs.Draft.{settled}
 use Rattle.spec_run.specs.Event.{draft, opening_world, opening_collision}

@@ -17,7 +17,7 @@ use Rattle.spec_calculus.specs.Configuration.{Configuration}
 use Rattle.spec_calculus.specs.Beginning.{pre_of as calculus_pre, participants_of, is_fair, lists_each, are_known, has_committed}
 use Rattle.spec_calculus.specs.Steps.{effect, after, Legal}
 use Rattle.spec_run.specs.Setup.{Setup, is_honest, held_secret, bytes_or_none, pre_of, people_of, contract_at}
-use Rattle.spec_run.specs.Messages.{noted_all, collision}
+use Rattle.spec_data.specs.Messages.{noted_all, collision}
 use Rattle.spec_run.specs.World.{Promise, World, is_promise_of, has_promised}
 use Rattle.spec_run.specs.Advertising.{are_rearranged, arranged, or_else_this}
 use Rattle.spec_run.specs.Committing.{secrets_at, is_secret_long, own_digests, own_strings, not_held, badly_long, used_digests, used_again, names_fit, committed_digests, committed_strings, commit_row, digest_row}

@@ -26,7 +26,7 @@ use Rattle.spec_run.specs.declared.event.Event.{Event}
 use Rattle.spec_run.specs.declared.event.Event.TheVariants as events
 use Rattle.spec_run.specs.Setup.{Setup, is_honest, people_of, people_at}
 use Rattle.spec_run.specs.World.{Output, Promise, World, is_advertised, is_promise_of, has_promised}
-use Rattle.spec_run.specs.Messages.{noted_all}
+use Rattle.spec_data.specs.Messages.{noted_all}
 use Rattle.spec_run.specs.Compiled.{compiled_at}
 use Rattle.spec_run.specs.Conditions.{IsDigest, IsSetup}
 use Rattle.spec_run.specs.Advertising.{arranged}

@@ -29,7 +29,7 @@ use Rattle.spec_compiler.specs.Transactions.{Standing, party_script}
 use Rattle.spec_compiler.specs.ByPath.{position_at}
 use Rattle.spec_run.specs.declared.event.Event.{Event}
 use Rattle.spec_run.specs.Setup.{Setup, is_declared}
-use Rattle.spec_run.specs.Messages.{noted_all, collision}
+use Rattle.spec_data.specs.Messages.{noted_all, collision}
 use Rattle.spec_run.specs.World.{Output, World, output_at, is_deposit}
 use Rattle.spec_run.specs.Owners.{deposit_value}
 use Rattle.spec_run.specs.Compiled.{place_of, compiled_at}

@@ -22,7 +22,7 @@ use Rattle.spec_run.specs.declared.outcome.Reason.TheVariants as reason
 use Rattle.spec_run.specs.declared.outcome.Record.{Record}
 use Rattle.spec_run.specs.Setup.{Setup, is_declared}
 use Rattle.spec_run.specs.World.{Output, World, output_at, is_deposit, held_at}
-use Rattle.spec_run.specs.Messages.{noted_all, collision}
+use Rattle.spec_data.specs.Messages.{noted_all, collision}
 use Rattle.spec_run.specs.Owners.{paid_to, owner_among, owner_by, owner_of}
 use Rattle.spec_run.specs.Compiled.{compiled_at}
 use Rattle.spec_run.specs.Conditions.{IsSetup, IsEvent, IsGift}

@@ -11,7 +11,7 @@ use Rattle.spec_run.specs.declared.outcome.Reason.{Reason}
 use Rattle.spec_run.specs.declared.outcome.Record.{Record}
 use Rattle.spec_run.specs.Setup.{Setup, is_declared, is_honest}
 use Rattle.spec_run.specs.World.{World, is_advertised}
-use Rattle.spec_run.specs.Messages.{collision}
+use Rattle.spec_data.specs.Messages.{collision}
 use Rattle.spec_run.specs.Draft.{Draft, refused, unless, settled}
 use Rattle.spec_run.specs.Values.{is_done}
 use Rattle.spec_run.specs.HonestDeposits.{is_init, is_endorse, was_done}

@@ -28,7 +28,7 @@ use Rattle.spec_run.specs.declared.event.Event.TheVariants as events
 use Rattle.spec_run.specs.declared.outcome.Reason.{Reason}
 use Rattle.spec_run.specs.Setup.{Setup, is_declared, is_honest}
 use Rattle.spec_run.specs.World.{Held, World, held_at, is_advertised, is_promise_of, has_promised}
-use Rattle.spec_run.specs.Messages.{noted_all}
+use Rattle.spec_data.specs.Messages.{noted_all}
 use Rattle.spec_run.specs.Compiled.{compiled_at}
 use Rattle.spec_run.specs.Conditions.{HashesBytes, IsEvent}
 use Rattle.spec_run.specs.Draft.{Draft, unless, settled}

@@ -10,7 +10,7 @@ use Rattle.spec_calculus.specs.Configuration.{Configuration}
 use Rattle.spec_calculus.specs.Steps.{after, Legal}
 use Rattle.spec_run.specs.declared.header.HeldSecret.{HeldSecret}
 use Rattle.spec_run.specs.Setup.{Setup, is_honest, held_among, held_secret}
-use Rattle.spec_run.specs.Messages.{noted_all, collision}
+use Rattle.spec_data.specs.Messages.{noted_all, collision}
 use Rattle.spec_run.specs.World.{World}
 use Rattle.spec_run.specs.Draft.{is_allowed, is_guessed, guess}
 use Rattle.spec_run.specs.Committing.{is_secret_long, used_digests}

@@ -7,7 +7,7 @@ use Rattle.spec_calculus.specs.Beginning.{is_init_authorised}
 use Rattle.spec_calculus.specs.Branches.{has_branch_authorised}
 use Rattle.spec_compiler.specs.Setting.{Setting}
 use Rattle.spec_run.specs.Setup.{Setup}
-use Rattle.spec_run.specs.Messages.{noted_all, collision}
+use Rattle.spec_data.specs.Messages.{noted_all, collision}
 use Rattle.spec_run.specs.World.{World}
 use Rattle.spec_run.specs.Compiled.{setting, compiled_at}
 use Rattle.spec_run.specs.Conditions.{HashesBytes}

@@ -5,7 +5,7 @@ use Rattle.spec_calculus.specs.Steps.{after}
 use Rattle.spec_run.specs.declared.event.Event.{Event}
 use Rattle.spec_run.specs.declared.outcome.Record.{Record}
 use Rattle.spec_run.specs.Setup.{Setup}
-use Rattle.spec_run.specs.Messages.{collision}
+use Rattle.spec_data.specs.Messages.{collision}
 use Rattle.spec_run.specs.World.{World}
 use Rattle.spec_run.specs.Conditions.{IsSetup, IsEvent}
 use Rattle.spec_run.specs.Draft.{settled, guess}

@@ -12,7 +12,7 @@ use Rattle.spec_run.specs.declared.event.Event.{Event}
 use Rattle.spec_run.specs.declared.event.Event.TheVariants as events
 use Rattle.spec_run.specs.declared.outcome.Reason.TheVariants as reason
 use Rattle.spec_run.specs.Setup.{Setup, is_declared}
-use Rattle.spec_run.specs.Messages.{noted_all}
+use Rattle.spec_data.specs.Messages.{noted_all}
 use Rattle.spec_run.specs.World.{World, held_at}
 use Rattle.spec_run.specs.Compiled.{compiled_at}
 use Rattle.spec_run.specs.Conditions.{IsSetup, IsEvent}

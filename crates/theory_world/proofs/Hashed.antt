@@ -6,7 +6,7 @@ use Rattle.std.specs.Option.{option_map, option_or}
 use Rattle.std.specs.Str.{bytes_eq}
 use Rattle.std.proofs.lemmas.Bool.{or_left, or_right, or_cases}
 use Rattle.spec_data.specs.Lists.{is_among}
-use Rattle.spec_run.specs.Messages.{noted, noted_all, is_twin, clash, collision}
+use Rattle.spec_data.specs.Messages.{noted, noted_all, is_twin, clash, collision}
 use Rattle.theory_world.proofs.Same.{bytes-true, bytes_refl}
 use Rattle.theory_world.proofs.Tests.{any-append}
 

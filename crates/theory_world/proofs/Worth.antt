@@ -17,7 +17,7 @@ use Rattle.spec_run.specs.declared.header.HeldSecret.{HeldSecret}
 use Rattle.spec_run.specs.declared.outcome.Outcome.{Outcome}
 use Rattle.spec_run.specs.declared.outcome.Reason.{Reason}
 use Rattle.spec_run.specs.Setup.{Setup}
-use Rattle.spec_run.specs.Messages.{collision}
+use Rattle.spec_data.specs.Messages.{collision}
 use Rattle.spec_run.specs.World.{World, held_at}
 use Rattle.spec_run.specs.Draft.{Draft, unless, settle, guess}
 use Rattle.spec_run.specs.Values.{total_live, live_value, KeepsValue, ValueKept}

@@ -1,4 +1,4 @@
--- The different messages that a run has hashed, and two of them with one digest; of this project, from no standard.
+-- The different messages that have been hashed, and the first two of them with one digest.
 use Rattle.std.specs.Prelude.{ℕ, List, [], ◌∷◌, ◌++◌, Bool, not, ◌&&◌, if◌then◌else◌, Option, None}
 use Rattle.std.specs.List.{find}
 use Rattle.std.specs.Option.{option_map, option_or}

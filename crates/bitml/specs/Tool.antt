@@ -7,7 +7,7 @@ use Rattle.bm_io.specs.declared.files.ReadError.{ReadError}
 use Rattle.bm_io.specs.declared.files.ReadError.TheVariants.{Failed, TooLong, Memory}
 use Rattle.spec_text.specs.Limits.{most_text_bytes}
 use Rattle.spec_text.specs.Refusals.{too_long_text}
-use Rattle.spec_text.specs.Commands.{Printed, contract_refused, check_answer}
+use Rattle.spec_tool.specs.Commands.{Printed, contract_refused, check_answer}
 use Rattle.bitml.specs.declared.event.Run.{Run}
 use Rattle.bitml.specs.declared.reply.Reply.{Reply}
 use Rattle.bitml.specs.declared.tool.Verb.{Verb}

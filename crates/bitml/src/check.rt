@@ -4,7 +4,7 @@ ghost use Rattle.std.specs.Prelude.{◌≡◌, true, IfOk, Ok, Err};
 ghost use Rattle.spec_terms.specs.Readable.{is_readable};
 ghost use Rattle.spec_text.specs.Refusals.{text_fault_text, fault_text, exceeded_text, too_long_text, judged_answer, contract_of};
 ghost use Rattle.spec_text.specs.ReadAdvert.{read_answer};
-ghost use Rattle.spec_text.specs.Commands.{check_judged, check_answer, contract_refused};
+ghost use Rattle.spec_tool.specs.Commands.{check_judged, check_answer, contract_refused};
 ghost use Rattle.bitml.specs.Judging.{Judges};
 ghost use Rattle.bitml.specs.Tool.{reply_of};
 

@@ -1,4 +1,3 @@
 pub mod Worked
 pub mod WorkedRuns
 pub mod WorkedDraws
-pub mod WorkedCommands

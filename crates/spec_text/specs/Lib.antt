@@ -19,6 +19,4 @@ pub mod Generator
 pub mod Refusals
 pub mod Played
 pub mod PlanText
-pub mod Commands
-pub mod Headline
 pub mod Statements

@@ -1,13 +1,10 @@
 -- What is claimed of reading and printing; of this project's profile.
-use Rattle.std.specs.Prelude.{◌≡◌, ℕ, ◌+◌, ◌-◌, ◌<◌, ◌≤◌, List, [], length, take, true, None, Ok, Err}
+use Rattle.std.specs.Prelude.{◌≡◌, ℕ, ◌+◌, ◌-◌, ◌<◌, ◌≤◌, List, [], length, take, true, Ok, Err}
 use Rattle.spec_terms.specs.Advert.{Advert}
 use Rattle.spec_terms.specs.Readable.{is_readable}
 use Rattle.spec_terms.specs.declared.limit.Limit.{Limit}
 use Rattle.spec_run.specs.declared.event.Event.{Event}
 use Rattle.spec_run.specs.declared.event.Run.{Run}
-use Rattle.spec_run.specs.Event.{opening_collision}
-use Rattle.spec_run.specs.Conditions.{HashesBytes}
-use Rattle.spec_run.specs.Statements.{IsRun}
 use Rattle.spec_text.specs.declared.token.Token.{Token}
 use Rattle.spec_text.specs.declared.stop.Stop.TheVariants as stops
 use Rattle.spec_text.specs.Lexis.{tokens_of}
@@ -18,8 +15,6 @@ use Rattle.spec_text.specs.ReadAdvert.{advert_of_all, read_answer}
 use Rattle.spec_text.specs.Canonical.{advert_text}
 use Rattle.spec_text.specs.RunFile.{says, event_line, read_run}
 use Rattle.spec_text.specs.RunText.{event_text, header_text}
-use Rattle.spec_text.specs.Refusals.{run_of}
-use Rattle.spec_text.specs.Commands.{contracts_from, setup_of}
 
 -- ---- contract text
 
@@ -66,9 +61,3 @@ PrintedEventTheorem = (parties : List (List ℕ)) (count : ℕ) (line : List ℕ
 -- the canonical lines of a header that some file has are read as that header
 abbrev pub PrintedHeaderTheorem : Type 0
 PrintedHeaderTheorem = (text : List ℕ) (run : Run) → read_run text ≡ Ok run → read_run (header_text run.header) ≡ Ok (record { header = run.header; events = [] })
-
--- valid run files and well-formed contracts make a run of which the theorems on runs speak
-abbrev pub ValidRunTheorem : Type 0
-ValidRunTheorem = (hash : List ℕ → List ℕ) → HashesBytes hash → (run_file : List ℕ) (contract_files : List (List ℕ)) (run : Run) (contracts : List Advert)
-    → run_of run_file ≡ Ok run → contracts_from 0 contract_files ≡ Ok contracts → length contract_files ≤ 16
-    → opening_collision (setup_of hash run contracts) ≡ None → IsRun (setup_of hash run contracts) run.events

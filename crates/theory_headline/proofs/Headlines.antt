@@ -13,11 +13,11 @@ use Rattle.spec_text.specs.Limits.{most_text_bytes}
 use Rattle.spec_text.specs.ReadAdvert.{read_answer}
 use Rattle.spec_text.specs.Refusals.{Judged, judged_limit, judged_fault, judged_answer, contract_of, run_of}
 use Rattle.spec_text.specs.Played.{play_text}
-use Rattle.spec_text.specs.Commands.{Printed, JudgedAll, onto_judged, contracts_from, setup_of, run_answer, with_contracts, with_run}
-use Rattle.spec_text.specs.Statements.{ValidRunTheorem}
+use Rattle.spec_tool.specs.Commands.{Printed, JudgedAll, onto_judged, contracts_from, setup_of, run_answer, with_contracts, with_run}
+use Rattle.spec_tool.specs.Statements.{ValidRunTheorem}
 use Rattle.theory_text.proofs.AdvertsWithin.{read_is_readable}
 use Rattle.theory_text.proofs.ValidRuns.{run_file_is}
-use Rattle.spec_text.specs.Headline.{HeadlineTheorem}
+use Rattle.spec_tool.specs.Headline.{HeadlineTheorem}
 use Rattle.theory_run.proofs.Simulated.{simulation}
 use Rattle.theory_run.proofs.Honest.{licence}
 use Rattle.theory_offers.proofs.Whole.{kept_offers}

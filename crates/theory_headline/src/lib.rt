@@ -1,8 +1,8 @@
 //! What `play` shows: each theorem is the contract of a function that does nothing.
 #![tactic(auto)]
 
-ghost use Rattle.spec_text.specs.Statements.{ValidRunTheorem};
-ghost use Rattle.spec_text.specs.Headline.{HeadlineTheorem};
+ghost use Rattle.spec_tool.specs.Statements.{ValidRunTheorem};
+ghost use Rattle.spec_tool.specs.Headline.{HeadlineTheorem};
 
 /// Valid run files and well-formed contracts make a run of which the theorems on runs speak.
 pub fn valid_runs()

@@ -12,7 +12,7 @@ use Rattle.spec_run.specs.Offers.{Offer, offers}
 use Rattle.spec_run.specs.Statements.{Simulates, HoldsThroughout, licensed, IsKept}
 use Rattle.spec_text.specs.Refusals.{run_of}
 use Rattle.spec_text.specs.Played.{ending, play_text}
-use Rattle.spec_text.specs.Commands.{Printed, contracts_from, setup_of, ending_status, play_answer}
+use Rattle.spec_tool.specs.Commands.{Printed, contracts_from, setup_of, ending_status, play_answer}
 
 -- what holds of a run whose opening strings don't collide: of all its events, or of those before the first halt
 pub record IsFaithful (s : Setup) (es : List Event) : Type 0 where

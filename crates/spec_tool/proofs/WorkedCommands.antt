@@ -10,7 +10,7 @@ use Rattle.spec_text.specs.ReadContract.{withdraw_at, condition_at, reveals_at, 
 use Rattle.spec_text.specs.ReadTest.{constant_at, length_at, formula_at, comparison_at, test_at}
 use Rattle.spec_text.specs.Reading.{names_from}
 use Rattle.spec_text.specs.Played.{play_text}
-use Rattle.spec_text.specs.Commands.{command_of, make, prints, check_answer, play_answer}
+use Rattle.spec_tool.specs.Commands.{command_of, make, prints, check_answer, play_answer}
 
 -- a line feed
 abbrev pub line : List ℕ → List ℕ → List ℕ

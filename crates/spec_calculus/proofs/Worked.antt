@@ -1,7 +1,7 @@
--- Worked values of the steps: a timed commitment, a deposit that a contract waits for, a contract with a fee.
+-- Worked values of the steps: a timed commitment, a deposit that a contract waits for, a contract with a fee, a contract that asks.
 use Rattle.std.specs.Prelude.{◌≡◌, ℕ, List, [], ◌∷◌, take, Some, None, refl}
 use Rattle.spec_terms.specs.Advert.{Advert}
-use Rattle.spec_terms.specs.Term.{always, after, put_reveal, withdraw, split, no_branch, branch, no_part, part}
+use Rattle.spec_terms.specs.Term.{always, less, length_of, constant, auth, after, put_reveal, withdraw, split, no_branch, branch, no_part, part}
 use Rattle.spec_terms.specs.declared.pre.Pre.TheVariants.{Persistent, Volatile, Secret}
 use Rattle.spec_terms.specs.declared.path.PathStep.TheVariants.{Branch as To}
 use Rattle.spec_calculus.specs.declared.step.Owner.TheVariants.{Party, Outside}
@@ -190,6 +190,24 @@ others_deposit = refl
 not_authorised : fails (past 4) (steps.Init 0) ≡ 3
 not_authorised = refl
 
+no_contract_to_begin : fails (past 3) (steps.AuthInit 1 A x) ≡ 1
+no_contract_to_begin = refl
+
+abbrev x_away : List Step
+x_away =
+    steps.AuthMove A (record { inputs = 0 ∷ []; outputs = (Party A, 100000000) ∷ [] })
+    ∷ steps.Move (record { inputs = 0 ∷ []; outputs = (Party A, 100000000) ∷ [] })
+    ∷ []
+
+own_deposit_gone : fails (after_all (past 3) x_away) (steps.AuthInit 0 A x) ≡ 3
+own_deposit_gone = refl
+
+deposit_gone : fails (after_all (past 5) x_away) (steps.Init 0) ≡ 2
+deposit_gone = refl
+
+unknown_length : fails (after_all (record (past 1) { honest = B ∷ [] }) (steps.Commit 0 A ((a, None) ∷ []) ∷ [])) (steps.Reveal 0 A a) ≡ 2
+unknown_length = refl
+
 others_reveal : fails (past 3) (steps.Reveal 0 B a) ≡ 1
 others_reveal = refl
 
@@ -305,3 +323,76 @@ divided = refl
 
 fee_of_each_withdrawal : (costs 7).deposits ≡ deposit 4 A 4 ∷ deposit 5 A 2 ∷ []
 fee_of_each_withdrawal = refl
+
+-- ---- a contract that asks, with a lock, a predicate and a fee
+
+abbrev asking : Advert
+asking = record {
+  pre = Persistent A 10 x ∷ Volatile A 5 z ∷ Secret A a ∷ [];
+  fee = 1;
+  root = branch (auth A (after 5 (put_reveal (z ∷ []) (a ∷ []) (less (length_of a) (constant 3)) (branch (withdraw A) no_branch))))
+      (branch (auth A (after 5 (split (part 4 (branch (withdraw A) no_branch) (part 4 (branch (withdraw A) no_branch) no_part))))) no_branch);
+}
+
+-- begun, where the secret has this length
+abbrev asks : ℕ → Configuration
+asks secret_length = after_all (opening (A ∷ []) (A ∷ []) ((A, 10) ∷ (A, 5) ∷ []) (asking ∷ [])) (
+    steps.Advertise 0 ((x, 0) ∷ (z, 1) ∷ [])
+    ∷ steps.Commit 0 A ((a, Some secret_length) ∷ [])
+    ∷ steps.AuthInit 0 A x
+    ∷ steps.Init 0
+    ∷ []
+    )
+
+-- when both branches may be taken
+abbrev asked : ℕ → Configuration
+asked secret_length = after_all (asks secret_length) (
+    steps.AuthBranch A 2 0
+    ∷ steps.AuthBranch A 2 1
+    ∷ steps.AuthBranch A 2 1
+    ∷ steps.Delay 5
+    ∷ steps.Reveal 0 A a
+    ∷ []
+    )
+
+authorised_once : (asked 2).branch_authorised ≡ record { party = A; output = 2; branch = 0 } ∷ record { party = A; output = 2; branch = 1 } ∷ []
+authorised_once = refl
+
+put_not_active : fails (asked 2) (steps.PutReveal 3 0) ≡ 1
+put_not_active = refl
+
+put_too_early : fails (after_all (asks 2) (steps.Delay 4 ∷ [])) (steps.PutReveal 2 0) ≡ 3
+put_too_early = refl
+
+put_not_agreed : fails (after_all (asks 2) (steps.Delay 5 ∷ [])) (steps.PutReveal 2 0) ≡ 4
+put_not_agreed = refl
+
+predicate_false : fails (asked 3) (steps.PutReveal 2 0) ≡ 7
+predicate_false = refl
+
+predicate_true : fails (asked 2) (steps.PutReveal 2 0) ≡ 0
+predicate_true = refl
+
+fee_of_the_put : (after_all (asked 2) (steps.PutReveal 2 0 ∷ [])).active ≡ record { number = 3; contract = 0; position = To 0 ∷ []; balance = 13 } ∷ []
+fee_of_the_put = refl
+
+split_not_active : fails (asked 2) (steps.Split 3 1) ≡ 1
+split_not_active = refl
+
+split_of_a_put : fails (asked 2) (steps.Split 2 0) ≡ 2
+split_of_a_put = refl
+
+split_too_early : fails (after_all (asks 2) (steps.Delay 4 ∷ [])) (steps.Split 2 1) ≡ 3
+split_too_early = refl
+
+split_not_agreed : fails (after_all (asks 2) (steps.Delay 5 ∷ [])) (steps.Split 2 1) ≡ 4
+split_not_agreed = refl
+
+withdraw_not_active : fails (asked 2) (steps.Withdraw 3 0) ≡ 1
+withdraw_not_active = refl
+
+withdraw_of_a_split : fails (asked 2) (steps.Withdraw 2 1) ≡ 2
+withdraw_of_a_split = refl
+
+both_offered : offers (asked 2) ≡ steps.PutReveal 2 0 ∷ steps.Split 2 1 ∷ []
+both_offered = refl

@@ -1,4 +1,4 @@
--- What is asked of advertising a contract, of committing to its secrets and of its beginning; of this project's profile of BitML.
+-- What advertising a contract, committing to its secrets and beginning it ask of a configuration.
 use Rattle.std.specs.Prelude.{ℕ, ◌==◌, nat_le, Bool, true, false, ◌&&◌, ◌||◌, not, List, [], ◌∷◌, Option, Some, None, is_some, if◌then◌else◌, slice_get}
 use Rattle.std.specs.List.{list_any, list_all}
 use Rattle.std.specs.Str.{bytes_eq}

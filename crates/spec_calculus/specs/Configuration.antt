@@ -1,4 +1,4 @@
--- What the calculus knows at a moment; of this project's profile of BitML.
+-- The configuration: all that the calculus knows at a moment.
 use Rattle.std.specs.Prelude.{ℕ, List}
 use Rattle.spec_terms.specs.Advert.{Advert}
 use Rattle.spec_calculus.specs.declared.parts.Deposit.{Deposit}

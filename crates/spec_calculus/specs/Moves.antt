@@ -1,4 +1,4 @@
--- What a move asks of the deposits, and what it makes of them; of this project's profile of BitML.
+-- What a move of deposits asks of a configuration, and what it makes of the deposits.
 use Rattle.std.specs.Prelude.{ℕ, ◌+◌, Bool, true, ◌&&◌, ◌==◌, not, cond, List, [], ◌∷◌, ◌++◌, Option, Some, None, is_some, sum_by, nat_le, length, find, filter}
 use Rattle.std.specs.List.{list_all, list_any}
 use Rattle.std.specs.Str.{bytes_eq}

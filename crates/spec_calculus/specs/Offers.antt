@@ -1,4 +1,4 @@
--- The steps of contracts that may be taken now; of this project's profile of BitML.
+-- The offers: the enabled steps by which contracts begin or go on, in their order.
 use Rattle.std.specs.Prelude.{ℕ, ◌+◌, ◌==◌, Bool, List, [], ◌∷◌, ◌++◌, Option, Some, None, filter}
 use Rattle.spec_terms.specs.Advert.{Advert}
 use Rattle.spec_terms.specs.Core.{core}

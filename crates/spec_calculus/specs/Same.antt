@@ -1,4 +1,4 @@
--- When two owners and two moves are the same; of this project's profile of BitML.
+-- Sameness of owners, of outputs and of moves.
 use Rattle.std.specs.Prelude.{ℕ, ◌&&◌, ◌==◌, Bool, true, false}
 use Rattle.std.specs.Str.{bytes_eq}
 use Rattle.std.specs.Cmp.Lexicographic.{pointwise}

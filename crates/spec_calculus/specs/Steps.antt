@@ -1,4 +1,4 @@
--- The steps of the calculus: the first premise that fails, the effect, and legal runs; of this project's profile of BitML.
+-- The twelve steps of the calculus: the premises of each by number, the first that fails, the effect, and legal runs from the opening on.
 use Rattle.std.specs.Prelude.{◌≡◌, ℕ, ◌+◌, ◌-◌, Bool, ◌&&◌, not, List, [], ◌∷◌, ◌++◌, Option, is_some, length, map, nat_le, cond}
 use Rattle.spec_data.specs.Lists.{first_false, is_among, look_up}
 use Rattle.spec_data.specs.Ranges.{last_height}
@@ -23,39 +23,56 @@ use Rattle.spec_calculus.specs.Branches.{length_at, is_known, is_revealed, are_r
 
 -- ---- premises, for each kind of step in their order
 
--- blocks pass: at least one, and not past the greatest height
+-- Delay: blocks pass
 abbrev pub delay_premises : ℕ → ℕ → List Bool
-delay_premises time blocks = nat_le 1 blocks ∷ nat_le (time + blocks) last_height ∷ []
+delay_premises time blocks =
+    -- 1 there is at least one
+    nat_le 1 blocks
+    -- 2 time and blocks sum to at most the last height
+    ∷ nat_le (time + blocks) last_height
+    ∷ []
 
--- a party agrees to a move: the inputs are distinct live deposits, and it owns one
+-- AuthMove: a party agrees to a move
 abbrev pub auth_move_premises : List Deposit → List ℕ → Move → List Bool
 auth_move_premises deposits party action =
+    -- 1 the move has inputs, all distinct live deposits
     spends_live deposits action.inputs
+    -- 2 the party owns one of them
     ∷ owns_one deposits action.inputs party
     ∷ []
 
--- a move is made: the inputs are distinct live deposits, they pay for the outputs, and each owner has agreed
+-- Move: a move is made
 abbrev pub move_premises : List Deposit → List MoveAuthorisation → Move → List Bool
 move_premises deposits authorised action =
+    -- 1 it has inputs, all distinct live deposits
     spends_live deposits action.inputs
+    -- 2 it has an output, and the outputs sum to at most the inputs
     ∷ pays deposits action
+    -- 3 each party that owns an input has authorised it
     ∷ all_agree deposits authorised action
     ∷ []
 
--- a contract is advertised: it isn't yet, the bindings fit its precondition, and a participant is honest
+-- Advertise: a contract is advertised
 abbrev pub advertise_premises : Configuration → ℕ → List (List ℕ × ℕ) → Option Advert → List Bool
 advertise_premises g contract bindings advert =
+    -- 1 it exists and isn't advertised
     (is_some advert && not (is_advertised g.advertised contract))
+    -- 2 each deposit of its precondition, in order, is bound to a live deposit with its owner and value, all different
     ∷ binds g.deposits (pre_of advert) bindings
+    -- 3 a participant is honest
     ∷ is_any_honest (participants_of advert) g.honest
     ∷ []
 
--- a participant commits: to an advertised contract, once, its secrets in order with fair lengths, all of them known where it is honest
+-- Commit: a party commits to its secrets
 abbrev pub commit_premises : Configuration → ℕ → List ℕ → List (List ℕ × Option ℕ) → Option Advert → List Bool
 commit_premises g contract party lengths advert =
+    -- 1 the contract is advertised
     is_advertised g.advertised contract
+    -- 2 the party participates and hasn't committed
     ∷ (is_among party (participants_of advert) && not (has_committed g.committed contract party))
+    -- 3 the lengths are of its secrets in the precondition's order, each from 0 to 504 or none
     ∷ lists_secrets party (pre_of advert) lengths
+    -- 4 no length is none where the party is honest
     ∷ is_told g.honest party lengths
     ∷ []
 
@@ -63,66 +80,92 @@ commit_premises g contract party lengths advert =
 abbrev pub is_committed : Configuration → ℕ → Option Advert → Bool
 is_committed g contract advert = is_some advert && have_committed g.committed contract (participants_of advert)
 
--- a participant lets the contract take a deposit: all have committed, the persistent deposit is its own, and what it is bound to is live
+-- AuthInit: a party lets the contract take its deposit
 abbrev pub auth_init_premises : Configuration → ℕ → List ℕ → List ℕ → Option Advert → List Bool
 auth_init_premises g contract party deposit advert =
+    -- 1 the contract exists and all its participants have committed
     is_committed g contract advert
+    -- 2 the deposit is a persistent deposit of the party in it
     ∷ has_persistent (pre_of advert) party deposit
+    -- 3 its bound deposit is live
     ∷ is_there g.deposits (look_up deposit (bindings_of g.advertised contract))
     ∷ []
 
--- a contract begins: all have committed, all persistent deposits are live, and it may take each
+-- Init: a contract begins
 abbrev pub init_premises : Configuration → ℕ → Option Advert → List Bool
 init_premises g contract advert =
+    -- 1 it exists and all its participants have committed
     is_committed g contract advert
+    -- 2 all bound persistent deposits are live
     ∷ are_there g.deposits (bindings_of g.advertised contract) (persistent_names (pre_of advert))
+    -- 3 each is authorised
     ∷ are_init_authorised g.init_authorised contract (persistent_names (pre_of advert))
     ∷ []
 
--- a secret is revealed: it is committed, its length is known, and it isn't revealed yet
+-- Reveal: a secret is revealed
 abbrev pub reveal_premises : Configuration → ℕ → List ℕ → List ℕ → List Bool
 reveal_premises g contract party secret =
+    -- 1 the party has committed it in the contract
     is_some (length_at g.committed contract party secret)
+    -- 2 its length isn't none
     ∷ is_known (length_at g.committed contract party secret)
+    -- 3 it isn't revealed
     ∷ not (is_revealed g.revealed contract party secret)
     ∷ []
 
--- a party agrees to a branch: the contract is active, has the branch, and the branch asks the party
+-- AuthBranch: a party agrees to a branch
 abbrev pub auth_branch_premises : List ℕ → Option ActiveContract → Option Branch → List Bool
 auth_branch_premises party active taken =
+    -- 1 the contract is active
     is_some active
+    -- 2 it has the branch
     ∷ is_some taken
+    -- 3 the branch asks the party
     ∷ is_among party (asks_of taken)
     ∷ []
 
--- a branch puts deposits in or reveals secrets: the contract is active, the branch is such a one, its lock is over,
--- all whom it asks have agreed, the deposits are live, the secrets are revealed, and the predicate is true of their lengths
+-- PutReveal: a branch that puts deposits in or reveals secrets is taken
 abbrev pub put_reveal_premises : Configuration → ℕ → ℕ → Option ActiveContract → Option Branch → List Bool
 put_reveal_premises g output branch active taken =
+    -- 1 the contract is active
     is_some active
+    -- 2 the branch exists and its core is a put or reveal
     ∷ is_put taken
+    -- 3 time is at least its lock
     ∷ nat_le (lock_of taken) g.time
+    -- 4 all whom it asks have authorised it
     ∷ have_branch_authorised g.branch_authorised output branch (asks_of taken)
+    -- 5 the bound deposits of its puts are live
     ∷ are_there g.deposits (bindings_of g.advertised (place_of active)) (puts_of taken)
+    -- 6 its secrets are revealed
     ∷ are_revealed g.revealed (place_of active) (pre_of (advert_of g.contracts active)) (reveals_of taken)
+    -- 7 its predicate is true of their lengths
     ∷ holds (secret_lengths g.committed (place_of active) (pre_of (advert_of g.contracts active)) (reveals_of taken)) (test_of taken)
     ∷ []
 
--- a branch pays a party: the contract is active, the branch is such a one, its lock is over, and all whom it asks have agreed
+-- Withdraw: a branch that pays a party is taken
 abbrev pub withdraw_premises : Configuration → ℕ → ℕ → Option ActiveContract → Option Branch → List Bool
 withdraw_premises g output branch active taken =
+    -- 1 the contract is active
     is_some active
+    -- 2 the branch exists and its core is a withdraw
     ∷ is_withdraw taken
+    -- 3 time is at least its lock
     ∷ nat_le (lock_of taken) g.time
+    -- 4 all whom it asks have authorised it
     ∷ have_branch_authorised g.branch_authorised output branch (asks_of taken)
     ∷ []
 
--- a branch divides the balance: as a branch that pays a party
+-- Split: a branch that divides the balance is taken
 abbrev pub split_premises : Configuration → ℕ → ℕ → Option ActiveContract → Option Branch → List Bool
 split_premises g output branch active taken =
+    -- 1 the contract is active
     is_some active
+    -- 2 the branch exists and its core is a split
     ∷ is_split taken
+    -- 3 time is at least its lock
     ∷ nat_le (lock_of taken) g.time
+    -- 4 all whom it asks have authorised it
     ∷ have_branch_authorised g.branch_authorised output branch (asks_of taken)
     ∷ []
 
@@ -253,7 +296,17 @@ abbrev pub after : Configuration → List Step → Configuration
 after g [] = g
 after g (step ∷ rest) = after (effect g step) rest
 
--- no premise of any of the steps fails, where each is taken after those before it
+-- one step from g to h: none of its premises fails, and h is its effect
+pub record IsStep (g : Configuration) (step : Step) (h : Configuration) : Type 0 where
+  pub enabled : fails g step ≡ 0
+  pub leads : h ≡ effect g step
+
+-- a legal run of these steps from g to h: each is a step from where those before it led to
+abbrev pub IsLegalRun : Configuration → List Step → Configuration → Type 0
+IsLegalRun g [] h = h ≡ g
+IsLegalRun g (step ∷ rest) h = (between : Configuration) × IsStep g step between × IsLegalRun between rest h
+
+-- the same as a recursion on the steps: no premise of any of them fails, where each is taken after those before it
 abbrev pub Legal : Configuration → List Step → Type 0
 Legal g [] = Unit {0}
 Legal g (step ∷ rest) = (fails g step ≡ 0) × Legal (effect g step) rest

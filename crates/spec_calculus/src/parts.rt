@@ -1,8 +1,11 @@
 //! What a configuration holds, as plain data.
 
+ghost use Rattle.std.specs.Prelude.{◌≡◌, IfOk};
+
 use crate::step::{Move, Owner};
-use spec_data::{Name, Seq};
+use spec_data::{Name, OutOfMemory, Seq};
 use spec_terms::Path;
+use std::alloc::Global;
 
 /// A live deposit: the number that names it, who owns it, and its value in satoshi.
 #[derive(Clone, Copy, PartialEq, Eq)]
@@ -65,4 +68,55 @@ pub struct BranchAuthorisation {
 pub struct MoveAuthorisation {
     pub party: Name,
     pub action: Move,
+}
+
+impl ActiveContract {
+    /// An equal active contract.
+    pub fn copy(&self, alloc: Global) -> Result<ActiveContract, OutOfMemory>
+        ensures { IfOk result (λ active. active ≡ self.now) }
+    {
+        Ok(ActiveContract {
+            number: self.number,
+            contract: self.contract,
+            position: self.position.copy(alloc)?,
+            balance: self.balance,
+        })
+    }
+}
+
+impl Advertised {
+    /// The same contract, bound to the same deposits.
+    pub fn copy(&self, alloc: Global) -> Result<Advertised, OutOfMemory>
+        ensures { IfOk result (λ advertised. advertised ≡ self.now) }
+    {
+        Ok(Advertised {
+            contract: self.contract,
+            bindings: self.bindings.copy(alloc)?,
+        })
+    }
+}
+
+impl Committed {
+    /// The same lengths of the same party.
+    pub fn copy(&self, alloc: Global) -> Result<Committed, OutOfMemory>
+        ensures { IfOk result (λ committed. committed ≡ self.now) }
+    {
+        Ok(Committed {
+            contract: self.contract,
+            party: self.party,
+            lengths: self.lengths.copy(alloc)?,
+        })
+    }
+}
+
+impl MoveAuthorisation {
+    /// The same move, agreed to by the same party.
+    pub fn copy(&self, alloc: Global) -> Result<MoveAuthorisation, OutOfMemory>
+        ensures { IfOk result (λ authorisation. authorisation ≡ self.now) }
+    {
+        Ok(MoveAuthorisation {
+            party: self.party,
+            action: self.action.copy(alloc)?,
+        })
+    }
 }

@@ -99,3 +99,76 @@ impl Move {
         })
     }
 }
+
+impl Step {
+    /// The same step.
+    pub fn copy(&self, alloc: Global) -> Result<Step, OutOfMemory>
+        ensures { IfOk result (λ step. step ≡ self.now) }
+    {
+        Ok(match self {
+            Step::Delay { blocks } => Step::Delay { blocks: *blocks },
+            Step::AuthMove { party, action } => Step::AuthMove {
+                party: *party,
+                action: action.copy(alloc)?,
+            },
+            Step::Move { action } => Step::Move {
+                action: action.copy(alloc)?,
+            },
+            Step::Advertise { contract, bindings } => Step::Advertise {
+                contract: *contract,
+                bindings: bindings.copy(alloc)?,
+            },
+            Step::Commit {
+                contract,
+                party,
+                lengths,
+            } => Step::Commit {
+                contract: *contract,
+                party: *party,
+                lengths: lengths.copy(alloc)?,
+            },
+            Step::AuthInit {
+                contract,
+                party,
+                deposit,
+            } => Step::AuthInit {
+                contract: *contract,
+                party: *party,
+                deposit: *deposit,
+            },
+            Step::Init { contract } => Step::Init {
+                contract: *contract,
+            },
+            Step::Reveal {
+                contract,
+                party,
+                secret,
+            } => Step::Reveal {
+                contract: *contract,
+                party: *party,
+                secret: *secret,
+            },
+            Step::AuthBranch {
+                party,
+                output,
+                branch,
+            } => Step::AuthBranch {
+                party: *party,
+                output: *output,
+                branch: *branch,
+            },
+            Step::PutReveal { output, branch } => Step::PutReveal {
+                output: *output,
+                branch: *branch,
+            },
+            Step::Withdraw { output, branch } => Step::Withdraw {
+                output: *output,
+                branch: *branch,
+            },
+            Step::Split { output, branch } => Step::Split {
+                output: *output,
+                branch: *branch,
+            },
+        })
+    }
+}

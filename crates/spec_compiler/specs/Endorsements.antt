@@ -68,6 +68,16 @@ first_unmet book wanted = find (λ need. not (is_met book need)) wanted
 abbrev pub all_met : List Pair → List Need → Bool
 all_met book wanted = list_all (is_met book) wanted
 
--- whether a contract is endorsed
+-- ---- a contract
+
+-- all that it needs: path by path in the order of the text, for each the participants whom the branch doesn't ask, then the owners of its puts
+abbrev pub needed : (List ℕ → List ℕ) → Setting → List Need
+needed hash s = needs hash s.contract s.advert (compilation hash s).paths
+
+-- whether it is endorsed
 abbrev pub is_endorsed : (List ℕ → List ℕ) → Setting → List Pair → Bool
-is_endorsed hash s book = all_met book (needs hash s.contract s.advert (compilation hash s).paths)
+is_endorsed hash s book = all_met book (needed hash s)
+
+-- the first endorsement that it misses
+abbrev pub first_missing : (List ℕ → List ℕ) → Setting → List Pair → Option Need
+first_missing hash s book = first_unmet book (needed hash s)

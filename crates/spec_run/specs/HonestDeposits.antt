@@ -6,7 +6,12 @@ use Rattle.spec_data.specs.Lists.{has_number, look_up}
 use Rattle.spec_terms.specs.Core.{core, puts_of}
 use Rattle.spec_terms.specs.Term as term
 use Rattle.spec_terms.specs.Precondition.{Holding, persistent, volatile}
+use Rattle.spec_terms.specs.declared.path.PathStep.{PathStep}
 use Rattle.spec_bitcoin.specs.declared.tx.Tx.{Tx}
+use Rattle.spec_compiler.specs.Setting.{Setting}
+use Rattle.spec_compiler.specs.Transactions as compiled
+use Rattle.spec_compiler.specs.Transactions.{tx_of}
+use Rattle.spec_compiler.specs.ByPath.{draft_at}
 use Rattle.spec_calculus.specs.declared.step.Owner.TheVariants.{Party}
 use Rattle.spec_run.specs.declared.event.Event.{Event}
 use Rattle.spec_run.specs.declared.event.Event.TheVariants as events
@@ -17,7 +22,8 @@ use Rattle.spec_run.specs.Setup.{Setup, pre_at, is_honest}
 use Rattle.spec_run.specs.World.{World, output_at, is_deposit, bindings_at}
 use Rattle.spec_run.specs.Owners.{owner_of}
 use Rattle.spec_run.specs.Draft.{Draft}
-use Rattle.spec_run.specs.Ledger.{Kind, Begins, Takes, Moves, kind_of, held_branch}
+use Rattle.spec_run.specs.Ledger.{Kind, Begins, Takes, Moves, same_bare, is_initial, kind_of, held_path, held_branch}
+use Rattle.spec_run.specs.Compiled.{compiled_at}
 use Rattle.spec_run.specs.Values.{is_done}
 
 -- ---- what was done before
@@ -72,16 +78,29 @@ abbrev pub gives : List ℕ → ℕ → Event → Bool
 gives party number (events.Give a inputs outputs) = bytes_eq a party && has_number number inputs
 gives party number _ = false
 
--- whether a transaction of this kind takes the party's deposit by what the party signed before
-abbrev pub by_contract : Setup → World → List Record → List ℕ → ℕ → Kind → Bool
-by_contract s w before party number (Begins contract) = takes_persistent s w contract party number && was_done (is_init contract party) before
-by_contract s w before party number (Takes held output branch) =
-    takes_put s w held.contract (held_branch s held branch) party number && was_done (is_endorse held.contract party) before
-by_contract s w before party number Moves = false
+-- whether a transaction is this draft, but for witnesses
+abbrev pub is_drafted : Tx → Option compiled.Draft → Bool
+is_drafted tx None = false
+is_drafted tx (Some d) = same_bare tx (tx_of d)
+
+-- whether it is the transaction of this path, but for witnesses, of a contract that is compiled so
+abbrev pub is_of_path : Setup → Tx → List PathStep → Option Setting → Bool
+is_of_path s tx path None = false
+is_of_path s tx path (Some setting) = is_drafted tx (draft_at s.hash setting path)
+
+-- whether a transaction of this kind is the compiled one, and takes the party's deposit by what the party signed before
+abbrev pub by_contract : Setup → World → List Record → List ℕ → ℕ → Tx → Kind → Bool
+by_contract s w before party number tx (Begins contract) =
+    is_initial s tx (compiled_at s w contract) && takes_persistent s w contract party number && was_done (is_init contract party) before
+by_contract s w before party number tx (Takes held output branch) =
+    is_of_path s tx (held_path held branch) (compiled_at s w held.contract)
+    && takes_put s w held.contract (held_branch s held branch) party number
+    && was_done (is_endorse held.contract party) before
+by_contract s w before party number tx Moves = false
 
 abbrev pub by_transaction : Setup → World → List Record → List ℕ → ℕ → List ℕ → Option Tx → Bool
 by_transaction s w before party number spent None = false
-by_transaction s w before party number spent (Some tx) = by_contract s w before party number (kind_of s w tx spent)
+by_transaction s w before party number spent (Some tx) = by_contract s w before party number tx (kind_of s w tx spent)
 
 -- whether an event, after these records, had the party's leave to spend the deposit of this number
 abbrev pub has_leave : Setup → World → List Record → Event → Option Tx → List ℕ → ℕ → Outcome → Bool

@@ -13,7 +13,7 @@ use Rattle.spec_compiler.specs.declared.prepared.Prepared.{Prepared}
 use Rattle.spec_compiler.specs.Setting.{Setting, branch_label, deposit_key}
 use Rattle.spec_compiler.specs.Compilation.{compilation}
 use Rattle.spec_compiler.specs.ByPath.{prepared_at}
-use Rattle.spec_compiler.specs.Endorsements.{Need, needs, first_unmet}
+use Rattle.spec_compiler.specs.Endorsements.{Need, needed, first_missing}
 use Rattle.spec_run.specs.declared.outcome.Reason.{Reason}
 use Rattle.spec_run.specs.declared.outcome.Reason.TheVariants as reason
 use Rattle.spec_run.specs.Setup.{Setup, has_contract, takes_part, is_honest}
@@ -40,7 +40,7 @@ with_pairs w pairs = record w { book = signed_all w.book pairs }
 
 -- the signatures that a compiled contract needs, by path in the order of the text
 abbrev pub needs_at : Setup → Setting → List Need
-needs_at s setting = needs s.hash setting.contract setting.advert (compilation s.hash setting).paths
+needs_at s setting = needed s.hash setting
 
 -- the pairs of those of these needs that are the party's
 abbrev pub pairs_of_party : List ℕ → List Need → List Pair
@@ -82,7 +82,7 @@ initial_pairs s party (Some setting) = pairs_of_deposits s party (persistent set
 -- the first endorsement that is missing, where the contract is compiled
 abbrev pub missing_need : Setup → World → Option Setting → Option Need
 missing_need s w None = None
-missing_need s w (Some setting) = first_unmet w.book (needs_at s setting)
+missing_need s w (Some setting) = first_missing s.hash setting w.book
 
 -- the first endorsement that an honest party misses
 abbrev pub missed_need : Setup → World → ℕ → List ℕ → Option Need

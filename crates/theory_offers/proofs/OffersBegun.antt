@@ -16,8 +16,9 @@ use Rattle.spec_run.specs.declared.outcome.Record.{Record}
 use Rattle.spec_run.specs.Setup.{Setup, is_honest, people_of}
 use Rattle.spec_run.specs.World.{Output, World, output_at, is_deposit, bindings_at}
 use Rattle.spec_run.specs.Owners.{owner_by, owner_of}
+use Rattle.spec_run.specs.Compiled.{compiled_at}
 use Rattle.spec_run.specs.Draft.{settled}
-use Rattle.spec_run.specs.Ledger.{Begins, accepted, initial_of, kind_of, kind_by, first_held}
+use Rattle.spec_run.specs.Ledger.{Begins, accepted, is_initial, initial_of, kind_of, kind_by, first_held}
 use Rattle.spec_run.specs.Steps.{names_deposit}
 use Rattle.spec_run.specs.HonestDeposits.{is_init, was_done, gives, by_contract, takes_persistent, SpendsWithLeave}
 use Rattle.theory_world.proofs.Hashed.{NoClash}
@@ -89,8 +90,9 @@ module _ (s : Setup) (g : Configuration) (w : World) (kept : KeptBook s g w) (ch
     left leave no_gift =
         let h = leave someone.0 bound.number someone.2 owned gone in
         let kind : kind_of s w tx spent ≡ Begins k = ap (λ o. kind_by s tx spent o (first_held w spent)) i in
-        let by : by_contract s w before someone.0 bound.number (kind_of s w tx spent) ≡ true = rw no_gift at h in
-        (and_parts (takes_persistent s w k someone.0 bound.number) (was_done (is_init k someone.0) before) (subst (λ x. by_contract s w before someone.0 bound.number x ≡ true) kind by)).1
+        let by : by_contract s w before someone.0 bound.number tx (kind_of s w tx spent) ≡ true = rw no_gift at h in
+        let takes = is_initial s tx (compiled_at s w k) && takes_persistent s w k someone.0 bound.number in
+        (and_parts takes (was_done (is_init k someone.0) before) (subst (λ x. by_contract s w before someone.0 bound.number tx x ≡ true) kind by)).1
 
   pub begins_endorsed : SpendsWithLeave s before w e (accepted s w tx spent) (settled w (accepted s w tx spent)) → ((a : List ℕ) (n : ℕ) → gives a n e ≡ false) → BeginsEndorsed s w tx
   begins_endorsed leave no_gift k st i c =

@@ -1,5 +1,5 @@
 -- An honest party's deposit that an accepted transaction spends, without a new gift, is taken by a contract that the party has endorsed or started.
-use Rattle.std.proofs.Common.{◌≡◌, ℕ, List, [], ◌∷◌, map, Bool, true, Option, Some, None, refl, sym, ap, ◌∙◌, subst, inl, inr}
+use Rattle.std.proofs.Common.{◌≡◌, ℕ, List, [], ◌∷◌, ◌++◌, map, Bool, true, Option, Some, None, refl, sym, ap, ◌∙◌, subst, inl, inr}
 use Rattle.std.specs.Prelude.{◌==◌, slice_get}
 use Rattle.std.specs.List.{list_any, list_all}
 use Rattle.std.specs.Str.{bytes_eq}
@@ -10,6 +10,7 @@ use Rattle.spec_terms.specs.Term.{Choice, branches}
 use Rattle.spec_terms.specs.Core.{core, puts_of}
 use Rattle.spec_terms.specs.Precondition.{Holding, deposits, persistent, volatile, names_of}
 use Rattle.spec_terms.specs.declared.path.PathStep.{PathStep}
+use Rattle.spec_terms.specs.declared.path.PathStep.TheVariants.{Branch as To}
 use Rattle.spec_bitcoin.specs.declared.tx.TxIn.{TxIn}
 use Rattle.spec_bitcoin.specs.declared.tx.Tx.{Tx}
 use Rattle.spec_bitcoin.specs.Spelling.{IsPlace}
@@ -27,13 +28,14 @@ use Rattle.spec_run.specs.World.{Held, Output, World, bindings_at}
 use Rattle.spec_run.specs.Owners.{paid_to}
 use Rattle.spec_run.specs.Compiled.{compiled_at}
 use Rattle.spec_run.specs.Conditions.{IsSetup}
-use Rattle.spec_run.specs.Ledger.{initial_of, first_held, Begins, Takes, kind_by, kind_of}
-use Rattle.spec_run.specs.HonestDeposits.{is_init, is_endorse, was_done, is_number, is_bound_to, takes_persistent, is_put_of, takes_put, by_contract}
+use Rattle.spec_run.specs.Ledger.{is_initial, initial_of, first_held, Begins, Takes, kind_by, kind_of}
+use Rattle.spec_run.specs.HonestDeposits.{is_init, is_endorse, was_done, is_number, is_bound_to, takes_persistent, is_put_of, takes_put, is_drafted, is_of_path, by_contract}
 use Rattle.theory_world.proofs.Same.{bytes_refl}
 use Rattle.theory_world.proofs.Hashed.{NoClash}
 use Rattle.theory_world.proofs.Preimages.{IsNumbered, HeardLists}
-use Rattle.theory_world.proofs.Bare.{bare, NoScripts}
+use Rattle.theory_world.proofs.Bare.{bare, same_from, NoScripts}
 use Rattle.theory_world.proofs.Positions.{Is_in}
+use Rattle.theory_world.proofs.Standing.{draft_of_branch}
 use Rattle.theory_world.proofs.Later.{compiled_is}
 use Rattle.theory_world.proofs.Accepting.{IsSpent, AllSpent, Accepting, HeardAll, heard_input, HeardInput}
 use Rattle.theory_run.proofs.Kept.{KeptBook, HeardDigest, AllDead, IsDead, Needed, Started}
@@ -146,6 +148,14 @@ module _ (s : Setup) (setup : IsSetup s) (before : List Record) (g : Configurati
           let v : is_put_of w k a n name (look_up name (volatile (pre_at s k))) ≡ true = ap (λ o. is_put_of w k a n name (look_up name (volatile (pre_of o)))) (advert_of s w k st c) ∙ ap (is_put_of w k a n name) h.1 ∙ t in
           any_in (λ x. is_put_of w k a n x (look_up x (volatile (pre_at s k)))) (puts_of (core b)) name u.1 v
 
+  -- it is the compiled transaction of its path
+  path_is : (k : ℕ) (st : Setting) (q : List PathStep) (pos : Standing) (choice : Choice) (j : ℕ) (b : term.Branch)
+      → compiled_at s w k ≡ Some st → position_at s.hash st q ≡ Some (pos, choice) → slice_get (branches choice) j ≡ Some b
+      → bare tx ≡ bare (tx_of (branch_draft s.hash st pos j b)) → is_of_path s tx (q ++ To j ∷ []) (compiled_at s w k) ≡ true
+  path_is k st q pos choice j b c stands there e =
+      ap (is_of_path s tx (q ++ To j ∷ [])) c ∙ ap (is_drafted tx) (draft_of_branch s.hash st q pos choice j b stands there)
+      ∙ same_from tx (tx_of (branch_draft s.hash st pos j b)) e
+
   -- ---- who has signed
 
   -- what its input signs
@@ -224,15 +234,18 @@ module _ (s : Setup) (setup : IsSetup s) (before : List Record) (g : Configurati
             ap (λ o. kind_by s tx spent o (first_held w spent)) x ∙ ap Begins same
 
     -- the party has given its leave before
-    pub taken_with_leave : by_contract s w before a n (kind_of s w tx spent) ≡ true
+    pub taken_with_leave : by_contract s w before a n tx (kind_of s w tx spent) ≡ true
     taken_with_leave = by_took took
       where
-        by_took : Took → by_contract s w before a n (kind_of s w tx spent) ≡ true
+        by_took : Took → by_contract s w before a n tx (kind_of s w tx spent) ≡ true
         by_took (put_took h e was) =
             let k = put_kind h e in
             let t = k.0 in
             let held : Held = record { contract = h.contract; position = h.position } in
             let b = looked_branch s w held fst.spends.output t.fine t.index t.branch t.there in
             let puts = branch_puts h.contract t.fine.setting h.position t.fine.here t.fine.choice t.index t.branch t.fine.compiled t.fine.stands t.there t.is in
-            ap (by_contract s w before a n) k.1 ∙ and_from _ _ (ap (λ o. takes_put s w h.contract o a n) b ∙ puts) was
-        by_took (start_took h e was) = ap (by_contract s w before a n) (start_kind h e) ∙ and_from _ _ (begun_takes h.contract h.setting h.compiled e) was
+            let is = path_is h.contract t.fine.setting h.position t.fine.here t.fine.choice t.index t.branch t.fine.compiled t.fine.stands t.there t.is in
+            ap (by_contract s w before a n tx) k.1 ∙ and_from _ _ (and_from _ _ is (ap (λ o. takes_put s w h.contract o a n) b ∙ puts)) was
+        by_took (start_took h e was) =
+            let is = ap (is_initial s tx) h.compiled ∙ same_from tx (tx_of (initial_draft s.hash h.setting)) e in
+            ap (by_contract s w before a n tx) (start_kind h e) ∙ and_from _ _ (and_from _ _ is (begun_takes h.contract h.setting h.compiled e)) was

@@ -14,8 +14,8 @@ pub fn licence_theorem()
     ensures { LicenceTheorem }
 {}
 
-/// An honest party's live deposit goes only by its own gift, or by a transaction of a contract that
-/// it endorsed or started.
+/// An honest party's live deposit goes only by its own gift, or by a transaction that is, but for
+/// witnesses, the compiled one of a contract that it endorsed or started.
 pub fn honest_deposits_theorem()
     ensures { HonestDepositsTheorem }
 {}

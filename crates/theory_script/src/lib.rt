@@ -4,6 +4,7 @@
 ghost use Rattle.spec_bitcoin.specs.Statements.{WrittenIsRead};
 ghost use Rattle.spec_compiler.specs.Statements.{ScriptTheorem, OpenedIsChosen, SizeTheorem, WitnessOpens, DepositMeaning};
 ghost use Rattle.theory_script.specs.Choices.{WitnessChooses, ChoosesByItems};
+ghost use Rattle.theory_script.specs.Endorsed.{MissingIsFirst};
 ghost use Rattle.theory_script.specs.Listed.{PathsAreListed, ScriptsAreListed, PositionsStand};
 
 /// The script of a position of a checked contract is true exactly on the stacks that open one of its branches.
@@ -59,4 +60,10 @@ pub fn scripts_are_listed()
 /// A position that is found by its path has that path, the term's branches, and their script.
 pub fn positions_stand()
     ensures { PositionsStand }
+{}
+
+/// No endorsement is missing exactly where a contract is endorsed, and the one that is answered is
+/// the first that is missing.
+pub fn missing_is_first()
+    ensures { MissingIsFirst }
 {}

@@ -9,9 +9,9 @@ use Rattle.spec_terms.specs.Precondition.{Holding, persistent, volatile}
 use Rattle.spec_terms.specs.declared.path.PathStep.{PathStep}
 use Rattle.spec_bitcoin.specs.declared.tx.Tx.{Tx}
 use Rattle.spec_compiler.specs.Setting.{Setting}
-use Rattle.spec_compiler.specs.Transactions as compiled
+use Rattle.spec_compiler.specs.declared.unsigned.Unsigned.{Unsigned}
 use Rattle.spec_compiler.specs.Transactions.{tx_of}
-use Rattle.spec_compiler.specs.ByPath.{draft_at}
+use Rattle.spec_compiler.specs.ByPath.{unsigned_at}
 use Rattle.spec_calculus.specs.declared.step.Owner.TheVariants.{Party}
 use Rattle.spec_run.specs.declared.event.Event.{Event}
 use Rattle.spec_run.specs.declared.event.Event.TheVariants as events
@@ -78,15 +78,15 @@ abbrev pub gives : List ℕ → ℕ → Event → Bool
 gives party number (events.Give a inputs outputs) = bytes_eq a party && has_number number inputs
 gives party number _ = false
 
--- whether a transaction is this draft, but for witnesses
-abbrev pub is_drafted : Tx → Option compiled.Draft → Bool
-is_drafted tx None = false
-is_drafted tx (Some d) = same_bare tx (tx_of d)
+-- whether it is this transaction, but for witnesses
+abbrev pub is_but_for_witnesses : Tx → Option Unsigned → Bool
+is_but_for_witnesses tx None = false
+is_but_for_witnesses tx (Some d) = same_bare tx (tx_of d)
 
 -- whether it is the transaction of this path, but for witnesses, of a contract that is compiled so
 abbrev pub is_of_path : Setup → Tx → List PathStep → Option Setting → Bool
 is_of_path s tx path None = false
-is_of_path s tx path (Some setting) = is_drafted tx (draft_at s.hash setting path)
+is_of_path s tx path (Some setting) = is_but_for_witnesses tx (unsigned_at s.hash setting path)
 
 -- whether a transaction of this kind is the compiled one, and takes the party's deposit by what the party signed before
 abbrev pub by_contract : Setup → World → List Record → List ℕ → ℕ → Tx → Kind → Bool

@@ -29,7 +29,7 @@ use Rattle.spec_run.specs.Owners.{paid_to}
 use Rattle.spec_run.specs.Compiled.{compiled_at}
 use Rattle.spec_run.specs.Conditions.{IsSetup}
 use Rattle.spec_run.specs.Ledger.{is_initial, initial_of, first_held, Begins, Takes, kind_by, kind_of}
-use Rattle.spec_run.specs.HonestDeposits.{is_init, is_endorse, was_done, is_number, is_bound_to, takes_persistent, is_put_of, takes_put, is_drafted, is_of_path, by_contract}
+use Rattle.spec_run.specs.HonestDeposits.{is_init, is_endorse, was_done, is_number, is_bound_to, takes_persistent, is_put_of, takes_put, is_but_for_witnesses, is_of_path, by_contract}
 use Rattle.theory_world.proofs.Same.{bytes_refl}
 use Rattle.theory_world.proofs.Hashed.{NoClash}
 use Rattle.theory_world.proofs.Preimages.{IsNumbered, HeardLists}
@@ -153,7 +153,7 @@ module _ (s : Setup) (setup : IsSetup s) (before : List Record) (g : Configurati
       → compiled_at s w k ≡ Some st → position_at s.hash st q ≡ Some (pos, choice) → slice_get (branches choice) j ≡ Some b
       → bare tx ≡ bare (tx_of (branch_draft s.hash st pos j b)) → is_of_path s tx (q ++ To j ∷ []) (compiled_at s w k) ≡ true
   path_is k st q pos choice j b c stands there e =
-      ap (is_of_path s tx (q ++ To j ∷ [])) c ∙ ap (is_drafted tx) (draft_of_branch s.hash st q pos choice j b stands there)
+      ap (is_of_path s tx (q ++ To j ∷ [])) c ∙ ap (is_but_for_witnesses tx) (draft_of_branch s.hash st q pos choice j b stands there)
       ∙ same_from tx (tx_of (branch_draft s.hash st pos j b)) e
 
   -- ---- who has signed

@@ -35,7 +35,7 @@ use Rattle.theory_world.proofs.Hashed.{NoClash}
 use Rattle.theory_world.proofs.Preimages.{IsNumbered, HeardLists}
 use Rattle.theory_world.proofs.Bare.{bare, same_from, NoScripts}
 use Rattle.theory_world.proofs.Positions.{Is_in}
-use Rattle.theory_world.proofs.Standing.{draft_of_branch}
+use Rattle.theory_world.proofs.Standing.{unsigned_of_branch}
 use Rattle.theory_world.proofs.Later.{compiled_is}
 use Rattle.theory_world.proofs.Accepting.{IsSpent, AllSpent, Accepting, HeardAll, heard_input, HeardInput}
 use Rattle.theory_run.proofs.Kept.{KeptBook, HeardDigest, AllDead, IsDead, Needed, Started}
@@ -151,10 +151,10 @@ module _ (s : Setup) (setup : IsSetup s) (before : List Record) (g : Configurati
   -- it is the compiled transaction of its path
   path_is : (k : ℕ) (st : Setting) (q : List PathStep) (pos : Standing) (choice : Choice) (j : ℕ) (b : term.Branch)
       → compiled_at s w k ≡ Some st → position_at s.hash st q ≡ Some (pos, choice) → slice_get (branches choice) j ≡ Some b
-      → bare tx ≡ bare (tx_of (branch_draft s.hash st pos j b)) → is_of_path s tx (q ++ To j ∷ []) (compiled_at s w k) ≡ true
+      → bare tx ≡ bare (tx_of (branch_unsigned s.hash st pos j b)) → is_of_path s tx (q ++ To j ∷ []) (compiled_at s w k) ≡ true
   path_is k st q pos choice j b c stands there e =
-      ap (is_of_path s tx (q ++ To j ∷ [])) c ∙ ap (is_but_for_witnesses tx) (draft_of_branch s.hash st q pos choice j b stands there)
-      ∙ same_from tx (tx_of (branch_draft s.hash st pos j b)) e
+      ap (is_of_path s tx (q ++ To j ∷ [])) c ∙ ap (is_but_for_witnesses tx) (unsigned_of_branch s.hash st q pos choice j b stands there)
+      ∙ same_from tx (tx_of (branch_unsigned s.hash st pos j b)) e
 
   -- ---- who has signed
 
@@ -247,5 +247,5 @@ module _ (s : Setup) (setup : IsSetup s) (before : List Record) (g : Configurati
             let is = path_is h.contract t.fine.setting h.position t.fine.here t.fine.choice t.index t.branch t.fine.compiled t.fine.stands t.there t.is in
             ap (by_contract s w before a n tx) k.1 ∙ and_from _ _ (and_from _ _ is (ap (λ o. takes_put s w h.contract o a n) b ∙ puts)) was
         by_took (start_took h e was) =
-            let is = ap (is_initial s tx) h.compiled ∙ same_from tx (tx_of (initial_draft s.hash h.setting)) e in
+            let is = ap (is_initial s tx) h.compiled ∙ same_from tx (tx_of (initial_unsigned s.hash h.setting)) e in
             ap (by_contract s w before a n tx) (start_kind h e) ∙ and_from _ _ (and_from _ _ is (begun_takes h.contract h.setting h.compiled e)) was

@@ -1,4 +1,4 @@
--- What is claimed of the lists of a contract's transactions and scripts: they have each path and each position once, with what stands there; of this project's profile of BitML.
+-- What is claimed of the lists of a contract's transactions and scripts: each path and each position once, with what stands there.
 use Rattle.std.specs.Prelude.{◌≡◌, ℕ, List, [], ◌∷◌, Option, Some, None, option_map, if◌then◌else◌}
 use Rattle.spec_terms.specs.Term.{Choice}
 use Rattle.spec_terms.specs.Paths.{choice_at, path_eq}
@@ -15,7 +15,8 @@ at_path path (e ∷ es) = if path_eq e.0 path then Some (e.1) else at_path path 
 
 -- the list of transactions has for each path the transaction of the branch there, and for no other path one
 abbrev pub PathsAreListed : Type 0
-PathsAreListed = (hash : List ℕ → List ℕ) (s : Setting) (path : List PathStep) → at_path path (compilation hash s).paths ≡ prepared_at hash s path
+PathsAreListed =
+    (hash : List ℕ → List ℕ) (s : Setting) (path : List PathStep) → at_path path (compilation hash s).paths ≡ prepared_at hash s path
 
 -- the list of scripts has for each position the script of its output, and for no other path one
 abbrev pub ScriptsAreListed : Type 0

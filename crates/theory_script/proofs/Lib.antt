@@ -23,3 +23,4 @@ pub mod Stands
 pub mod Listing
 pub mod ScriptListing
 pub mod Choosing
+mod InOrder

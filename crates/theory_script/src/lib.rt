@@ -4,7 +4,7 @@
 ghost use Rattle.spec_bitcoin.specs.Statements.{WrittenIsRead};
 ghost use Rattle.spec_compiler.specs.Statements.{ScriptTheorem, OpenedIsChosen, SizeTheorem, WitnessOpens, DepositMeaning};
 ghost use Rattle.theory_script.specs.Choices.{WitnessChooses, ChoosesByItems};
-ghost use Rattle.theory_script.specs.Listed.{PathsAreListed, ScriptsAreListed, PositionsStand};
+ghost use Rattle.theory_script.specs.Listed.{PathsAreListed, ScriptsAreListed, PositionsStand, PathsInOrder};
 
 /// The script of a position of a checked contract is true exactly on the stacks that open one of its branches.
 pub fn script_theorem()
@@ -59,4 +59,9 @@ pub fn scripts_are_listed()
 /// A position that is found by its path has that path, the term's branches, and their script.
 pub fn positions_stand()
     ensures { PositionsStand }
+{}
+
+/// A contract has one transaction for each of its branches and one script for each of its positions, in the order of the text.
+pub fn paths_in_order()
+    ensures { PathsInOrder }
 {}

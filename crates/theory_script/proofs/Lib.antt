@@ -24,3 +24,6 @@ pub mod Listing
 pub mod ScriptListing
 pub mod Choosing
 mod InOrder
+pub mod Faultless
+pub mod Balances
+mod Money

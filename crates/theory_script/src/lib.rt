@@ -5,6 +5,7 @@ ghost use Rattle.spec_bitcoin.specs.Statements.{WrittenIsRead};
 ghost use Rattle.spec_compiler.specs.Statements.{ScriptTheorem, OpenedIsChosen, SizeTheorem, WitnessOpens, DepositMeaning};
 ghost use Rattle.theory_script.specs.Choices.{WitnessChooses, ChoosesByItems};
 ghost use Rattle.theory_script.specs.Listed.{PathsAreListed, ScriptsAreListed, PositionsStand, PathsInOrder};
+ghost use Rattle.theory_script.specs.Money.{MoneyIsKept};
 
 /// The script of a position of a checked contract is true exactly on the stacks that open one of its branches.
 pub fn script_theorem()
@@ -64,4 +65,9 @@ pub fn positions_stand()
 /// A contract has one transaction for each of its branches and one script for each of its positions, in the order of the text.
 pub fn paths_in_order()
     ensures { PathsInOrder }
+{}
+
+/// Each transaction of a checked contract pays out all that it spends but the fee, and each position pays for its branches.
+pub fn money_is_kept()
+    ensures { MoneyIsKept }
 {}

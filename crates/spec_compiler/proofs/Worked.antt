@@ -1,6 +1,6 @@
 -- Worked values of the definitions, each by computation alone.
 use Rattle.std.proofs.Common.{◌≡◌, ℕ, ◌+◌, ◌*◌, ◌%◌, List, [], ◌∷◌, ◌++◌, length, map, refl}
-use Rattle.std.specs.Prelude.{codes, fold, replicate, drop, Some}
+use Rattle.std.specs.Prelude.{codes, fold, replicate, drop, Option, None, Some, pos, false}
 use Rattle.spec_terms.specs.Term.{always, auth, after, put_reveal, withdraw, split, Choice, no_branch, branch, no_part, part}
 use Rattle.spec_terms.specs.declared.path.PathStep.{PathStep}
 use Rattle.spec_terms.specs.declared.path.PathStep.TheVariants.{Branch as To, Part as Into}
@@ -8,10 +8,13 @@ use Rattle.spec_terms.specs.declared.pre.Pre.{Pre}
 use Rattle.spec_terms.specs.declared.pre.Pre.TheVariants.{Persistent, Secret}
 use Rattle.spec_bitcoin.specs.declared.tx.Tx.{Tx}
 use Rattle.spec_bitcoin.specs.Keys.{key_of}
-use Rattle.spec_bitcoin.specs.Numbers.{item_of_number, signed_bytes}
-use Rattle.spec_bitcoin.specs.Scripts.{counted}
+use Rattle.spec_bitcoin.specs.Numbers.{number_of_item, item_of_number, signed_bytes}
+use Rattle.spec_bitcoin.specs.Scripts.{counted, encode, push_number}
+use Rattle.spec_bitcoin.specs.Effects.{Stacks}
+use Rattle.spec_bitcoin.specs.Meaning.{outcome}
+use Rattle.spec_bitcoin.specs.Opcodes.{op_1, op_16, op_if, op_else, op_endif, op_drop}
 use Rattle.spec_bitcoin.specs.declared.script.Op.TheVariants.{Push, Code}
-use Rattle.spec_compiler.specs.Scripts.{branch_ops, demands, output_ops}
+use Rattle.spec_compiler.specs.Scripts.{branch_ops, choice_ops, reveal_ops, push_521, demands, output_ops}
 use Rattle.spec_compiler.specs.Setting.{Setting, branch_label, branch_keys, position_demands, position_script}
 use Rattle.spec_compiler.specs.Witness.{witness_of, chosen_by}
 use Rattle.spec_compiler.specs.declared.unsigned.Unsigned.{Unsigned}
@@ -112,6 +115,51 @@ chosen_short = refl
 -- nothing to reveal, always true, one key
 signed_alone : branch_ops (demands [] always ((3 ∷ []) ∷ []) []) ≡ Push (3 ∷ []) ∷ (Code 0xac ∷ [])
 signed_alone = refl
+
+-- ---- reveals
+
+-- the number 521 is pushed by its shortest push
+shortest_521 : push_number (pos 521) ≡ push_521
+unfolding item_of_number signed_bytes
+shortest_521 = refl
+
+-- SIZE DUP 16 521 WITHIN VERIFY TOALTSTACK SHA256 and EQUALVERIFY with the digest between them
+reveal_bytes :
+    encode (reveal_ops (replicate 32 7))
+    ≡ 0x82 ∷ 0x76 ∷ 0x60 ∷ 2 ∷ 9 ∷ 2 ∷ 0xa5 ∷ 0x69 ∷ 0x6b ∷ 0xa8 ∷ 32 ∷ (replicate 32 7 ++ 0x88 ∷ [])
+reveal_bytes = refl
+
+-- what the reveal of a secret of so many bytes leaves on both stacks
+abbrev revealed : ℕ → Option Stacks
+revealed count = outcome (λ x. 7 ∷ []) (λ s k. false) (reveal_ops (7 ∷ [])) (replicate count 1 ∷ [])
+
+-- a secret has 16 to 520 bytes, and its byte count goes aside
+revealed_15 : revealed 15 ≡ None
+unfolding item_of_number signed_bytes number_of_item
+revealed_15 = refl
+
+revealed_16 : revealed 16 ≡ Some (record { main = []; alt = (16 ∷ []) ∷ [] })
+unfolding item_of_number signed_bytes number_of_item
+revealed_16 = refl
+
+revealed_520 : revealed 520 ≡ Some (record { main = []; alt = (8 ∷ 2 ∷ []) ∷ [] })
+unfolding item_of_number signed_bytes number_of_item
+revealed_520 = refl
+
+revealed_521 : revealed 521 ≡ None
+unfolding item_of_number signed_bytes number_of_item
+revealed_521 = refl
+
+-- another digest
+revealed_other : outcome (λ x. 7 ∷ []) (λ s k. false) (reveal_ops (8 ∷ [])) (replicate 16 1 ∷ []) ≡ None
+unfolding item_of_number signed_bytes number_of_item
+revealed_other = refl
+
+-- three branches, one block in another's second section
+three_branches :
+    choice_ops ((op_1 ∷ []) ∷ (op_16 ∷ []) ∷ (op_drop ∷ []) ∷ [])
+    ≡ op_if ∷ op_1 ∷ op_else ∷ op_if ∷ op_16 ∷ op_else ∷ op_drop ∷ op_endif ∷ op_endif ∷ []
+three_branches = refl
 
 -- ---- fees
 

@@ -1,4 +1,4 @@
--- A contract's positions and transactions, one by one: what stands at the end of a path; of this project's profile of BitML.
+-- A contract's positions and transactions, one by one: what stands at the end of a path of a BitML contract.
 use Rattle.std.specs.Prelude.{ℕ, List, [], ◌∷◌, Option, Some, None, option_map, option_and_then, slice_get}
 use Rattle.spec_terms.specs.Term as term
 use Rattle.spec_terms.specs.Term.{Choice, branches, parts_list, auth, after, put_reveal, withdraw, split}
@@ -23,7 +23,10 @@ branch_stand here choice i = option_map (at_branch here i) (slice_get (branches 
 -- the position at which a branch with this core goes on
 abbrev pub continued_stand : (List ℕ → List ℕ) → Setting → Standing → ℕ → term.Branch → term.Branch → Option (Standing × Choice)
 continued_stand hash s here i b (put_reveal puts reveals test next) =
-    Some (continued hash s (branch_path here.position i) (branch_unsigned hash s here i b) (continued_value s here.output.value puts) next, next)
+    Some (
+      continued hash s (branch_path here.position i) (branch_unsigned hash s here i b) (continued_value s here.output.value puts) next,
+      next,
+    )
 continued_stand hash s here i b (withdraw party) = None
 continued_stand hash s here i b (split parts) = None
 continued_stand hash s here i b (auth party body) = None
@@ -34,7 +37,9 @@ abbrev pub part_stand : (List ℕ → List ℕ) → Setting → Standing → ℕ
 part_stand hash s here i b k (put_reveal puts reveals test next) = None
 part_stand hash s here i b k (withdraw party) = None
 part_stand hash s here i b k (split parts) =
-    option_map (λ (p : ℕ × Choice). at_position (part_standing hash s (branch_path here.position i) (branch_unsigned hash s here i b) k p.0 p.1) p.1) (slice_get (parts_list parts) k)
+    option_map
+    (λ (p : ℕ × Choice). at_position (part_standing hash s (branch_path here.position i) (branch_unsigned hash s here i b) k p.0 p.1) p.1)
+    (slice_get (parts_list parts) k)
 part_stand hash s here i b k (auth party body) = None
 part_stand hash s here i b k (after height body) = None
 
@@ -42,7 +47,8 @@ part_stand hash s here i b k (after height body) = None
 abbrev pub next_stand : (List ℕ → List ℕ) → Setting → PathStep → Stand → Option Stand
 next_stand hash s (To i) (at_position here choice) = branch_stand here choice i
 next_stand hash s (Into k) (at_position here choice) = None
-next_stand hash s (To j) (at_branch here i b) = option_and_then (λ (p : Standing × Choice). branch_stand p.0 p.1 j) (continued_stand hash s here i b (core b))
+next_stand hash s (To j) (at_branch here i b) =
+    option_and_then (λ (p : Standing × Choice). branch_stand p.0 p.1 j) (continued_stand hash s here i b (core b))
 next_stand hash s (Into k) (at_branch here i b) = part_stand hash s here i b k (core b)
 
 -- what stands at the end of a path that begins here

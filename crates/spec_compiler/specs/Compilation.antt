@@ -1,4 +1,4 @@
--- All transactions and scripts of a contract, in the order of its text; of this project's profile of BitML.
+-- All transactions and scripts of a BitML contract, in the order of its text.
 use Rattle.std.specs.Prelude.{ℕ, ◌+◌, List, [], ◌∷◌, ◌++◌, map}
 use Rattle.spec_terms.specs.Term as term
 use Rattle.spec_terms.specs.Term.{Choice, no_branch, branch, auth, after, put_reveal, withdraw, split, Parts, no_part, part}
@@ -7,7 +7,8 @@ use Rattle.spec_terms.specs.declared.path.PathStep.{PathStep}
 use Rattle.spec_compiler.specs.declared.prepared.Prepared.{Prepared}
 use Rattle.spec_compiler.specs.Setting.{Setting, branch_path, position_script}
 use Rattle.spec_compiler.specs.declared.unsigned.Unsigned.{Unsigned}
-use Rattle.spec_compiler.specs.Transactions.{Standing, prepared, continued_value, part_position, core_unsigned, continued, part_standing, initial_unsigned, root_standing}
+use Rattle.spec_compiler.specs.Transactions.{Standing, prepared, continued_value, part_position, core_unsigned, continued, part_standing}
+use Rattle.spec_compiler.specs.Transactions.{initial_unsigned, root_standing}
 
 -- ---- the transactions by path
 
@@ -15,7 +16,8 @@ abbrev mutual
   -- of the branches of a position from number i on, with all that stands under them
   pub choice_transactions : (List ℕ → List ℕ) → Setting → Standing → ℕ → Choice → List (List PathStep × Unsigned)
   choice_transactions hash s here i no_branch = []
-  choice_transactions hash s here i (branch b bs) = branch_transactions hash s here i (lock b) b ++ choice_transactions hash s here (i + 1) bs
+  choice_transactions hash s here i (branch b bs) =
+      branch_transactions hash s here i (lock b) b ++ choice_transactions hash s here (i + 1) bs
 
   -- of branch i of a position, which has this lock
   pub branch_transactions : (List ℕ → List ℕ) → Setting → Standing → ℕ → ℕ → term.Branch → List (List PathStep × Unsigned)
@@ -23,7 +25,10 @@ abbrev mutual
   branch_transactions hash s here i l (after height body) = branch_transactions hash s here i l body
   branch_transactions hash s here i l (put_reveal puts reveals test next) =
       (branch_path here.position i, core_unsigned hash s here i l (put_reveal puts reveals test next))
-      ∷ choice_transactions hash s (continued hash s (branch_path here.position i) (core_unsigned hash s here i l (put_reveal puts reveals test next)) (continued_value s here.output.value puts) next) 0 next
+      ∷ choice_transactions hash s
+      (continued hash s (branch_path here.position i) (core_unsigned hash s here i l (put_reveal puts reveals test next))
+      (continued_value s here.output.value puts) next)
+      0 next
   branch_transactions hash s here i l (withdraw party) = (branch_path here.position i, core_unsigned hash s here i l (withdraw party)) ∷ []
   branch_transactions hash s here i l (split parts) =
       (branch_path here.position i, core_unsigned hash s here i l (split parts))
@@ -32,7 +37,8 @@ abbrev mutual
   -- of the parts from number k on of the split at a path, which this transaction makes
   pub parts_transactions : (List ℕ → List ℕ) → Setting → List PathStep → Unsigned → ℕ → Parts → List (List PathStep × Unsigned)
   parts_transactions hash s path made k no_part = []
-  parts_transactions hash s path made k (part v c ps) = choice_transactions hash s (part_standing hash s path made k v c) 0 c ++ parts_transactions hash s path made (k + 1) ps
+  parts_transactions hash s path made k (part v c ps) =
+      choice_transactions hash s (part_standing hash s path made k v c) 0 c ++ parts_transactions hash s path made (k + 1) ps
 
 -- the transaction of each path
 abbrev pub path_transactions : (List ℕ → List ℕ) → Setting → List (List PathStep × Unsigned)
@@ -44,13 +50,15 @@ abbrev mutual
   -- of the positions under the branches of a position from number i on
   pub choice_scripts : (List ℕ → List ℕ) → Setting → List PathStep → ℕ → Choice → List (List PathStep × List ℕ)
   choice_scripts hash s position i no_branch = []
-  choice_scripts hash s position i (branch b bs) = branch_scripts hash s (branch_path position i) b ++ choice_scripts hash s position (i + 1) bs
+  choice_scripts hash s position i (branch b bs) =
+      branch_scripts hash s (branch_path position i) b ++ choice_scripts hash s position (i + 1) bs
 
   -- of the positions under the branch at a path
   pub branch_scripts : (List ℕ → List ℕ) → Setting → List PathStep → term.Branch → List (List PathStep × List ℕ)
   branch_scripts hash s path (auth party body) = branch_scripts hash s path body
   branch_scripts hash s path (after height body) = branch_scripts hash s path body
-  branch_scripts hash s path (put_reveal puts reveals test next) = (path, position_script hash s path next) ∷ choice_scripts hash s path 0 next
+  branch_scripts hash s path (put_reveal puts reveals test next) =
+      (path, position_script hash s path next) ∷ choice_scripts hash s path 0 next
   branch_scripts hash s path (withdraw party) = []
   branch_scripts hash s path (split parts) = parts_scripts hash s path 0 parts
 
@@ -58,7 +66,8 @@ abbrev mutual
   pub parts_scripts : (List ℕ → List ℕ) → Setting → List PathStep → ℕ → Parts → List (List PathStep × List ℕ)
   parts_scripts hash s path k no_part = []
   parts_scripts hash s path k (part v c ps) =
-      ((part_position path k, position_script hash s (part_position path k) c) ∷ choice_scripts hash s (part_position path k) 0 c) ++ parts_scripts hash s path (k + 1) ps
+      ((part_position path k, position_script hash s (part_position path k) c) ∷ choice_scripts hash s (part_position path k) 0 c)
+      ++ parts_scripts hash s path (k + 1) ps
 
 -- the script of each position
 abbrev pub scripts : (List ℕ → List ℕ) → Setting → List (List PathStep × List ℕ)

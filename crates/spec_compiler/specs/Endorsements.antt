@@ -1,4 +1,4 @@
--- The signatures that an honest party waits for before it signs the initial transaction; of this project's profile of BitML.
+-- The signatures that an honest party waits for before it signs the initial transaction of a BitML contract.
 use Rattle.std.specs.Prelude.{ℕ, List, [], ◌∷◌, ◌++◌, map, filter, not, Bool, Option}
 use Rattle.std.specs.List.{flat_map, list_all, find}
 use Rattle.std.specs.Option.{option_map_or}

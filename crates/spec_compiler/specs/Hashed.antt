@@ -1,4 +1,4 @@
--- The strings that are hashed when a contract is compiled, in their order; of this project's profile of BitML.
+-- The strings that are hashed when a contract is compiled, in their order: those of its keys, scripts, txids and digests (BIP 143).
 use Rattle.std.specs.Prelude.{ℕ, List, ◌++◌, map}
 use Rattle.std.specs.List.{flat_map}
 use Rattle.spec_terms.specs.declared.path.PathStep.{PathStep}
@@ -21,10 +21,12 @@ spent_strings hash tx spent = digest_strings hash tx (input_of spent) spent.scri
 
 -- the strings of a transaction: of its txid, of its three lists, and of the digest of each input
 abbrev pub unsigned_strings : (List ℕ → List ℕ) → Unsigned → List (List ℕ)
-unsigned_strings hash d = txid_strings hash (tx_of d) ++ (shared_strings hash (tx_of d) ++ flat_map (spent_strings hash (tx_of d)) d.spends)
+unsigned_strings hash d =
+    txid_strings hash (tx_of d) ++ (shared_strings hash (tx_of d) ++ flat_map (spent_strings hash (tx_of d)) d.spends)
 
 -- the labels by path and participant, the scripts by position, and the strings of the initial transaction and of each path's
 abbrev pub compiled_strings : (List ℕ → List ℕ) → Setting → List (List ℕ)
 compiled_strings hash s =
     flat_map (λ p. path_labels s p.0) (path_transactions hash s)
-    ++ (map (λ p. p.1) (scripts hash s) ++ (unsigned_strings hash (initial_unsigned hash s) ++ flat_map (λ p. unsigned_strings hash p.1) (path_transactions hash s)))
+    ++ (map (λ p. p.1) (scripts hash s) ++ (unsigned_strings hash (initial_unsigned hash s)
+    ++ flat_map (λ p. unsigned_strings hash p.1) (path_transactions hash s)))

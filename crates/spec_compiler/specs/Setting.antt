@@ -1,4 +1,4 @@
--- What a contract is compiled with, and the keys and the script of each position; of this project's profile of BitML.
+-- What a BitML contract is compiled with, and the keys and the script of each of its positions.
 use Rattle.std.specs.Prelude.{ℕ, List, [], ◌∷◌, ◌++◌, map}
 use Rattle.spec_terms.specs.Term.{Choice, branches}
 use Rattle.spec_terms.specs.Advert.{Advert}

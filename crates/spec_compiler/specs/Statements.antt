@@ -1,5 +1,6 @@
--- What is claimed of the scripts of a contract: on which stacks they are true, and how large they are; of this project's profile of BitML.
-use Rattle.std.specs.Prelude.{◌≡◌, ℕ, ◌-◌, ◌≤◌, List, [], ◌∷◌, ◌++◌, length, map, reverse, Bool, true, false, ◌&&◌, nat_le, slice_get, Some, ◌==◌}
+-- What is claimed of the scripts of a contract: on which stacks Bitcoin's consensus finds them true, and how large they are.
+use Rattle.std.specs.Prelude.{◌≡◌, ℕ, ◌-◌, ◌≤◌, List, [], ◌∷◌, ◌++◌, length, map, reverse, Bool, true, false, ◌&&◌, nat_le, slice_get}
+use Rattle.std.specs.Prelude.{Some, ◌==◌}
 use Rattle.std.specs.List.{list_all}
 use Rattle.std.specs.Str.{bytes_eq}
 pub use Rattle.spec_data.specs.Hashes.{IsHash}
@@ -53,7 +54,8 @@ secret_lengths names strings = lengths_of names (map length strings)
 -- ---- what opens a position
 
 -- the stack, from its top, is selectors of a branch of the position, its secrets and its signatures
-pub record Opens (hash : List ℕ → List ℕ) (valid : List ℕ → List ℕ → Bool) (s : Setting) (position : List PathStep) (choice : Choice) (stack : List (List ℕ)) : Type 0 where
+pub record Opens (hash : List ℕ → List ℕ) (valid : List ℕ → List ℕ → Bool)
+    (s : Setting) (position : List PathStep) (choice : Choice) (stack : List (List ℕ)) : Type 0 where
   -- the branch and its number
   pub i : ℕ
   pub b : term.Branch
@@ -90,18 +92,25 @@ pub record IsCompiled (s : Setting) (position : List PathStep) (choice : Choice)
 -- ---- the theorems
 
 -- the script of a position is true on a stack, given from its bottom, exactly where the stack opens a branch of the position
-pub record OpensExactly (hash : List ℕ → List ℕ) (valid : List ℕ → List ℕ → Bool) (s : Setting) (position : List PathStep) (choice : Choice) (stack : List (List ℕ)) : Type 0 where
-  pub true_opens : script_meaning hash valid (position_script hash s position choice) stack ≡ true → Opens hash valid s position choice (reverse stack)
-  pub opens_true : Opens hash valid s position choice (reverse stack) → script_meaning hash valid (position_script hash s position choice) stack ≡ true
+pub record OpensExactly (hash : List ℕ → List ℕ) (valid : List ℕ → List ℕ → Bool)
+    (s : Setting) (position : List PathStep) (choice : Choice) (stack : List (List ℕ)) : Type 0 where
+  pub true_opens : script_meaning hash valid (position_script hash s position choice) stack ≡ true
+      → Opens hash valid s position choice (reverse stack)
+  pub opens_true : Opens hash valid s position choice (reverse stack)
+      → script_meaning hash valid (position_script hash s position choice) stack ≡ true
 
 -- for every hash, every judge of signatures, every position of a checked contract and every stack of short items
 abbrev pub ScriptTheorem : Type 0
-ScriptTheorem = (hash : List ℕ → List ℕ) (valid : List ℕ → List ℕ → Bool) (s : Setting) (position : List PathStep) (choice : Choice) (stack : List (List ℕ))
+ScriptTheorem =
+    (hash : List ℕ → List ℕ) (valid : List ℕ → List ℕ → Bool)
+    (s : Setting) (position : List PathStep) (choice : Choice) (stack : List (List ℕ))
     → IsHash hash → IsCompiled s position choice → list_all is_short stack ≡ true → OpensExactly hash valid s position choice stack
 
 -- the branch that a stack chooses is the branch that it opens
 abbrev pub OpenedIsChosen : Type 0
-OpenedIsChosen = (hash : List ℕ → List ℕ) (valid : List ℕ → List ℕ → Bool) (s : Setting) (position : List PathStep) (choice : Choice) (stack : List (List ℕ))
+OpenedIsChosen =
+    (hash : List ℕ → List ℕ) (valid : List ℕ → List ℕ → Bool)
+    (s : Setting) (position : List PathStep) (choice : Choice) (stack : List (List ℕ))
     → (opened : Opens hash valid s position choice stack) → chosen (length (branches choice)) stack ≡ opened.i
 
 -- a script has the bytes and counted operations of its cost, meets no limit of scripts, and its bytes spell its operations
@@ -113,10 +122,13 @@ pub record HasCost (hash : List ℕ → List ℕ) (s : Setting) (position : List
   pub spells : script_ops (position_script hash s position choice) ≡ Some (output_ops (position_demands hash s position choice))
 
 abbrev pub SizeTheorem : Type 0
-SizeTheorem = (hash : List ℕ → List ℕ) (s : Setting) (position : List PathStep) (choice : Choice) → IsHash hash → IsCompiled s position choice → HasCost hash s position choice
+SizeTheorem =
+    (hash : List ℕ → List ℕ) (s : Setting) (position : List PathStep) (choice : Choice) → IsHash hash → IsCompiled s position choice
+    → HasCost hash s position choice
 
 -- what is handed to a witness of branch i: its signatures by participant, and its secrets by reveal
-pub record Fills (hash : List ℕ → List ℕ) (valid : List ℕ → List ℕ → Bool) (s : Setting) (position : List PathStep) (choice : Choice) (i : ℕ) (signatures strings : List (List ℕ)) : Type 0 where
+pub record Fills (hash : List ℕ → List ℕ) (valid : List ℕ → List ℕ → Bool)
+    (s : Setting) (position : List PathStep) (choice : Choice) (i : ℕ) (signatures strings : List (List ℕ)) : Type 0 where
   pub b : term.Branch
   pub is_branch : slice_get (branches choice) i ≡ Some b
   pub fits : are_secrets hash strings (map (digest_of s.hashes) (reveals_of (core b))) ≡ true
@@ -126,11 +138,15 @@ pub record Fills (hash : List ℕ → List ℕ) (valid : List ℕ → List ℕ �
 
 -- a witness that is filled so makes its script true
 abbrev pub WitnessOpens : Type 0
-WitnessOpens = (hash : List ℕ → List ℕ) (valid : List ℕ → List ℕ → Bool) (s : Setting) (position : List PathStep) (choice : Choice) (i : ℕ) (signatures strings : List (List ℕ))
+WitnessOpens =
+    (hash : List ℕ → List ℕ) (valid : List ℕ → List ℕ → Bool)
+    (s : Setting) (position : List PathStep) (choice : Choice) (i : ℕ) (signatures strings : List (List ℕ))
     → IsHash hash → IsCompiled s position choice → Fills hash valid s position choice i signatures strings
-    → script_meaning hash valid (position_script hash s position choice) (witness_stack signatures strings i (length (branches choice))) ≡ true
+    → script_meaning hash valid (position_script hash s position choice)
+    (witness_stack signatures strings i (length (branches choice))) ≡ true
 
 -- the script of a deposit is true on a stack exactly where the stack is one signature that is valid for its key
 abbrev pub DepositMeaning : Type 0
 DepositMeaning = (hash : List ℕ → List ℕ) (valid : List ℕ → List ℕ → Bool) (key : List ℕ) (stack : List (List ℕ))
-    → length key ≡ 33 → list_all is_short stack ≡ true → script_meaning hash valid (deposit_script key) stack ≡ are_valid valid (reverse stack) (key ∷ [])
+    → length key ≡ 33 → list_all is_short stack ≡ true
+    → script_meaning hash valid (deposit_script key) stack ≡ are_valid valid (reverse stack) (key ∷ [])

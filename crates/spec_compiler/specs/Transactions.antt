@@ -1,4 +1,4 @@
--- The transactions of a contract, before they are put in order; this project's profile of BitML, in transactions of Bitcoin with segregated witnesses (BIP 141).
+-- The transactions of a BitML contract, before they are put in order: Bitcoin's, with segregated witnesses (BIP 141).
 use Rattle.std.specs.Prelude.{ℕ, ◌+◌, ◌-◌, List, [], ◌∷◌, ◌++◌, map, Option, Some, None}
 use Rattle.spec_data.specs.Lists.{look_up}
 use Rattle.spec_terms.specs.Term as term
@@ -89,11 +89,13 @@ part_position path k = path ++ Into k ∷ []
 -- the outputs of the parts from number k on of the split at a path
 abbrev pub part_outputs : (List ℕ → List ℕ) → Setting → List PathStep → ℕ → Parts → List TxOut
 part_outputs hash s path k no_part = []
-part_outputs hash s path k (part v c ps) = pays hash (position_script hash s (part_position path k) c) v ∷ part_outputs hash s path (k + 1) ps
+part_outputs hash s path k (part v c ps) =
+    pays hash (position_script hash s (part_position path k) c) v ∷ part_outputs hash s path (k + 1) ps
 
 -- the outputs of a core's transaction, where the branch has this path and its position this balance
 abbrev pub core_outputs : (List ℕ → List ℕ) → Setting → List PathStep → ℕ → term.Branch → List TxOut
-core_outputs hash s path balance (put_reveal puts reveals test next) = pays hash (position_script hash s path next) (continued_value s balance puts) ∷ []
+core_outputs hash s path balance (put_reveal puts reveals test next) =
+    pays hash (position_script hash s path next) (continued_value s balance puts) ∷ []
 core_outputs hash s path balance (withdraw party) = pays hash (party_script hash party) (balance - s.advert.fee) ∷ []
 core_outputs hash s path balance (split parts) = part_outputs hash s path 0 parts
 core_outputs hash s path balance (auth party body) = []
@@ -142,5 +144,11 @@ initial_unsigned hash s = record {
 abbrev pub root_standing : (List ℕ → List ℕ) → Setting → Standing
 root_standing hash s = record {
   position = [];
-  output = record { place = output_place hash (initial_unsigned hash s) 0; script = position_script hash s [] s.advert.root; value = root_value s };
+  output =
+      record {
+        place =
+            output_place hash (initial_unsigned hash s) 0;
+        script = position_script hash s [] s.advert.root;
+        value = root_value s;
+      };
 }

@@ -1,8 +1,9 @@
--- The witness of a contract output, and the branch that a witness chooses; of this project's profile of BitML.
+-- The witness of a contract's output (BIP 141), and the branch that a witness chooses.
 use Rattle.std.specs.Prelude.{ℕ, ◌+◌, ◌-◌, List, [], ◌∷◌, ◌++◌, Bool, true, false, if◌then◌else◌, nat_lt, take, drop, replicate, reverse}
 use Rattle.spec_bitcoin.specs.Effects.{truth}
 
--- the selectors of branch i of n, in the order in which the script consumes them: an empty item for each branch before it, and then 01 where it isn't the last
+-- the selectors of branch i of n, in the order in which the script consumes them: an empty item for each branch before it, and then 01
+-- where it isn't the last
 abbrev pub selectors : ℕ → ℕ → List (List ℕ)
 selectors i n = if nat_lt (i + 1) n then replicate i [] ++ (1 ∷ []) ∷ [] else replicate i []
 
@@ -10,7 +11,8 @@ selectors i n = if nat_lt (i + 1) n then replicate i [] ++ (1 ∷ []) ∷ [] els
 abbrev pub selection : ℕ → ℕ → List Bool
 selection i n = if nat_lt (i + 1) n then replicate i false ++ true ∷ [] else replicate i false
 
--- the stack that opens branch i of n, from its bottom: signatures by participant and secrets by reveal, the last ones first, and the selectors
+-- the stack that opens branch i of n, from its bottom: signatures by participant and secrets by reveal, the last ones first, and the
+-- selectors
 abbrev pub witness_stack : List (List ℕ) → List (List ℕ) → ℕ → ℕ → List (List ℕ)
 witness_stack signatures secrets i n = reverse signatures ++ (reverse secrets ++ reverse (selectors i n))
 

@@ -24,3 +24,7 @@ pub mod Listing
 pub mod ScriptListing
 pub mod Choosing
 pub mod Missing
+mod InOrder
+pub mod Faultless
+pub mod Balances
+mod Money

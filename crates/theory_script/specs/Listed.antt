@@ -1,7 +1,8 @@
--- What is claimed of the lists of a contract's transactions and scripts: they have each path and each position once, with what stands there; of this project's profile of BitML.
-use Rattle.std.specs.Prelude.{◌≡◌, ℕ, List, [], ◌∷◌, Option, Some, None, option_map, if◌then◌else◌}
+-- What is claimed of the lists of a contract's transactions and scripts: each path and each position once, with what stands there.
+use Rattle.std.specs.Prelude.{◌≡◌, ℕ, List, [], ◌∷◌, map, Option, Some, None, option_map, if◌then◌else◌}
 use Rattle.spec_terms.specs.Term.{Choice}
 use Rattle.spec_terms.specs.Paths.{choice_at, path_eq}
+use Rattle.spec_terms.specs.Order.{branch_paths, position_paths}
 use Rattle.spec_terms.specs.declared.path.PathStep.{PathStep}
 use Rattle.spec_compiler.specs.Setting.{Setting, position_script}
 use Rattle.spec_compiler.specs.Transactions.{Standing}
@@ -15,7 +16,8 @@ at_path path (e ∷ es) = if path_eq e.0 path then Some (e.1) else at_path path 
 
 -- the list of transactions has for each path the transaction of the branch there, and for no other path one
 abbrev pub PathsAreListed : Type 0
-PathsAreListed = (hash : List ℕ → List ℕ) (s : Setting) (path : List PathStep) → at_path path (compilation hash s).paths ≡ prepared_at hash s path
+PathsAreListed =
+    (hash : List ℕ → List ℕ) (s : Setting) (path : List PathStep) → at_path path (compilation hash s).paths ≡ prepared_at hash s path
 
 -- the list of scripts has for each position the script of its output, and for no other path one
 abbrev pub ScriptsAreListed : Type 0
@@ -32,3 +34,11 @@ pub record StandsAt (hash : List ℕ → List ℕ) (s : Setting) (position : Lis
 abbrev pub PositionsStand : Type 0
 PositionsStand = (hash : List ℕ → List ℕ) (s : Setting) (position : List PathStep) (here : Standing) (choice : Choice)
     → position_at hash s position ≡ Some (here, choice) → StandsAt hash s position here choice
+
+-- the transactions are those of the contract's branches, and the scripts those of its positions, each once and in the order of the text
+pub record IsInOrder (hash : List ℕ → List ℕ) (s : Setting) : Type 0 where
+  pub paths : map (λ p. p.0) (compilation hash s).paths ≡ branch_paths s.advert.root
+  pub scripts : map (λ p. p.0) (compilation hash s).scripts ≡ position_paths s.advert.root
+
+abbrev pub PathsInOrder : Type 0
+PathsInOrder = (hash : List ℕ → List ℕ) (s : Setting) → IsInOrder hash s

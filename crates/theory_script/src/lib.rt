@@ -6,6 +6,8 @@ ghost use Rattle.spec_compiler.specs.Statements.{ScriptTheorem, OpenedIsChosen, 
 ghost use Rattle.theory_script.specs.Choices.{WitnessChooses, ChoosesByItems};
 ghost use Rattle.theory_script.specs.Endorsed.{MissingIsFirst};
 ghost use Rattle.theory_script.specs.Listed.{PathsAreListed, ScriptsAreListed, PositionsStand};
+ghost use Rattle.theory_script.specs.Listed.{PathsAreListed, ScriptsAreListed, PositionsStand, PathsInOrder};
+ghost use Rattle.theory_script.specs.Money.{MoneyIsKept};
 
 /// The script of a position of a checked contract is true exactly on the stacks that open one of its branches.
 pub fn script_theorem()
@@ -66,4 +68,12 @@ pub fn positions_stand()
 /// the first that is missing.
 pub fn missing_is_first()
     ensures { MissingIsFirst }
+/// A contract has one transaction for each of its branches and one script for each of its positions, in the order of the text.
+pub fn paths_in_order()
+    ensures { PathsInOrder }
+{}
+
+/// Each transaction of a checked contract pays out all that it spends but the fee, and each position pays for its branches.
+pub fn money_is_kept()
+    ensures { MoneyIsKept }
 {}

@@ -1,0 +1,4 @@
+mod Begins
+mod Few
+mod Found
+mod Walking

@@ -1,0 +1,260 @@
+-- What a compiled contract holds at its positions is their static balance: it pays for their branches, and is no more than all money.
+use Rattle.std.proofs.Common.{◌≡◌, ℕ, zero, suc, ◌+◌, ◌-◌, ◌≤◌, List, [], ◌∷◌, ◌++◌, Bool, true, false, not, Option, Some, None, refl, sym, ap, ◌∙◌, subst, arith}
+use Rattle.std.specs.Prelude.{◌&&◌, slice_get, option_map, option_and_then, pos, ◌-ℤ◌, int_lt, if◌then◌else◌}
+use Rattle.std.specs.List.{list_all}
+use Rattle.std.proofs.lemmas.Bool.{and_parts, and_from, not-true, not_from_false}
+use Rattle.std.proofs.lemmas.Int.{ints}
+use Rattle.spec_data.proofs.ListLemmas.{or_else-none}
+use Rattle.spec_terms.specs.Advert.{Advert}
+use Rattle.spec_terms.specs.Term as term
+use Rattle.spec_terms.specs.Term.{Choice, no_branch, branch, branches, Parts, no_part, part, parts_list, auth, after, put_reveal, withdraw, split}
+use Rattle.spec_terms.specs.Core.{core}
+use Rattle.spec_terms.specs.Precondition.{persistent, volatile, total_of, value_of_puts}
+use Rattle.spec_terms.specs.Paths.{Spot}
+use Rattle.spec_terms.specs.Paths as terms
+use Rattle.spec_terms.specs.Balance.{after_put, branch_stands, stands_under, part_stands, root_balance, stands}
+use Rattle.spec_terms.specs.Balance as balance
+use Rattle.spec_data.specs.Ranges.{max_money}
+use Rattle.spec_terms.specs.Faults.{IsWellFormed, place_of, place_if, first_place, at_core, at_position, is_short, is_uneven, is_withdraw, sum_of_parts, is_too_much}
+use Rattle.spec_terms.specs.declared.place.Place.{Place}
+use Rattle.spec_terms.specs.declared.path.PathStep.{PathStep}
+use Rattle.spec_terms.specs.declared.path.PathStep.TheVariants.{Branch as To, Part as Into}
+use Rattle.spec_compiler.specs.Setting.{Setting, branch_path}
+use Rattle.spec_compiler.specs.Transactions.{Standing, continued_value, part_position, branch_unsigned, continued, part_standing, root_value, root_standing}
+use Rattle.spec_compiler.specs.ByPath as by_path
+use Rattle.spec_compiler.specs.ByPath.{Stand, branch_stand, continued_stand, part_stand, next_stand, stand_from, stand_at, as_position, position_at}
+use Rattle.theory_script.proofs.Covered.{all_split}
+use Rattle.theory_script.proofs.Faultless.{no_fault, no_limit}
+
+-- ---- the checks of balances, of all positions and branches
+
+-- no fee falls short there, no split is uneven, and there is no more than all money
+abbrev pub is_kept : ℕ → balance.Stand → Bool
+is_kept fee x =
+    (not (is_short fee x.balance x.spot) && not (at_core (is_uneven fee x.balance) x.spot)) && not (at_position (λ c. is_too_much x.balance) x.spot)
+
+not_placed : (b : Bool) (p : Place) → (if b then Some p else None) ≡ None → b ≡ false
+not_placed true p h = cc
+not_placed false p h = refl
+
+-- none passes the test where none has a place
+none_placed : (test : balance.Stand → Bool) (x : balance.Stand) (xs : List balance.Stand) → first_place test (x ∷ xs) ≡ None
+    → (test x ≡ false) × (first_place test xs ≡ None)
+none_placed test x xs h =
+    let p = or_else-none (place_if test x) (first_place test xs) h in
+    (not_placed (test x) (place_of x.spot x) p.0, p.1)
+
+all_kept : (fee : ℕ) (xs : List balance.Stand) → first_place (λ x. is_short fee x.balance x.spot) xs ≡ None
+    → first_place (λ x. at_core (is_uneven fee x.balance) x.spot) xs ≡ None
+    → first_place (λ x. at_position (λ c. is_too_much x.balance) x.spot) xs ≡ None → list_all (is_kept fee) xs ≡ true
+all_kept fee [] h u k = refl
+all_kept fee (x ∷ xs) h u k =
+    let p = none_placed (λ y. is_short fee y.balance y.spot) x xs h in
+    let r = none_placed (λ y. at_core (is_uneven fee y.balance) y.spot) x xs u in
+    let q = none_placed (λ y. at_position (λ c. is_too_much y.balance) y.spot) x xs k in
+    and_from _ _ (and_from _ _ (and_from _ _ (not_from_false _ p.0) (not_from_false _ r.0)) (not_from_false _ q.0)) (all_kept fee xs p.1 r.1 q.1)
+
+pub stands_kept : (a : Advert) → IsWellFormed a → list_all (is_kept a.fee) (stands a) ≡ true
+stands_kept a h =
+    let f = no_fault a h in
+    all_kept a.fee (stands a) f.1.1.1.1.1.1.1.0 f.1.1.1.1.1.1.0 (no_limit a h).1.0
+
+-- ---- numbers
+
+-- where the balance isn't negative, nothing is cut off, and it is the difference of natural numbers
+enough : (m f : ℕ) → int_lt (pos m -ℤ pos f) (pos 0) ≡ false → f ≤ m
+enough m f h = grind (arith, ints, h)
+
+difference : (m f : ℕ) → f ≤ m → pos m -ℤ pos f ≡ pos (m - f)
+difference m f le = omega (arith, ints, le)
+
+within : (v : ℕ) → int_lt (pos max_money) (pos v) ≡ false → v ≤ max_money
+within v h = grind (arith, ints, h)
+
+-- what is kept at a position
+position_kept : (fee : ℕ) (q : List PathStep) (m f : ℕ) (c : Choice) → is_kept fee (balance.stand q (pos m -ℤ pos f) (terms.position c)) ≡ true
+    → (pos m -ℤ pos f ≡ pos (m - f)) × (m - f ≤ max_money) × (f ≤ m)
+position_kept fee q m f c h =
+    let p = and_parts (not (int_lt (pos m -ℤ pos f) (pos 0)) && true) (not (int_lt (pos max_money) (pos m -ℤ pos f))) h in
+    let le = enough m f (not-true _ (and_parts (not (int_lt (pos m -ℤ pos f) (pos 0))) true p.0).0) in
+    let e = difference m f le in
+    (e, within (m - f) (subst (λ z. int_lt (pos max_money) z ≡ false) e (not-true _ p.1)), le)
+
+-- ---- what stands below
+
+module _ (hash : List ℕ → List ℕ) (s : Setting) where
+  abbrev all_fine : List balance.Stand → Type 0
+  all_fine xs = list_all (is_kept s.advert.fee) xs ≡ true
+
+  abbrev below_choice : List PathStep → ℕ → ℕ → Choice → List balance.Stand
+  below_choice q v j c = branch_stands (volatile s.advert.pre) s.advert.fee q (pos v) j c
+
+  abbrev below_branch : List PathStep → ℕ → term.Branch → List balance.Stand
+  below_branch p v b = stands_under (volatile s.advert.pre) s.advert.fee p (pos v) b
+
+  -- what is kept at a branch and below it
+  abbrev BranchFine : List PathStep → ℕ → term.Branch → Type 0
+  BranchFine p v b = (is_kept s.advert.fee (balance.stand p (pos v) (terms.at_branch b)) ≡ true) × all_fine (below_branch p v b)
+
+  -- the value is no more than all money, and so below
+  abbrev pub Fine : Stand → Type 0
+  Fine (by_path.at_position here choice) = (here.output.value ≤ max_money) × all_fine (below_choice here.position here.output.value 0 choice)
+  Fine (by_path.at_branch here i b) = (here.output.value ≤ max_money) × BranchFine (branch_path here.position i) here.output.value b
+
+  -- the first branch, and those after it
+  first_fine : (q : List PathStep) (v j : ℕ) (d : term.Branch) (c : Choice) → all_fine (below_choice q v j (branch d c))
+      → BranchFine (branch_path q j) v d × all_fine (below_choice q v (j + 1) c)
+  first_fine q v j d c k =
+      let fine = is_kept s.advert.fee in
+      let below = below_branch (branch_path q j) v d in
+      let others = below_choice q v (j + 1) c in
+      let r = and_parts (fine (balance.stand (q ++ To j ∷ []) (pos v) (terms.at_branch d))) (list_all fine (below ++ others)) k in
+      let t = all_split fine below others r.1 in
+      ((r.0, t.0), t.1)
+
+  choice_fine : (q : List PathStep) (v j i : ℕ) (c : Choice) (b : term.Branch) → slice_get (branches c) i ≡ Some b → all_fine (below_choice q v j c) → BranchFine (branch_path q (i + j)) v b
+  choice_fine q v j i no_branch b h k = cc
+  choice_fine q v j zero (branch d c) b h k =
+      let e : d ≡ b = cc in
+      let z : 0 + j ≡ j = omega arith in
+      subst (λ n. BranchFine (branch_path q n) v b) (sym z) (subst (λ y. BranchFine (branch_path q j) v y) e (first_fine q v j d c k).0)
+  choice_fine q v j (suc i) (branch d c) b h k =
+      let z : i + (j + 1) ≡ suc i + j = omega arith in
+      subst (λ n. BranchFine (branch_path q n) v b) z (choice_fine q v (j + 1) i c b h (first_fine q v j d c k).1)
+
+  -- the core has below it what the branch has
+  below_core : (p : List PathStep) (v : ℕ) (b : term.Branch) → below_branch p v b ≡ below_branch p v (core b)
+  below_core p v (auth party body) = below_core p v body
+  below_core p v (after height body) = below_core p v body
+  below_core p v (put_reveal puts reveals test next) = refl
+  below_core p v (withdraw party) = refl
+  below_core p v (split parts) = refl
+
+  pub branch_fine : (here : Standing) (choice : Choice) (i : ℕ) (st : Stand) → Fine (by_path.at_position here choice) → branch_stand here choice i ≡ Some st → Fine st
+  branch_fine here choice i st f h = by_branch (slice_get (branches choice) i) refl h
+    where
+      by_branch : (o : Option term.Branch) → slice_get (branches choice) i ≡ o → option_map (by_path.at_branch here i) o ≡ Some st → Fine st
+      by_branch None e q = cc
+      by_branch (Some b) e q =
+          let z : by_path.at_branch here i b ≡ st = cc in
+          let n : i + 0 ≡ i = omega arith in
+          subst Fine z (f.0, subst (λ m. BranchFine (branch_path here.position m) here.output.value b) n (choice_fine here.position here.output.value 0 i choice b e f.1))
+
+  -- what a put goes on with
+  put_fine : (p : List PathStep) (v : ℕ) (puts reveals : List (List ℕ)) (test : term.Test) (next : Choice) → all_fine (below_branch p v (put_reveal puts reveals test next))
+      → (continued_value s v puts ≤ max_money) × all_fine (below_choice p (continued_value s v puts) 0 next) × (s.advert.fee ≤ v + value_of_puts (volatile s.advert.pre) puts)
+  put_fine p v puts reveals test next h =
+      let m = v + value_of_puts (volatile s.advert.pre) puts in
+      let b = after_put (volatile s.advert.pre) s.advert.fee (pos v) puts in
+      let r = and_parts (is_kept s.advert.fee (balance.stand p b (terms.position next))) (list_all (is_kept s.advert.fee) (branch_stands (volatile s.advert.pre) s.advert.fee p b 0 next)) h in
+      let k = position_kept s.advert.fee p m s.advert.fee next r.0 in
+      (k.1, subst (λ z. all_fine (branch_stands (volatile s.advert.pre) s.advert.fee p z 0 next)) k.0 r.1, k.2)
+
+  part_fine : (p : List PathStep) (j k : ℕ) (ps : Parts) (x : ℕ × Choice) → slice_get (parts_list ps) k ≡ Some x → all_fine (part_stands (volatile s.advert.pre) s.advert.fee p j ps) → (x.0 ≤ max_money) × all_fine (below_choice (part_position p (k + j)) x.0 0 x.1)
+  part_fine p j k no_part x h f = cc
+  part_fine p j zero (part v c ps) x h f =
+      let e : (let q : ℕ × Choice = (v, c) in q) ≡ x = cc in
+      let z : 0 + j ≡ j = omega arith in
+      let r = and_parts (is_kept s.advert.fee (balance.stand (p ++ Into j ∷ []) (pos v) (terms.position c))) (list_all (is_kept s.advert.fee) (below_choice (part_position p j) v 0 c ++ part_stands (volatile s.advert.pre) s.advert.fee p (j + 1) ps)) f in
+      let t = all_split (is_kept s.advert.fee) (below_choice (part_position p j) v 0 c) (part_stands (volatile s.advert.pre) s.advert.fee p (j + 1) ps) r.1 in
+      let m = and_parts (not (int_lt (pos v) (pos 0)) && true) (not (int_lt (pos max_money) (pos v))) r.0 in
+      subst (λ (y : ℕ × Choice). (y.0 ≤ max_money) × all_fine (below_choice (part_position p (0 + j)) y.0 0 y.1)) e
+      (within v (not-true _ m.1), subst (λ n. all_fine (below_choice (part_position p n) v 0 c)) (sym z) t.0)
+  part_fine p j (suc k) (part v c ps) x h f =
+      let z : k + (j + 1) ≡ suc k + j = omega arith in
+      let r = and_parts (is_kept s.advert.fee (balance.stand (p ++ Into j ∷ []) (pos v) (terms.position c))) (list_all (is_kept s.advert.fee) (below_choice (part_position p j) v 0 c ++ part_stands (volatile s.advert.pre) s.advert.fee p (j + 1) ps)) f in
+      let t = all_split (is_kept s.advert.fee) (below_choice (part_position p j) v 0 c) (part_stands (volatile s.advert.pre) s.advert.fee p (j + 1) ps) r.1 in
+      subst (λ n. (x.0 ≤ max_money) × all_fine (below_choice (part_position p n) x.0 0 x.1)) z (part_fine p (j + 1) k ps x h t.1)
+
+  continued_fine : (here : Standing) (i : ℕ) (b c : term.Branch) (p : Standing × Choice) → core b ≡ c → Fine (by_path.at_branch here i b) → continued_stand hash s here i b c ≡ Some p → Fine (by_path.at_position p.0 p.1)
+  continued_fine here i b (put_reveal puts reveals test next) p e f h =
+      let z : (let q : Standing × Choice = (continued hash s (branch_path here.position i) (branch_unsigned hash s here i b) (continued_value s here.output.value puts) next, next) in q) ≡ p = cc in
+      let c : below_branch (branch_path here.position i) here.output.value b ≡ below_branch (branch_path here.position i) here.output.value (put_reveal puts reveals test next) = below_core (branch_path here.position i) here.output.value b ∙ ap (below_branch (branch_path here.position i) here.output.value) e in
+      let r = put_fine (branch_path here.position i) here.output.value puts reveals test next (subst all_fine c f.1.1) in
+      subst (λ (q : Standing × Choice). Fine (by_path.at_position q.0 q.1)) z (r.0, r.1)
+  continued_fine here i b (withdraw party) p e f h = cc
+  continued_fine here i b (split parts) p e f h = cc
+  continued_fine here i b (auth party body) p e f h = cc
+  continued_fine here i b (after height body) p e f h = cc
+
+  -- with what a put brings, the position has enough for the fee
+  pub put_enough : (here : Standing) (i : ℕ) (b : term.Branch) (puts reveals : List (List ℕ)) (test : term.Test) (next : Choice)
+      → core b ≡ put_reveal puts reveals test next → Fine (by_path.at_branch here i b)
+      → s.advert.fee ≤ here.output.value + value_of_puts (volatile s.advert.pre) puts
+  put_enough here i b puts reveals test next e f =
+      let p = branch_path here.position i in
+      let v = here.output.value in
+      let c : below_branch p v b ≡ below_branch p v (put_reveal puts reveals test next) = below_core p v b ∙ ap (below_branch p v) e in
+      (put_fine p v puts reveals test next (subst all_fine c f.1.1)).2
+
+  split_fine : (here : Standing) (i k : ℕ) (b c : term.Branch) (st : Stand) → core b ≡ c → Fine (by_path.at_branch here i b) → part_stand hash s here i b k c ≡ Some st → Fine st
+  split_fine here i k b (put_reveal puts reveals test next) st e f h = cc
+  split_fine here i k b (withdraw party) st e f h = cc
+  split_fine here i k b (split ps) st e f h = by_part (slice_get (parts_list ps) k) refl h
+    where
+      by_part : (o : Option (ℕ × Choice)) → slice_get (parts_list ps) k ≡ o → option_map (λ (p : ℕ × Choice). by_path.at_position (part_standing hash s (branch_path here.position i) (branch_unsigned hash s here i b) k p.0 p.1) p.1) o ≡ Some st → Fine st
+      by_part None g q = cc
+      by_part (Some x) g q =
+          let z : by_path.at_position (part_standing hash s (branch_path here.position i) (branch_unsigned hash s here i b) k x.0 x.1) x.1 ≡ st = cc in
+          let n : k + 0 ≡ k = omega arith in
+          let c : below_branch (branch_path here.position i) here.output.value b ≡ below_branch (branch_path here.position i) here.output.value (split ps) = below_core (branch_path here.position i) here.output.value b ∙ ap (below_branch (branch_path here.position i) here.output.value) e in
+          let r = part_fine (branch_path here.position i) 0 k ps x g (subst all_fine c f.1.1) in
+          subst Fine z (r.0, subst (λ m. all_fine (below_choice (part_position (branch_path here.position i) m) x.0 0 x.1)) n r.1)
+  split_fine here i k b (auth party body) st e f h = cc
+  split_fine here i k b (after height body) st e f h = cc
+
+  next_fine : (step : PathStep) (st next : Stand) → Fine st → next_stand hash s step st ≡ Some next → Fine next
+  next_fine (To i) (by_path.at_position here choice) next f h = branch_fine here choice i next f h
+  next_fine (Into k) (by_path.at_position here choice) next f h = cc
+  next_fine (To j) (by_path.at_branch here i b) next f h = by_continued (continued_stand hash s here i b (core b)) refl h
+    where
+      by_continued : (o : Option (Standing × Choice)) → continued_stand hash s here i b (core b) ≡ o → option_and_then (λ (p : Standing × Choice). branch_stand p.0 p.1 j) o ≡ Some next → Fine next
+      by_continued None e q = cc
+      by_continued (Some p) e q = branch_fine p.0 p.1 j next (continued_fine here i b (core b) p refl f e) q
+  next_fine (Into k) (by_path.at_branch here i b) next f h = split_fine here i k b (core b) next refl f h
+
+  from_fine : (path : List PathStep) (st end : Stand) → Fine st → stand_from hash s st path ≡ Some end → Fine end
+  from_fine [] st end f h = let e : st ≡ end = cc in subst Fine e f
+  from_fine (step ∷ path) st end f h = by_next (next_stand hash s step st) refl h (λ next e q. from_fine path next end (next_fine step st next f e) q)
+    where
+      by_next : (o : Option Stand) → next_stand hash s step st ≡ o → option_and_then (λ (next : Stand). stand_from hash s next path) o ≡ Some end
+          → ((next : Stand) → next_stand hash s step st ≡ Some next → stand_from hash s next path ≡ Some end → Fine end) → Fine end
+      by_next None e q go = cc
+      by_next (Some next) e q go = go next e q
+
+  module _ (well : IsWellFormed s.advert) where
+    root_parts : (is_kept s.advert.fee (balance.stand [] (root_balance s.advert) (terms.position s.advert.root)) ≡ true)
+        × (list_all (is_kept s.advert.fee) (branch_stands (volatile s.advert.pre) s.advert.fee [] (root_balance s.advert) 0 s.advert.root) ≡ true)
+    root_parts = and_parts _ _ (stands_kept s.advert well)
+
+    root_kept : (root_balance s.advert ≡ pos (root_value s)) × (root_value s ≤ max_money) × (s.advert.fee ≤ total_of (persistent s.advert.pre))
+    root_kept = position_kept s.advert.fee [] (total_of (persistent s.advert.pre)) s.advert.fee s.advert.root root_parts.0
+
+    root_fine : Fine (by_path.at_position (root_standing hash s) s.advert.root)
+    root_fine = (root_kept.1, subst (λ z. all_fine (branch_stands (volatile s.advert.pre) s.advert.fee [] z 0 s.advert.root)) root_kept.0 root_parts.1)
+
+    -- the persistent deposits pay the fee
+    pub root_enough : s.advert.fee ≤ total_of (persistent s.advert.pre)
+    root_enough = root_kept.2
+
+    pub root_little : root_value s ≤ max_money
+    root_little = root_fine.0
+
+    pub stand_fine : (path : List PathStep) (end : Stand) → stand_at hash s path ≡ Some end → Fine end
+    stand_fine path end h = from_fine path (by_path.at_position (root_standing hash s) s.advert.root) end root_fine h
+
+    -- the same of a position with its branches
+    pub position_fine : (q : List PathStep) (here : Standing) (choice : Choice) → position_at hash s q ≡ Some (here, choice) → Fine (by_path.at_position here choice)
+    position_fine q here choice h = by_stand (stand_at hash s q) refl h
+      where
+        by_end : (st : Stand) → Fine st → as_position hash s st ≡ Some (here, choice) → Fine (by_path.at_position here choice)
+        by_end (by_path.at_position a c) f e = let z : (let p : Standing × Choice = (a, c) in p) ≡ (here, choice) = cc in subst (λ (p : Standing × Choice). Fine (by_path.at_position p.0 p.1)) z f
+        by_end (by_path.at_branch a i b) f e = continued_fine a i b (core b) (here, choice) refl f e
+
+        by_stand : (o : Option Stand) → stand_at hash s q ≡ o → option_and_then (as_position hash s) o ≡ Some (here, choice) → Fine (by_path.at_position here choice)
+        by_stand None e k = cc
+        by_stand (Some st) e k = by_end st (stand_fine q st e) k
+
+    -- no position holds more than all money
+    pub position_little : (q : List PathStep) (here : Standing) (choice : Choice) → position_at hash s q ≡ Some (here, choice) → here.output.value ≤ max_money
+    position_little q here choice h = (position_fine q here choice h).0

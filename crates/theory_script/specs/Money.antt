@@ -1,0 +1,44 @@
+-- What is claimed of the money in a contract's transactions: each pays out all that it spends but the fee, and nothing is cut off at zero.
+use Rattle.std.specs.Prelude.{◌≡◌, ℕ, ◌+◌, ◌≤◌, List, Some, slice_get, sum_by}
+use Rattle.spec_terms.specs.Term.{Branch, auth, after, put_reveal, withdraw, split, Choice, branches}
+use Rattle.spec_terms.specs.Advert.{Advert}
+use Rattle.spec_terms.specs.Core.{core}
+use Rattle.spec_terms.specs.Precondition.{volatile, value_of_puts}
+use Rattle.spec_terms.specs.Faults.{IsWellFormed, sum_of_parts}
+use Rattle.spec_terms.specs.declared.path.PathStep.{PathStep}
+use Rattle.spec_compiler.specs.declared.unsigned.Unsigned.{Unsigned}
+use Rattle.spec_compiler.specs.Setting.{Setting}
+use Rattle.spec_compiler.specs.Transactions.{Standing, initial_unsigned}
+use Rattle.spec_compiler.specs.ByPath.{position_at, unsigned_at}
+
+-- what a transaction pays out, in satoshi
+abbrev pub paid_out : Unsigned → ℕ
+paid_out d = sum_by (λ o. o.value) d.outputs
+
+-- what it spends
+abbrev pub paid_in : Unsigned → ℕ
+paid_in d = sum_by (λ x. x.value) d.spends
+
+-- what a transaction spends is what it pays out and the fee of its contract
+abbrev pub IsKept : Advert → Unsigned → Type 0
+IsKept advert d = paid_out d + advert.fee ≡ paid_in d
+
+-- a balance pays for what a core does: with the deposits that a put brings for the fee, and for a split's parts and the fee exactly
+abbrev pub Pays : Advert → ℕ → Branch → Type 0
+Pays advert balance (put_reveal puts reveals test next) = advert.fee ≤ balance + value_of_puts (volatile advert.pre) puts
+Pays advert balance (withdraw party) = advert.fee ≤ balance
+Pays advert balance (split parts) = sum_of_parts parts + advert.fee ≡ balance
+Pays advert balance (auth party body) = Unit {0}
+Pays advert balance (after height body) = Unit {0}
+
+-- every transaction of the contract keeps its money, and every position pays for each of its branches
+pub record KeepsMoney (hash : List ℕ → List ℕ) (s : Setting) : Type 0 where
+  pub initial : IsKept s.advert (initial_unsigned hash s)
+  pub paths : (path : List PathStep) (d : Unsigned) → unsigned_at hash s path ≡ Some d → IsKept s.advert d
+  pub positions : (position : List PathStep) (here : Standing) (choice : Choice) (i : ℕ) (b : Branch)
+      → position_at hash s position ≡ Some (here, choice) → slice_get (branches choice) i ≡ Some b
+      → Pays s.advert here.output.value (core b)
+
+-- of every contract that passed the check
+abbrev pub MoneyIsKept : Type 0
+MoneyIsKept = (hash : List ℕ → List ℕ) (s : Setting) → IsWellFormed s.advert → KeepsMoney hash s

@@ -2,7 +2,7 @@
 use Rattle.std.proofs.Common.{◌≡◌, ℕ, ◌+◌, ◌≤◌, ◌<◌, min, List, ◌⊎◌, inl, inr, refl, ap, arith}
 use Rattle.std.proofs.lemmas.Bool.{cases_lt}
 use Rattle.spec_terms.specs.Term.{Formula, constant, length_of, plus, minus, Test, always, both, negation, equal, less}
-use Rattle.spec_terms.specs.Cost.{push_len, place_in, formula_size, two_formulas, test_size}
+use Rattle.spec_terms.specs.Cost.{push_len, place_in, formula_size, test_size}
 
 push_len-five : (n : ℕ) → 8388608 ≤ n → push_len n ≡ 5
 push_len-five n h = grind (arith, h)

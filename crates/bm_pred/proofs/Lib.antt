@@ -1,3 +1,4 @@
 pub mod Deep
 pub mod HeldLemmas
 pub mod WithinLemmas
+pub mod Far

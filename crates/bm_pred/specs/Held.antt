@@ -1,4 +1,4 @@
--- A size as the code counts it; of this project, from no standard.
+-- A size as the code counts it.
 use Rattle.std.specs.Prelude.{◌≡◌}
 use Rattle.spec_terms.specs.Bound.{held}
 use Rattle.spec_terms.specs.declared.script_size.ScriptSize.{ScriptSize}

@@ -1,7 +1,8 @@
 //! How far from zero an expression can get.
 
-ghost use Rattle.std.specs.Prelude.{◌≡◌, ◌^◌};
+ghost use Rattle.std.specs.Prelude.{◌≡◌, ◌^◌, ◌<◌};
 ghost use Rattle.spec_terms.specs.Bound as spec;
+ghost use Rattle.bm_pred.specs.Within.{BoundsEveryValue};
 ghost use Rattle.bm_syntax.specs.View.{formula, test};
 
 use bm_syntax::{Expr, Pred};
@@ -13,14 +14,22 @@ pub const MOST: u64 = 1 << 63;
 pub const GREATEST_BOUND: u64 = 2_147_483_647;
 
 /// The most that the value of the expression can be away from 0, where no length exceeds 520; held at `MOST` where it would be greater.
+#[tactic(auto, using(crate::proofs::Far::bounds_values))]
 pub fn bound(expr: &Expr) -> u64
+    ensures exact { result ≡ spec.held (spec.bound (formula expr.now)) }
+    ensures enough { result < 2 ^ 63 → BoundsEveryValue result (formula expr.now) }
+{
+    held_bound(expr)
+}
+
+fn held_bound(expr: &Expr) -> u64
     ensures { result ≡ spec.held (spec.bound (formula expr.now)) }
 {
     match expr {
         Expr::Const(n) => u64::from(*n),
         Expr::Length(_) => 520,
-        Expr::Plus(a, b) => bound(a).saturating_add(bound(b)).min(MOST),
-        Expr::Minus(a, b) => bound(a).saturating_add(bound(b)).min(MOST),
+        Expr::Plus(a, b) => held_bound(a).saturating_add(held_bound(b)).min(MOST),
+        Expr::Minus(a, b) => held_bound(a).saturating_add(held_bound(b)).min(MOST),
     }
 }
 
@@ -40,5 +49,5 @@ pub fn is_bounded(pred: &Pred) -> bool
 fn are_bounded(a: &Expr, b: &Expr) -> bool
     ensures { result ≡ spec.are_bounded (formula a.now) (formula b.now) }
 {
-    bound(a) <= GREATEST_BOUND && bound(b) <= GREATEST_BOUND
+    held_bound(a) <= GREATEST_BOUND && held_bound(b) <= GREATEST_BOUND
 }

@@ -1,6 +1,7 @@
 //! Whether a predicate is true of given lengths.
 
 ghost use Rattle.std.specs.Prelude.{◌≡◌, ◌≤◌, pos, ◌≤ℤ◌, neg_ℤ, All, true};
+ghost use Rattle.spec_data.specs.Ranges.{most_item_bytes};
 ghost use Rattle.spec_terms.specs.Value as spec;
 ghost use Rattle.spec_terms.specs.Bound.{bound, is_bounded, greatest_bound};
 ghost use Rattle.bm_pred.specs.Within.{IsWithin};
@@ -12,7 +13,7 @@ use bm_syntax::{Expr, Name, Pred};
 /// A name without an entry has the length 0, and of two entries the first counts.
 #[tactic(auto, using(crate::proofs::WithinLemmas::is_within))]
 pub fn value(pred: &Pred, lengths: &[(Name, u32)]) -> bool
-    requires short { All (λ entry. entry.1 ≤ 520) lengths.now }
+    requires short { All (λ entry. entry.1 ≤ most_item_bytes) lengths.now }
     requires bounded { is_bounded (test pred.now) ≡ true }
     ensures { result ≡ spec.holds lengths.now (test pred.now) }
 {
@@ -20,7 +21,7 @@ pub fn value(pred: &Pred, lengths: &[(Name, u32)]) -> bool
 }
 
 fn holds(pred: &Pred, lengths: &[(Name, u32)]) -> bool
-    requires short { All (λ entry. entry.1 ≤ 520) lengths.now }
+    requires short { All (λ entry. entry.1 ≤ most_item_bytes) lengths.now }
     requires bounded { IsWithin (test pred.now) }
     ensures { result ≡ spec.holds lengths.now (test pred.now) }
 {
@@ -35,7 +36,7 @@ fn holds(pred: &Pred, lengths: &[(Name, u32)]) -> bool
 
 // The value of an expression.
 fn number(expr: &Expr, lengths: &[(Name, u32)]) -> i64
-    requires short { All (λ entry. entry.1 ≤ 520) lengths.now }
+    requires short { All (λ entry. entry.1 ≤ most_item_bytes) lengths.now }
     requires bounded { bound (formula expr.now) ≤ greatest_bound }
     ensures exact { result ≡ spec.value lengths.now (formula expr.now) }
     ensures low { neg_ℤ (pos (bound (formula expr.now))) ≤ℤ result }
@@ -51,9 +52,9 @@ fn number(expr: &Expr, lengths: &[(Name, u32)]) -> i64
 
 // The length that the list gives the name, 0 without one.
 fn length_in(lengths: &[(Name, u32)], name: &Name) -> u32
-    requires short { All (λ entry. entry.1 ≤ 520) lengths.now }
+    requires short { All (λ entry. entry.1 ≤ most_item_bytes) lengths.now }
     ensures exact { result ≡ spec.length_in lengths.now name.now }
-    ensures short { result ≤ 520 }
+    ensures short { result ≤ most_item_bytes }
 {
     for (known, length) in lengths {
         if *known == *name {

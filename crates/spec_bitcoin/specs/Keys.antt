@@ -1,4 +1,4 @@
--- Labels, keys, scripts of deposits, and signatures; of this project's profile. What an output pays to is a witness program of version 0, by BIP 141.
+-- Labels, keys, scripts of deposits, and signatures; what an output pays to is a witness program of version 0, by BIP 141.
 use Rattle.std.specs.Prelude.{ℕ, ◌<◌, ◌^◌, List, [], ◌∷◌, ◌++◌, Bool, ◌&&◌, codes}
 use Rattle.std.specs.List.{list_any, flat_map, AllByRecursion}
 use Rattle.std.specs.Fmt.{decimal}

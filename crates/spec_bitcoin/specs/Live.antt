@@ -1,4 +1,4 @@
--- The live outputs of a ledger, in order of birth; of this project, from no standard.
+-- The live outputs of a ledger, in order of birth.
 use Rattle.std.specs.Prelude.{◌≡◌, ℕ, ◌+◌, List, [], ◌∷◌, ◌++◌, length, map, Bool, ◌&&◌, ◌==◌, Option, None}
 use Rattle.std.specs.Map.{lookup, remove_entry}
 use Rattle.std.specs.Str.{bytes_eq}

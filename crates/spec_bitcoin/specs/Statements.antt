@@ -1,4 +1,4 @@
--- What is claimed of the definitions; of this project, from no standard.
+-- What is claimed of the spelling of transactions, of the bytes of scripts, and of the texts of labels.
 use Rattle.std.specs.Prelude.{◌≡◌, ℕ, List, [], ◌++◌, Ok, Err, Some, true}
 use Rattle.std.specs.List.{list_all}
 use Rattle.spec_bitcoin.specs.declared.label.Label.{Label}

@@ -1,10 +1,10 @@
--- The verdict on a transaction: the conditions of acceptance in their order, by the rules of Bitcoin for version 0 witness scripts (BIP 141, BIP 143) and for lock times as heights, narrowed to this project's profile; and the strings that are hashed to reach it.
+-- The verdict on a transaction: Bitcoin's conditions of acceptance in their order, for version 0 witness scripts (BIP 141, BIP 143) and lock times as heights; and the strings that are hashed to reach it.
 use Rattle.std.specs.Prelude.{ℕ, ◌+◌, List, [], ◌∷◌, ◌++◌, length, drop, map, sum_by, Bool, false, not, ◌&&◌, ◌||◌, ◌==◌, nat_lt, nat_le, if◌then◌else◌, Option, Some, None, is_some}
 use Rattle.std.specs.List.{list_any, position_from, flat_map}
 use Rattle.std.specs.Option.{option_and_then, option_map_or}
 use Rattle.std.specs.Str.{bytes_eq}
 use Rattle.spec_data.specs.Lists.{first_reason, or_else}
-use Rattle.spec_data.specs.Ranges.{max_money}
+use Rattle.spec_data.specs.Ranges.{max_money, last_height, most_item_bytes}
 use Rattle.spec_bitcoin.specs.declared.tx.TxIn.{TxIn}
 use Rattle.spec_bitcoin.specs.declared.tx.TxOut.{TxOut}
 use Rattle.spec_bitcoin.specs.declared.tx.Tx.{Tx}
@@ -52,7 +52,7 @@ heeds_lock inputs = list_any (λ i. not (i.sequence == 4294967295)) inputs
 
 -- the lock binds, and it isn't reached or isn't a height
 abbrev pub is_not_final : ℕ → Tx → Bool
-is_not_final tip tx = heeds_lock tx.inputs && (not (tx.lock == 0) && (nat_lt tip tx.lock || nat_le 500000000 tx.lock))
+is_not_final tip tx = heeds_lock tx.inputs && (not (tx.lock == 0) && (nat_lt tip tx.lock || nat_lt last_height tx.lock))
 
 -- the conditions on the whole transaction, in their order; one output above the most makes the sum exceed it
 abbrev pub whole_row : ℕ → List Entry → Tx → List (Bool × Refusal)
@@ -90,9 +90,9 @@ items_of [] = []
 items_of (x ∷ []) = []
 items_of (x ∷ (y ∷ rest)) = x ∷ items_of (y ∷ rest)
 
--- the item has more than 520 bytes
+-- the item has more bytes than an item may have
 abbrev pub is_long : List ℕ → Bool
-is_long item = nat_lt 520 (length item)
+is_long item = nat_lt most_item_bytes (length item)
 
 -- whether the script of an input's witness is true, where it spends this output
 abbrev pub runs_true : (List ℕ → List ℕ) → List Pair → Tx → TxIn → TxOut → Bool

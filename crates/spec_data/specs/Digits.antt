@@ -1,4 +1,4 @@
--- Numbers and bytes as words: plain decimals, and hexadecimal digits; of this project's profile.
+-- Numbers and bytes as words: plain decimals, and hexadecimal digits.
 use Rattle.std.specs.Prelude.{ℕ, ◌+◌, ◌-◌, ◌*◌, ◌/◌, ◌%◌, ◌^◌, List, [], ◌∷◌, length, flat_map, Bool, false, ◌&&◌, if◌then◌else◌, ◌==◌, nat_le, nat_lt, Option, Some, None}
 use Rattle.std.specs.List.{list_all}
 

@@ -1,4 +1,4 @@
--- Words on lists that several definitions use; of this project, from no standard.
+-- Words on lists that several definitions use: the first of several answers, membership, difference, look-ups by name.
 use Rattle.std.specs.Prelude.{◌≡◌, ℕ, ◌+◌, List, [], ◌∷◌, Bool, true, false, not, ◌&&◌, ◌||◌, if◌then◌else◌, ◌==◌, Option, Some, None}
 use Rattle.std.specs.List.{list_any}
 use Rattle.std.specs.Str.{bytes_eq}

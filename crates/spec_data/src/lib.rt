@@ -1,10 +1,12 @@
-//! The plain data that everything is made of: lists, byte strings and names, as contracts see them.
+//! The plain data that everything is made of: lists, byte strings and names, as contracts see them, and how far numbers go.
 #![tactic(auto)]
 
 pub mod byte_list;
 pub mod name;
+pub mod ranges;
 pub mod seq;
 
 pub use byte_list::{Bytes, OutOfMemory};
 pub use name::Name;
+pub use ranges::{LAST_HEIGHT, MAX_MONEY};
 pub use seq::Seq;

@@ -1,5 +1,6 @@
 -- Committing the digests of secrets, after the last of which the contract is compiled; of this project's profile of BitML.
 use Rattle.std.specs.Prelude.{ℕ, List, [], ◌∷◌, ◌++◌, map, length, Bool, not, ◌&&◌, ◌==◌, nat_le, if◌then◌else◌, Option, Some, None, is_some}
+use Rattle.spec_data.specs.Ranges.{least_secret_bytes, most_item_bytes}
 use Rattle.spec_data.specs.Lists.{is_among, first_reason}
 use Rattle.spec_terms.specs.Precondition.{names_of, secrets_of}
 use Rattle.spec_compiler.specs.Setting.{Setting}
@@ -18,7 +19,7 @@ secrets_at s contract party = secrets_of party (pre_at s contract)
 
 -- whether a byte string has the size of a secret
 abbrev pub is_secret_long : List ℕ → Bool
-is_secret_long bytes = nat_le 16 (length bytes) && nat_le (length bytes) 520
+is_secret_long bytes = nat_le least_secret_bytes (length bytes) && nat_le (length bytes) most_item_bytes
 
 -- ---- an honest party's own secrets
 

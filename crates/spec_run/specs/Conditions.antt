@@ -6,7 +6,7 @@ use Rattle.spec_data.specs.Lists.{is_among, are_different}
 use Rattle.spec_terms.specs.Faults.{IsWellFormed}
 pub use Rattle.spec_data.specs.Hashes.{HashesBytes}
 use Rattle.spec_bitcoin.specs.Spelling.{IsBytes}
-use Rattle.spec_data.specs.Ranges.{max_money}
+use Rattle.spec_data.specs.Ranges.{max_money, most_contracts, most_parties, most_header_deposits, most_header_secrets, most_piece_bytes, most_gift_outputs}
 use Rattle.spec_bitcoin.specs.Keys.{IsLabel}
 use Rattle.spec_run.specs.declared.header.Header.{Header}
 use Rattle.spec_run.specs.declared.header.HeldSecret.{HeldSecret}
@@ -39,17 +39,17 @@ pub record IsHeader (header : Header) : Type 0 where
   pub depositors : list_all (λ d. is_among (d.0) header.parties) header.deposits ≡ true
   pub money : sum_by (λ d. d.1) header.deposits ≤ max_money
   -- there are no more lines of a kind than a run file may have
-  pub few_parties : length header.parties ≤ 64
-  pub few_secrets : length header.secrets ≤ 1000
-  pub few_deposits : length header.deposits ≤ 1000
+  pub few_parties : length header.parties ≤ most_parties
+  pub few_secrets : length header.secrets ≤ most_header_secrets
+  pub few_deposits : length header.deposits ≤ most_header_deposits
 
 -- ---- what never changes
 
 pub record IsSetup (s : Setup) : Type 0 where
   pub hash : HashesBytes s.hash
   pub header : IsHeader s.header
-  -- at most 16 contracts, each without a fault and within the limits
-  pub few_contracts : length s.contracts ≤ 16
+  -- so many contracts at most, each without a fault and within the limits
+  pub few_contracts : length s.contracts ≤ most_contracts
   pub contracts : AllByRecursion IsWellFormed s.contracts
 
 -- ---- events
@@ -57,7 +57,7 @@ pub record IsSetup (s : Setup) : Type 0 where
 -- a string that an event may post or append
 pub record IsPiece (piece : List ℕ) : Type 0 where
   pub bytes : IsBytes piece
-  pub size : length piece ≤ 524288
+  pub size : length piece ≤ most_piece_bytes
 
 -- a digest as it is written on a line
 pub record IsDigest (digest : List ℕ) : Type 0 where
@@ -70,7 +70,7 @@ pub record IsGift (s : Setup) (party : List ℕ) (inputs : List ℕ) (outputs : 
   pub takers : list_all (λ o. is_declared s (o.0)) outputs ≡ true
   pub some_input : 1 ≤ length inputs
   pub some_output : 1 ≤ length outputs
-  pub few_outputs : length outputs ≤ 262144
+  pub few_outputs : length outputs ≤ most_gift_outputs
 
 -- an event as a run file can have it
 abbrev pub IsEvent : Setup → Event → Type 0

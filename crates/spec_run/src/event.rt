@@ -166,3 +166,26 @@ impl Event {
         })
     }
 }
+
+impl Run {
+    /// An equal run.
+    pub fn copy(&self, alloc: Global) -> Result<Run, OutOfMemory>
+        ensures { IfOk result (λ run. run ≡ self.now) }
+    {
+        Ok(Run {
+            header: self.header.copy(alloc)?,
+            events: copy_events(alloc, self.events.as_slice())?,
+        })
+    }
+}
+
+/// Equal events, in the same order.
+pub fn copy_events(alloc: Global, events: &[Event]) -> Result<Seq<Event>, OutOfMemory>
+    ensures { IfOk result (λ list. list ≡ events.now) }
+{
+    let mut list = Seq::new(alloc);
+    for event in events {
+        list.push(event.copy(alloc)?)?;
+    }
+    Ok(list)
+}

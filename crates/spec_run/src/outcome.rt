@@ -76,3 +76,95 @@ pub struct Record {
     pub outcome: Outcome,
     pub tx: Option<Tx>,
 }
+
+impl Reason {
+    /// An equal reason.
+    pub fn copy(&self, alloc: Global) -> Result<Reason, OutOfMemory>
+        ensures { IfOk result (λ reason. reason ≡ self.now) }
+    {
+        Ok(match self {
+            Reason::NoContract => Reason::NoContract,
+            Reason::AdvertFull => Reason::AdvertFull,
+            Reason::WrongNames => Reason::WrongNames,
+            Reason::DepositRepeated(name) => Reason::DepositRepeated(*name),
+            Reason::NotLive(name) => Reason::NotLive(*name),
+            Reason::WrongDeposit(name) => Reason::WrongDeposit(*name),
+            Reason::NoHonest => Reason::NoHonest,
+            Reason::NotAdvertised => Reason::NotAdvertised,
+            Reason::NotParticipant => Reason::NotParticipant,
+            Reason::AlreadyCommitted => Reason::AlreadyCommitted,
+            Reason::NoSecret(name) => Reason::NoSecret(*name),
+            Reason::BadSecretLength(name) => Reason::BadSecretLength(*name),
+            Reason::HashRepeated(name) => Reason::HashRepeated(*name),
+            Reason::NotAllCommitted => Reason::NotAllCommitted,
+            Reason::NotEndorsed(path, party) => Reason::NotEndorsed(path.copy(alloc)?, *party),
+            Reason::NotActive => Reason::NotActive,
+            Reason::NoBranch => Reason::NoBranch,
+            Reason::NotAsked => Reason::NotAsked,
+            Reason::NotHonest => Reason::NotHonest,
+            Reason::NotCommitted => Reason::NotCommitted,
+            Reason::NotBegun => Reason::NotBegun,
+            Reason::AlreadyRevealed => Reason::AlreadyRevealed,
+            Reason::Honest => Reason::Honest,
+            Reason::NotOwner => Reason::NotOwner,
+            Reason::NotLiveOutput(number) => Reason::NotLiveOutput(*number),
+            Reason::NotOwnerOutput(number) => Reason::NotOwnerOutput(*number),
+            Reason::BadTx(place) => Reason::BadTx(*place),
+            Reason::NotCompiled => Reason::NotCompiled,
+            Reason::SecretUnknown(name) => Reason::SecretUnknown(*name),
+            Reason::TimeLimit => Reason::TimeLimit,
+            Reason::NoInput => Reason::NoInput,
+            Reason::NoOutput => Reason::NoOutput,
+            Reason::InputRepeated => Reason::InputRepeated,
+            Reason::MissingInput(number) => Reason::MissingInput(*number),
+            Reason::ValueLimit => Reason::ValueLimit,
+            Reason::InsufficientIn => Reason::InsufficientIn,
+            Reason::NotFinal => Reason::NotFinal,
+            Reason::ScriptSigNotEmpty(number) => Reason::ScriptSigNotEmpty(*number),
+            Reason::NotWitnessScript(number) => Reason::NotWitnessScript(*number),
+            Reason::ScriptMismatch(number) => Reason::ScriptMismatch(*number),
+            Reason::ItemTooLong(number) => Reason::ItemTooLong(*number),
+            Reason::ScriptFalse(number) => Reason::ScriptFalse(*number),
+        })
+    }
+}
+
+impl Outcome {
+    /// An equal outcome.
+    pub fn copy(&self, alloc: Global) -> Result<Outcome, OutOfMemory>
+        ensures { IfOk result (λ outcome. outcome ≡ self.now) }
+    {
+        Ok(match self {
+            Outcome::Done => Outcome::Done,
+            Outcome::Accepted { spent, made, lock } => Outcome::Accepted {
+                spent: spent.copy(alloc)?,
+                made: made.copy(alloc)?,
+                lock: *lock,
+            },
+            Outcome::Refused(reason) => Outcome::Refused(reason.copy(alloc)?),
+        })
+    }
+}
+
+impl Record {
+    /// An equal record.
+    pub fn copy(&self, alloc: Global) -> Result<Record, OutOfMemory>
+        ensures { IfOk result (λ new. new ≡ self.now) }
+    {
+        Ok(Record {
+            event: self.event.copy(alloc)?,
+            outcome: self.outcome.copy(alloc)?,
+            tx: copy_tx(alloc, &self.tx)?,
+        })
+    }
+}
+
+/// An equal transaction, if there is one.
+fn copy_tx(alloc: Global, tx: &Option<Tx>) -> Result<Option<Tx>, OutOfMemory>
+    ensures { IfOk result (λ new. new ≡ tx.now) }
+{
+    match tx {
+        None => Ok(None),
+        Some(tx) => Ok(Some(tx.copy(alloc)?)),
+    }
+}

@@ -1,5 +1,5 @@
 -- Worked values of the definitions, each by computation alone.
-use Rattle.std.proofs.Common.{◌≡◌, ℕ, List, [], ◌∷◌, refl, true}
+use Rattle.std.proofs.Common.{◌≡◌, ℕ, zero, suc, ◌+◌, List, [], ◌∷◌, refl, true, false}
 use Rattle.std.specs.Prelude.{codes, negsuc, Some, None}
 use Rattle.spec_terms.specs.Term.{constant, length_of, plus, minus, Test, always, negation, equal, less, Branch, auth, after, put_reveal, withdraw, split, Choice, no_branch, branch, no_part, part}
 use Rattle.spec_terms.specs.Advert.{Advert}
@@ -9,7 +9,7 @@ use Rattle.spec_terms.specs.Order.{branch_paths, position_paths}
 use Rattle.spec_terms.specs.Parties.{participants}
 use Rattle.spec_terms.specs.Value.{value, holds}
 use Rattle.spec_terms.specs.Cost.{size, cost}
-use Rattle.spec_terms.specs.Readable.{is_readable}
+use Rattle.spec_terms.specs.Readable.{is_name, is_readable}
 use Rattle.spec_terms.specs.Faults.{first_fault, first_limit}
 use Rattle.spec_terms.specs.declared.path.PathStep.TheVariants.{Branch as To, Part as Into}
 use Rattle.spec_terms.specs.declared.pre.Pre.{Pre}
@@ -93,6 +93,12 @@ shifted n =
     advert (Persistent A 1 x ∷ Secret A a ∷ []) 0
     (one (reveal_if (a ∷ []) (equal (plus (constant n) (length_of a)) (constant 0)) (one (withdraw A))))
 
+-- eight more branches in front, each `withdraw A`
+abbrev eight : Choice → Choice
+eight c =
+    branch (withdraw A) (branch (withdraw A) (branch (withdraw A) (branch (withdraw A)
+    (branch (withdraw A) (branch (withdraw A) (branch (withdraw A) (branch (withdraw A) c)))))))
+
 -- ---- core, asks and lock
 
 abbrev wrapped : Branch
@@ -158,6 +164,7 @@ holds_of_lengths = refl
 -- ---- the check
 
 timed_readable : is_readable timed_commitment ≡ true
+unfolding is_name
 timed_readable = refl
 
 timed_faultless : first_fault timed_commitment ≡ None
@@ -167,6 +174,7 @@ timed_limited : first_limit timed_commitment ≡ None
 timed_limited = refl
 
 lottery_readable : is_readable lottery ≡ true
+unfolding is_name
 lottery_readable = refl
 
 lottery_faultless : first_fault lottery ≡ None
@@ -174,6 +182,45 @@ lottery_faultless = refl
 
 lottery_limited : first_limit lottery ≡ None
 lottery_limited = refl
+
+-- ---- what no text spells
+
+-- a keyword is no name
+keyword_unreadable : is_readable (advert (Persistent (codes "put") 1 x ∷ []) 0 (one (withdraw A))) ≡ false
+unfolding is_name
+keyword_unreadable = refl
+
+-- a reveal of nothing has no test
+bare_test_unreadable : is_readable (advert (Persistent A 1 x ∷ []) 0 (one (reveal_if [] (less (constant 1) (constant 2)) (one (withdraw A))))) ≡ false
+unfolding is_name
+bare_test_unreadable = refl
+
+-- a choice has a branch
+empty_choice_unreadable : is_readable (advert (Persistent A 1 x ∷ []) 0 no_branch) ≡ false
+unfolding is_name
+empty_choice_unreadable = refl
+
+-- a precondition has an entry
+empty_precondition_unreadable : is_readable (advert [] 0 (one (withdraw A))) ≡ false
+unfolding is_name
+empty_precondition_unreadable = refl
+
+-- an amount is at most all money
+amount_unreadable : is_readable (advert (Persistent A 2100000000000001 x ∷ []) 0 (one (withdraw A))) ≡ false
+unfolding is_name
+amount_unreadable = refl
+
+-- a lock is a height
+lock_unreadable : is_readable (advert (Persistent A 1 x ∷ []) 0 (one (after 500000000 (withdraw A)))) ≡ false
+unfolding is_name
+lock_unreadable = refl
+
+-- a choice has at most 32 branches
+wide_choice_unreadable : is_readable (advert (Persistent A 1 x ∷ []) 0 (eight (eight (eight (eight (one (withdraw A))))))) ≡ false
+unfolding is_name
+wide_choice_unreadable = refl
+
+-- ---- faults and limits
 
 name_repeated_at : first_fault (advert (Persistent A 1 x ∷ Secret A x ∷ []) 0 (one (withdraw A))) ≡ Some (1, places.Pre 1)
 name_repeated_at = refl
@@ -227,13 +274,43 @@ expression_within = refl
 expression_beyond : first_limit (shifted 2147483128) ≡ Some (limits.Expression, places.Branch (To 0 ∷ []))
 expression_beyond = refl
 
--- ---- cost
+-- so many parties of one deposit each, with names of one byte from this one on
+abbrev parties_from : ℕ → ℕ → List Pre
+parties_from byte zero = []
+parties_from byte (suc n) = Persistent (byte ∷ []) 1 (97 ∷ byte ∷ []) ∷ parties_from (byte + 1) n
 
--- so many branches, each `withdraw A`
-abbrev eight : Choice → Choice
-eight c =
-    branch (withdraw A) (branch (withdraw A) (branch (withdraw A) (branch (withdraw A)
-    (branch (withdraw A) (branch (withdraw A) (branch (withdraw A) (branch (withdraw A) c)))))))
+participants_within : first_limit (advert (parties_from 65 16) 0 (one (withdraw A))) ≡ None
+participants_within = refl
+
+participants_beyond : first_limit (advert (parties_from 65 17) 0 (one (withdraw A))) ≡ Some (limits.Participants, places.Count 17)
+participants_beyond = refl
+
+-- {A:! 2100000000000000 @ x | A:! N @ y} fee F withdraw A
+abbrev all_money_and : ℕ → ℕ → Advert
+all_money_and more fee = advert (Persistent A 2100000000000000 x ∷ Persistent A more y ∷ []) fee (one (withdraw A))
+
+balance_within : first_limit (all_money_and 1 1) ≡ None
+balance_within = refl
+
+balance_beyond : first_limit (all_money_and 1 0) ≡ Some (limits.Balance, places.Position [])
+balance_beyond = refl
+
+-- {A:! 1 @ x | A:? 2100000000000000 @ z} put z . withdraw A
+put_beyond :
+    first_limit (advert (Persistent A 1 x ∷ Volatile A 2100000000000000 z ∷ []) 0 (one (put (z ∷ []) (one (withdraw A)))))
+    ≡ Some (limits.Balance, places.Position (To 0 ∷ []))
+put_beyond = refl
+
+-- 32 branches `withdraw A`: 189 operations among three participants, and 221 among four
+script_within :
+    first_limit (advert (parties_from 65 3) 0 (eight (eight (eight (eight no_branch))))) ≡ None
+script_within = refl
+
+script_beyond :
+    first_limit (advert (parties_from 65 4) 0 (eight (eight (eight (eight no_branch))))) ≡ Some (limits.Script, places.Position [])
+script_beyond = refl
+
+-- ---- cost
 
 cost_of_32_withdraws : cost 3 (eight (eight (eight (eight no_branch)))) ≡ size 3453 189
 cost_of_32_withdraws = refl

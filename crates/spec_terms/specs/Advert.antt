@@ -1,4 +1,4 @@
--- An advert: what a contract needs beforehand, its fee, and the contract; of this project's profile of BitML.
+-- An advert: what a contract needs beforehand, its fee, and the contract.
 use Rattle.std.specs.Prelude.{ℕ, List}
 use Rattle.spec_terms.specs.Term.{Choice}
 use Rattle.spec_terms.specs.declared.pre.Pre.{Pre}

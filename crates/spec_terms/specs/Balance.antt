@@ -1,4 +1,4 @@
--- The static balance of each position: what the compiled contract holds there, in satoshi, as a whole number that may be negative; of this project's profile.
+-- The static balance of each position: what the compiled contract holds there, in satoshi, as a whole number that may be negative.
 use Rattle.std.specs.Prelude.{ℕ, ℤ, pos, ◌+ℤ◌, ◌-ℤ◌, ◌+◌, List, [], ◌∷◌, ◌++◌}
 use Rattle.spec_terms.specs.Term.{Branch, auth, after, put_reveal, withdraw, split, Choice, no_branch, branch, Parts, no_part, part}
 use Rattle.spec_terms.specs.Advert.{Advert}

@@ -1,15 +1,16 @@
--- How far from zero an expression can get, where no length exceeds 520; of this project's profile.
+-- How far from zero an expression can get, where no secret is longer than an item of Bitcoin script may be.
 use Rattle.std.specs.Prelude.{ℕ, ◌+◌, ◌^◌, min, nat_le, Bool, true, ◌&&◌, List, [], ◌∷◌, ◌++◌}
+use Rattle.spec_data.specs.Ranges.{most_item_bytes}
 use Rattle.spec_terms.specs.Term.{Formula, constant, length_of, plus, minus, Test, always, both, negation, equal, less}
 
 -- a number as the code counts it: held at 2 ^ 63
 abbrev pub held : ℕ → ℕ
 held n = min n (2 ^ 63)
 
--- a constant's own value, 520 for a length, and the sum of both for plus and minus
+-- a constant's own value, that of the longest item for a length, and the sum of both for plus and minus
 abbrev pub bound : Formula → ℕ
 bound (constant n) = n
-bound (length_of name) = 520
+bound (length_of name) = most_item_bytes
 bound (plus e f) = bound e + bound f
 bound (minus e f) = bound e + bound f
 

@@ -1,4 +1,4 @@
--- What a branch asks for before it goes, and what it then does; of this project's profile of BitML.
+-- What a branch asks for before it goes, and what it then does.
 use Rattle.std.specs.Prelude.{ℕ, max, List, [], ◌∷◌, Bool, Option, Some, None}
 use Rattle.spec_data.specs.Lists.{is_among}
 use Rattle.spec_terms.specs.Term.{Test, always, Branch, auth, after, put_reveal, withdraw, split, Choice}

@@ -1,4 +1,4 @@
--- The bytes and the counted operations of the script of a position; the pushes are the shortest of Bitcoin script, the rest is of this project's profile.
+-- The bytes and the counted operations of the script of a position, by the shortest pushes of Bitcoin script.
 use Rattle.std.specs.Prelude.{ℕ, ◌+◌, ◌*◌, nat_le, List, [], ◌∷◌, length, if◌then◌else◌}
 use Rattle.std.specs.Str.{bytes_eq}
 use Rattle.spec_terms.specs.Term.{Formula, constant, length_of, plus, minus, Test, always, both, negation, equal, less, Branch, Choice, no_branch, branch}

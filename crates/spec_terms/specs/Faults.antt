@@ -1,4 +1,4 @@
--- The faults of an advert and the limits that it exceeds, each with its place; of this project's profile.
+-- The faults of an advert and the limits that it exceeds, each with its place.
 use Rattle.std.specs.Prelude.{ℕ, ℤ, pos, ◌+◌, ◌≡◌, int_lt, nat_le, Bool, true, false, ◌&&◌, not, if◌then◌else◌, List, [], ◌∷◌, ◌++◌, length, map, Option, Some, None, option_map}
 use Rattle.std.specs.Ordering.{int_eq}
 use Rattle.std.specs.List.{list_all}
@@ -12,7 +12,7 @@ use Rattle.spec_terms.specs.Parties.{participants}
 use Rattle.spec_terms.specs.Bound.{is_bounded, lengths_of_test}
 use Rattle.spec_terms.specs.Cost.{cost}
 use Rattle.spec_terms.specs.Balance.{Stand, stands}
-use Rattle.spec_data.specs.Ranges.{max_money}
+use Rattle.spec_data.specs.Ranges.{max_money, most_script_bytes, most_operations}
 use Rattle.spec_terms.specs.Readable.{is_readable}
 use Rattle.spec_terms.specs.declared.limit.Limit.{Limit}
 use Rattle.spec_terms.specs.declared.limit.Limit.TheVariants as limits
@@ -165,7 +165,7 @@ expression_exceeded a = first_place (λ s. at_core is_unbounded s.spot) (stands 
 
 -- the bytes and operations that Bitcoin's consensus allows a script
 abbrev pub fits_a_script : ScriptSize → Bool
-fits_a_script x = nat_le x.bytes 10000 && nat_le x.operations 201
+fits_a_script x = nat_le x.bytes most_script_bytes && nat_le x.operations most_operations
 
 -- whether the script of the position, among so many participants, is too large
 abbrev pub is_too_large : ℕ → Choice → Bool

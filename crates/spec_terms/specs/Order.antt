@@ -1,4 +1,4 @@
--- The order of the text: a contract's position, then each branch in order with all that stands under it; of this project's profile of BitML.
+-- The order of the text: a contract's position, then each branch in order with all that stands under it.
 use Rattle.std.specs.Prelude.{ℕ, ◌+◌, List, [], ◌∷◌, ◌++◌}
 use Rattle.spec_terms.specs.Term.{Branch, auth, after, put_reveal, withdraw, split, Choice, no_branch, branch, Parts, no_part, part}
 use Rattle.spec_terms.specs.Paths.{Spot, position, at_branch}

@@ -1,4 +1,4 @@
--- Who takes part in a contract; of this project's profile of BitML.
+-- Who takes part in a contract.
 use Rattle.std.specs.Prelude.{ℕ, List, [], ◌∷◌, ◌++◌, map, fold, if◌then◌else◌}
 use Rattle.spec_data.specs.Lists.{is_among}
 use Rattle.spec_terms.specs.Term.{Branch, auth, after, put_reveal, withdraw, split, Choice, no_branch, branch, Parts, no_part, part}

@@ -1,4 +1,4 @@
--- That the tests for same steps and same paths decide equality; of this project, from no standard.
+-- That the tests for same steps and same paths decide equality.
 use Rattle.std.specs.Prelude.{◌≡◌, List, refl}
 use Rattle.std.specs.Bool.{Decides}
 use Rattle.std.proofs.Common.{ap}

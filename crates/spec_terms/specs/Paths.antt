@@ -1,4 +1,4 @@
--- The branch and the choice that a path leads to; of this project's profile of BitML.
+-- The branch and the choice that a path leads to.
 use Rattle.std.specs.Prelude.{◌==◌, Bool, false, List, [], ◌∷◌, Option, Some, None, option_map, option_and_then, slice_get}
 use Rattle.std.specs.Cmp.Lexicographic.{pointwise}
 use Rattle.spec_terms.specs.Term.{Branch, auth, after, put_reveal, withdraw, split, Choice, branches, parts_list}

@@ -1,4 +1,4 @@
--- The deposits and secrets that a contract needs beforehand; of this project's profile of BitML.
+-- The deposits and secrets that a contract needs beforehand.
 use Rattle.std.specs.Prelude.{ℕ, ◌+◌, List, [], ◌∷◌, Option, Some, None, if◌then◌else◌}
 use Rattle.std.specs.Str.{bytes_eq}
 use Rattle.spec_data.specs.Lists.{look_up}

@@ -1,8 +1,8 @@
--- The adverts that a text can spell: well-formed names, nothing empty, each quantity within the reader's limit; of this project's profile.
+-- The adverts that a text of a contract can spell: well-formed names, nothing empty, each quantity within the reader's limit.
 use Rattle.std.specs.Prelude.{ℕ, ◌+◌, max, nat_le, Bool, true, false, ◌&&◌, ◌||◌, not, List, [], ◌∷◌, length, codes}
 use Rattle.std.specs.List.{list_all}
 use Rattle.spec_data.specs.Lists.{is_among}
-use Rattle.spec_data.specs.Ranges.{max_money, last_height}
+use Rattle.spec_data.specs.Ranges.{max_money, last_height, most_name_bytes}
 use Rattle.spec_terms.specs.Term.{Formula, constant, length_of, plus, minus, Test, always, both, negation, equal, less, Branch, auth, after, put_reveal, withdraw, split, Choice, no_branch, branch, branches, Parts, no_part, part, parts_list}
 use Rattle.spec_terms.specs.Advert.{Advert}
 use Rattle.spec_terms.specs.Precondition.{deposits, secrets}
@@ -33,9 +33,9 @@ abbrev pub is_word : List ℕ → Bool
 is_word [] = false
 is_word (byte ∷ rest) = is_letter byte && list_all is_name_byte rest
 
--- whether contract text may have the name
-abbrev pub is_name : List ℕ → Bool
-is_name name = is_word name && (nat_le (length name) 32 && not (is_among name keywords))
+-- whether contract text may have the name; it unfolds where asked, and tactics leave it alone, so that a test with it stays whole
+unfoldable pub is_name : List ℕ → Bool
+is_name name = is_word name && (nat_le (length name) most_name_bytes && not (is_among name keywords))
 
 -- ---- the limits of the reader
 

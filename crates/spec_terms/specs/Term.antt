@@ -1,4 +1,4 @@
--- The terms of contracts as finite trees; of this project's profile of BitML.
+-- The terms of contracts of BitML as finite trees: expressions, predicates, branches, choices and parts.
 use Rattle.std.specs.Prelude.{ℕ, List, [], ◌∷◌}
 
 -- an expression of the lengths of secrets

@@ -1,4 +1,4 @@
--- Codes of the terms, by which a struct of code may have a term as its value; of this project, from no standard.
+-- Codes of the terms, by which a struct of code may have a term as its value.
 use Rattle.std.specs.Prelude.{◌≡◌, ℕ, List, refl}
 use Rattle.std.specs.Coded.{Coded, coded_ℕ, coded_list}
 use Rattle.std.proofs.Common.{ap}

@@ -1,4 +1,4 @@
--- The value of an expression over whole numbers, and whether a predicate is true; of this project's profile of BitML.
+-- The value of an expression over whole numbers, and whether a predicate is true.
 use Rattle.std.specs.Prelude.{ℕ, ℤ, pos, ◌+ℤ◌, ◌-ℤ◌, int_lt, Bool, true, ◌&&◌, not, List, Option, Some, None}
 use Rattle.std.specs.Ordering.{int_eq}
 use Rattle.spec_data.specs.Lists.{look_up}

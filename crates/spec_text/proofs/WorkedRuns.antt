@@ -12,6 +12,7 @@ use Rattle.spec_text.specs.EventLines.{event_of}
 use Rattle.spec_text.specs.RunFile.{read_run}
 use Rattle.spec_text.specs.RunText.{event_text, run_text}
 use Rattle.spec_text.specs.declared.run_fault.RunFault.TheVariants as faults
+use Rattle.spec_terms.specs.Readable.{is_name}
 
 -- ---- lines and words
 
@@ -29,9 +30,11 @@ pub no_path : path (codes "r.007") ≡ None
 no_path = refl
 
 pub a_label : label (codes "B:0:r.0:B") ≡ Some (Branch 0 (To 0 ∷ []) (codes "B"))
+unfolding is_name
 a_label = refl
 
 pub keyword_in_a_label : label (codes "D:put") ≡ None
+unfolding is_name
 keyword_in_a_label = refl
 
 -- ---- events
@@ -46,6 +49,7 @@ pub give_of_no_party : event_of parties (words_of (codes "give C #0 -> C 1")) �
 give_of_no_party = refl
 
 pub an_advertisement : event_of parties (words_of (codes "advertise 0 x=#0 y=#1")) ≡ Some (events.Advertise 0 ((codes "x", 0) ∷ (codes "y", 1) ∷ []))
+unfolding is_name
 an_advertisement = refl
 
 pub mine_nothing : event_of parties (words_of (codes "mine 0")) ≡ None
@@ -67,12 +71,15 @@ line text more = text ++ 10 ∷ more
 
 -- a run without the line that ends the header: the line after the last is bad
 pub run_without_rule : read_run (line (codes "party A") (line (codes "honest A") (line (codes "deposit A 5") []))) ≡ Err (faults.BadLine 4)
+unfolding is_name
 run_without_rule = refl
 
 pub undeclared_party : read_run (line (codes "party A") (line (codes "--") (line (codes "mine 1") (codes "give C #0 -> C 1")))) ≡ Err (faults.BadLine 4)
+unfolding is_name
 undeclared_party = refl
 
 pub deposits_above_all_money : read_run (line (codes "party A") (line (codes "") (codes "deposit A 2100000000000001"))) ≡ Err (faults.BadLine 3)
+unfolding is_name
 deposits_above_all_money = refl
 
 -- what a run file spells, written again
@@ -83,5 +90,5 @@ abbrev pub small_run : List ℕ
 small_run = line (codes "party A") (line (codes "honest A") (line (codes "secret A a 0aff") (line (codes "deposit A 5") (line (codes "--") (line (codes "post 0aff") (line (codes "mine 3") []))))))
 
 pub run_is_written_as_it_was : again small_run ≡ small_run
-unfolding digits
+unfolding digits is_name
 run_is_written_as_it_was = refl

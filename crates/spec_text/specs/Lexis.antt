@@ -2,7 +2,7 @@
 use Rattle.std.specs.Prelude.{ℕ, zero, suc, ◌+◌, ◌^◌, List, [], ◌∷◌, length, take_while, codes, Bool, false, ◌&&◌, ◌||◌, if◌then◌else◌, ◌==◌, nat_le, nat_lt, Option, Some, None, Result, Ok, Err}
 use Rattle.std.specs.Str.{bytes_eq}
 use Rattle.spec_terms.specs.Readable.{is_letter, is_name_byte}
-use Rattle.spec_text.specs.Limits.{most_name_bytes}
+use Rattle.spec_data.specs.Ranges.{most_name_bytes}
 use Rattle.spec_data.specs.Digits.{is_digit, decimal_value}
 use Rattle.spec_text.specs.declared.token.Token.{Token}
 use Rattle.spec_text.specs.declared.token.Kind.{Kind}

@@ -3,7 +3,7 @@ use Rattle.std.specs.Prelude.{ℕ, ◌+◌, List, [], ◌∷◌, ◌++◌, lengt
 use Rattle.std.specs.Str.{bytes_eq}
 use Rattle.std.specs.List.{list_any, sum_by}
 use Rattle.spec_data.specs.Lists.{is_among}
-use Rattle.spec_data.specs.Ranges.{max_money}
+use Rattle.spec_data.specs.Ranges.{max_money, most_parties, most_header_deposits, most_header_secrets}
 use Rattle.spec_terms.specs.Readable.{is_name}
 use Rattle.spec_run.specs.declared.event.Event.{Event}
 use Rattle.spec_run.specs.declared.event.Run.{Run}
@@ -17,7 +17,7 @@ use Rattle.spec_data.specs.Digits.{read_hex}
 use Rattle.spec_text.specs.Lines.{lines_of, words_of}
 use Rattle.spec_text.specs.Words.{amount}
 use Rattle.spec_text.specs.EventLines.{event_of}
-use Rattle.spec_text.specs.Limits.{most_line_bytes, most_events, most_parties, most_header_deposits, most_header_secrets}
+use Rattle.spec_text.specs.Limits.{most_line_bytes, most_events}
 
 -- what a line says
 pub data Line (A : Type 0) : Type 0 where

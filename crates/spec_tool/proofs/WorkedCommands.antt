@@ -11,6 +11,7 @@ use Rattle.spec_text.specs.ReadTest.{constant_at, length_at, formula_at, compari
 use Rattle.spec_text.specs.Reading.{names_from}
 use Rattle.spec_text.specs.Played.{play_text}
 use Rattle.spec_tool.specs.Commands.{command_of, make, prints, check_answer, play_answer}
+use Rattle.spec_terms.specs.Readable.{is_name}
 
 -- a line feed
 abbrev pub line : List ℕ → List ℕ → List ℕ
@@ -63,7 +64,7 @@ abbrev pub same : List ℕ → List ℕ
 same message = message
 
 pub run_without_events : play_answer same (line (codes "party A") (line (codes "honest A") (line (codes "deposit A 100") (codes "--")))) [] ≡ prints 0 (line (codes "start #0 A 100") (line (codes "end") (line (codes "tip 0") (line (codes "live #0 100") (line (codes "time 0") (line (codes "deposit #0 A 100") []))))))
-unfolding play_text digits label_text stripped compact
+unfolding play_text digits label_text stripped compact is_name
 run_without_events = refl
 
 -- the sum of the bytes, and zeros
@@ -71,7 +72,7 @@ abbrev pub sum_hash : List ℕ → List ℕ
 sum_hash message = sum message % 256 ∷ replicate 31 0
 
 pub labels_that_collide : play_answer sum_hash (line (codes "party AB") (line (codes "party BA") (codes "--"))) [] ≡ prints 8 (line (codes "collided 443a4142 443a4241") [])
-unfolding play_text digits label_text stripped compact
+unfolding play_text digits label_text stripped compact is_name
 labels_that_collide = refl
 
 pub contract_refused_behind_the_run : play_answer same (codes "--") (codes "{" ∷ []) ≡ prints 1 (line (codes "contract 0 refused syntax 1") [])

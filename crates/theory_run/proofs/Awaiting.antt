@@ -14,6 +14,7 @@ use Rattle.spec_terms.specs.declared.path.PathStep.{PathStep}
 use Rattle.spec_terms.specs.declared.path.PathStep.TheVariants.{Part as Into}
 use Rattle.spec_bitcoin.specs.declared.tx.TxIn.{TxIn}
 use Rattle.spec_bitcoin.specs.declared.tx.Tx.{Tx}
+use Rattle.spec_data.specs.Ranges.{last_height}
 use Rattle.spec_bitcoin.specs.Verdict.{heeds_lock, is_not_final}
 use Rattle.spec_calculus.specs.declared.parts.Deposit.{Deposit}
 use Rattle.spec_calculus.specs.declared.parts.ActiveContract.{ActiveContract}
@@ -115,14 +116,14 @@ legal_awaited c n i active b people ea eb = legal_asks c n i active b ea eb (fil
 
 -- ---- the lock
 
-lock_over : (tip l : ℕ) → (not (l == 0) && (nat_lt tip l || nat_le 500000000 l)) ≡ false → nat_le l tip ≡ true
+lock_over : (tip l : ℕ) → (not (l == 0) && (nat_lt tip l || nat_lt last_height l)) ≡ false → nat_le l tip ≡ true
 lock_over tip l h = grind (arith, nat_tests)
 
 -- where a sequence lets the lock bind, the lock is over
 pub lock_reached : (tip : ℕ) (tx : Tx) (i : TxIn) (is : List TxIn) → is_not_final tip tx ≡ false → tx.inputs ≡ i ∷ is → i.sequence ≡ 0xfffffffe → nat_le tx.lock tip ≡ true
 lock_reached tip tx i is final e q =
     let binds : heeds_lock tx.inputs ≡ true = ap heeds_lock e ∙ or_left _ _ (ap (λ n. not (n == 4294967295)) q) in
-    lock_over tip tx.lock (ap (λ b. b && (not (tx.lock == 0) && (nat_lt tip tx.lock || nat_le 500000000 tx.lock))) (sym binds) ∙ final)
+    lock_over tip tx.lock (ap (λ b. b && (not (tx.lock == 0) && (nat_lt tip tx.lock || nat_lt last_height tx.lock))) (sym binds) ∙ final)
 
 -- ---- what lies at a number
 

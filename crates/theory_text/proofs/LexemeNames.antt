@@ -49,6 +49,7 @@ not_keyword : (bytes : List ℕ) → word_in keywords bytes ≡ None → is_amon
 not_keyword bytes h = not_in keywords bytes h
 
 fitting : (bytes : List ℕ) → is_word bytes ≡ true → is_among bytes words ≡ false → (t : Bool) → fits_name bytes ≡ t → HasName (name_or_long bytes t)
+unfolding is_name
 fitting bytes word other true h = and_is _ _ word (and_is _ _ (and_right _ _ h) (not_no _ other))
 fitting bytes word other false h = tt
 

@@ -81,12 +81,14 @@ word_bytes (b ∷ rest) h =
     record { is = record { some = omega arith; lacks = all_lack is_space is_name_byte name_byte_space (b ∷ rest) all }; ends = all_lack ends_line is_name_byte name_byte_ends (b ∷ rest) all }
 
 pub name_line : (x : List ℕ) → is_name x ≡ true → LineWord x
+unfolding is_name
 name_line x h = word_bytes x (and_left _ _ h)
 
 name_short_at : (n : ℕ) → nat_le n 32 ≡ true → n ≤ 32
 name_short_at n h = grind (arith, nat_tests)
 
 pub name_short : (x : List ℕ) → is_name x ≡ true → length x ≤ 32
+unfolding is_name
 name_short x h = name_short_at (length x) (and_left _ _ (and_right (is_word x) _ h))
 
 pub decimal_line : (n : ℕ) → n < 2 ^ 64 → LineWord (decimal n)

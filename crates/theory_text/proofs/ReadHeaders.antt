@@ -7,13 +7,13 @@ use Rattle.std.specs.Str.{bytes_eq}
 use Rattle.std.proofs.lemmas.List.{append-nil}
 use Rattle.spec_bitcoin.specs.Spelling.{IsBytes}
 use Rattle.spec_data.specs.Lists.{is_among}
-use Rattle.spec_data.specs.Ranges.{max_money}
+use Rattle.spec_data.specs.Ranges.{max_money, most_parties, most_header_deposits, most_header_secrets}
 use Rattle.spec_data.specs.Digits.{hex_text, read_hex}
 use Rattle.spec_terms.specs.Readable.{is_name}
 use Rattle.spec_run.specs.declared.header.Header.{Header}
 use Rattle.spec_run.specs.declared.header.HeldSecret.{HeldSecret}
 use Rattle.spec_text.specs.declared.run_fault.RunLimit.TheVariants as limits
-use Rattle.spec_text.specs.Limits.{most_parties, most_header_deposits, most_header_secrets, most_line_bytes}
+use Rattle.spec_text.specs.Limits.{most_line_bytes}
 use Rattle.spec_text.specs.Lines.{words_of}
 use Rattle.spec_text.specs.Words.{amount}
 use Rattle.spec_text.specs.RunFile.{over, says, is_long, no_header, party_line, honest_line, is_taken, held_secret, secret_of, secret_line, deposit_of, deposit_line, header_words, header_line}

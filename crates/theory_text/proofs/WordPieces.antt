@@ -6,7 +6,7 @@ use Rattle.std.specs.Str.{bytes_eq}
 use Rattle.std.proofs.lemmas.Bool.Decides.{nat_tests}
 use Rattle.spec_data.specs.Lists.{is_among}
 use Rattle.spec_terms.specs.Readable.{is_letter, is_name_byte, is_name, keywords as words}
-use Rattle.spec_text.specs.Limits.{most_name_bytes}
+use Rattle.spec_data.specs.Ranges.{most_name_bytes}
 use Rattle.spec_text.specs.declared.token.Kind.{Kind}
 use Rattle.spec_text.specs.declared.token.Kind.TheVariants as kind
 use Rattle.spec_text.specs.declared.token.Keyword.{Keyword}
@@ -63,6 +63,7 @@ fits b more h =
     ap (name_or_long (b ∷ more)) yes
 
 pub name_piece : (x : List ℕ) → is_name x ≡ true → Piece x (name x ∷ [])
+unfolding is_name
 name_piece [] h = absurd cc
 name_piece (b ∷ more) h =
     let short : nat_le (length (b ∷ more)) most_name_bytes ≡ true = and_left _ _ (and_right _ _ h) in

@@ -17,7 +17,7 @@ use Rattle.spec_bitcoin.specs.Digests.{double, preimage, digest}
 use Rattle.spec_bitcoin.specs.Keys.{is_valid, pay_to}
 use Rattle.spec_bitcoin.specs.Live.{Entry, same_place, at_place}
 use Rattle.spec_bitcoin.specs.Meaning.{script_meaning}
-use Rattle.spec_data.specs.Ranges.{max_money}
+use Rattle.spec_data.specs.Ranges.{max_money, last_height}
 use Rattle.spec_bitcoin.specs.Verdict.{has_repeat, first_missing, whole_row, pays_to_script, program_of, script_of, items_of, is_long, input_row, input_refusal, inputs_refusal, refusal_of, spent_number, spent_value, spent_total, total_of, is_not_final, heeds_lock, numbers_from, verdict_for}
 use Rattle.spec_compiler.specs.Statements.{IsHash, is_short}
 use Rattle.spec_compiler.specs.declared.unsigned.Spent.{Spent}
@@ -270,7 +270,7 @@ module _ (s : Setup) (w : World) (size : IsHash s.hash) (apart : (m n : ℕ) (o 
     pub enough : total_of d.outputs ≤ worth d.spends
     pub money : total_live w.outputs ≤ max_money
     pub reached : d.lock ≤ w.tip
-    pub height : w.tip ≤ 499999999
+    pub height : w.tip ≤ last_height
 
   pub accepts : (d : Unsigned) (us : List (List (List ℕ))) (ns : List ℕ) → Asked d us ns
       → verdict_in s w (with_witnesses (tx_of d) us) ≡ verdicts.Accepted ns (numbers_from (length w.outputs) d.outputs)
@@ -287,7 +287,7 @@ module _ (s : Setup) (w : World) (size : IsHash s.hash) (apart : (m n : ℕ) (o 
       let c4 : is_some (first_missing (live_from 0 w.outputs) is) ≡ false = ap is_some (none_missing (tx_of d) d.spends us ns 0 a.ready) in
       let c5 : nat_lt max_money (total_of d.outputs) ≡ false = let x = a.money in let y = a.enough in not_less max_money (total_of d.outputs) (omega (arith, all, v, x, y)) in
       let c6 : nat_lt (spent_total (live_from 0 w.outputs) is) (total_of d.outputs) ≡ false = let y = a.enough in not_less (spent_total (live_from 0 w.outputs) is) (total_of d.outputs) (omega (arith, t, y)) in
-      let c7 : is_not_final w.tip tx ≡ false = final d.lock is (not_less w.tip d.lock a.reached) (let x = a.reached in let y = a.height in not_most 500000000 d.lock (omega (arith, x, y))) in
+      let c7 : is_not_final w.tip tx ≡ false = final d.lock is (not_less w.tip d.lock a.reached) (let x = a.reached in let y = a.height in not_less last_height d.lock (omega (arith, x, y))) in
       let whole = none_reason (whole_row w.tip (live_from 0 w.outputs) tx) (c1, (c2, (c3, (c4, (c5, (c6, (c7, tt))))))) in
       let none : refusal_of s.hash w.book w.tip (live_from 0 w.outputs) tx ≡ None =
       (λ j. or_else (whole j) (inputs_refusal s.hash w.book (live_from 0 w.outputs) tx 0 is)) ∙ inputs_fine (tx_of d) d.spends us ns us 0 a.ready in
@@ -297,11 +297,8 @@ module _ (s : Setup) (w : World) (size : IsHash s.hash) (apart : (m n : ℕ) (o 
       not_less : (m n : ℕ) → n ≤ m → nat_lt m n ≡ false
       not_less m n h = grind (arith, nat_tests, h)
 
-      not_most : (m n : ℕ) → n < m → nat_le m n ≡ false
-      not_most m n h = grind (arith, nat_tests, h)
-
       by_tests : (a b c d : Bool) → c ≡ false → d ≡ false → (a && (b && (c || d))) ≡ false
       by_tests a b c d p q = grind (arith, p, q)
 
-      final : (lock : ℕ) (is : List TxIn) → nat_lt w.tip lock ≡ false → nat_le 500000000 lock ≡ false → (heeds_lock is && (not (lock == 0) && (nat_lt w.tip lock || nat_le 500000000 lock))) ≡ false
-      final lock is p q = by_tests (heeds_lock is) (not (lock == 0)) (nat_lt w.tip lock) (nat_le 500000000 lock) p q
+      final : (lock : ℕ) (is : List TxIn) → nat_lt w.tip lock ≡ false → nat_lt last_height lock ≡ false → (heeds_lock is && (not (lock == 0) && (nat_lt w.tip lock || nat_lt last_height lock))) ≡ false
+      final lock is p q = by_tests (heeds_lock is) (not (lock == 0)) (nat_lt w.tip lock) (nat_lt last_height lock) p q

@@ -1,4 +1,3 @@
-use Rattle.spec_terms.specs.Cost.{formula_size}
 use Rattle.bm_syntax.specs.View.{formula}
 use Rattle.bm_syntax.proofs.Views.{formula-Plus, formula-Minus}
 use Rattle.bm_pred.proofs.Deep.{formula_size_capped}

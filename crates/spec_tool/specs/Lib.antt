@@ -1,3 +1,9 @@
 pub mod Commands
 pub mod Headline
 pub mod Statements
+pub mod Reads
+pub mod Base64
+pub mod Sizes
+pub mod Listed
+pub mod Psbt
+pub mod PsbtBytes

@@ -7,3 +7,6 @@ pub mod Sizes
 pub mod Listed
 pub mod Psbt
 pub mod PsbtBytes
+pub mod PsbtText
+pub mod Weights
+pub mod WeighText

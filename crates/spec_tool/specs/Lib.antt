@@ -10,3 +10,8 @@ pub mod PsbtBytes
 pub mod PsbtText
 pub mod Weights
 pub mod WeighText
+pub mod Audit
+pub mod AuditText
+pub mod Strategy
+pub mod Turns
+pub mod AutoText

@@ -15,3 +15,4 @@ pub mod AuditText
 pub mod Strategy
 pub mod Turns
 pub mod AutoText
+pub mod Answers

@@ -1,1 +1,4 @@
 pub mod WorkedCommands
+pub mod WorkedTool
+pub mod WorkedPsbt
+pub mod WorkedPsbtFiles

@@ -1,12 +1,13 @@
 -- The commands, and what each answers to the contents of its files: a status and a text; of this project's profile.
-use Rattle.std.specs.Prelude.{ℕ, ◌+◌, List, [], ◌∷◌, ◌++◌, length, ◌&&◌, if◌then◌else◌, nat_le, Option, Some, None, Result, Ok, Err, codes}
+use Rattle.std.specs.Prelude.{ℕ, ◌+◌, List, [], ◌∷◌, ◌++◌, length, map, ◌&&◌, if◌then◌else◌, nat_le, Option, Some, None, Result, Ok, Err, codes}
 use Rattle.std.specs.Str.{bytes_eq}
 use Rattle.spec_terms.specs.Advert.{Advert}
 use Rattle.spec_run.specs.declared.event.Event.{Event}
 use Rattle.spec_run.specs.declared.event.Run.{Run}
 use Rattle.spec_run.specs.Setup.{Setup}
 use Rattle.spec_data.specs.Digits.{read_decimal}
-use Rattle.spec_text.specs.Words.{◌>>=◌, given}
+use Rattle.spec_text.specs.Words.{◌>>=◌, given, path}
+use Rattle.spec_text.specs.Limits.{most_text_bytes, most_run_bytes}
 use Rattle.spec_text.specs.RunText.{newline}
 use Rattle.spec_text.specs.Canonical.{advert_text}
 use Rattle.spec_text.specs.Refusals.{Judged, contract_of, contract_refused_line, run_of, run_refused_line}
@@ -14,6 +15,10 @@ use Rattle.spec_text.specs.Generator.{made_contract, made_run}
 use Rattle.spec_text.specs.PlayText.{Ending, whole, guessed, collided}
 use Rattle.spec_text.specs.Played.{ending, play_text}
 use Rattle.spec_text.specs.PlanText.{plan_text, make_text}
+use Rattle.spec_tool.specs.declared.which.Which.{Which}
+use Rattle.spec_tool.specs.declared.which.Which.TheVariants as names
+use Rattle.spec_tool.specs.Sizes.{most_psbt_bytes, most_audit_bytes, most_strategy_bytes}
+use Rattle.spec_tool.specs.Reads.{Asked}
 
 -- ---- commands
 
@@ -27,6 +32,18 @@ pub data Command : Type 0 where
   plan : (run : List ℕ) → (contract : List ℕ) → Command
   -- plays the run that is made from a number
   make : (number : ℕ) → (size : ℕ) → Command
+  -- plays a run and prints one of the contract's transactions with the signatures that are there
+  psbt_of : (run : List ℕ) → (contract : List ℕ) → (which : Which) → Command
+  -- prints what a partially signed transaction says
+  psbt_shown : (file : List ℕ) → Command
+  -- combines two of them
+  psbt_joined : (first : List ℕ) → (second : List ℕ) → Command
+  -- plays a run and prints the contract's transactions with their weights
+  weigh : (run : List ℕ) → (contract : List ℕ) → Command
+  -- plays a run and says of each transaction of a file what it is
+  audit : (run : List ℕ) → (contract : List ℕ) → (file : List ℕ) → Command
+  -- goes on with a run by the rules of a strategy
+  auto : (run : List ℕ) → (contract : List ℕ) → (strategy : List ℕ) → Command
 
 -- the contracts that one run may have
 abbrev pub most_contracts : ℕ
@@ -55,6 +72,28 @@ make_words (number ∷ size ∷ []) = do
   given (nat_le 1 s && nat_le s most_size) (make n s)
 make_words _ = None
 
+-- the transaction that a word names: `init` or a path
+abbrev pub which_of : List ℕ → Option Which
+which_of word = if bytes_eq word (codes "init") then Some names.Init else path word >>= λ p. Some (names.At p)
+
+abbrev pub psbt_words : List (List ℕ) → Option Command
+psbt_words (file ∷ []) = Some (psbt_shown file)
+psbt_words (first ∷ second ∷ []) = Some (psbt_joined first second)
+psbt_words (run ∷ contract ∷ word ∷ []) = which_of word >>= λ which. Some (psbt_of run contract which)
+psbt_words _ = None
+
+abbrev pub weigh_words : List (List ℕ) → Option Command
+weigh_words (run ∷ contract ∷ []) = Some (weigh run contract)
+weigh_words _ = None
+
+abbrev pub audit_words : List (List ℕ) → Option Command
+audit_words (run ∷ contract ∷ file ∷ []) = Some (audit run contract file)
+audit_words _ = None
+
+abbrev pub auto_words : List (List ℕ) → Option Command
+auto_words (run ∷ contract ∷ strategy ∷ []) = Some (auto run contract strategy)
+auto_words _ = None
+
 -- the command that the words are, if they are one
 abbrev pub command_of : List (List ℕ) → Option Command
 command_of [] = None
@@ -63,14 +102,36 @@ command_of (word ∷ words) =
     else if bytes_eq word (codes "play") then play_words words
     else if bytes_eq word (codes "plan") then plan_words words
     else if bytes_eq word (codes "make") then make_words words
+    else if bytes_eq word (codes "psbt") then psbt_words words
+    else if bytes_eq word (codes "weigh") then weigh_words words
+    else if bytes_eq word (codes "audit") then audit_words words
+    else if bytes_eq word (codes "auto") then auto_words words
     else None
 
--- the files that a command reads, in order
-abbrev pub files_of : Command → List (List ℕ)
-files_of (check contract) = contract ∷ []
-files_of (play run contracts) = run ∷ contracts
-files_of (plan run contract) = run ∷ contract ∷ []
+-- ---- files
+
+abbrev pub run_file : List ℕ → Asked
+run_file name = (name, most_run_bytes)
+
+abbrev pub contract_file : List ℕ → Asked
+contract_file name = (name, most_text_bytes)
+
+abbrev pub psbt_file : List ℕ → Asked
+psbt_file name = (name, most_psbt_bytes)
+
+-- The files that a command reads, each with the most bytes that it may have: one for each word that names a file, in
+-- the order of the words.
+abbrev pub files_of : Command → List Asked
+files_of (check contract) = contract_file contract ∷ []
+files_of (play run contracts) = run_file run ∷ map contract_file contracts
+files_of (plan run contract) = run_file run ∷ contract_file contract ∷ []
 files_of (make number size) = []
+files_of (psbt_of run contract which) = run_file run ∷ contract_file contract ∷ []
+files_of (psbt_shown file) = psbt_file file ∷ []
+files_of (psbt_joined first second) = psbt_file first ∷ psbt_file second ∷ []
+files_of (weigh run contract) = run_file run ∷ contract_file contract ∷ []
+files_of (audit run contract file) = run_file run ∷ contract_file contract ∷ (file, most_audit_bytes) ∷ []
+files_of (auto run contract strategy) = run_file run ∷ contract_file contract ∷ (strategy, most_strategy_bytes) ∷ []
 
 -- ---- answers
 
@@ -136,14 +197,21 @@ ending_status (collided event earlier later) = 8
 abbrev pub run_answer : (Setup → List Event → List ℕ) → Setup → List Event → Printed
 run_answer text s es = prints (ending_status (ending s es)) (text s es)
 
-abbrev pub with_contracts : (Setup → List Event → List ℕ) → (List ℕ → List ℕ) → Run → JudgedAll → Printed
-with_contracts text hash run (Ok adverts) = run_answer text (setup_of hash run adverts) run.events
-with_contracts text hash run (Err refusal) = contract_refused (refusal.0) (refusal.1)
+-- what is answered of a run and its contracts, where none of these is refused
+abbrev pub contracts_judged : (Setup → List Event → Printed) → (List ℕ → List ℕ) → Run → JudgedAll → Printed
+contracts_judged answer hash run (Ok adverts) = answer (setup_of hash run adverts) run.events
+contracts_judged answer hash run (Err refusal) = contract_refused (refusal.0) (refusal.1)
 
 -- the run is judged before the contracts
+abbrev pub both_judged : (Setup → List Event → Printed) → (List ℕ → List ℕ) → Judged Run → JudgedAll → Printed
+both_judged answer hash (Err why) contracts = run_refused why
+both_judged answer hash (Ok run) contracts = contracts_judged answer hash run contracts
+
+abbrev pub with_contracts : (Setup → List Event → List ℕ) → (List ℕ → List ℕ) → Run → JudgedAll → Printed
+with_contracts text hash run judged = contracts_judged (run_answer text) hash run judged
+
 abbrev pub with_run : (Setup → List Event → List ℕ) → (List ℕ → List ℕ) → Judged Run → List (List ℕ) → Printed
-with_run text hash (Err why) contracts = run_refused why
-with_run text hash (Ok run) contracts = with_contracts text hash run (contracts_from 0 contracts)
+with_run text hash run contracts = both_judged (run_answer text) hash run (contracts_from 0 contracts)
 
 -- what `play` answers to the texts of a run and its contracts
 abbrev pub play_answer : (List ℕ → List ℕ) → List ℕ → List (List ℕ) → Printed

@@ -1,2 +1,14 @@
 //! The program: its commands, and what each answers to words and to what the reads of its files answered.
 #![tactic(auto)]
+
+pub mod finding;
+pub mod psbt;
+pub mod rule;
+pub mod weight;
+pub mod which;
+
+pub use finding::{AuditReport, Finding, Kind, Now};
+pub use psbt::PsbtInput;
+pub use rule::{Act, Rule, StrategyFault};
+pub use weight::Weight;
+pub use which::Which;

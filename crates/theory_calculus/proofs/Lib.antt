@@ -1,3 +1,5 @@
 mod Members
 mod Ordered
 mod Offered
+mod Runs
+mod Numbered

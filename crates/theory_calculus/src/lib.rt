@@ -2,6 +2,7 @@
 #![tactic(auto)]
 
 ghost use Rattle.theory_calculus.specs.Offered.{EveryEnabledIsOffered, OffersStandInOrder};
+ghost use Rattle.theory_calculus.specs.Numbered.{LegalRunsAreOne, NumbersStandApart};
 
 /// A step by which a contract begins or goes on stands among the offers exactly where no premise of
 /// it fails, and no other step stands there.
@@ -12,4 +13,16 @@ pub fn every_enabled_is_offered()
 /// Beginnings are offered by contract, then the others by output and branch, each once.
 pub fn offers_stand_in_order()
     ensures { OffersStandInOrder }
+{}
+
+/// A legal run, one step after another, is the same as the recursion on its steps: a configuration
+/// and a step have at most one next configuration.
+pub fn legal_runs_are_one()
+    ensures { LegalRunsAreOne }
+{}
+
+/// Wherever a legal run leads to from an opening, deposits and active contracts stand by ascending
+/// numbers below the next, and no number is of both.
+pub fn numbers_stand_apart()
+    ensures { NumbersStandApart }
 {}

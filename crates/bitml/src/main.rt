@@ -2,8 +2,6 @@
 #![tactic(auto)]
 
 mod check;
-#[cfg(test)]
-mod check_tests;
 mod event;
 mod ledger;
 mod lines;
@@ -13,8 +11,6 @@ mod read;
 mod read_run;
 mod refusal;
 mod reply;
-#[cfg(test)]
-mod tests;
 mod tool;
 
 use bm_hash::Sha;

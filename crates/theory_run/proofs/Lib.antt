@@ -20,6 +20,8 @@ pub mod Following
 pub mod Given
 pub mod Gone
 pub mod Growing
+pub mod Halts
+pub mod HaltsRightly
 pub mod Honest
 pub mod HonestSpends
 pub mod Keeping

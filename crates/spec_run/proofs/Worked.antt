@@ -23,9 +23,9 @@ use Rattle.spec_run.specs.declared.outcome.Reason.TheVariants as reason
 use Rattle.spec_run.specs.declared.outcome.Record.{Record}
 use Rattle.spec_run.specs.Setup.{Setup}
 use Rattle.spec_run.specs.Draft.{Guessed}
-use Rattle.spec_run.specs.Event.{trace, first_halt, opening_collision}
+use Rattle.spec_run.specs.Event.{opening_collision}
 use Rattle.spec_run.specs.Secrets.{length_in_run}
-use Rattle.spec_run.specs.Translation.{translated, last_configuration}
+use Rattle.spec_run.specs.Translation.{trace, translated, first_halt, last_configuration}
 use Rattle.spec_run.specs.Offers.{offers}
 use Rattle.spec_terms.specs.declared.path.PathStep.TheVariants.{Branch as To}
 

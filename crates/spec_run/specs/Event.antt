@@ -98,39 +98,33 @@ event s w e = answer s w (draft s w e)
 
 -- ---- a run
 
--- goes on where the event didn't halt, and stops with the first value where it did
-abbrev pub goes_on : {X : Type 0} → Answer → X → (Draft → World → X) → X
-goes_on (Halted halt) stop go = stop
-goes_on (Went d next) stop go = go d next
-
 abbrev pub record_of : Event → Draft → Record
 record_of e d = record { event = e; outcome = d.outcome; tx = d.tx }
 
--- the records of these events up to the first halt
-abbrev pub trace_from : Setup → World → List Event → List Record
-trace_from s w [] = []
-trace_from s w (e ∷ es) = goes_on (event s w e) [] (λ d next. record_of e d ∷ trace_from s next es)
+-- an event that went on, with what it came to and the world that it left
+pub record Passed : Type 0 where
+  pub event : Event
+  pub draft : Draft
+  pub world : World
 
-abbrev pub trace : Setup → List Event → List Record
-trace s es = trace_from s (opening_world s) es
+-- the events that went on, up to the first halt, and the halt with its event
+pub record Progress : Type 0 where
+  pub passed : List Passed
+  pub halt : Option (Event × Halt)
 
--- the last world before the first halt
-abbrev pub last_from : Setup → World → List Event → World
-last_from s w [] = w
-last_from s w (e ∷ es) = goes_on (event s w e) w (λ d next. last_from s next es)
+abbrev pub onto_passed : Passed → Progress → Progress
+onto_passed first later = record { passed = first ∷ later.passed; halt = later.halt }
 
-abbrev pub last_world : Setup → List Event → World
-last_world s es = last_from s (opening_world s) es
+-- an event and those after it: they are played from the world that it left, unless it halts
+abbrev pub goes_on : Event → Answer → (World → Progress) → Progress
+goes_on e (Halted halt) later = record { passed = []; halt = Some (e, halt) }
+goes_on e (Went d next) later = onto_passed (record { event = e; draft = d; world = next }) (later next)
 
--- the halt, and the event that it came with
-abbrev pub halt_with : Event → Answer → Option (Event × Halt) → Option (Event × Halt)
-halt_with e (Halted halt) later = Some (e, halt)
-halt_with e (Went d next) later = later
+-- these events, from this world on. Nothing else plays events: all that is said and printed of a run is read off this list
+abbrev pub played_from : Setup → World → List Event → Progress
+played_from s w [] = record { passed = []; halt = None }
+played_from s w (e ∷ es) = goes_on e (event s w e) (λ next. played_from s next es)
 
--- the first halt of these events
-abbrev pub halt_from : Setup → World → List Event → Option (Event × Halt)
-halt_from s w [] = None
-halt_from s w (e ∷ es) = halt_with e (event s w e) (goes_on (event s w e) None (λ d next. halt_from s next es))
-
-abbrev pub first_halt : Setup → List Event → Option (Event × Halt)
-first_halt s es = halt_from s (opening_world s) es
+-- the events of a run
+abbrev pub played : Setup → List Event → Progress
+played s es = played_from s (opening_world s) es

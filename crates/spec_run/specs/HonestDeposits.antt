@@ -21,7 +21,6 @@ use Rattle.spec_run.specs.declared.outcome.Record.{Record}
 use Rattle.spec_run.specs.Setup.{Setup, pre_at, is_honest}
 use Rattle.spec_run.specs.World.{World, output_at, is_deposit, bindings_at}
 use Rattle.spec_run.specs.Owners.{owner_of}
-use Rattle.spec_run.specs.Draft.{Draft}
 use Rattle.spec_run.specs.Ledger.{Kind, Begins, Takes, Moves, same_bare, is_initial, kind_of, held_path, held_branch}
 use Rattle.spec_run.specs.Compiled.{compiled_at}
 use Rattle.spec_run.specs.Values.{is_done}
@@ -108,8 +107,8 @@ has_leave s w before e tx party number outcomes.Done = false
 has_leave s w before e tx party number (outcomes.Accepted spent made lock) = gives party number e || by_transaction s w before party number spent tx
 has_leave s w before e tx party number (outcomes.Refused reason) = false
 
--- a deposit of an honest party that was live before the event and isn't after it went with the party's leave
-abbrev pub SpendsWithLeave : Setup → List Record → World → Event → Draft → World → Type 0
-SpendsWithLeave s before w e d next =
+-- a deposit of an honest party that was live before what is recorded and isn't after it went with the party's leave
+abbrev pub SpendsWithLeave : Setup → List Record → World → Record → World → Type 0
+SpendsWithLeave s before w r next =
     (party : List ℕ) (number : ℕ) → is_honest s party ≡ true → owner_of s (output_at w number) ≡ Party party → is_deposit (output_at next number) ≡ false
-    → has_leave s w before e d.tx party number d.outcome ≡ true
+    → has_leave s w before r.event r.tx party number r.outcome ≡ true

@@ -11,13 +11,13 @@ use Rattle.spec_run.specs.declared.event.Event.TheVariants as events
 use Rattle.spec_run.specs.declared.outcome.Record.{Record}
 use Rattle.spec_run.specs.Setup.{Setup}
 use Rattle.spec_run.specs.World.{World, held_at}
-use Rattle.spec_run.specs.Draft.{Draft, Answer, Went, Halted}
+use Rattle.spec_run.specs.Draft.{Answer, Went, Halted}
 use Rattle.spec_run.specs.Compiled.{compiled_at}
 use Rattle.spec_run.specs.Ledger.{verdict_in}
 use Rattle.spec_run.specs.Firing.{initial_by, taking_by}
-use Rattle.spec_run.specs.Event.{event, record_of, opening_world, opening_collision, last_world}
+use Rattle.spec_run.specs.Event.{event, opening_world, opening_collision}
 use Rattle.spec_run.specs.Steps.{steps_of}
-use Rattle.spec_run.specs.Translation.{opening_configuration, last_configuration}
+use Rattle.spec_run.specs.Translation.{Turn, record_in, opening_configuration, course, translated, in_order, last_configuration, last_world}
 use Rattle.spec_run.specs.Agreement.{Agree}
 use Rattle.spec_run.specs.Licence.{Licensed}
 use Rattle.spec_run.specs.Offers.{Offer, offers}
@@ -27,25 +27,18 @@ use Rattle.spec_run.specs.Conditions.{IsSetup, IsEvent}
 
 -- ---- runs
 
--- what may hold of one event of a run: after these records, in this configuration and world, it came to the draft and left the next world, in a run that posts these strings
+-- what may hold of one event of a run: after these records, from this configuration and world on, it is this turn
 abbrev pub Claim : Type 1
-Claim = List Record → List (List ℕ) → Configuration → World → Event → Draft → World → Type 0
+Claim = List Record → Configuration → World → Turn → Type 0
 
--- the claim holds of an answer that went on, and then the rest is to hold; nothing is claimed after a halt
-abbrev pub HoldsOf : Setup → Claim → List Record → List (List ℕ) → Configuration → World → Event → Answer → (List Record → Configuration → World → Type 0) → Type 0
-HoldsOf s claim before strings g w e (Halted halt) rest = Unit {0}
-HoldsOf s claim before strings g w e (Went d next) rest =
-    claim before strings g w e d next × rest (before ++ record_of e d ∷ []) (after g (steps_of s strings g w next e d)) next
+-- the claim holds of each of these turns
+abbrev pub HoldsFrom : Claim → List Record → Configuration → World → List Turn → Type 0
+HoldsFrom claim before g w [] = Unit {0}
+HoldsFrom claim before g w (t ∷ ts) = claim before g w t × HoldsFrom claim (before ++ record_in t ∷ []) t.configuration t.world ts
 
--- the claim holds of each of these events up to the first halt
-abbrev pub HoldsFrom : Setup → Claim → List Record → List (List ℕ) → Configuration → World → List Event → Type 0
-HoldsFrom s claim before strings g w [] = Unit {0}
-HoldsFrom s claim before strings g w (e ∷ es) =
-    HoldsOf s claim before strings g w e (event s w e) (λ before' g' w'. HoldsFrom s claim before' strings g' w' es)
-
--- the claim holds of each event of a run
+-- the claim holds of each event of a run up to its halt: of the rows of the very list that is printed
 abbrev pub HoldsThroughout : Setup → Claim → List Event → Type 0
-HoldsThroughout s claim es = HoldsFrom s claim [] (last_world s es).posted (opening_configuration s) (opening_world s) es
+HoldsThroughout s claim es = HoldsFrom claim [] (opening_configuration s) (opening_world s) (course s es).turns
 
 -- a run that a run file can have, and whose opening strings don't collide
 pub record IsRun (s : Setup) (es : List Event) : Type 0 where
@@ -55,17 +48,22 @@ pub record IsRun (s : Setup) (es : List Event) : Type 0 where
 
 -- ---- the simulation theorem
 
--- the steps of the event are a legal run of the calculus, and configuration and world agree after it
-pub record IsSimulated (s : Setup) (strings : List (List ℕ)) (g : Configuration) (w : World) (e : Event) (d : Draft) (next : World) : Type 0 where
-  pub legal : Legal g (steps_of s strings g w next e d)
-  pub agrees : Agree s (after g (steps_of s strings g w next e d)) next
+-- the steps of the event are a legal run of the calculus, they lead to the configuration after it, and that agrees with the world after it
+pub record IsSimulated (s : Setup) (g : Configuration) (t : Turn) : Type 0 where
+  pub legal : Legal g t.steps
+  pub leads : after g t.steps ≡ t.configuration
+  pub agrees : Agree s t.configuration t.world
 
 abbrev pub simulated : Setup → Claim
-simulated s before strings g w e d next = IsSimulated s strings g w e d next
+simulated s before g w t = IsSimulated s g t
 
 pub record Simulates (s : Setup) (es : List Event) : Type 0 where
   pub opening : Agree s (opening_configuration s) (opening_world s)
   pub events : HoldsThroughout s (simulated s) es
+  -- all steps in order are a legal run, which leads from the opening to the last configuration, and that agrees with the last world
+  pub legal : Legal (opening_configuration s) (in_order (translated s es))
+  pub leads : after (opening_configuration s) (in_order (translated s es)) ≡ last_configuration s es
+  pub agrees : Agree s (last_configuration s es) (last_world s es)
 
 -- every run of events is, step by step, a legal run of the calculus, and both agree at the opening and after every event
 abbrev pub SimulationTheorem : Type 0
@@ -74,7 +72,7 @@ SimulationTheorem = (s : Setup) (es : List Event) → IsRun s es → Simulates s
 -- ---- the licence theorem
 
 abbrev pub licensed : Setup → Claim
-licensed s before strings g w e d next = Licensed s e (steps_of s strings g w next e d)
+licensed s before g w t = Licensed s t.event t.steps
 
 -- honest parties authorise only by their own events
 abbrev pub LicenceTheorem : Type 0
@@ -114,7 +112,7 @@ OffersTheorem = (s : Setup) (es : List Event) → IsRun s es
 -- ---- the honest deposits theorem
 
 abbrev pub spends_with_leave : Setup → Claim
-spends_with_leave s before strings g w e d next = SpendsWithLeave s before w e d next
+spends_with_leave s before g w t = SpendsWithLeave s before w (record_in t) t.world
 
 -- an honest party's live deposit goes only by its own gift, or by a transaction of a contract that it endorsed or started
 abbrev pub HonestDepositsTheorem : Type 0

@@ -13,8 +13,7 @@ use Rattle.spec_run.specs.declared.event.Event.{Event}
 use Rattle.spec_run.specs.Setup.{Setup}
 use Rattle.spec_run.specs.World.{World}
 use Rattle.spec_run.specs.Compiled.{compiled_at}
-use Rattle.spec_run.specs.Event.{last_world}
-use Rattle.spec_run.specs.Translation.{translated, last_configuration}
+use Rattle.spec_run.specs.Translation.{translated, last_configuration, last_world}
 use Rattle.spec_data.specs.Digits.{hex_text}
 use Rattle.spec_text.specs.RunText.{newline}
 use Rattle.spec_text.specs.PlayText.{Ending, whole, guessed, collided, guessed_line, collided_line}

@@ -1,32 +1,27 @@
 -- The text of a played run, by its setup and its events; of this project's profile.
 use Rattle.std.specs.Prelude.{ℕ, ◌+◌, List, [], ◌∷◌, map, Bool, true, false, Option, Some, None}
-use Rattle.spec_calculus.specs.declared.step.Step.{Step}
 use Rattle.spec_calculus.specs.Configuration.{Configuration}
 use Rattle.spec_run.specs.declared.event.Event.{Event}
-use Rattle.spec_run.specs.declared.outcome.Record.{Record}
 use Rattle.spec_run.specs.Setup.{Setup}
 use Rattle.spec_run.specs.World.{World, Output}
 use Rattle.spec_run.specs.Draft.{Halt, Collided, Guessed}
-use Rattle.spec_run.specs.Event.{trace, last_world, first_halt, opening_collision}
-use Rattle.spec_run.specs.Translation.{translated, last_configuration}
+use Rattle.spec_run.specs.Event.{opening_collision}
+use Rattle.spec_run.specs.Translation.{Turn, Course, course, end_world, end_configuration}
 use Rattle.spec_run.specs.Offers.{offers}
 use Rattle.spec_text.specs.declared.entry.Entry.{Entry}
 use Rattle.spec_text.specs.PlayText.{Ending, whole, guessed, collided, report_text}
 
 -- ---- the entries
 
-abbrev pub entry_of : Record → List Step → Entry
-entry_of r steps = record { event = r.event; outcome = r.outcome; steps = steps }
-
--- records with their steps
-abbrev pub entries_of : List Record → List (List Step) → List Entry
-entries_of [] steps = []
-entries_of (r ∷ rs) [] = []
-entries_of (r ∷ rs) (s ∷ ss) = entry_of r s ∷ entries_of rs ss
+abbrev pub entry_of : Turn → Entry
+entry_of t = record { event = t.event; outcome = t.outcome; steps = t.steps }
 
 -- what is shown of each event up to the first halt
+abbrev pub entries_in : Course → List Entry
+entries_in c = map entry_of c.turns
+
 abbrev pub entries : Setup → List Event → List Entry
-entries s es = entries_of (trace s es) (translated s es)
+entries s es = entries_in (course s es)
 
 -- ---- how the run ends
 
@@ -57,9 +52,17 @@ abbrev pub ending_from : World → Configuration → Option (List ℕ × List �
 ending_from w g (Some p) halt = collided None (p.0) (p.1)
 ending_from w g None halt = ending_by w g halt
 
+-- how a course ends
+abbrev pub ending_in : Setup → Course → Ending
+ending_in s c = ending_from (end_world s c) (end_configuration s c) (opening_collision s) c.halt
+
 abbrev pub ending : Setup → List Event → Ending
-ending s es = ending_from (last_world s es) (last_configuration s es) (opening_collision s) (first_halt s es)
+ending s es = ending_in s (course s es)
+
+-- what `play` prints of a course
+abbrev pub course_text : Setup → Course → List ℕ
+course_text s c = report_text s.header.deposits (entries_in c) (ending_in s c)
 
 -- what `play` prints of a run
 unfoldable pub play_text : Setup → List Event → List ℕ
-play_text s es = report_text s.header.deposits (entries s es) (ending s es)
+play_text s es = course_text s (course s es)

@@ -1,23 +1,32 @@
 -- Valid texts make runs of which the theorems on runs speak, and so `play` shows a faithful run.
-use Rattle.std.proofs.Common.{◌≡◌, ℕ, suc, ◌+◌, Bool, true, false, List, [], ◌∷◌, length, Option, Some, None, Ok, Err, refl, ap, subst, ◌∙◌, arith}
+use Rattle.std.proofs.Common.{◌≡◌, ℕ, suc, ◌+◌, Bool, true, false, List, [], ◌∷◌, length, map, Option, Some, None, Ok, Err, refl, sym, ap, subst, ◌∙◌, arith}
 use Rattle.std.specs.Prelude.{if◌then◌else◌, nat_lt, Result}
 use Rattle.std.specs.List.{AllByRecursion}
 use Rattle.spec_terms.specs.Advert.{Advert}
 use Rattle.spec_terms.specs.Faults.{first_fault, first_limit, IsWellFormed}
 use Rattle.spec_terms.specs.declared.limit.Limit.{Limit}
 use Rattle.spec_terms.specs.declared.place.Place.{Place}
+use Rattle.spec_calculus.specs.declared.step.Step.{Step}
+use Rattle.spec_calculus.specs.Steps.{Legal, after}
+use Rattle.spec_run.specs.declared.event.Event.{Event}
 use Rattle.spec_run.specs.declared.event.Run.{Run}
+use Rattle.spec_run.specs.Draft.{Halt, Collided, Guessed}
+use Rattle.spec_run.specs.Event.{opening_collision}
+use Rattle.spec_run.specs.Translation.{Turn, opening_configuration, course, last_world, last_configuration, first_halt, in_order}
+use Rattle.spec_run.specs.Statements.{Simulates}
 use Rattle.spec_run.specs.Setup.{Setup}
 use Rattle.spec_text.specs.declared.stop.TextFault.{TextFault}
 use Rattle.spec_text.specs.Limits.{most_text_bytes}
 use Rattle.spec_text.specs.ReadAdvert.{read_answer}
 use Rattle.spec_text.specs.Refusals.{Judged, judged_limit, judged_fault, judged_answer, contract_of, run_of}
-use Rattle.spec_text.specs.Played.{play_text}
+use Rattle.spec_text.specs.Played.{entry_of, entries, ending_from, ending, play_text}
+use Rattle.spec_text.specs.declared.entry.Entry.{Entry}
+use Rattle.spec_text.specs.PlayText.{report_text}
 use Rattle.spec_text.specs.Commands.{Printed, JudgedAll, onto_judged, contracts_from, setup_of, run_answer, with_contracts, with_run}
 use Rattle.spec_text.specs.Statements.{ValidRunTheorem}
 use Rattle.theory_text.proofs.AdvertsWithin.{read_is_readable}
 use Rattle.theory_text.proofs.ValidRuns.{run_file_is}
-use Rattle.spec_text.specs.Headline.{HeadlineTheorem}
+use Rattle.spec_text.specs.Headline.{AreEntriesOf, EndsRun, IsShown, HeadlineTheorem}
 use Rattle.theory_run.proofs.Simulated.{simulation}
 use Rattle.theory_run.proofs.Honest.{licence}
 use Rattle.theory_offers.proofs.Whole.{kept_offers}
@@ -124,6 +133,41 @@ answer_of_run hash run_file contract_files judged run h = ap (λ (j : Judged Run
 answer_of_contracts : (hash : List ℕ → List ℕ) (run : Run) (judged : JudgedAll) (contracts : List Advert) → judged ≡ Ok contracts → with_contracts play_text hash run judged ≡ run_answer play_text (setup_of hash run contracts) run.events
 answer_of_contracts hash run judged contracts h = ap (λ (j : JudgedAll). with_contracts play_text hash run j) h
 
+-- an entry for each turn
+entries_match : (ts : List Turn) → AreEntriesOf (map entry_of ts) ts
+entries_match [] = tt
+entries_match (t ∷ ts) = (record { event = refl; outcome = refl; steps = refl }, entries_match ts)
+
+-- the steps of the entries are those of the turns
+entries_steps : (ts : List Turn) → map (λ (e : Entry). e.steps) (map entry_of ts) ≡ map (λ (t : Turn). t.steps) ts
+entries_steps [] = refl
+entries_steps (t ∷ ts) = λ i. t.steps ∷ entries_steps ts i
+
+-- what is printed of a run is what it came to
+shown_is : (s : Setup) (es : List Event) → opening_collision s ≡ None → Simulates s es → IsShown s es (entries s es) (ending s es)
+shown_is s es opens simulates =
+    let ts = (course s es).turns in
+    let same = entries_steps ts in
+    let leads : after (opening_configuration s) (in_order (map (λ (e : Entry). e.steps) (entries s es))) ≡ last_configuration s es
+    = ap (λ xs. after (opening_configuration s) (in_order xs)) same ∙ simulates.leads in
+    record {
+      turns = entries_match ts;
+      legal = subst (λ xs. Legal (opening_configuration s) (in_order xs)) (sym same) simulates.legal;
+      ends = by_halt (in_order (map (λ (e : Entry). e.steps) (entries s es))) leads (opening_collision s) (first_halt s es) opens refl;
+    }
+  where
+    by_halt : (steps : List Step) → after (opening_configuration s) steps ≡ last_configuration s es → (o : Option (List ℕ × List ℕ)) (h : Option (Event × Halt)) → o ≡ None → first_halt s es ≡ h
+        → EndsRun s es steps (ending_from (last_world s es) (last_configuration s es) o h)
+    by_halt steps leads (Some p) h eo eh = cc
+    by_halt steps leads None None eo eh = (eh, record { leads = leads; agrees = simulates.agrees; height = refl; outputs = refl }, refl)
+    by_halt steps leads None (Some (e, Collided earlier later)) eo eh = eh
+    by_halt steps leads None (Some (e, Guessed party secret)) eo eh = eh
+
+-- what is printed is the text of these entries and of this end
+text_is : (s : Setup) (es : List Event) → play_text s es ≡ report_text s.header.deposits (entries s es) (ending s es)
+unfolding play_text
+text_is s es = refl
+
 pub headline : HeadlineTheorem
 headline hash bytes run_file contract_files run contracts r c few =
     let answer = answer_of_run hash run_file contract_files (run_of run_file) run r ∙ answer_of_contracts hash run (contracts_from 0 contract_files) contracts c in
@@ -133,9 +177,15 @@ headline hash bytes run_file contract_files run contracts r c few =
       contracts = contracts;
       valid = r;
       well_formed = c;
-      text = ap (λ (p : Printed). p.text) answer;
+      text = ap (λ (p : Printed). p.text) answer ∙ text_is s run.events;
       status = ap (λ (p : Printed). p.status) answer;
       faithful = λ opens.
           let is = valid_runs_are hash bytes run_file contract_files run contracts r c few opens in
-          record { simulates = simulation s run.events is; licensed = licence s run.events is; offers = kept_offers s run.events is };
+          let simulates = simulation s run.events is in
+          record {
+            simulates = simulates;
+            licensed = licence s run.events is;
+            offers = kept_offers s run.events is;
+            shown = shown_is s run.events opens simulates;
+          };
     }

@@ -24,7 +24,7 @@ use Rattle.spec_run.specs.Giving.{give_row, given_pairs, gift, give_draft}
 use Rattle.spec_run.specs.Firing.{initial_by, taking_by, reaches_if, fire_init_row, fire_row}
 use Rattle.spec_run.specs.Ledger.{verdict_in, strings_of, items_of, reason_of, accepted, judged, reaches, initial_of}
 use Rattle.spec_run.specs.HonestDeposits.{gives, SpendsWithLeave}
-use Rattle.spec_run.specs.Event.{append_read, draft}
+use Rattle.spec_run.specs.Event.{append_read, draft, record_of}
 use Rattle.theory_world.proofs.Worth.{accepted_by}
 use Rattle.theory_run.proofs.Kept.{KeptBook}
 use Rattle.theory_run.proofs.Entering.{initial_is}
@@ -50,8 +50,8 @@ module _ (s : Setup) (setup : IsSetup s) (z : List (List ℕ)) (before : List Re
         by_verdict : (v : Verdict) → verdict_in s w tx ≡ v → draft s w e ≡ judged s w w tx v → collision s.hash w.hashed (judged s w w tx v).hashes ≡ None → OffersKept s z g w books.book more e (judged s w w tx v)
         by_verdict (verdicts.Refused r) h d c = refused_offers s z g w books.book more e (strings_of s w tx) (reason_of r)
         by_verdict (verdicts.Accepted spent made) h d c =
-            let left : SpendsWithLeave s before w e (draft s w e) (settled w (draft s w e)) = leave_of_event s setup before g w books.book (fits s setup g w books) (checks s setup g w books) leave books.clear e is (subst (λ x. collision s.hash w.hashed x.hashes ≡ None) (sym d) c) in
-            let went : SpendsWithLeave s before w e (accepted s w tx spent) (settled w (accepted s w tx spent)) = subst (λ x. SpendsWithLeave s before w e x (settled w x)) d left in
+            let left : SpendsWithLeave s before w (record_of e (draft s w e)) (settled w (draft s w e)) = leave_of_event s setup before g w books.book (fits s setup g w books) (checks s setup g w books) leave books.clear e is (subst (λ x. collision s.hash w.hashed x.hashes ≡ None) (sym d) c) in
+            let went : SpendsWithLeave s before w (record_of e (accepted s w tx spent)) (settled w (accepted s w tx spent)) = subst (λ x. SpendsWithLeave s before w (record_of e x) (settled w x)) d left in
             let ok = accepted_by s w tx spent made h in
             accepted_every s z g w books.book more tx spent ok e (begins_endorsed s g w books.book (checks s setup g w books) books.clear before starts e tx spent ok went no_gift)
 

@@ -20,6 +20,7 @@ use Rattle.spec_run.specs.Compiled.{compiled_at}
 use Rattle.spec_run.specs.Draft.{settled}
 use Rattle.spec_run.specs.Ledger.{Begins, accepted, is_initial, initial_of, kind_of, kind_by, first_held}
 use Rattle.spec_run.specs.Steps.{names_deposit}
+use Rattle.spec_run.specs.Event.{record_of}
 use Rattle.spec_run.specs.HonestDeposits.{is_init, was_done, gives, by_contract, takes_persistent, SpendsWithLeave}
 use Rattle.theory_world.proofs.Hashed.{NoClash}
 use Rattle.theory_world.proofs.Mentions.{HasDeposit, has_deposit}
@@ -86,7 +87,7 @@ module _ (s : Setup) (g : Configuration) (w : World) (kept : KeptBook s g w) (ch
     gone = sym (ap (names_deposit (settled w (accepted s w tx spent))) looked) ∙ is_gone s g w kept tx spent is k st it.compiled d has.there it.is
 
     -- it went with the party's leave, which isn't a gift's
-    left : SpendsWithLeave s before w e (accepted s w tx spent) (settled w (accepted s w tx spent)) → gives someone.0 bound.number e ≡ false → was_done (is_init k someone.0) before ≡ true
+    left : SpendsWithLeave s before w (record_of e (accepted s w tx spent)) (settled w (accepted s w tx spent)) → gives someone.0 bound.number e ≡ false → was_done (is_init k someone.0) before ≡ true
     left leave no_gift =
         let h = leave someone.0 bound.number someone.2 owned gone in
         let kind : kind_of s w tx spent ≡ Begins k = ap (λ o. kind_by s tx spent o (first_held w spent)) i in
@@ -94,7 +95,7 @@ module _ (s : Setup) (g : Configuration) (w : World) (kept : KeptBook s g w) (ch
         let takes = is_initial s tx (compiled_at s w k) && takes_persistent s w k someone.0 bound.number in
         (and_parts takes (was_done (is_init k someone.0) before) (subst (λ x. by_contract s w before someone.0 bound.number tx x ≡ true) kind by)).1
 
-  pub begins_endorsed : SpendsWithLeave s before w e (accepted s w tx spent) (settled w (accepted s w tx spent)) → ((a : List ℕ) (n : ℕ) → gives a n e ≡ false) → BeginsEndorsed s w tx
+  pub begins_endorsed : SpendsWithLeave s before w (record_of e (accepted s w tx spent)) (settled w (accepted s w tx spent)) → ((a : List ℕ) (n : ℕ) → gives a n e ≡ false) → BeginsEndorsed s w tx
   begins_endorsed leave no_gift k st i c =
       let r = starts.started k (someone k i).0 (someone k i).2 (left k i leave (no_gift (someone k i).0 (bound k i).number)) in
       let one : (let x : Option Setting = Some r.setting in x) ≡ Some st = sym r.compiled ∙ c in

@@ -1,5 +1,5 @@
 -- Everything that a run keeps, from its opening to its end; and that what is offered at its end is kept.
-use Rattle.std.proofs.Common.{◌≡◌, ℕ, List, [], ◌∷◌, ◌++◌, None, refl}
+use Rattle.std.proofs.Common.{◌≡◌, ℕ, List, [], ◌∷◌, ◌++◌, None, refl, sym, subst}
 use Rattle.spec_calculus.specs.Configuration.{Configuration}
 use Rattle.spec_calculus.specs.Steps.{after}
 use Rattle.spec_run.specs.declared.event.Event.{Event}
@@ -9,14 +9,14 @@ use Rattle.spec_run.specs.Messages.{collision}
 use Rattle.spec_run.specs.World.{World}
 use Rattle.spec_run.specs.Conditions.{IsSetup, IsEvent}
 use Rattle.spec_run.specs.Draft.{settled, guess}
-use Rattle.spec_run.specs.Event.{draft, record_of, opening_world, last_world}
+use Rattle.spec_run.specs.Event.{draft, record_of, opening_world}
 use Rattle.spec_run.specs.Steps.{steps_of}
-use Rattle.spec_run.specs.Translation.{opening_configuration, last_configuration}
+use Rattle.spec_run.specs.Translation.{opening_configuration, last_configuration, last_world}
 use Rattle.spec_run.specs.Agreement.{Agree}
 use Rattle.spec_run.specs.Statements.{IsRun, spends_with_leave, OffersTheorem}
 use Rattle.theory_run.proofs.Keeping.{Begins}
 use Rattle.theory_run.proofs.Followed.{agree_all}
-use Rattle.theory_run.proofs.Following.{Keeps, kept_at_end}
+use Rattle.theory_run.proofs.Following.{Keeps, run_posts, run_posts_last, kept_at_end}
 use Rattle.theory_run.proofs.Growing.{grows}
 use Rattle.theory_run.proofs.Bookkeeping.{checks}
 use Rattle.theory_run.proofs.Honest.{KeptHonest, honest_after, left_with_leave, opening_honest}
@@ -52,11 +52,12 @@ keeps_all s setup z = record { step = λ before g w e k is calm unguessed begins
 -- what is offered after a run is kept
 pub kept_offers : OffersTheorem
 kept_offers s es run offer there =
-    let z = (last_world s es).posted in
+    let z = run_posts s es in
     let g = last_configuration s es in
     let w = last_world s es in
     let last = (kept_at_end s (spends_with_leave s) (KeptAll s z) es (keeps_all s run.setup z) run.events (opening_all s es run z)).holds in
     let tracks = last.honest.run.tracks in
     let books = last.honest.run.books in
     let agree : Agree s g w = agree_all s g w books.book z tracks.money tracks.secrets tracks.advertised in
-    offers_kept s run.setup z g w agree books.book (checks s run.setup g w books) tracks.secrets (record { first = λ p h. refl }) last.more offer there
+    let begins : Begins z w.posted = subst (λ y. Begins z y) (sym (run_posts_last s es)) (record { first = λ p h. refl }) in
+    offers_kept s run.setup z g w agree books.book (checks s run.setup g w books) tracks.secrets begins last.more offer there

@@ -9,14 +9,14 @@ use Rattle.spec_run.specs.Messages.{collision}
 use Rattle.spec_run.specs.World.{World}
 use Rattle.spec_run.specs.Conditions.{IsSetup, IsEvent}
 use Rattle.spec_run.specs.Draft.{settled, guess}
-use Rattle.spec_run.specs.Event.{draft, record_of, opening_world, last_world}
+use Rattle.spec_run.specs.Event.{draft, record_of, opening_world}
 use Rattle.spec_run.specs.Steps.{steps_of}
 use Rattle.spec_run.specs.Translation.{opening_configuration}
 use Rattle.spec_run.specs.HonestDeposits.{SpendsWithLeave}
 use Rattle.spec_run.specs.Licence.{Licensed}
 use Rattle.spec_run.specs.Statements.{IsRun, spends_with_leave, licensed, HonestDepositsTheorem, LicenceTheorem}
 use Rattle.theory_run.proofs.Keeping.{Begins}
-use Rattle.theory_run.proofs.Following.{Keeps, holds_throughout}
+use Rattle.theory_run.proofs.Following.{Keeps, run_posts, holds_throughout}
 use Rattle.theory_run.proofs.Bookkeeping.{checks, fits}
 use Rattle.theory_run.proofs.Simulated.{KeptRun, run_after, opening_run}
 use Rattle.theory_run.proofs.Leaves.{KeptLeave, opening_leave}
@@ -39,7 +39,7 @@ module _ (s : Setup) (setup : IsSetup s) (z : List (List ℕ)) (before : List Re
         leave = leave_after s setup.hash setup.few_contracts z before g w books.book (fits s setup g w books) (checks s setup g w books) books.clear kept.leave e is calm;
       }
 
-  pub left_with_leave : SpendsWithLeave s before w e (draft s w e) (settled w (draft s w e))
+  pub left_with_leave : SpendsWithLeave s before w (record_of e (draft s w e)) (settled w (draft s w e))
   left_with_leave = let books = kept.run.books in leave_of_event s setup before g w books.book (fits s setup g w books) (checks s setup g w books) kept.leave books.clear e is calm
 
   by_own_event : Licensed s e (steps_of s z g w (settled w (draft s w e)) e (draft s w e))
@@ -59,8 +59,8 @@ keeps_licence s setup z = record { step = λ before g w e k is calm unguessed be
 
 -- an honest party's live deposit goes only with its leave
 pub honest_deposits : HonestDepositsTheorem
-honest_deposits s es run = let z = (last_world s es).posted in holds_throughout s (spends_with_leave s) (KeptHonest s z) es (keeps_leave s run.setup z) run.events (opening_honest s es run z)
+honest_deposits s es run = let z = run_posts s es in holds_throughout s (spends_with_leave s) (KeptHonest s z) es (keeps_leave s run.setup z) run.events (opening_honest s es run z)
 
 -- honest parties authorise only by their own events
 pub licence : LicenceTheorem
-licence s es run = let z = (last_world s es).posted in holds_throughout s (licensed s) (KeptHonest s z) es (keeps_licence s run.setup z) run.events (opening_honest s es run z)
+licence s es run = let z = run_posts s es in holds_throughout s (licensed s) (KeptHonest s z) es (keeps_licence s run.setup z) run.events (opening_honest s es run z)

@@ -35,7 +35,7 @@ use Rattle.spec_run.specs.Giving.{first_foreign, give_row, given_pairs, gift}
 use Rattle.spec_run.specs.Firing.{initial_by, taking_by, reaches_if, fire_init_row, fire_row}
 use Rattle.spec_run.specs.Ledger.{verdict_in, strings_of, items_of, reason_of, accepted, judged, reaches, spend_from, made_from, kind_of, new_held}
 use Rattle.spec_run.specs.HonestDeposits.{gives, by_transaction, SpendsWithLeave}
-use Rattle.spec_run.specs.Event.{append_read, mine_row, draft}
+use Rattle.spec_run.specs.Event.{append_read, mine_row, draft, record_of}
 use Rattle.theory_run.proofs.Adverts.{none_is}
 use Rattle.theory_world.proofs.Same.{bytes-true, bytes_refl}
 use Rattle.theory_world.proofs.Hashed.{NoClash, no_clash, among_left, all_more, all_new}
@@ -97,7 +97,7 @@ gone_spent os news spent n o there live gone = by_test (has_number n spent) refl
 module _ (s : Setup) (setup : IsSetup s) (before : List Record) (g : Configuration) (w : World) (kept : KeptBook s g w) (fit : DraftsFit s w) (check : Checked s w) (leave : KeptLeave s before g w) (clear : NoClash s.hash w.hashed) where
   -- the claim of one event that comes to this draft, unless it collides
   abbrev Claims : Event → Draft → Type 0
-  Claims e d = collision s.hash w.hashed d.hashes ≡ None → SpendsWithLeave s before w e d (settled w d)
+  Claims e d = collision s.hash w.hashed d.hashes ≡ None → SpendsWithLeave s before w (record_of e d) (settled w d)
 
   -- where no output is spent
   still : (e : Event) (d : Draft) → d.world.outputs ≡ w.outputs → Claims e d
@@ -183,7 +183,7 @@ module _ (s : Setup) (setup : IsSetup s) (before : List Record) (g : Configurati
       let last = committed_draft s (with_promise s w k party ds) k party strings in
       unless_still e (first_reason (commit_row s w k party ds)) [] (unless (first_reason (digest_row s w k party ds)) w strings last) (λ r. unless_still e (first_reason (digest_row s w k party ds)) strings last (λ q. still e last refl))
 
-  pub leave_of_event : (e : Event) → IsEvent s e → collision s.hash w.hashed (draft s w e).hashes ≡ None → SpendsWithLeave s before w e (draft s w e) (settled w (draft s w e))
+  pub leave_of_event : (e : Event) → IsEvent s e → collision s.hash w.hashed (draft s w e).hashes ≡ None → SpendsWithLeave s before w (record_of e (draft s w e)) (settled w (draft s w e))
   leave_of_event (events.Advertise k bs) is =
       let d = done (record w { advertised = w.advertised ++ record { contract = k; bindings = arranged 0 (deposit_names s k) bs } ∷ [] }) [] in
       unless_still (events.Advertise k bs) (first_reason (advertise_row s w k bs)) [] d (λ r. still (events.Advertise k bs) d refl)

@@ -1,7 +1,8 @@
 -- Every run is, step by step, a legal run of the calculus, and both agree throughout.
-use Rattle.std.proofs.Common.{◌≡◌, ℕ, List, true, None, refl}
+use Rattle.std.proofs.Common.{◌≡◌, ℕ, List, [], ◌∷◌, ◌++◌, map, true, None, refl, sym, ap, ◌∙◌, subst}
 use Rattle.spec_calculus.specs.Configuration.{Configuration}
-use Rattle.spec_calculus.specs.Steps.{after}
+use Rattle.spec_calculus.specs.declared.step.Step.{Step}
+use Rattle.spec_calculus.specs.Steps.{after, effect, Legal}
 use Rattle.spec_run.specs.declared.event.Event.{Event}
 use Rattle.spec_run.specs.declared.outcome.Record.{Record}
 use Rattle.spec_run.specs.Setup.{Setup}
@@ -10,16 +11,17 @@ use Rattle.spec_run.specs.World.{World}
 use Rattle.spec_run.specs.Conditions.{IsSetup, IsEvent}
 use Rattle.spec_run.specs.Draft.{settled, guess}
 use Rattle.spec_run.specs.Secrets.{all_secrets}
-use Rattle.spec_run.specs.Event.{draft, opening_world, last_world}
+use Rattle.spec_run.specs.Event.{draft, opening_world}
 use Rattle.spec_run.specs.Steps.{steps_of}
-use Rattle.spec_run.specs.Translation.{opening_configuration}
-use Rattle.spec_run.specs.Statements.{IsRun, IsSimulated, simulated, SimulationTheorem}
+use Rattle.spec_run.specs.Translation.{Turn, record_in, opening_configuration, course, last_or, in_order}
+use Rattle.spec_run.specs.Agreement.{Agree}
+use Rattle.spec_run.specs.Statements.{IsRun, HoldsFrom, IsSimulated, simulated, SimulationTheorem}
 use Rattle.theory_run.proofs.Secrets.{different_secrets}
 use Rattle.theory_run.proofs.AllSecrets.{all_different}
 use Rattle.theory_run.proofs.Keeping.{Begins}
 use Rattle.theory_run.proofs.Opening.{opening_money, opening_secrets, opening_agrees}
 use Rattle.theory_run.proofs.Followed.{agree_all}
-use Rattle.theory_run.proofs.Following.{Keeps, holds_throughout}
+use Rattle.theory_run.proofs.Following.{Keeps, turn_at, run_posts, holds_throughout}
 use Rattle.theory_run.proofs.Bookkeeping.{KeptBooks, checks, fits, opening_keeps, keeps_after}
 use Rattle.theory_run.proofs.Tracking.{Tracks, IsTracked}
 use Rattle.theory_run.proofs.TrackEvery.{tracked_after}
@@ -46,9 +48,10 @@ module _ (s : Setup) (setup : IsSetup s) (z : List (List ℕ)) (g : Configuratio
     pub run_after : KeptRun s z (after g (steps_of s z g w (settled w (draft s w e)) e (draft s w e))) (settled w (draft s w e))
     run_after = record { tracks = followed.tracks; books = keeps_after s setup z g w kept.books e is calm }
 
-    pub simulates : IsSimulated s z g w e (draft s w e) (settled w (draft s w e))
+    pub simulates : IsSimulated s g (turn_at s z g w e)
     simulates = record {
       legal = followed.legal;
+      leads = refl;
       agrees = agree_all s there next run_after.books.book z run_after.tracks.money run_after.tracks.secrets run_after.tracks.advertised;
     }
 
@@ -67,13 +70,51 @@ opening_run s es run z = record {
 abbrev kept_by : Setup → List (List ℕ) → List Record → Configuration → World → Type 0
 kept_by s z before g w = KeptRun s z g w
 
+-- ---- all steps in order
+
+after-append : (xs ys : List Step) (g : Configuration) → after g (xs ++ ys) ≡ after (after g xs) ys
+after-append [] ys g = refl
+after-append (x ∷ xs) ys g = after-append xs ys (effect g x)
+
+legal-append : (xs ys : List Step) (g : Configuration) → Legal g xs → Legal (after g xs) ys → Legal g (xs ++ ys)
+legal-append [] ys g h k = k
+legal-append (x ∷ xs) ys g h k = (h.0, legal-append xs ys (effect g x) h.1 k)
+
+-- the steps of these turns are a legal run that leads to the last of their configurations
+pub record InOrder (g : Configuration) (ts : List Turn) : Type 0 where
+  pub legal : Legal g (in_order (map (λ t. t.steps) ts))
+  pub leads : after g (in_order (map (λ t. t.steps) ts)) ≡ last_or g (map (λ t. t.configuration) ts)
+
+joined : (s : Setup) (ts : List Turn) (before : List Record) (g : Configuration) (w : World) → HoldsFrom (simulated s) before g w ts → InOrder g ts
+joined s [] before g w h = record { legal = tt; leads = refl }
+joined s (t ∷ ts) before g w h =
+    let later = joined s ts (before ++ record_in t ∷ []) t.configuration t.world h.1 in
+    let there = h.0.leads in
+    let steps = in_order (map (λ x. x.steps) ts) in
+    record {
+      legal = legal-append t.steps steps g h.0.legal (subst (λ c. Legal c steps) (sym there) later.legal);
+      leads = after-append t.steps steps g ∙ ap (λ c. after c steps) there ∙ later.leads;
+    }
+
+-- configuration and world agree after the last turn
+ends_agreed : (s : Setup) (ts : List Turn) (before : List Record) (g : Configuration) (w : World) → Agree s g w → HoldsFrom (simulated s) before g w ts
+    → Agree s (last_or g (map (λ t. t.configuration) ts)) (last_or w (map (λ t. t.world) ts))
+ends_agreed s [] before g w agree h = agree
+ends_agreed s (t ∷ ts) before g w agree h = ends_agreed s ts (before ++ record_in t ∷ []) t.configuration t.world h.0.agrees h.1
+
 pub simulation : SimulationTheorem
 simulation s es run =
-    let z = (last_world s es).posted in
+    let z = run_posts s es in
     let keeps : Keeps s (simulated s) (kept_by s z) z = record {
       step = λ before g w e k is calm unguessed begins. (simulates s run.setup z g w k e is calm unguessed begins, run_after s run.setup z g w k e is calm unguessed begins);
     } in
+    let agree = opening_agrees s run.setup run.opens in
+    let all = holds_throughout s (simulated s) (kept_by s z) es keeps run.events (opening_run s es run z) in
+    let steps = joined s (course s es).turns [] (opening_configuration s) (opening_world s) all in
     record {
-      opening = opening_agrees s run.setup run.opens;
-      events = holds_throughout s (simulated s) (kept_by s z) es keeps run.events (opening_run s es run z);
+      opening = agree;
+      events = all;
+      legal = steps.legal;
+      leads = steps.leads;
+      agrees = ends_agreed s (course s es).turns [] (opening_configuration s) (opening_world s) agree all;
     }

@@ -1,7 +1,6 @@
 -- What is kept after an event that hands a transaction to the ledger, but for a gift: raw transactions, initial transactions and branches.
-use Rattle.std.proofs.Common.{◌≡◌, ℕ, ◌≤◌, List, [], ◌∷◌, ◌++◌, length, Bool, true, false, Option, Some, None, Result, Ok, Err, refl, sym, ap, ◌∙◌, subst, arith, length-append}
-use Rattle.std.specs.Prelude.{slice_get, if◌then◌else◌, option_map}
-use Rattle.std.specs.List.{flat_map}
+use Rattle.std.proofs.Common.{◌≡◌, ℕ, ◌≤◌, List, [], ◌∷◌, ◌++◌, length, Option, Some, None, Result, Ok, Err, refl, sym, ap, ◌∙◌, subst, arith}
+use Rattle.std.specs.Prelude.{slice_get, option_map}
 use Rattle.spec_data.specs.Lists.{first_reason}
 use Rattle.spec_terms.specs.Term as term
 use Rattle.spec_terms.specs.Term.{branches}
@@ -10,7 +9,6 @@ use Rattle.spec_terms.specs.declared.path.PathStep.TheVariants.{Branch as To}
 use Rattle.spec_bitcoin.specs.declared.tx.Tx.{Tx}
 use Rattle.spec_bitcoin.specs.declared.verdict.Verdict.{Verdict}
 use Rattle.spec_bitcoin.specs.declared.verdict.Verdict.TheVariants as verdicts
-use Rattle.spec_bitcoin.specs.Spelling.{word, compact, output_bytes, inputs_bytes, outputs_bytes, witnesses_bytes, is_marked, stripped, marked, spelling}
 use Rattle.spec_bitcoin.specs.Reading.{transaction_of}
 use Rattle.spec_calculus.specs.Configuration.{Configuration}
 use Rattle.spec_calculus.specs.Steps.{after}
@@ -38,39 +36,9 @@ use Rattle.theory_world.proofs.Worth.{accepted_by}
 use Rattle.theory_run.proofs.Kept.{KeptBook, HeldFine}
 use Rattle.theory_run.proofs.Spending.{TransactionsFit, Checked}
 use Rattle.theory_run.proofs.Reached.{reached_kept}
+use Rattle.theory_run.proofs.Sizes.{outputs_short}
 use Rattle.theory_world.proofs.Staying.{inits_stay, asked_stay}
 use Rattle.theory_run.proofs.Signings.{IsActive, active, held_contract, KeptAfter, refused_after, unless_after}
-
--- ---- bytes
-
-long_tail : (x y : List ℕ) → length y ≤ length (x ++ y)
-long_tail x y = let a = length-append x y in omega (arith, a)
-
-long_front : (x y : List ℕ) → length x ≤ length (x ++ y)
-long_front x y = let a = length-append x y in omega (arith, a)
-
--- outputs have no more bytes than their transaction
-outputs_short : (tx : Tx) → length (flat_map output_bytes tx.outputs) ≤ length (spelling tx)
-unfolding stripped marked
-outputs_short tx = by_mark (is_marked tx.inputs)
-  where
-    o : ℕ
-    o = length (flat_map output_bytes tx.outputs)
-
-    by_mark : (b : Bool) → o ≤ length (if b then marked tx else stripped tx)
-    by_mark true =
-        let rest = inputs_bytes tx.inputs ++ outputs_bytes tx.outputs ++ witnesses_bytes tx.inputs ++ word tx.lock in
-        let a = long_tail (word tx.version) (0 ∷ 1 ∷ rest) in
-        let b = long_front (inputs_bytes tx.inputs ++ outputs_bytes tx.outputs ++ witnesses_bytes tx.inputs) (word tx.lock) in
-        let c = long_front (inputs_bytes tx.inputs ++ outputs_bytes tx.outputs) (witnesses_bytes tx.inputs) in
-        let d = long_tail (inputs_bytes tx.inputs) (outputs_bytes tx.outputs) in
-        let e = long_tail (compact (length tx.outputs)) (flat_map output_bytes tx.outputs) in
-        omega (arith, a, b, c, d, e)
-    by_mark false =
-        let b = long_front (word tx.version ++ inputs_bytes tx.inputs ++ outputs_bytes tx.outputs) (word tx.lock) in
-        let c = long_tail (word tx.version ++ inputs_bytes tx.inputs) (outputs_bytes tx.outputs) in
-        let e = long_tail (compact (length tx.outputs)) (flat_map output_bytes tx.outputs) in
-        omega (arith, b, c, e)
 
 -- a transaction that a piece spells
 pub piece_numbered : (bytes : List ℕ) → IsPiece bytes → (tx : Tx) → transaction_of bytes ≡ Ok tx → IsNumbered tx

@@ -50,6 +50,7 @@ pub mod Secrets
 pub mod Signed
 pub mod Signings
 pub mod Simulated
+pub mod Sizes
 pub mod Spending
 pub mod Tested
 pub mod TrackAccepted

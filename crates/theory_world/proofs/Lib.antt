@@ -14,6 +14,7 @@ pub mod Hashed
 pub mod Keyed
 pub mod Labels
 pub mod Later
+pub mod Ledgers
 pub mod Made
 pub mod Mentions
 pub mod Once

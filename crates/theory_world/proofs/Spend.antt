@@ -26,7 +26,7 @@ spend-none k [] = refl
 spend-none k (o ∷ os) = ap (λ xs. o ∷ xs) (spend-none (k + 1) os)
 
 -- a number that lies before spends nothing
-spend-before : (j k : ℕ) (ns : List ℕ) (os : List Output) → j < k → spend_from k (j ∷ ns) os ≡ spend_from k ns os
+pub spend-before : (j k : ℕ) (ns : List ℕ) (os : List Output) → j < k → spend_from k (j ∷ ns) os ≡ spend_from k ns os
 spend-before j k ns [] h = refl
 spend-before j k ns (o ∷ os) h =
     let t : (j == k) ≡ false = ne_eqb j k (λ e. omega (arith, h, e)) in

@@ -9,7 +9,8 @@ use Rattle.spec_bitcoin.specs.declared.verdict.Verdict.TheVariants as verdicts
 use Rattle.spec_bitcoin.specs.Keys.{Pair, key_of, has_signed}
 use Rattle.spec_bitcoin.specs.Reading.{transaction_of}
 use Rattle.spec_compiler.specs.Setting.{Setting}
-use Rattle.spec_compiler.specs.Transactions.{Spent, tx_of, digest_of_spent}
+use Rattle.spec_compiler.specs.declared.unsigned.Spent.{Spent}
+use Rattle.spec_compiler.specs.Transactions.{tx_of, digest_of_spent}
 use Rattle.spec_run.specs.Setup.{Setup}
 use Rattle.spec_run.specs.World.{World}
 use Rattle.spec_run.specs.Compiled.{compiled_at}

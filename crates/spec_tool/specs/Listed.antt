@@ -12,9 +12,10 @@ use Rattle.spec_bitcoin.specs.declared.label.Label.{Label}
 use Rattle.spec_bitcoin.specs.declared.label.Label.TheVariants as labels
 use Rattle.spec_bitcoin.specs.Keys.{path_text}
 use Rattle.spec_compiler.specs.Setting.{Setting, branch_label}
-use Rattle.spec_compiler.specs.Transactions.{Draft, initial_draft}
-use Rattle.spec_compiler.specs.Compilation.{drafts}
-use Rattle.spec_compiler.specs.ByPath.{draft_at}
+use Rattle.spec_compiler.specs.declared.unsigned.Unsigned.{Unsigned}
+use Rattle.spec_compiler.specs.Transactions.{initial_unsigned}
+use Rattle.spec_compiler.specs.Compilation.{path_transactions}
+use Rattle.spec_compiler.specs.ByPath.{unsigned_at}
 use Rattle.spec_compiler.specs.Endorsements.{put_owner}
 use Rattle.spec_tool.specs.declared.which.Which.{Which}
 use Rattle.spec_tool.specs.declared.which.Which.TheVariants as names
@@ -23,7 +24,7 @@ use Rattle.std.specs.Prelude.{codes}
 -- a transaction by its name, what it does, and for each of its inputs the labels whose keys sign it
 pub record Listed : Type 0 where
   pub which : Which
-  pub draft : Draft
+  pub draft : Unsigned
   pub signers : List (List Label)
 
 -- ---- who signs
@@ -48,19 +49,19 @@ path_signers setting path = option_map_or (branch_signers setting.contract setti
 -- ---- the transactions
 
 abbrev pub initial_listed : (List ℕ → List ℕ) → Setting → Listed
-initial_listed hash setting = record { which = names.Init; draft = initial_draft hash setting; signers = initial_signers setting.advert }
+initial_listed hash setting = record { which = names.Init; draft = initial_unsigned hash setting; signers = initial_signers setting.advert }
 
-abbrev pub path_listed : Setting → List PathStep → Draft → Listed
+abbrev pub path_listed : Setting → List PathStep → Unsigned → Listed
 path_listed setting path draft = record { which = names.At path; draft = draft; signers = path_signers setting path }
 
 -- all of them: the initial one, and then those of the paths in the order of the text
 abbrev pub listed : (List ℕ → List ℕ) → Setting → List Listed
-listed hash setting = initial_listed hash setting ∷ map (λ p. path_listed setting (p.0) (p.1)) (drafts hash setting)
+listed hash setting = initial_listed hash setting ∷ map (λ p. path_listed setting (p.0) (p.1)) (path_transactions hash setting)
 
 -- the one of this name
 abbrev pub listed_at : (List ℕ → List ℕ) → Setting → Which → Option Listed
 listed_at hash setting names.Init = Some (initial_listed hash setting)
-listed_at hash setting (names.At path) = option_map (path_listed setting path) (draft_at hash setting path)
+listed_at hash setting (names.At path) = option_map (path_listed setting path) (unsigned_at hash setting path)
 
 -- ---- names
 

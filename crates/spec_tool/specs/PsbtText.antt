@@ -10,7 +10,9 @@ use Rattle.spec_bitcoin.specs.declared.tx.TxOut.{TxOut}
 use Rattle.spec_bitcoin.specs.Keys.{Pair, key_of, signature_of, has_signed}
 use Rattle.spec_bitcoin.specs.Spelling.{stripped}
 use Rattle.spec_compiler.specs.Setting.{Setting}
-use Rattle.spec_compiler.specs.Transactions.{Spent, Draft, tx_of, digest_of_spent, pays}
+use Rattle.spec_compiler.specs.declared.unsigned.Spent.{Spent}
+use Rattle.spec_compiler.specs.declared.unsigned.Unsigned.{Unsigned}
+use Rattle.spec_compiler.specs.Transactions.{tx_of, digest_of_spent, pays}
 use Rattle.spec_run.specs.declared.event.Event.{Event}
 use Rattle.spec_run.specs.Setup.{Setup, contract_at}
 use Rattle.spec_run.specs.World.{World}
@@ -41,7 +43,7 @@ signatures_there hash book (label ∷ rest) digest =
     else signatures_there hash book rest digest
 
 -- an input that spends this and is to be signed by these, with the signatures that are there
-abbrev pub signed_input : (List ℕ → List ℕ) → List Pair → Draft → Spent → List Label → PsbtInput
+abbrev pub signed_input : (List ℕ → List ℕ) → List Pair → Unsigned → Spent → List Label → PsbtInput
 signed_input hash book draft spent signers = record {
   spent = Some (pays hash spent.script spent.value);
   partial = signatures_there hash book signers (digest_of_spent hash (tx_of draft) spent);
@@ -50,7 +52,7 @@ signed_input hash book draft spent signers = record {
   witness = None;
 }
 
-abbrev pub signed_inputs : (List ℕ → List ℕ) → List Pair → Draft → List Spent → List (List Label) → List PsbtInput
+abbrev pub signed_inputs : (List ℕ → List ℕ) → List Pair → Unsigned → List Spent → List (List Label) → List PsbtInput
 signed_inputs hash book draft [] signers = []
 signed_inputs hash book draft (spent ∷ rest) [] = []
 signed_inputs hash book draft (spent ∷ rest) (labels ∷ others) = signed_input hash book draft spent labels ∷ signed_inputs hash book draft rest others

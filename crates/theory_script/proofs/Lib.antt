@@ -27,3 +27,4 @@ mod InOrder
 pub mod Faultless
 pub mod Balances
 mod Money
+mod Items

@@ -1,3 +1,5 @@
 pub mod Listed
 pub mod Choices
 pub mod Money
+pub mod Items
+pub mod Limits

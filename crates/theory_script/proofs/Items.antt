@@ -1,6 +1,7 @@
 -- A number's item is the only shortest one.
-use Rattle.std.proofs.Common.{◌≡◌, ℕ, zero, suc, ◌+◌, ◌*◌, ◌/◌, ◌%◌, ◌<◌, ◌≤◌, List, [], ◌∷◌, length, Bool, true, false, not, ◌-◌, Some, None, refl, sym, ap, ◌∙◌, subst, arith}
-use Rattle.std.specs.Prelude.{if◌then◌else◌, nat_lt, nat_le, ◌==◌, ◌||◌, ℤ, pos, negsuc, ◌-ℤ◌, Option}
+use Rattle.std.proofs.Common.{◌≡◌, ℕ, zero, suc, ◌+◌, ◌*◌, ◌/◌, ◌%◌, ◌<◌, ◌≤◌, List, [], ◌∷◌, length, Bool, true, false, not, ◌-◌, Some}
+use Rattle.std.proofs.Common.{None, refl, ap, subst, arith}
+use Rattle.std.specs.Prelude.{if◌then◌else◌, nat_lt, nat_le, ◌==◌, ◌||◌, ℤ, pos, negsuc, ◌-ℤ◌}
 use Rattle.std.proofs.Math.Nat.{div-add-mod}
 use Rattle.std.proofs.lemmas.Int.{ints}
 use Rattle.spec_bitcoin.specs.Numbers.{signed, signed_bytes, item_of_number, number_of_item, magnitude, is_negative}
@@ -39,11 +40,13 @@ shortest_bytes zero (suc k) n before negative lt r h =
     rw t (last_shortest n before negative r h)
 shortest_bytes (suc j) (suc k) n before negative lt r h =
     by_size (nat_lt n 128) refl (spells j k (n / 256) negative (omega arith) (omega (arith, div-add-mod n 256)))
-      (λ m. shortest_bytes j k (n / 256) (n % 256) negative (omega arith) (omega (arith, div-add-mod n 256)) m)
+    (λ m. shortest_bytes j k (n / 256) (n % 256) negative (omega arith) (omega (arith, div-add-mod n 256)) m)
   where
     by_size : (b : Bool) → nat_lt n 128 ≡ b → Spells (signed_bytes k (n / 256) negative) (n / 256) negative (j + 1)
         → ((n / 256 ≡ 0 → 128 ≤ n % 256) → ends_shortest (n % 256) (signed_bytes k (n / 256) negative) ≡ true)
-        → ends_shortest before (if b then (n + (if negative then 128 else 0)) ∷ [] else (n % 256) ∷ signed_bytes k (n / 256) negative) ≡ true
+        → ends_shortest before
+        (if b then (n + (if negative then 128 else 0)) ∷ [] else (n % 256) ∷ signed_bytes k (n / 256) negative)
+        ≡ true
     by_size true t s ih = last_shortest n before negative (grind arith) h
     by_size false t s ih =
         let ge : 128 ≤ n = grind arith in
@@ -77,14 +80,15 @@ few_bytes (suc k) (b ∷ (c ∷ rest)) negative h e =
   where
     by_size : (t : Bool) → length (signed_bytes k (magnitude (c ∷ rest)) negative) ≤ length (c ∷ rest)
         → length (
-          if t then (b + 256 * magnitude (c ∷ rest) + (if negative then 128 else 0)) ∷ []
-          else ((b + 256 * magnitude (c ∷ rest)) % 256) ∷ signed_bytes k ((b + 256 * magnitude (c ∷ rest)) / 256) negative
+        if t then (b + 256 * magnitude (c ∷ rest) + (if negative then 128 else 0)) ∷ []
+        else ((b + 256 * magnitude (c ∷ rest)) % 256) ∷ signed_bytes k ((b + 256 * magnitude (c ∷ rest)) / 256) negative
         )
         ≤ length (b ∷ (c ∷ rest))
     by_size true ih = omega arith
     by_size false ih =
         let lt : b < 256 = h 0 in
-        let q : (b + 256 * magnitude (c ∷ rest)) / 256 ≡ magnitude (c ∷ rest) = omega (arith, div-add-mod (b + 256 * magnitude (c ∷ rest)) 256, lt) in
+        let d = div-add-mod (b + 256 * magnitude (c ∷ rest)) 256 in
+        let q : (b + 256 * magnitude (c ∷ rest)) / 256 ≡ magnitude (c ∷ rest) = omega (arith, d, lt) in
         rw q (omega (arith, ih))
 
 -- ---- a shortest item is the number's own
@@ -184,7 +188,8 @@ unfolding number_of_item item_of_number
 shortest_item [] z h n = let e : pos 0 ≡ z = cc in subst (IsItemOf []) e (record { least = omega arith; same = λ s. refl })
 shortest_item (b ∷ rest) z h n = by_length (nat_le (length (b ∷ rest)) 4) refl n
   where
-    by_length : (t : Bool) → nat_le (length (b ∷ rest)) 4 ≡ t → (if t then Some (signed (is_negative (b ∷ rest)) (magnitude (b ∷ rest))) else None) ≡ Some z → IsItemOf (b ∷ rest) z
+    by_length : (t : Bool) → nat_le (length (b ∷ rest)) 4 ≡ t
+        → (if t then Some (signed (is_negative (b ∷ rest)) (magnitude (b ∷ rest))) else None) ≡ Some z → IsItemOf (b ∷ rest) z
     by_length true t k =
         let e : signed (is_negative (b ∷ rest)) (magnitude (b ∷ rest)) ≡ z = cc in
         let some : (length (b ∷ rest) == 0) ≡ false = grind arith in

@@ -94,7 +94,7 @@ pub keeps_limits : (branches : List Demands) → IsChecked branches → KeepsLim
 keeps_limits branches c =
     let s = output_sized branches (all_kept branches c.well c.operations).sizes in
     let ops : nat_le (count_by is_counted (output_ops branches)) 201 ≡ true =
-      rw (← counted_is (output_ops branches), s.operations_are) (grind (arith, c.operations)) in
+    rw (← counted_is (output_ops branches), s.operations_are) (grind (arith, c.operations)) in
     record {
       limits = and_from _ _ (all_pushable (output_ops branches) s.written) ops;
       few = omega (arith, s.few, c.operations);

@@ -1,5 +1,6 @@
 -- What is claimed of numbers as items of Bitcoin's script: each in range is read back, and its item is the only shortest one.
-use Rattle.std.specs.Prelude.{◌≡◌, ℕ, ◌+◌, ◌%◌, ◌≤◌, List, [], ◌∷◌, length, Bool, true, not, ◌||◌, nat_le, ◌==◌, if◌then◌else◌, Some, ℤ, pos, negsuc}
+use Rattle.std.specs.Prelude.{◌≡◌, ℕ, ◌+◌, ◌%◌, ◌≤◌, List, [], ◌∷◌, length, Bool, true, not, ◌||◌, nat_le, ◌==◌, if◌then◌else◌, Some, ℤ}
+use Rattle.std.specs.Prelude.{pos, negsuc}
 use Rattle.spec_bitcoin.specs.Numbers.{number_of_item, item_of_number}
 use Rattle.spec_bitcoin.specs.Spelling.{IsBytes}
 

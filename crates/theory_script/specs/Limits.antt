@@ -22,7 +22,8 @@ pub record MeetsNoLimit (hash : List ℕ → List ℕ) (s : Setting) (position :
   pub few : length (ops_at hash s position choice) ≤ 402
   -- so what the script means is what its operations make of the stack
   pub means : (valid : List ℕ → List ℕ → Bool) (stack : List (List ℕ))
-      → script_meaning hash valid (position_script hash s position choice) stack ≡ meaning hash valid (ops_at hash s position choice) (reverse stack)
+      → script_meaning hash valid (position_script hash s position choice) stack
+      ≡ meaning hash valid (ops_at hash s position choice) (reverse stack)
 
 -- of every position of a checked contract
 abbrev pub NoLimitIsMet : Type 0

@@ -15,7 +15,7 @@ use Rattle.spec_terms.specs.Paths as terms
 use Rattle.spec_terms.specs.Balance.{after_put, branch_stands, stands_under, part_stands, root_balance, stands}
 use Rattle.spec_terms.specs.Balance as balance
 use Rattle.spec_data.specs.Ranges.{max_money}
-use Rattle.spec_terms.specs.Faults.{IsWellFormed, place_of, place_if, first_place, at_core, at_position, is_short, is_uneven, is_withdraw, sum_of_parts, is_too_much}
+use Rattle.spec_terms.specs.Faults.{IsWellFormed, place_of, place_if, first_place, at_core, at_position, is_short, is_uneven, is_too_much}
 use Rattle.spec_terms.specs.declared.place.Place.{Place}
 use Rattle.spec_terms.specs.declared.path.PathStep.{PathStep}
 use Rattle.spec_terms.specs.declared.path.PathStep.TheVariants.{Branch as To, Part as Into}

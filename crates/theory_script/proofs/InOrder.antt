@@ -5,7 +5,7 @@ use Rattle.spec_terms.specs.Term as term
 use Rattle.spec_terms.specs.Term.{Choice, no_branch, branch, Parts, no_part, part, auth, after, put_reveal, withdraw, split}
 use Rattle.spec_terms.specs.Core.{lock}
 use Rattle.spec_terms.specs.Paths as terms
-use Rattle.spec_terms.specs.Order.{Stop, stop, branches_from, under, parts_from, if_branch, if_position}
+use Rattle.spec_terms.specs.Order.{Stop, branches_from, under, parts_from, if_branch, if_position}
 use Rattle.spec_terms.specs.Order.{branch_paths_of, position_paths_of, branch_paths, position_paths}
 use Rattle.spec_terms.specs.declared.path.PathStep.{PathStep}
 use Rattle.spec_compiler.specs.declared.prepared.Prepared.{Prepared}
@@ -13,7 +13,7 @@ use Rattle.spec_compiler.specs.declared.unsigned.Unsigned.{Unsigned}
 use Rattle.spec_compiler.specs.Setting.{Setting, branch_path}
 use Rattle.spec_compiler.specs.Transactions.{Standing, part_position, part_standing, root_standing, prepared}
 use Rattle.spec_compiler.specs.Compilation.{choice_transactions, branch_transactions, parts_transactions, path_transactions}
-use Rattle.spec_compiler.specs.Compilation.{choice_scripts, branch_scripts, parts_scripts, scripts, compilation}
+use Rattle.spec_compiler.specs.Compilation.{choice_scripts, branch_scripts, parts_scripts, compilation}
 
 -- the paths of a list
 abbrev paths_of : {V : Type 0} → List (List PathStep × V) → List (List PathStep)
@@ -46,27 +46,34 @@ module _ (hash : List ℕ → List ℕ) (s : Setting) where
     choice_paths here i no_branch = refl
     choice_paths here i (branch b bs) =
         let p = branch_path here.position i in
-        map-append (λ (e : List PathStep × Unsigned). e.0) (branch_transactions hash s here i (lock b) b) (choice_transactions hash s here (i + 1) bs)
+        map-append (λ (e : List PathStep × Unsigned). e.0)
+        (branch_transactions hash s here i (lock b) b) (choice_transactions hash s here (i + 1) bs)
         ∙ (λ j. one_paths here i (lock b) b j ++ choice_paths here (i + 1) bs j)
         ∙ ap (λ (ps : List (List PathStep)). p ∷ ps) (sym (branch_paths_of-append (under p b) (branches_from here.position (i + 1) bs)))
 
     one_paths : (here : Standing) (i l : ℕ) (b : term.Branch)
-        → paths_of (branch_transactions hash s here i l b) ≡ branch_path here.position i ∷ branch_paths_of (under (branch_path here.position i) b)
+        → paths_of (branch_transactions hash s here i l b)
+        ≡ branch_path here.position i ∷ branch_paths_of (under (branch_path here.position i) b)
     one_paths here i l (auth party body) = one_paths here i l body
     one_paths here i l (after height body) = one_paths here i l body
-    one_paths here i l (put_reveal puts reveals test next) = ap (λ (ps : List (List PathStep)). branch_path here.position i ∷ ps) (choice_paths _ 0 next)
+    one_paths here i l (put_reveal puts reveals test next) =
+        ap (λ (ps : List (List PathStep)). branch_path here.position i ∷ ps) (choice_paths _ 0 next)
     one_paths here i l (withdraw party) = refl
-    one_paths here i l (split parts) = ap (λ (ps : List (List PathStep)). branch_path here.position i ∷ ps) (parts_paths (branch_path here.position i) _ 0 parts)
+    one_paths here i l (split parts) =
+        let p = branch_path here.position i in
+        ap (λ (ps : List (List PathStep)). p ∷ ps) (parts_paths p _ 0 parts)
 
     parts_paths : (path : List PathStep) (made : Unsigned) (k : ℕ) (ps : Parts)
         → paths_of (parts_transactions hash s path made k ps) ≡ branch_paths_of (parts_from path k ps)
     parts_paths path made k no_part = refl
     parts_paths path made k (part v c ps) =
-        map-append (λ (e : List PathStep × Unsigned). e.0) (choice_transactions hash s (part_standing hash s path made k v c) 0 c) (parts_transactions hash s path made (k + 1) ps)
+        map-append (λ (e : List PathStep × Unsigned). e.0)
+        (choice_transactions hash s (part_standing hash s path made k v c) 0 c) (parts_transactions hash s path made (k + 1) ps)
         ∙ (λ j. choice_paths (part_standing hash s path made k v c) 0 c j ++ parts_paths path made (k + 1) ps j)
         ∙ sym (branch_paths_of-append (branches_from (part_position path k) 0 c) (parts_from path (k + 1) ps))
 
-  prepared_paths : (es : List (List PathStep × Unsigned)) → paths_of (map {B = List PathStep × Prepared} (λ e. (e.0, prepared hash e.1)) es) ≡ paths_of es
+  prepared_paths : (es : List (List PathStep × Unsigned))
+      → paths_of (map {B = List PathStep × Prepared} (λ e. (e.0, prepared hash e.1)) es) ≡ paths_of es
   prepared_paths [] = refl
   prepared_paths (e ∷ es) = ap (λ (ps : List (List PathStep)). e.0 ∷ ps) (prepared_paths es)
 

@@ -28,3 +28,4 @@ mod InOrder
 pub mod Faultless
 pub mod Balances
 mod Money
+mod Items

@@ -1,6 +1,6 @@
 -- The limit on items is not met by short operations.
-use Rattle.std.proofs.Common.{◌≡◌, ℕ, ◌+◌, ◌≤◌, List, [], ◌∷◌, length, Bool, true, false, Option, Some, None, refl, sym, ap, ◌∙◌, arith}
-use Rattle.std.specs.Prelude.{if◌then◌else◌, nat_le, ℤ}
+use Rattle.std.proofs.Common.{◌≡◌, ℕ, ◌+◌, ◌≤◌, List, [], ◌∷◌, length, Bool, true, false, Option, Some, None, refl, sym, ap, ◌∙◌, subst, arith}
+use Rattle.std.specs.Prelude.{if◌then◌else◌, nat_le, ℤ, reverse}
 use Rattle.std.specs.Option.{option_and_then, option_map}
 use Rattle.std.specs.Str.{bytes_eq}
 use Rattle.spec_bitcoin.specs.declared.script.Op.{Op}
@@ -10,7 +10,8 @@ use Rattle.spec_bitcoin.specs.declared.opcode.Opcode.TheVariants.{Constant, Bina
 use Rattle.spec_bitcoin.specs.Opcodes.{opcode_of}
 use Rattle.spec_bitcoin.specs.Numbers.{number_of_item}
 use Rattle.spec_bitcoin.specs.Effects.{Item, Stacks, effect, item_of_bool, binary_of, pick_of, copied_of, not_of, on_main, truth, with_number, verify_of}
-use Rattle.spec_bitcoin.specs.Meaning.{act, within_limit, run, succeeds}
+use Rattle.spec_bitcoin.specs.Meaning.{act, within_limit, within_limits, run, succeeds, meaning, script_meaning}
+use Rattle.spec_bitcoin.specs.Scripts.{script_ops}
 use Rattle.spec_bitcoin.specs.Trees.{Items}
 use Rattle.theory_script.proofs.Runs.{free_act, free_run, and_then_assoc}
 use Rattle.theory_script.proofs.Blocks.{plains}
@@ -145,3 +146,28 @@ module _ (hash : Item → Item) (valid : Item → Item → Bool) where
   run_plains (op ∷ ops) rest s =
       ap (λ (f : Stacks → Option Stacks). option_and_then f (act hash valid op s)) (λ i t. run_plains ops rest t i)
       ∙ sym (and_then_assoc (run hash valid rest) (flat_run hash valid ops) (act hash valid op s))
+
+-- ---- a script that keeps the other limits means what its operations make of the stack
+
+pub script_means : (hash : Item → Item) (valid : Item → Item → Bool) (script : List ℕ) (ops : List Op) (stack : List Item)
+    → length script ≤ 10000 → script_ops script ≡ Some ops → within_limits ops ≡ true
+    → script_meaning hash valid script stack ≡ meaning hash valid ops (reverse stack)
+unfolding script_meaning
+script_means hash valid script ops stack few reads kept =
+    let bytes : nat_le (length script) 10000 ≡ true = grind (arith, few) in
+    rw (bytes, reads, kept) refl
+
+-- ---- an operation adds at most one item
+
+held : (o : Option Stacks) (n : ℕ) (t : Stacks) → Holds n o → option_and_then within_limit o ≡ Some t → length t.main + length t.alt ≤ n
+held None n t h e = cc
+held (Some s) n t h e = by_limit (nat_le (length s.main + length s.alt) 1000) e
+  where
+    by_limit : (b : Bool) → (if b then Some s else None) ≡ Some t → length t.main + length t.alt ≤ n
+    by_limit true k = let z : s ≡ t = cc in subst (λ (r : Stacks). length r.main + length r.alt ≤ n) z h
+    by_limit false k = cc
+
+pub adds_one : (hash : Item → Item) (valid : Item → Item → Bool) (op : Op) (s t : Stacks) → act hash valid op s ≡ Some t
+    → length t.main + length t.alt ≤ length s.main + length s.alt + 1
+adds_one hash valid op s t e =
+    held (free_act hash valid op s) _ t (act_holds hash valid op s) (sym (act_is hash valid op s) ∙ e)

@@ -1,5 +1,5 @@
 -- A contract's transactions pay out all that they spend but the fee.
-use Rattle.std.proofs.Common.{◌≡◌, ℕ, ◌+◌, ◌-◌, ◌≤◌, List, [], ◌∷◌, map, Bool, true, false, not, Option, Some, None, refl, sym, ap, ◌∙◌, subst, arith}
+use Rattle.std.proofs.Common.{◌≡◌, ℕ, ◌+◌, ◌≤◌, List, [], ◌∷◌, map, Bool, true, not, Option, Some, None, refl, ap, ◌∙◌, subst, arith}
 use Rattle.std.specs.Prelude.{◌&&◌, slice_get, option_map, option_and_then, pos, int_lt, sum_by}
 use Rattle.std.specs.Ordering.{int_eq}
 use Rattle.std.proofs.lemmas.Bool.{and_parts, not-true}
@@ -8,22 +8,21 @@ use Rattle.std.proofs.lemmas.List.Sums.{sum_by-cons}
 use Rattle.spec_data.specs.Lists.{look_up}
 use Rattle.spec_terms.specs.Term as term
 use Rattle.spec_terms.specs.Term.{Choice, branches, Parts, no_part, part, auth, after, put_reveal, withdraw, split}
-use Rattle.spec_terms.specs.Core.{core, lock, puts_of}
+use Rattle.spec_terms.specs.Core.{core, lock}
 use Rattle.spec_terms.specs.Precondition.{Holding, persistent, volatile, total_of, value_of, value_of_puts}
 use Rattle.spec_terms.specs.Paths as terms
-use Rattle.spec_terms.specs.Balance as balance
 use Rattle.spec_terms.specs.Faults.{IsWellFormed, is_short, is_uneven, is_withdraw, sum_of_parts}
 use Rattle.spec_terms.specs.declared.path.PathStep.{PathStep}
 use Rattle.spec_bitcoin.specs.declared.tx.TxOut.{TxOut}
 use Rattle.spec_compiler.specs.declared.unsigned.Spent.{Spent}
 use Rattle.spec_compiler.specs.declared.unsigned.Unsigned.{Unsigned}
 use Rattle.spec_compiler.specs.Setting.{Setting, branch_path, position_script}
-use Rattle.spec_compiler.specs.Transactions.{Standing, pays, deposit, holding_or_none, put_deposits, persistent_deposits, part_position, part_outputs, continued_value}
-use Rattle.spec_compiler.specs.Transactions.{core_outputs, core_unsigned, branch_unsigned, initial_unsigned, root_value}
+use Rattle.spec_compiler.specs.Transactions.{Standing, pays, deposit, holding_or_none, put_deposits, part_position, part_outputs}
+use Rattle.spec_compiler.specs.Transactions.{core_unsigned, branch_unsigned, initial_unsigned}
 use Rattle.spec_compiler.specs.ByPath as by_path
 use Rattle.spec_compiler.specs.ByPath.{Stand, branch_stand, stand_at, as_position, position_at, as_unsigned, unsigned_at}
-use Rattle.theory_script.specs.Money.{paid_out, paid_in, IsKept, Pays}
-use Rattle.theory_script.proofs.Balances.{is_kept, Fine, root_enough, stand_fine, put_enough, position_fine, branch_fine}
+use Rattle.theory_script.specs.Money.{IsKept, Pays}
+use Rattle.theory_script.proofs.Balances.{Fine, root_enough, stand_fine, put_enough, position_fine, branch_fine}
 
 -- ---- sums
 
@@ -58,7 +57,8 @@ module _ (hash : List ℕ → List ℕ) (s : Setting) where
 
   -- ---- a branch that its position pays for
 
-  core_kept : (here : Standing) (i l : ℕ) (b : term.Branch) → Pays s.advert here.output.value (core b) → IsKept s.advert (core_unsigned hash s here i l (core b))
+  core_kept : (here : Standing) (i l : ℕ) (b : term.Branch) → Pays s.advert here.output.value (core b)
+      → IsKept s.advert (core_unsigned hash s here i l (core b))
   core_kept here i l (auth party body) h = core_kept here i l body h
   core_kept here i l (after height body) h = core_kept here i l body h
   core_kept here i l (put_reveal puts reveals test next) h =
@@ -75,20 +75,29 @@ module _ (hash : List ℕ → List ℕ) (s : Setting) where
   withdraw_pays : (v : ℕ) → not (int_lt (pos v) (pos s.advert.fee)) ≡ true → s.advert.fee ≤ v
   withdraw_pays v h = let k = not-true _ h in grind (arith, ints, k)
 
-  split_pays : (v : ℕ) (ps : Parts) → not (not (int_eq (pos (sum_of_parts ps + s.advert.fee)) (pos v))) ≡ true → sum_of_parts ps + s.advert.fee ≡ v
+  split_pays : (v : ℕ) (ps : Parts) → not (not (int_eq (pos (sum_of_parts ps + s.advert.fee)) (pos v))) ≡ true
+      → sum_of_parts ps + s.advert.fee ≡ v
   split_pays v ps h = grind (arith, ints, h)
 
   -- the position of a branch pays for its core
-  core_pays : (here : Standing) (i : ℕ) (w b : term.Branch) → core w ≡ core b → Fine hash s (by_path.at_branch here i w) → Pays s.advert here.output.value (core b)
+  -- the check of a branch, without that of all money
+  seen : (here : Standing) (i : ℕ) (w : term.Branch) → Fine hash s (by_path.at_branch here i w)
+      → (not (is_withdraw (core w) && int_lt (pos here.output.value) (pos s.advert.fee)) ≡ true)
+      × (not (is_uneven s.advert.fee (pos here.output.value) (core w)) ≡ true)
+  seen here i w f =
+      and_parts (not (is_short s.advert.fee (pos here.output.value) (terms.at_branch w))) _ (and_parts _ true f.1.0).0
+
+  core_pays : (here : Standing) (i : ℕ) (w b : term.Branch) → core w ≡ core b → Fine hash s (by_path.at_branch here i w)
+      → Pays s.advert here.output.value (core b)
   core_pays here i w (auth party body) e f = core_pays here i w body e f
   core_pays here i w (after height body) e f = core_pays here i w body e f
   core_pays here i w (put_reveal puts reveals test next) e f = put_enough hash s here i w puts reveals test next e f
   core_pays here i w (withdraw party) e f =
-      let p = subst (λ c. not (is_withdraw c && int_lt (pos here.output.value) (pos s.advert.fee)) ≡ true) e (and_parts (not (is_short s.advert.fee (pos here.output.value) (terms.at_branch w))) _ (and_parts _ true f.1.0).0).0 in
-      withdraw_pays here.output.value p
+      let test : term.Branch → Bool = λ c. not (is_withdraw c && int_lt (pos here.output.value) (pos s.advert.fee)) in
+      withdraw_pays here.output.value (subst (λ c. test c ≡ true) e (seen here i w f).0)
   core_pays here i w (split parts) e f =
-      let p = subst (λ c. not (is_uneven s.advert.fee (pos here.output.value) c) ≡ true) e (and_parts (not (is_short s.advert.fee (pos here.output.value) (terms.at_branch w))) _ (and_parts _ true f.1.0).0).1 in
-      split_pays here.output.value parts p
+      let test : term.Branch → Bool = λ c. not (is_uneven s.advert.fee (pos here.output.value) c) in
+      split_pays here.output.value parts (subst (λ c. test c ≡ true) e (seen here i w f).1)
 
   module _ (well : IsWellFormed s.advert) where
     pub initial_kept : IsKept s.advert (initial_unsigned hash s)
@@ -111,7 +120,9 @@ module _ (hash : List ℕ → List ℕ) (s : Setting) where
         by_stand (Some st) e k = by_end st (stand_fine hash s well path st e) k
 
     pub positions_pay : (position : List PathStep) (here : Standing) (choice : Choice) (i : ℕ) (b : term.Branch)
-        → position_at hash s position ≡ Some (here, choice) → slice_get (branches choice) i ≡ Some b → Pays s.advert here.output.value (core b)
+        → position_at hash s position ≡ Some (here, choice) → slice_get (branches choice) i ≡ Some b
+        → Pays s.advert here.output.value (core b)
     positions_pay position here choice i b h k =
         let st : branch_stand here choice i ≡ Some (by_path.at_branch here i b) = ap (option_map (by_path.at_branch here i)) k in
-        core_pays here i b b refl (branch_fine hash s here choice i (by_path.at_branch here i b) (position_fine hash s well position here choice h) st)
+        core_pays here i b b refl
+        (branch_fine hash s here choice i (by_path.at_branch here i b) (position_fine hash s well position here choice h) st)

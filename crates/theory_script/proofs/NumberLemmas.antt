@@ -3,6 +3,7 @@ use Rattle.std.proofs.Common.{◌≡◌, ℕ, zero, suc, ◌+◌, ◌*◌, ◌/�
 use Rattle.std.specs.Prelude.{if◌then◌else◌, nat_lt, nat_le, ◌==◌, ℤ, pos, negsuc, ◌-ℤ◌, ◌+ℤ◌}
 use Rattle.std.proofs.Math.Nat.{div-add-mod}
 use Rattle.std.proofs.lemmas.Int.{ints}
+use Rattle.theory_script.specs.Items.{size_of_number}
 use Rattle.spec_bitcoin.specs.Numbers.{signed_bytes, item_of_number, number_of_item, magnitude, is_negative}
 
 -- enough bytes for the number, the room for its sign included
@@ -42,11 +43,6 @@ spells (suc j) (suc k) n negative h lt = by_size (nat_lt n 128) refl (spells j k
     by_size false t ih =
         let e : suc j + 1 ≡ (j + 1) + 1 = omega arith in
         rw e (more_bytes n (j + 1) negative (signed_bytes k (n / 256) negative) ih)
-
--- how far a number is from 0
-abbrev pub size_of_number : ℤ → ℕ
-size_of_number (pos n) = n
-size_of_number (negsuc n) = n + 1
 
 positive : (n : ℕ) (b : Bool) → n ≤ 2147483647 → (n == 0) ≡ b → number_of_item (if b then [] else signed_bytes 9 n false) ≡ Some (pos n)
 unfolding number_of_item

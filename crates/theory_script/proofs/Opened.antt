@@ -21,7 +21,9 @@ use Rattle.theory_script.proofs.Checked.{IsSound, AllSound, is_good}
 use Rattle.theory_script.proofs.Covered.{covered}
 use Rattle.theory_script.proofs.Costs.{bytes_are, operations_are}
 use Rattle.theory_script.proofs.Predicates.{within_of_test}
-use Rattle.theory_script.proofs.Whole.{says, has_cost}
+use Rattle.theory_script.specs.Limits.{MeetsNoLimit, ops_at}
+use Rattle.theory_script.proofs.Limits.{script_means}
+use Rattle.theory_script.proofs.Whole.{says, has_cost, keeps_limits}
 
 all_map : {X Y : Type 0} (f : Y → Bool) (g : X → Y) (xs : List X) → list_all f (map g xs) ≡ list_all (λ x. f (g x)) xs
 all_map f g [] = refl
@@ -143,4 +145,19 @@ module _ (hash : List ℕ → List ℕ) (s : Setting) (position : List PathStep)
         few_bytes = omega (arith, size.bytes, checked.bytes);
         few_operations = omega (arith, size.operations, checked.operations);
         spells = size.spells;
+      }
+
+  pub no_limit_met : (choice : Choice) → IsHash hash → IsCompiled s position choice → MeetsNoLimit hash s position choice
+  unfolding position_script
+  no_limit_met choice is_hash c =
+      let checked = is_checked choice is_hash c in
+      let size = cost_is choice is_hash c in
+      let kept = keeps_limits (position_demands hash s position choice) checked in
+      record {
+        bytes = size.few_bytes;
+        reads = size.spells;
+        limits = kept.limits;
+        few = kept.few;
+        means = λ valid stack. script_means hash valid (position_script hash s position choice) (ops_at hash s position choice) stack
+            size.few_bytes size.spells kept.limits;
       }

@@ -17,7 +17,8 @@ use Rattle.spec_data.specs.Lists.{is_among}
 use Rattle.theory_script.proofs.Demanded.{covers, covers_test}
 use Rattle.spec_compiler.specs.Scripts.{formula_ops, test_ops}
 use Rattle.theory_script.proofs.Cost.{formula_operations, test_operations}
-use Rattle.theory_script.proofs.NumberLemmas.{size_of_number, number_again, size_of_sum, size_of_difference}
+use Rattle.theory_script.specs.Items.{size_of_number}
+use Rattle.theory_script.proofs.NumberLemmas.{number_again, size_of_sum, size_of_difference}
 use Rattle.theory_script.proofs.Runs.{stacks, free_run, goes_on, push_runs, both_run}
 use Rattle.spec_bitcoin.specs.declared.opcode.Binary as binaries
 

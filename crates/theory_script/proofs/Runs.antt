@@ -9,7 +9,8 @@ use Rattle.spec_bitcoin.specs.Opcodes.{opcode_of}
 use Rattle.spec_bitcoin.specs.Numbers.{item_of_number}
 use Rattle.spec_bitcoin.specs.Effects.{Item, Stacks, effect, result_of}
 use Rattle.spec_bitcoin.specs.Scripts.{push_number}
-use Rattle.theory_script.proofs.NumberLemmas.{size_of_number, number_again}
+use Rattle.theory_script.specs.Items.{size_of_number}
+use Rattle.theory_script.proofs.NumberLemmas.{number_again}
 use Rattle.spec_bitcoin.specs.declared.opcode.Binary as binaries
 
 abbrev pub stacks : List Item → List Item → Stacks

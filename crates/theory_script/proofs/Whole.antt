@@ -7,7 +7,7 @@ use Rattle.spec_bitcoin.specs.declared.script.Op.{Op}
 use Rattle.spec_bitcoin.specs.declared.script.Op.TheVariants.{Push, Code}
 use Rattle.spec_bitcoin.specs.Effects.{Item, truth}
 use Rattle.spec_bitcoin.specs.Scripts.{encode, is_written, counted}
-use Rattle.spec_bitcoin.specs.Meaning.{is_short_push, is_counted, script_meaning}
+use Rattle.spec_bitcoin.specs.Meaning.{is_short_push, is_counted, within_limits, script_meaning}
 use Rattle.std.proofs.lemmas.List.Recursion.{is_count_by}
 use Rattle.std.proofs.lemmas.List.{reverse-append}
 use Rattle.spec_terms.specs.Term.{Test, always}
@@ -84,6 +84,21 @@ count_step (Code c) ops = count_one (nat_lt 0x60 c) (counted ops)
 
 counted_is : (ops : List Op) → counted ops ≡ count_by is_counted ops
 counted_is ops = is_count_by counted is_counted refl count_step ops
+
+-- what a checked position keeps of the limits
+pub record KeepsLimits (branches : List Demands) : Type 0 where
+  pub limits : within_limits (output_ops branches) ≡ true
+  pub few : length (output_ops branches) ≤ 402
+
+pub keeps_limits : (branches : List Demands) → IsChecked branches → KeepsLimits branches
+keeps_limits branches c =
+    let s = output_sized branches (all_kept branches c.well c.operations).sizes in
+    let ops : nat_le (count_by is_counted (output_ops branches)) 201 ≡ true =
+    rw (← counted_is (output_ops branches), s.operations_are) (grind (arith, c.operations)) in
+    record {
+      limits = and_from _ _ (all_pushable (output_ops branches) s.written) ops;
+      few = omega (arith, s.few, c.operations);
+    }
 
 pub all_append : {X : Type 0} (f : X → Bool) (xs ys : List X) → list_all f xs ≡ true → list_all f ys ≡ true → list_all f (xs ++ ys) ≡ true
 all_append f [] ys h k = k

@@ -2,3 +2,5 @@ pub mod Listed
 pub mod Choices
 pub mod Endorsed
 pub mod Money
+pub mod Items
+pub mod Limits

@@ -7,7 +7,9 @@ ghost use Rattle.theory_script.specs.Choices.{WitnessChooses, ChoosesByItems};
 ghost use Rattle.theory_script.specs.Endorsed.{MissingIsFirst};
 ghost use Rattle.theory_script.specs.Listed.{PathsAreListed, ScriptsAreListed, PositionsStand};
 ghost use Rattle.theory_script.specs.Listed.{PathsAreListed, ScriptsAreListed, PositionsStand, PathsInOrder};
+ghost use Rattle.theory_script.specs.Limits.{NoLimitIsMet, OperationsAddOne};
 ghost use Rattle.theory_script.specs.Money.{MoneyIsKept};
+ghost use Rattle.theory_script.specs.Items.{NumbersAreReadBack, ItemsAreShortest};
 
 /// The script of a position of a checked contract is true exactly on the stacks that open one of its branches.
 pub fn script_theorem()
@@ -76,4 +78,24 @@ pub fn paths_in_order()
 /// Each transaction of a checked contract pays out all that it spends but the fee, and each position pays for its branches.
 pub fn money_is_kept()
     ensures { MoneyIsKept }
+{}
+
+/// The number of each item that a script writes is read back, and the item is a shortest one.
+pub fn numbers_are_read_back()
+    ensures { NumbersAreReadBack }
+{}
+
+/// No item of a number is shorter than the one that a script writes, and no other is as short and a shortest one.
+pub fn items_are_shortest()
+    ensures { ItemsAreShortest }
+{}
+
+/// The script of a checked position meets no limit of scripts, whatever stack it runs on.
+pub fn no_limit_is_met()
+    ensures { NoLimitIsMet }
+{}
+
+/// An operation adds at most one item to the stacks.
+pub fn operations_add_one()
+    ensures { OperationsAddOne }
 {}

@@ -8,12 +8,9 @@ ghost use Rattle.bm_calculus.specs.Answers.{Leads, RefusesFor, seen, owner_and_v
 
 use crate::moves::{agree, auth_move_fails, forget, kept, move_fails, push_made};
 use spec_calculus::{Deposit, Move, MoveAuthorisation, Owner, Step};
-use spec_data::{Name, OutOfMemory};
+use spec_data::{LAST_HEIGHT, Name, OutOfMemory};
 use std::alloc::{AllocError, Global};
 use std::marker::Model;
-
-/// The greatest height.
-const LAST_HEIGHT: u64 = 499_999_999;
 
 /// What the calculus knows at a moment. There are no contracts yet.
 #[derive(Drop)]
@@ -200,7 +197,7 @@ fn delay_fails(time: u32, blocks: u32) -> u8
     if blocks == 0 {
         return 1;
     }
-    if time as u64 + blocks as u64 > LAST_HEIGHT {
+    if time as u64 + blocks as u64 > LAST_HEIGHT as u64 {
         return 2;
     }
     0

@@ -9,9 +9,7 @@ ghost use Rattle.spec_bitcoin.specs.Verdict as spec;
 
 use crate::outputs::{Live, find, value_of};
 use spec_bitcoin::{OutPoint, Refusal, Tx, TxIn, TxOut};
-
-/// The most satoshi that there are.
-const MAX_MONEY: u64 = 2_100_000_000_000_000;
+use spec_data::{LAST_HEIGHT, MAX_MONEY};
 
 // One of the inputs spends the output at a place.
 fn spends(inputs: &[TxIn], place: &OutPoint) -> bool
@@ -100,7 +98,7 @@ fn is_early(tip: u32, tx: &Tx) -> bool
     if tip < tx.lock {
         return true;
     }
-    500_000_000 <= tx.lock
+    LAST_HEIGHT < tx.lock
 }
 
 /// What is wrong with a transaction as a whole, if anything is.

@@ -4,8 +4,8 @@ ghost use Rattle.std.specs.Prelude.{◌≡◌};
 ghost use Rattle.spec_text.specs.Reading.{too_many};
 ghost use Rattle.spec_text.specs.ReadContract.{begins_branch, branch_limit as limit_of_branch, a_value};
 
-use crate::marks::MAX_MONEY;
 use bm_syntax::Limit;
+use spec_data::MAX_MONEY;
 use spec_text::{Keyword, Lexeme, Stop};
 
 /// Why reading stops, where a part here is one too many.

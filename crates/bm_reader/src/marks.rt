@@ -7,13 +7,8 @@ ghost use Rattle.bm_reader.specs.Gives.{Gives};
 
 use crate::error::ReadError;
 use crate::pieces::{number_of, small_of, wrong};
+use spec_data::{LAST_HEIGHT, MAX_MONEY};
 use spec_text::{Lexeme, Symbol};
-
-/// The most satoshi that there are.
-pub const MAX_MONEY: u64 = 2_100_000_000_000_000;
-
-/// The last block height that a lock time can name.
-const LAST_HEIGHT: u32 = 499_999_999;
 
 /// A plus is true, a bracket that closes is false.
 pub fn goes_on_of(lexemes: &[Lexeme]) -> Result<(bool, &[Lexeme]), ReadError>

@@ -8,9 +8,8 @@ ghost use Rattle.bm_reader.specs.Gives.{Gives};
 ghost use Rattle.bm_reader.specs.Entries.{entry_kind, room, room_behind, added};
 
 use crate::error::ReadError;
-use crate::marks::MAX_MONEY;
 use crate::pieces::{name_of, number_of, symbol_of, wrong};
-use spec_data::Name;
+use spec_data::{MAX_MONEY, Name};
 use spec_terms::{Limit, Pre};
 use spec_text::{Keyword, Lexeme, Stop, Symbol};
 use std::alloc::Global;

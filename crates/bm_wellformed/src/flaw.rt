@@ -13,6 +13,7 @@ use crate::entries::{are_secrets, are_volatile};
 use crate::names::{are_different, lengths_are_among};
 use bm_pred::{ScriptSize, cost, is_bounded};
 use bm_syntax::{Advert, Contract, Guarded, Part, core};
+use spec_data::MAX_MONEY;
 
 /// A fault, or a limit that is exceeded, that stands at a position or a branch.
 #[derive(Clone, Copy)]
@@ -28,16 +29,13 @@ pub enum Flaw {
     Script { parties: u32 },
 }
 
-/// The most satoshi that there can ever be.
-pub const MAX_MONEY: i128 = 2_100_000_000_000_000;
-
 /// Whether the position shows the flaw.
 pub fn position_shows(advert: &Advert, flaw: Flaw, balance: i128, choice: &Contract) -> bool
     ensures { result ≡ passes flaw advert.now balance (position (contract choice.now)) }
 {
     match flaw {
         Flaw::FeeShort => balance < 0,
-        Flaw::Balance => MAX_MONEY < balance,
+        Flaw::Balance => i128::from(MAX_MONEY) < balance,
         Flaw::Script { parties } => is_too_large(choice, parties),
         Flaw::UnknownDeposit => false,
         Flaw::UnknownSecret => false,

@@ -4,3 +4,7 @@ pub mod WorkedPsbt
 pub mod WorkedPsbtFiles
 pub mod WorkedStrategies
 pub mod WorkedRounds
+pub mod WorkedHash
+pub mod WorkedAudit
+pub mod WorkedWeights
+pub mod WorkedWholeRun

@@ -2,3 +2,9 @@ pub mod WorkedCommands
 pub mod WorkedTool
 pub mod WorkedPsbt
 pub mod WorkedPsbtFiles
+pub mod WorkedStrategies
+pub mod WorkedRounds
+pub mod WorkedHash
+pub mod WorkedAudit
+pub mod WorkedWeights
+pub mod WorkedWholeRun

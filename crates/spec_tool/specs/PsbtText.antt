@@ -183,9 +183,10 @@ abbrev pub discord_text : Discord → List ℕ
 discord_text other_tx = codes "other"
 discord_text (conflict k) = codes "conflict " ++ decimal k
 
+-- what both say together
 abbrev pub combined_answer : Result Psbt Discord → Printed
 combined_answer (Err why) = psbt_refused (discord_text why)
-combined_answer (Ok p) = prints 0 (psbt_line p)
+combined_answer (Ok p) = prints 0 (shown_text p)
 
 -- the first file's refusal comes first
 abbrev pub joined_judged : Judged Psbt → Judged Psbt → Printed

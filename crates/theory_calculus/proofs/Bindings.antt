@@ -1,6 +1,6 @@
 -- What the deposits of a precondition are bound to: different numbers, of deposits that have the values asked as long as they are live.
-use Rattle.std.proofs.Common.{◌≡◌, ℕ, zero, suc, ◌+◌, ◌<◌, ◌≤◌, List, [], ◌∷◌, ◌++◌, map, Bool, true, false, not, Option, Some, None, refl, sym, ap, ◌∙◌, subst, arith, inl, inr, ◌⊎◌}
-use Rattle.std.specs.Prelude.{◌&&◌, ◌||◌, ◌==◌, nat_lt, if◌then◌else◌, cond, find, is_some, sum_by}
+use Rattle.std.proofs.Common.{◌≡◌, ℕ, ◌+◌, ◌<◌, ◌≤◌, List, [], ◌∷◌, ◌++◌, map, Bool, true, false, not, Option, Some, None, refl, sym, ap, ◌∙◌, subst, arith, inl, inr, ◌⊎◌}
+use Rattle.std.specs.Prelude.{◌&&◌, ◌||◌, ◌==◌, nat_lt, if◌then◌else◌, sum_by}
 use Rattle.std.specs.List.{list_all, list_any}
 use Rattle.std.specs.Str.{bytes_eq}
 use Rattle.std.proofs.lemmas.Bool.{and_parts, and_from, or_cases, or_left, or_right, or_parts, eqb-true, eq-eqb, not-true, not_from_false, both_ways, false_from_ne_true}
@@ -8,7 +8,7 @@ use Rattle.std.proofs.lemmas.Bool.Decides.{nat_tests}
 use Rattle.std.proofs.lemmas.Slice.Eq.{bytes_eq-Decides}
 use Rattle.std.proofs.lemmas.List.Sums.{sum_by-cons}
 use Rattle.spec_data.specs.Lists.{has_number, are_distinct, is_among, are_different, look_up}
-use Rattle.spec_terms.specs.Precondition.{Holding, names_of, value_of, value_of_puts, total_of}
+use Rattle.spec_terms.specs.Precondition.{Holding, names_of, total_of}
 use Rattle.spec_calculus.specs.declared.step.Owner.TheVariants.{Party}
 use Rattle.spec_calculus.specs.declared.parts.Deposit.{Deposit}
 use Rattle.spec_calculus.specs.declared.parts.Advertised.{Advertised}
@@ -17,7 +17,7 @@ use Rattle.spec_calculus.specs.Beginning.{is_advertised, fits_deposit, binds_eac
 use Rattle.spec_calculus.specs.Moves.{deposit_at, is_live, value_at, owner_at, value_in}
 use Rattle.spec_calculus.specs.Moves as moves
 use Rattle.theory_calculus.specs.InOrder.{are_ascending}
-use Rattle.theory_calculus.proofs.Members.{Is_in, in_left, in_right, in_append, found, some_there}
+use Rattle.theory_calculus.proofs.Members.{Is_in, found, some_there}
 
 pub bytes_true : (xs ys : List ℕ) → bytes_eq xs ys ≡ true → xs ≡ ys
 bytes_true xs ys h = (bytes_eq-Decides xs ys).0 h

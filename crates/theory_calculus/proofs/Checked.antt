@@ -1,14 +1,13 @@
 -- What a contract that has passed the check has: different names, and balances that pay for what each branch does.
-use Rattle.std.proofs.Common.{◌≡◌, ℕ, zero, suc, ◌+◌, ◌-◌, ◌<◌, ◌≤◌, ℤ, pos, List, [], ◌∷◌, ◌++◌, map, Bool, true, false, not, Option, Some, None, refl, sym, ap, ◌∙◌, subst, arith, inl, inr}
-use Rattle.std.specs.Prelude.{◌&&◌, ◌||◌, slice_get, option_map, ◌+ℤ◌, ◌-ℤ◌, int_lt, if◌then◌else◌, sum_by}
+use Rattle.std.proofs.Common.{◌≡◌, ℕ, ◌+◌, ◌-◌, ◌≤◌, ℤ, pos, List, [], ◌∷◌, ◌++◌, map, Bool, true, false, not, Option, Some, None, refl, sym, ap, ◌∙◌, subst, arith, inl, inr}
+use Rattle.std.specs.Prelude.{◌&&◌, ◌||◌, option_map, ◌+ℤ◌, ◌-ℤ◌, int_lt, if◌then◌else◌, sum_by}
 use Rattle.std.specs.Ordering.{int_eq}
-use Rattle.std.specs.List.{list_all, AllByRecursion}
 use Rattle.std.specs.Str.{bytes_eq}
 use Rattle.std.proofs.lemmas.Int.{ints}
 use Rattle.std.proofs.lemmas.Bool.{and_parts, and_from, or_cases, or_left, or_right, or_parts, not-true, not-false, not_from_false, both_ways, false_from_ne_true}
 use Rattle.std.proofs.lemmas.Bool.Decides.{Decides-int_eq}
 use Rattle.std.proofs.lemmas.List.Sums.{sum_by-cons}
-use Rattle.spec_data.specs.Lists.{is_among, are_different, look_up, or_else}
+use Rattle.spec_data.specs.Lists.{is_among, are_different, look_up}
 use Rattle.spec_data.proofs.ListLemmas.{or_else-none}
 use Rattle.spec_terms.specs.Advert.{Advert}
 use Rattle.spec_terms.specs.Balance.{Stand, stand, after_put, root_balance, stands}
@@ -16,18 +15,17 @@ use Rattle.spec_terms.specs.Core.{core}
 use Rattle.spec_terms.specs.Core as cores
 use Rattle.spec_terms.specs.Faults.{IsWellFormed, first_found, first_repeated, first_place, faults, at_core, puts_unknown, repeats, are_among, sum_of_parts, is_uneven, is_withdraw, is_short}
 use Rattle.spec_terms.specs.Paths.{position, at_branch}
-use Rattle.spec_terms.specs.Precondition.{Holding, holding, persistent, volatile, deposits, names_of, name_in, total_of, value_of, value_of_puts}
-use Rattle.spec_terms.specs.Term.{Branch, auth, after, put_reveal, withdraw, split, Choice, branches, Parts, Test}
+use Rattle.spec_terms.specs.Precondition.{Holding, persistent, volatile, deposits, names_of, name_in, total_of, value_of, value_of_puts}
+use Rattle.spec_terms.specs.Term.{Branch, auth, after, put_reveal, withdraw, split, Choice, Parts}
 use Rattle.spec_terms.specs.declared.place.Place.{Place}
 use Rattle.spec_terms.specs.declared.place.Place.TheVariants as places
 use Rattle.spec_terms.specs.declared.path.PathStep.{PathStep}
-use Rattle.spec_terms.specs.declared.path.PathStep.TheVariants.{Branch as To}
 use Rattle.spec_terms.specs.declared.pre.Pre.{Pre}
 use Rattle.spec_terms.specs.declared.pre.Pre.TheVariants.{Persistent, Volatile, Secret}
 use Rattle.theory_calculus.specs.Money.{Pays}
 use Rattle.theory_calculus.proofs.Members.{Is_in}
 use Rattle.theory_calculus.proofs.Bindings.{bytes_true, bytes_same}
-use Rattle.theory_calculus.proofs.Stands.{none_at, stands_branch, stands_next}
+use Rattle.theory_calculus.proofs.Stands.{none_at, stands_next}
 
 -- ---- no fault
 

@@ -1,39 +1,27 @@
 -- What every configuration keeps that a legal run leads to: contracts at their positions with the static balance, and bindings to deposits that have the values asked.
-use Rattle.std.proofs.Common.{◌≡◌, ℕ, zero, suc, ◌+◌, ◌-◌, ◌<◌, ◌≤◌, pos, List, [], ◌∷◌, ◌++◌, length, map, Bool, true, false, not, Option, Some, None, refl, sym, ap, ◌∙◌, subst, arith, inl, inr, ◌⊎◌}
-use Rattle.std.specs.Prelude.{◌&&◌, ◌==◌, slice_get, is_some, if◌then◌else◌, filter}
-use Rattle.std.specs.List.{list_all, AllByRecursion}
-use Rattle.std.specs.Str.{bytes_eq}
-use Rattle.std.proofs.lemmas.Bool.{and_parts, or_cases, eqb-true, not-true}
-use Rattle.spec_data.specs.Lists.{has_number, is_among, are_different, look_up}
+use Rattle.std.proofs.Common.{◌≡◌, ℕ, zero, suc, ◌+◌, ◌≤◌, pos, List, [], ◌∷◌, ◌++◌, length, Bool, true, false, not, Some, refl, sym, ap, ◌∙◌, subst, arith, inl, inr, ◌⊎◌}
+use Rattle.std.specs.Prelude.{◌==◌, is_some, if◌then◌else◌}
+use Rattle.std.specs.List.{AllByRecursion}
+use Rattle.std.proofs.lemmas.Bool.{and_parts, eqb-true, not-true}
+use Rattle.spec_data.specs.Lists.{has_number, are_different}
 use Rattle.spec_terms.specs.Advert.{Advert}
 use Rattle.spec_terms.specs.Balance.{stand, stands}
-use Rattle.spec_terms.specs.Core.{core}
-use Rattle.spec_terms.specs.Core as cores
-use Rattle.spec_terms.specs.Faults.{IsWellFormed, are_among}
-use Rattle.spec_terms.specs.Paths.{position, at_branch, choice_at}
-use Rattle.spec_terms.specs.Precondition.{Holding, persistent, volatile, deposits, names_of, total_of, value_of, value_of_puts}
-use Rattle.spec_terms.specs.Term.{Branch, auth, after, put_reveal, withdraw, split, Choice, branches, Parts, no_part, part, parts_list, Test}
-use Rattle.spec_terms.specs.declared.path.PathStep.{PathStep}
-use Rattle.spec_terms.specs.declared.path.PathStep.TheVariants.{Branch as To, Part as Into}
+use Rattle.spec_terms.specs.Faults.{IsWellFormed}
+use Rattle.spec_terms.specs.Paths.{position, choice_at}
+use Rattle.spec_terms.specs.Precondition.{deposits, names_of}
+use Rattle.spec_terms.specs.Term.{Choice}
 use Rattle.spec_calculus.specs.declared.step.Owner.{Owner}
-use Rattle.spec_calculus.specs.declared.step.Step.{Step}
 use Rattle.spec_calculus.specs.declared.step.Step.TheVariants as steps
 use Rattle.spec_calculus.specs.declared.parts.Deposit.{Deposit}
 use Rattle.spec_calculus.specs.declared.parts.ActiveContract.{ActiveContract}
 use Rattle.spec_calculus.specs.Configuration.{Configuration}
-use Rattle.spec_calculus.specs.Beginning.{contract_at, pre_of, fee_of, is_advertised, bindings_of, are_there, numbers_of, persistent_names}
-use Rattle.spec_calculus.specs.Moves.{deposit_at, kept, made}
-use Rattle.spec_calculus.specs.Branches.{active_at, place_of, position_of, balance_of, advert_of, branch_of, is_put, is_withdraw, is_split, is_put_core, is_split_core, puts_of, values_of, values_in, part_values, gone, total_value, others, parts_made}
-use Rattle.spec_calculus.specs.Steps.{premises, fails, effect, branch_at}
-use Rattle.spec_calculus.specs.Offers.{branches_at, branches_in, branches_of}
+use Rattle.spec_calculus.specs.Beginning.{contract_at, pre_of, is_advertised, bindings_of}
+use Rattle.spec_calculus.specs.Moves.{kept, made}
+use Rattle.spec_calculus.specs.Steps.{premises, fails}
 use Rattle.theory_calculus.specs.Numbered.{IsNumbered}
-use Rattle.theory_calculus.proofs.Members.{Is_in, in_left, in_right, in_append, in_filter, found, some_there, no_false}
-use Rattle.theory_calculus.proofs.Offered.{branch_is}
-use Rattle.theory_calculus.proofs.Numbered.{numbered_after}
-use Rattle.theory_calculus.proofs.Sums.{gone_value}
-use Rattle.theory_calculus.proofs.Stands.{stands_branch, stands_next, stands_part, choice_next, choice_part}
-use Rattle.theory_calculus.proofs.Bindings.{bytes_true, IsBound, bound_later, earlier, bound_now, bindings_more, numbers_distinct, names_value, entries_value}
-use Rattle.theory_calculus.proofs.Checked.{deposit_names_differ, persistent_names_differ, persistent_deposit, volatile_deposit, looked_in, in_looked, worth_among, puts_sum, puts_known, puts_differ, branch_pays, difference, root_is}
+use Rattle.theory_calculus.proofs.Members.{Is_in, in_append, in_filter, some_there, no_false}
+use Rattle.theory_calculus.proofs.Bindings.{IsBound, bound_later, earlier, bound_now, bindings_more}
+use Rattle.theory_calculus.proofs.Checked.{deposit_names_differ}
 
 -- ---- what is kept
 
@@ -74,14 +62,14 @@ module _ (g : Configuration) (fine : IsFine g) where
       bound_later g.deposits later g.next more (deposits (pre_of (contract_at g.contracts k))) (bindings_of g.advertised k) l
       (earlier g.deposits later g.next fine.numbered.deposits each) (fine.bound k)
 
-  bound_kept : (ns : List ℕ) (k : ℕ) → IsBound (kept g.deposits ns) (g.next + 1) (deposits (pre_of (contract_at g.contracts k))) (bindings_of g.advertised k)
+  pub bound_kept : (ns : List ℕ) (k : ℕ) → IsBound (kept g.deposits ns) (g.next + 1) (deposits (pre_of (contract_at g.contracts k))) (bindings_of g.advertised k)
   bound_kept ns k = bound_after (kept g.deposits ns) (g.next + 1) k (omega arith) (λ d i. inl (kept_there g.deposits ns d i))
 
-  bound_moved : (ns : List ℕ) (os : List (Owner × ℕ)) (k : ℕ) → IsBound (kept g.deposits ns ++ made g.next os) (g.next + length os) (deposits (pre_of (contract_at g.contracts k))) (bindings_of g.advertised k)
+  pub bound_moved : (ns : List ℕ) (os : List (Owner × ℕ)) (k : ℕ) → IsBound (kept g.deposits ns ++ made g.next os) (g.next + length os) (deposits (pre_of (contract_at g.contracts k))) (bindings_of g.advertised k)
   bound_moved ns os k = bound_after (kept g.deposits ns ++ made g.next os) (g.next + length os) k (omega arith)
       (λ d i. elim (in_append d (kept g.deposits ns) (made g.next os) i) [ inl a ↦ inl (kept_there g.deposits ns d a) | inr b ↦ inr (made_later g.next os d b) ])
 
-  bound_paid : (new : Deposit) (k : ℕ) → new.number ≡ g.next → IsBound (g.deposits ++ new ∷ []) (g.next + 1) (deposits (pre_of (contract_at g.contracts k))) (bindings_of g.advertised k)
+  pub bound_paid : (new : Deposit) (k : ℕ) → new.number ≡ g.next → IsBound (g.deposits ++ new ∷ []) (g.next + 1) (deposits (pre_of (contract_at g.contracts k))) (bindings_of g.advertised k)
   bound_paid new k e = bound_after (g.deposits ++ new ∷ []) (g.next + 1) k (omega arith)
       (λ d i. elim (in_append d g.deposits (new ∷ []) i) [ inl a ↦ inl a | inr b ↦ inr (only d b) ])
     where
@@ -89,10 +77,10 @@ module _ (g : Configuration) (fine : IsFine g) where
       only d (inl f) = let z : d.number ≡ g.next = ap (λ (x : Deposit). x.number) f ∙ e in omega (arith, z)
       only d (inr i) = absurd i
 
-  bound_divided : (more k : ℕ) → IsBound g.deposits (g.next + more) (deposits (pre_of (contract_at g.contracts k))) (bindings_of g.advertised k)
+  pub bound_divided : (more k : ℕ) → IsBound g.deposits (g.next + more) (deposits (pre_of (contract_at g.contracts k))) (bindings_of g.advertised k)
   bound_divided more k = bound_after g.deposits (g.next + more) k (omega arith) (λ d i. inl i)
 
-  bound_advertised : (contract : ℕ) (bindings : List (List ℕ × ℕ)) → fails g (steps.Advertise contract bindings) ≡ 0 → (k : ℕ)
+  pub bound_advertised : (contract : ℕ) (bindings : List (List ℕ × ℕ)) → fails g (steps.Advertise contract bindings) ≡ 0 → (k : ℕ)
       → IsBound g.deposits g.next (deposits (pre_of (contract_at g.contracts k))) (bindings_of (g.advertised ++ record { contract = contract; bindings = bindings } ∷ []) k)
   bound_advertised contract bindings e k =
       let p = no_false 1 (premises g (steps.Advertise contract bindings)) (omega arith) e in

@@ -8,3 +8,6 @@ mod Stands
 mod Bindings
 mod Checked
 mod Funded
+mod Standing
+mod Totals
+mod Kept

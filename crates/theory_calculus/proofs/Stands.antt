@@ -1,10 +1,6 @@
 -- What stands below a stand of a contract is a stand of it too, and what the check has seen of each.
-use Rattle.std.proofs.Common.{◌≡◌, ℕ, zero, suc, ◌+◌, ◌-◌, ◌≤◌, ℤ, pos, List, [], ◌∷◌, ◌++◌, Bool, true, false, not, Option, Some, None, refl, sym, ap, ◌∙◌, subst, arith, inl, inr}
-use Rattle.std.specs.Prelude.{◌&&◌, ◌||◌, slice_get, option_map, option_and_then, ◌+ℤ◌, ◌-ℤ◌, int_lt, if◌then◌else◌}
-use Rattle.std.specs.Ordering.{int_eq}
-use Rattle.std.proofs.lemmas.Int.{ints}
-use Rattle.std.proofs.lemmas.Bool.{and_parts, not-false}
-use Rattle.std.proofs.lemmas.Bool.Decides.{Decides-int_eq}
+use Rattle.std.proofs.Common.{◌≡◌, ℕ, zero, suc, ◌+◌, ℤ, pos, List, [], ◌∷◌, ◌++◌, Bool, true, false, Option, Some, None, refl, sym, ap, ◌∙◌, subst, arith, inl, inr}
+use Rattle.std.specs.Prelude.{slice_get, option_map, option_and_then, if◌then◌else◌}
 use Rattle.spec_data.proofs.ListLemmas.{or_else-none}
 use Rattle.spec_terms.specs.Advert.{Advert}
 use Rattle.spec_terms.specs.Balance.{Stand, stand, after_put, branch_stands, stands_under, part_stands, root_balance, stands}
@@ -87,7 +83,7 @@ module _ (ds : List (List ℕ × Holding)) (fee : ℕ) where
   branch_there q v i (suc j) (branch d c) b h =
       let n : j + (i + 1) ≡ suc j + i = omega arith in
       inr (in_right _ (stands_under ds fee (q ++ To i ∷ []) v d) (branch_stands ds fee q v (i + 1) c)
-          (subst (λ m. Is_in (stand (q ++ To m ∷ []) v (at_branch b)) (branch_stands ds fee q v (i + 1) c)) n (branch_there q v (i + 1) j c b h)))
+      (subst (λ m. Is_in (stand (q ++ To m ∷ []) v (at_branch b)) (branch_stands ds fee q v (i + 1) c)) n (branch_there q v (i + 1) j c b h)))
 
   -- a part of a split
   part_there : (p : List PathStep) (k j : ℕ) (ps : Parts) (x : ℕ × Choice) → slice_get (parts_list ps) j ≡ Some x → Is_in (stand (p ++ Into (j + k) ∷ []) (pos (x.0)) (position (x.1))) (part_stands ds fee p k ps)
@@ -99,7 +95,7 @@ module _ (ds : List (List ℕ × Holding)) (fee : ℕ) where
   part_there p k (suc j) (part w c ps) x h =
       let n : j + (k + 1) ≡ suc j + k = omega arith in
       inr (in_right _ (branch_stands ds fee (p ++ Into k ∷ []) (pos w) 0 c) (part_stands ds fee p (k + 1) ps)
-          (subst (λ m. Is_in (stand (p ++ Into m ∷ []) (pos (x.0)) (position (x.1))) (part_stands ds fee p (k + 1) ps)) n (part_there p (k + 1) j ps x h)))
+      (subst (λ m. Is_in (stand (p ++ Into m ∷ []) (pos (x.0)) (position (x.1))) (part_stands ds fee p (k + 1) ps)) n (part_there p (k + 1) j ps x h)))
 
   -- the core has below it what the branch has
   under_core : (p : List PathStep) (v : ℤ) (b : Branch) → stands_under ds fee p v b ≡ stands_under ds fee p v (core b)

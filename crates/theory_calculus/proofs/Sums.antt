@@ -1,16 +1,16 @@
 -- Sums of deposits and balances: what goes and what stays make up the whole.
-use Rattle.std.proofs.Common.{◌≡◌, ℕ, zero, suc, ◌+◌, ◌<◌, ◌≤◌, List, [], ◌∷◌, ◌++◌, map, Bool, true, false, not, Option, Some, None, refl, sym, ap, ◌∙◌, subst, arith}
-use Rattle.std.specs.Prelude.{◌&&◌, ◌||◌, ◌==◌, nat_lt, if◌then◌else◌, cond, filter, find, sum_by}
+use Rattle.std.proofs.Common.{◌≡◌, ℕ, ◌+◌, List, [], ◌∷◌, map, Bool, true, false, not, Some, refl, sym, ap, ◌∙◌, subst, arith}
+use Rattle.std.specs.Prelude.{◌||◌, ◌==◌, nat_lt, if◌then◌else◌, cond, filter, sum_by}
 use Rattle.std.specs.List.{list_all}
 use Rattle.std.proofs.lemmas.Bool.{and_parts, eqb-true, not-true}
 use Rattle.std.proofs.lemmas.Bool.Decides.{nat_tests}
-use Rattle.std.proofs.lemmas.List.Sums.{sum_by-cons, sum_by-append}
+use Rattle.std.proofs.lemmas.List.Sums.{sum_by-cons}
 use Rattle.spec_data.specs.Lists.{has_number, are_distinct}
 use Rattle.spec_terms.specs.declared.path.PathStep.{PathStep}
 use Rattle.spec_calculus.specs.declared.step.Owner.{Owner}
 use Rattle.spec_calculus.specs.declared.parts.Deposit.{Deposit}
 use Rattle.spec_calculus.specs.declared.parts.ActiveContract.{ActiveContract}
-use Rattle.spec_calculus.specs.Moves.{deposit_at, value_of, value_at, value_in, value_out, kept, made}
+use Rattle.spec_calculus.specs.Moves.{value_at, value_in, value_out, kept, made}
 use Rattle.spec_calculus.specs.Branches.{active_at, balance_of, gone, total_value, others, parts_made}
 use Rattle.theory_calculus.specs.InOrder.{are_ascending}
 use Rattle.theory_calculus.specs.Money.{total_balance}

@@ -1,6 +1,7 @@
 -- What is claimed of money: what active contracts hold, what each step takes and gives, and how much there is.
-use Rattle.std.specs.Prelude.{◌≡◌, ℕ, ◌+◌, ◌≤◌, nat_le, true, List, Option, Some, slice_get, sum_by, pos}
+use Rattle.std.specs.Prelude.{◌≡◌, ℕ, ◌+◌, ◌≤◌, nat_le, true, List, Some, slice_get, sum_by, pos}
 use Rattle.std.specs.List.{Contains, AllByRecursion, list_all}
+use Rattle.spec_data.specs.Lists.{are_distinct}
 use Rattle.spec_data.specs.Ranges.{max_money}
 use Rattle.spec_terms.specs.Advert.{Advert}
 use Rattle.spec_terms.specs.Balance.{stand, stands}
@@ -15,7 +16,7 @@ use Rattle.spec_calculus.specs.declared.parts.ActiveContract.{ActiveContract}
 use Rattle.spec_calculus.specs.Configuration.{Configuration}
 use Rattle.spec_calculus.specs.Beginning.{contract_at, fee_of}
 use Rattle.spec_calculus.specs.Moves.{value_in, value_out}
-use Rattle.spec_calculus.specs.Branches.{active_at, advert_of, total_value}
+use Rattle.spec_calculus.specs.Branches.{active_at, balance_of, advert_of, gone, total_value}
 use Rattle.spec_calculus.specs.Steps.{fails, effect, IsLegalRun, opening}
 
 -- ---- what active contracts hold
@@ -85,6 +86,9 @@ pub record IsWithinAllMoney (g : Configuration) : Type 0 where
   pub total : total_money g ≤ max_money
   pub deposits : list_all (λ d. nat_le d.value max_money) g.deposits ≡ true
   pub active : list_all (λ a. nat_le a.balance max_money) g.active ≡ true
+  -- nor in what a move or a step of a contract adds up
+  pub inputs : (numbers : List ℕ) → are_distinct numbers ≡ true → value_in g.deposits numbers ≤ max_money
+  pub joined : (output : ℕ) (numbers : List ℕ) → balance_of (active_at g.active output) + total_value (gone g.deposits numbers) ≤ max_money
 
 -- where the deposits at the opening are no more than that
 abbrev pub MoneyStaysWithin : Type 0

@@ -3,3 +3,11 @@ mod Ordered
 mod Offered
 mod Runs
 mod Numbered
+mod Sums
+mod Stands
+mod Bindings
+mod Checked
+mod Funded
+mod Standing
+mod Totals
+mod Kept

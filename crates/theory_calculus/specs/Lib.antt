@@ -1,3 +1,4 @@
 pub mod InOrder
 pub mod Offered
 pub mod Numbered
+pub mod Money

@@ -2,6 +2,7 @@
 #![tactic(auto)]
 
 ghost use Rattle.theory_calculus.specs.Offered.{EveryEnabledIsOffered, OffersStandInOrder};
+ghost use Rattle.theory_calculus.specs.Money.{MoneyIsKept, MoneyStaysWithin};
 ghost use Rattle.theory_calculus.specs.Numbered.{LegalRunsAreOne, NumbersStandApart};
 
 /// A step by which a contract begins or goes on stands among the offers exactly where no premise of
@@ -25,4 +26,17 @@ pub fn legal_runs_are_one()
 /// numbers below the next, and no number is of both.
 pub fn numbers_stand_apart()
     ensures { NumbersStandApart }
+{}
+
+/// With checked contracts, wherever a legal run leads to from an opening: each active contract holds
+/// the static balance of its position and can pay for each of its branches, each step takes in what
+/// it gives out and leaves to the miner, and money never grows.
+pub fn money_is_kept()
+    ensures { MoneyIsKept }
+{}
+
+/// With checked contracts and no more than all money at the opening, no value, balance or sum of a
+/// legal run is more than that.
+pub fn money_stays_within()
+    ensures { MoneyStaysWithin }
 {}

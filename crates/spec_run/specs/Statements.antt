@@ -110,6 +110,29 @@ abbrev pub OffersTheorem : Type 0
 OffersTheorem = (s : Setup) (es : List Event) → IsRun s es
     → (offer : Offer) → Contains (offers (last_configuration s es)) offer → IsKept s (last_configuration s es) (last_world s es) offer
 
+-- the run that ends with this turn
+abbrev pub events_until : List Record → Turn → List Event
+events_until before t = map (λ r. r.event) (before ++ record_in t ∷ [])
+
+-- what is offered after an event of a run
+pub record OffersAreKept (s : Setup) (before : List Record) (t : Turn) : Type 0 where
+  -- is what is offered at the end of the run that ends there, in the same world
+  pub same_offers : offers t.configuration ≡ offers (last_configuration s (events_until before t))
+  pub same_world : t.world ≡ last_world s (events_until before t)
+  -- and each of it is kept
+  pub kept : (offer : Offer) → Contains (offers t.configuration) offer → IsKept s t.configuration t.world offer
+
+abbrev pub offers_kept : Setup → Claim
+offers_kept s before g w t = OffersAreKept s before t
+
+pub record OffersThroughout (s : Setup) (es : List Event) : Type 0 where
+  pub opening : (offer : Offer) → Contains (offers (opening_configuration s)) offer → IsKept s (opening_configuration s) (opening_world s) offer
+  pub events : HoldsThroughout s (offers_kept s) es
+
+-- every enabled and authorised contract step at the opening and after every event is kept
+abbrev pub OffersThroughoutTheorem : Type 0
+OffersThroughoutTheorem = (s : Setup) (es : List Event) → IsRun s es → OffersThroughout s es
+
 -- ---- the honest deposits theorem
 
 abbrev pub spends_with_leave : Setup → Claim

@@ -30,6 +30,7 @@ use Rattle.spec_tool.specs.Headline.{AreEntriesOf, EndsRun, IsShown, HeadlineThe
 use Rattle.theory_run.proofs.Simulated.{simulation}
 use Rattle.theory_run.proofs.Honest.{licence}
 use Rattle.theory_run.proofs.HaltsRightly.{halts}
+use Rattle.theory_offers.proofs.Throughout.{kept_throughout_offers}
 use Rattle.theory_offers.proofs.Whole.{kept_offers}
 
 -- ---- one contract
@@ -188,6 +189,7 @@ headline hash bytes run_file contract_files run contracts r c few =
             simulates = simulates;
             licensed = licence s run.events is;
             offers = kept_offers s run.events is;
+            offers_throughout = kept_throughout_offers s run.events is;
             halts = halts.runs s run.events is;
             shown = shown_is s run.events opens simulates;
           };

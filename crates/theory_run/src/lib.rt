@@ -2,6 +2,7 @@
 #![tactic(auto)]
 
 ghost use Rattle.spec_run.specs.Statements.{SimulationTheorem, LicenceTheorem, HonestDepositsTheorem};
+ghost use Rattle.theory_run.specs.WorldsOfRuns.{WorldsOfRuns};
 
 /// Every run of events is, step by step, a legal run of the calculus, and configuration and world
 /// agree at the opening and after every event.
@@ -18,4 +19,11 @@ pub fn licence_theorem()
 /// witnesses, the compiled one of a contract that it endorsed or started.
 pub fn honest_deposits_theorem()
     ensures { HonestDepositsTheorem }
+{}
+
+/// Every world that a run comes to has the messages that its events hashed, in turn; under each
+/// party's keys the pairs that the party itself signed; contract outputs exactly where they are
+/// compiled to; different commitments, an honest party's to its own secrets; and money within bounds.
+pub fn worlds_of_runs()
+    ensures { WorldsOfRuns }
 {}

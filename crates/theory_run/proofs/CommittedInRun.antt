@@ -4,7 +4,8 @@ use Rattle.std.proofs.Common.{refl, sym, ap, ◌∙◌, subst, inl, inr, append-
 use Rattle.std.specs.Prelude.{is_some, if◌then◌else◌}
 use Rattle.std.specs.List.{list_all, AllByRecursion}
 use Rattle.std.specs.Str.{bytes_eq}
-use Rattle.std.proofs.lemmas.Bool.{and_parts, and_from, or_left, or_right, or_cases, or_from, not-false, not-true, not_from_false, both_ways, false_from_ne_true}
+use Rattle.std.proofs.lemmas.Bool.{and_parts, and_from, or_left, or_right, or_cases, or_from, not-false, not-true, not_from_false}
+use Rattle.std.proofs.lemmas.Bool.{both_ways, false_from_ne_true}
 use Rattle.spec_data.specs.Lists.{is_among, are_different, look_up, first_reason}
 use Rattle.spec_data.proofs.ListLemmas.{no_reason-none_true}
 use Rattle.spec_terms.specs.Advert.{Advert}
@@ -17,7 +18,8 @@ use Rattle.spec_run.specs.World.{Promise, World}
 use Rattle.spec_run.specs.Conditions.{IsSetup}
 use Rattle.spec_run.specs.Draft.{Draft, unless}
 use Rattle.spec_run.specs.Advertising.{or_else_this, arranged, advertise_row}
-use Rattle.spec_run.specs.Committing.{secrets_at, own_digests, committed_digests, committed_strings, commit_row, digest_row, used_digests, used_again}
+use Rattle.spec_run.specs.Committing.{secrets_at, own_digests, committed_digests, committed_strings, commit_row, digest_row, used_digests}
+use Rattle.spec_run.specs.Committing.{used_again}
 use Rattle.spec_run.specs.Committing.{with_promise, committed_draft}
 use Rattle.spec_run.specs.Event.{Passed, draft}
 use Rattle.spec_run.specs.Translation.{world_after}
@@ -44,23 +46,29 @@ different_append (x ∷ xs) ys a b h =
     and_from _ _ (not_from_false _ (among-append x xs ys ∙ or_from _ _ (not-true _ p.0) here)) ih
 
 -- a party's secrets are some of all
-party_named : (a : List ℕ) (ss : List (List ℕ × List ℕ)) (n : List ℕ) → is_among n (names_of_party a ss) ≡ true → is_among n (names_of ss) ≡ true
+party_named : (a : List ℕ) (ss : List (List ℕ × List ℕ)) (n : List ℕ) → is_among n (names_of_party a ss) ≡ true
+    → is_among n (names_of ss) ≡ true
 party_named a [] n h = cc
 party_named a (x ∷ ss) n h = by_test (bytes_eq x.1 a) h (party_named a ss n)
   where
     by_test : (b : Bool) → is_among n (if b then (x.0 ∷ names_of_party a ss) else names_of_party a ss) ≡ true
         → (is_among n (names_of_party a ss) ≡ true → is_among n (names_of ss) ≡ true) → is_among n (names_of (x ∷ ss)) ≡ true
-    by_test true q ih = elim (or_cases (bytes_eq x.0 n) (is_among n (names_of_party a ss)) q) [ inl u ↦ or_left _ _ u | inr v ↦ or_right _ _ (ih v) ]
+    by_test true q ih = elim (or_cases (bytes_eq x.0 n) (is_among n (names_of_party a ss)) q) [
+      | inl u ↦ or_left _ _ u
+      | inr v ↦ or_right _ _ (ih v)
+    ]
     by_test false q ih = or_right (bytes_eq x.0 n) _ (ih q)
 
-party_different : (a : List ℕ) (ss : List (List ℕ × List ℕ)) → are_different (names_of ss) ≡ true → are_different (names_of_party a ss) ≡ true
+party_different : (a : List ℕ) (ss : List (List ℕ × List ℕ)) → are_different (names_of ss) ≡ true
+    → are_different (names_of_party a ss) ≡ true
 party_different a [] h = refl
 party_different a (x ∷ ss) h = by_test (bytes_eq x.1 a) (party_different a ss p.1)
   where
     p : (not (is_among x.0 (names_of ss)) ≡ true) × (are_different (names_of ss) ≡ true)
     p = and_parts (not (is_among x.0 (names_of ss))) (are_different (names_of ss)) h
 
-    by_test : (b : Bool) → are_different (names_of_party a ss) ≡ true → are_different (if b then (x.0 ∷ names_of_party a ss) else names_of_party a ss) ≡ true
+    by_test : (b : Bool) → are_different (names_of_party a ss) ≡ true
+        → are_different (if b then (x.0 ∷ names_of_party a ss) else names_of_party a ss) ≡ true
     by_test true ih =
         let fresh = false_from_ne_true (is_among x.0 (names_of_party a ss)) (λ t. both_ways _ (not-true _ p.0) (party_named a ss x.0 t)) in
         and_from _ _ (not_from_false _ fresh) ih
@@ -143,7 +151,8 @@ module _ (s : Setup) (setup : IsSetup s) where
       let entries = committed_digests s k a ds in
       let row = digests_in (arranged [] names entries) in
       let new : Promise = record { contract = k; party = a; digests = arranged [] names entries } in
-      let used : used_digests (ps ++ new ∷ []) ≡ used_digests ps ++ row = used-append ps (new ∷ []) ∙ ap (λ xs. used_digests ps ++ xs) (append-nil row) in
+      let used : used_digests (ps ++ new ∷ []) ≡ used_digests ps ++ row =
+      used-append ps (new ∷ []) ∙ ap (λ xs. used_digests ps ++ xs) (append-nil row) in
       let apart = different_append (used_digests ps) row kept.different
       (arranged_different (used_digests ps) entries fresh names (secrets_at_different s setup k a) looked)
       (λ d h. arranged_fresh (used_digests ps) entries fresh names d looked h) in
@@ -194,5 +203,6 @@ module _ (s : Setup) (setup : IsSetup s) where
   pub committed_apart : (ps : List Passed) (w : World) → AllPassed s w ps → KeptApart s w.promises → KeptApart s (world_after w ps).promises
   committed_apart [] w h kept = kept
   committed_apart (p ∷ ps) w h kept =
-      let next : KeptApart s p.draft.world.promises = subst (λ (d : Draft). KeptApart s d.world.promises) (sym h.0.draft) (apart_after w p.event kept) in
+      let next : KeptApart s p.draft.world.promises =
+      subst (λ (d : Draft). KeptApart s d.world.promises) (sym h.0.draft) (apart_after w p.event kept) in
       committed_apart ps p.world h.1 (subst (λ (v : World). KeptApart s v.promises) (sym h.0.world) next)

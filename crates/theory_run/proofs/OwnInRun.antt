@@ -62,7 +62,8 @@ module _ (s : Setup) where
   more_at_end [] before g w h m i = i
   more_at_end (t ∷ ts) before g w h m i = more_at_end ts (before ++ record_in t ∷ []) t.configuration t.world h.1 m (h.0.more m i)
 
-  module _ (hs : List (List ℕ)) (clear : NoClash s.hash hs) (l : Label) (fine : IsLabel l) (heard : is_among (label_text l) hs ≡ true) (x : List ℕ) where
+  module _ (hs : List (List ℕ)) (clear : NoClash s.hash hs) (l : Label) (fine : IsLabel l) (heard : is_among (label_text l) hs ≡ true)
+      (x : List ℕ) where
     signed_from : (ts : List Turn) (before : List Record) (g : Configuration) (w : World) → HoldsFrom (signs_own s) before g w ts
         → ((m : List ℕ) → is_among m (end w ts).hashed ≡ true → is_among m hs ≡ true)
         → has_signed (end w ts).book (key_of s.hash l) x
@@ -75,7 +76,8 @@ module _ (s : Setup) where
         let rest = own_pairs_from s party t.world ts in
         let later = before ++ record_in t ∷ [] in
         signed_from ts later t.configuration t.world h.1 sub
-        ∙ ap (λ b. b || has_signed rest key x) (h.0.own hs clear (λ m i. sub m (more_at_end ts later t.configuration t.world h.1 m i)) l fine heard x)
+        ∙ ap (λ b. b || has_signed rest key x)
+        (h.0.own hs clear (λ m i. sub m (more_at_end ts later t.configuration t.world h.1 m i)) l fine heard x)
         ∙ or_assoc (has_signed w.book key x) (has_signed first key x) (has_signed rest key x)
         ∙ ap (λ b. has_signed w.book key x || b) (sym (signed-append first rest key x))
 
@@ -86,4 +88,5 @@ pub own_signatures : (s : Setup) (es : List Event) → IsRun s es → NoClash s.
 own_signatures s es run clear l x fine heard =
     let z = run_posts s es in
     let all = holds_throughout s (signs_own s) (kept_run s z) es (keeps_own s run.setup z) run.events (opening_run s es run z) in
-    signed_from s (last_world s es).hashed clear l fine heard x (course s es).turns [] (opening_configuration s) (opening_world s) all (λ m i. i)
+    signed_from s (last_world s es).hashed clear l fine heard x (course s es).turns []
+    (opening_configuration s) (opening_world s) all (λ m i. i)

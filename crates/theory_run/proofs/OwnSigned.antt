@@ -63,7 +63,8 @@ module _ (s : Setup) (w : World) where
   unless_book e None hashes d h = h
   unless_book e (Some r) hashes d h = refl
 
-  judged_book : (e : Event) (ps : List Pair) → ps ≡ event_pairs s w e → (tx : Tx) (v : Verdict) → BookIs e (judged s w (with_pairs w ps) tx v)
+  judged_book : (e : Event) (ps : List Pair) → ps ≡ event_pairs s w e → (tx : Tx) (v : Verdict)
+      → BookIs e (judged s w (with_pairs w ps) tx v)
   judged_book e ps q tx (verdicts.Refused r) = refl
   judged_book e ps q tx (verdicts.Accepted spent made) = ap (signed_all w.book) q
 
@@ -93,9 +94,11 @@ module _ (s : Setup) (w : World) where
       (judged_book (events.Give a inputs outputs) ps refl tx (verdict_in s (with_pairs w ps) tx))
   book_is (events.Append bytes) = read_book (events.Append bytes) refl (transaction_of bytes)
   book_is (events.FireInit k) =
-      unless_book (events.FireInit k) (first_reason (fire_init_row s w k)) [] _ (reached_book (events.FireInit k) refl (initial_by s (compiled_at s w k)))
+      unless_book (events.FireInit k) (first_reason (fire_init_row s w k)) [] _
+      (reached_book (events.FireInit k) refl (initial_by s (compiled_at s w k)))
   book_is (events.Fire n j) =
-      unless_book (events.Fire n j) (first_reason (fire_row s w n j)) [] _ (reached_book (events.Fire n j) refl (taking_by s w (held_at w n) j))
+      unless_book (events.Fire n j) (first_reason (fire_row s w n j)) [] _
+      (reached_book (events.Fire n j) refl (taking_by s w (held_at w n) j))
   book_is (events.Mine blocks) = unless_book (events.Mine blocks) (first_reason (mine_row w blocks)) [] _ refl
 
 -- ---- whose keys it signs by
@@ -125,12 +128,14 @@ module _ (s : Setup) (size : HashesBytes s.hash) (few_contracts : length s.contr
   some_signed false ps key x h = h
 
   -- where the draft isn't refused for a reason
-  unless_signed : (e : Event) (r : Option Reason) (d : Draft) (key x : List ℕ) → has_signed (signed_pairs s w e (unless r w [] d).outcome) key x ≡ true
+  unless_signed : (e : Event) (r : Option Reason) (d : Draft) (key x : List ℕ)
+      → has_signed (signed_pairs s w e (unless r w [] d).outcome) key x ≡ true
       → (r ≡ None → has_signed (event_pairs s w e) key x ≡ true → IsSigners s hs e key) → IsSigners s hs e key
   unless_signed e None d key x h go = go refl (some_signed (is_refused d.outcome) (event_pairs s w e) key x h)
   unless_signed e (Some r) d key x h go = cc
 
-  nothing : (e : Event) (d : Draft) (key x : List ℕ) → event_pairs s w e ≡ [] → has_signed (signed_pairs s w e d.outcome) key x ≡ true → IsSigners s hs e key
+  nothing : (e : Event) (d : Draft) (key x : List ℕ) → event_pairs s w e ≡ [] → has_signed (signed_pairs s w e d.outcome) key x ≡ true
+      → IsSigners s hs e key
   nothing e d key x none h =
       let y = some_signed (is_refused d.outcome) (event_pairs s w e) key x h in
       let z : has_signed [] key x ≡ true = subst (λ ps. has_signed ps key x ≡ true) none y in
@@ -142,11 +147,14 @@ module _ (s : Setup) (size : HashesBytes s.hash) (few_contracts : length s.contr
       by_party (events.Endorse k a) a (bytes_refl a) key
       (endorsed_labels s size few_contracts g w kept check clear own a is k (compiled_at s w k) refl key x y))
   signers (events.Init k a) is new key x h = unless_signed (events.Init k a) (first_reason (init_row s w k a)) _ key x h (λ r y.
-      by_party (events.Init k a) a (bytes_refl a) key (started_labels s size few_contracts g w kept check clear own a is (compiled_at s w k) key x y))
-  signers (events.Authorise a n j) is new key x h = unless_signed (events.Authorise a n j) (first_reason (authorise_row s w a n j)) _ key x h (λ r y.
+      by_party (events.Init k a) a (bytes_refl a) key
+      (started_labels s size few_contracts g w kept check clear own a is (compiled_at s w k) key x y))
+  signers (events.Authorise a n j) is new key x h =
+      unless_signed (events.Authorise a n j) (first_reason (authorise_row s w a n j)) _ key x h (λ r y.
       let row = no_reason-none_true (authorise_row s w a n j) r in
       by_party (events.Authorise a n j) a (bytes_refl a) key
-      (authorised_labels s size few_contracts g w kept check clear own a n j (held_at w n) refl (not-false _ row.1.0) (not-false _ row.1.1.0) key x y))
+      (authorised_labels s size few_contracts g w kept check clear own a n j (held_at w n) refl
+      (not-false _ row.1.0) (not-false _ row.1.1.0) key x y))
   signers (events.Sign a label digest) is new key x h = unsigned (first_reason (sign_row s a label)) refl h new
     where
       e : Event
@@ -158,20 +166,24 @@ module _ (s : Setup) (size : HashesBytes s.hash) (few_contracts : length s.contr
       signing : Draft
       signing = done (with_pairs w ps) (label_text label ∷ [])
 
-      unsigned : (r : Option Reason) → first_reason (sign_row s a label) ≡ r → has_signed (signed_pairs s w e (unless r w [] signing).outcome) key x ≡ true
+      unsigned : (r : Option Reason) → first_reason (sign_row s a label) ≡ r
+          → has_signed (signed_pairs s w e (unless r w [] signing).outcome) key x ≡ true
           → ((t : List ℕ) → is_among t (settled w (unless r w [] signing)).hashed ≡ true → is_among t hs ≡ true) → IsSigners s hs e key
       unsigned (Some r) q y more = cc
       unsigned None q y more =
           let row = no_reason-none_true (sign_row s a label) q in
+          let text = label_text label in
           record {
             label = label;
             fine = is.1;
-            heard = more (label_text label) (all_new w.hashed (label_text label ∷ []) (label_text label) (among_head (label_text label) []));
+            heard = more text (all_new w.hashed (text ∷ []) text (among_head text []));
             is = (one_pair (key_of s.hash label) digest key x y).0;
             whose = subst (λ p. bytes_eq a p ≡ true) (sym (bytes-true (label_party label) a (not-false _ row.1.0))) (bytes_refl a);
           }
-  signers (events.Give a inputs outputs) is new key x h = unless_signed (events.Give a inputs outputs) (first_reason (give_row s w a inputs outputs)) _ key x h (λ r y.
-      by_party (events.Give a inputs outputs) a (bytes_refl a) key (given_labels s size few_contracts g w kept check clear own a is.giver inputs outputs key x y))
+  signers (events.Give a inputs outputs) is new key x h =
+      unless_signed (events.Give a inputs outputs) (first_reason (give_row s w a inputs outputs)) _ key x h (λ r y.
+      by_party (events.Give a inputs outputs) a (bytes_refl a) key
+      (given_labels s size few_contracts g w kept check clear own a is.giver inputs outputs key x y))
   signers (events.Advertise k bs) is new key x h = nothing (events.Advertise k bs) (draft s w (events.Advertise k bs)) key x refl h
   signers (events.Commit k a ds) is new key x h = nothing (events.Commit k a ds) (draft s w (events.Commit k a ds)) key x refl h
   signers (events.Reveal k a name) is new key x h = nothing (events.Reveal k a name) (draft s w (events.Reveal k a name)) key x refl h
@@ -191,7 +203,8 @@ module _ (s : Setup) (size : HashesBytes s.hash) (few_contracts : length s.contr
     only_own : has_signed all (key_of s.hash l) x ≡ has_signed (own_pairs s (label_party l) w e (draft s w e).outcome) (key_of s.hash l) x
     only_own = by_test (is_signer (label_party l) e) refl
       where
-        by_test : (b : Bool) → is_signer (label_party l) e ≡ b → has_signed all (key_of s.hash l) x ≡ has_signed (if b then all else []) (key_of s.hash l) x
+        by_test : (b : Bool) → is_signer (label_party l) e ≡ b
+            → has_signed all (key_of s.hash l) x ≡ has_signed (if b then all else []) (key_of s.hash l) x
         by_test true q = refl
         by_test false q = false_from_ne_true (has_signed all (key_of s.hash l) x) (λ h.
             let k = signers e is new (key_of s.hash l) x h in

@@ -51,7 +51,8 @@ module _ (s : Setup) (g : Configuration) (w : World) (kept : KeptBook s g w) whe
       by_held None e = refl
       by_held (Some held) e = false_from_ne_true _ (λ t.
           let hf = kept.held n o held there e in
-          let c : compiled_at s w k ≡ Some hf.setting = subst (λ j. compiled_at s w j ≡ Some hf.setting) (eqb-true held.contract k t) hf.compiled in
+          let c : compiled_at s w k ≡ Some hf.setting =
+          subst (λ j. compiled_at s w j ≡ Some hf.setting) (eqb-true held.contract k t) hf.compiled in
           let z : (let x : Option Setting = None in x) ≡ Some hf.setting = sym none ∙ c in
           cc)
 
@@ -59,7 +60,8 @@ module _ (s : Setup) (g : Configuration) (w : World) (kept : KeptBook s g w) whe
       → is_position_of k q o.holds ≡ is_place o.place (compiled_place s (compiled_at s w k) q)
   held_there k q n o there = by_compiled (compiled_at s w k) refl
     where
-      by_place : (st : Setting) (here : Standing) (choice : Choice) → compiled_at s w k ≡ Some st → position_at s.hash st q ≡ Some (here, choice)
+      by_place : (st : Setting) (here : Standing) (choice : Choice) → compiled_at s w k ≡ Some st
+          → position_at s.hash st q ≡ Some (here, choice)
           → (b : Bool) → same_place o.place here.output.place ≡ b → is_position_of k q o.holds ≡ b
       by_place st here choice c stands true e =
           is_held k q o.holds (kept.placed k st q here choice n o c stands there (place-true o.place here.output.place e))

@@ -24,7 +24,8 @@ use Rattle.theory_run.proofs.PlacesInRun.{has_places}
 use Rattle.theory_run.proofs.CommittedInRun.{KeptApart, committed_apart}
 use Rattle.theory_run.proofs.WorthInRun.{opening_worth, worth_after}
 
-every_among : (names known : List (List ℕ)) → ((t : List ℕ) → is_among t names ≡ true → is_among t known ≡ true) → are_all_among names known ≡ true
+every_among : (names known : List (List ℕ)) → ((t : List ℕ) → is_among t names ≡ true → is_among t known ≡ true)
+    → are_all_among names known ≡ true
 every_among [] known h = refl
 every_among (x ∷ names) known h = and_from _ _ (h x (among_head x names)) (every_among names known (λ t i. h t (among_tail t x names i)))
 

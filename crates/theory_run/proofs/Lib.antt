@@ -62,3 +62,11 @@ pub mod Tracking
 pub mod Undertakings
 pub mod Unmade
 pub mod Widths
+pub mod AllPassed
+pub mod HashedInRun
+pub mod OwnSigned
+pub mod OwnInRun
+pub mod CommittedInRun
+pub mod WorthInRun
+pub mod PlacesInRun
+pub mod WorldsOfRuns

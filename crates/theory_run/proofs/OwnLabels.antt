@@ -70,6 +70,11 @@ pub record HasLabel (s : Setup) (w : World) (key : List ℕ) : Type 0 where
   pub is : key_of s.hash label ≡ key
   pub own : IsOwn s w label
 
+-- the key of a label of the party that was hashed
+pub record IsKeyOf (s : Setup) (w : World) (party key : List ℕ) : Type 0 where
+  pub known : HasLabel s w key
+  pub whose : label_party known.label ≡ party
+
 pub record KeptLabels (s : Setup) (w : World) : Type 0 where
   pub signed : (key digest : List ℕ) → has_signed w.book key digest ≡ true → HasLabel s w key
 
@@ -118,12 +123,12 @@ module _ (s : Setup) (size : HashesBytes s.hash) (few_contracts : length s.contr
   Heard l = IsHeard s size few_contracts g w kept check w.hashed clear (λ t h. h) l
 
   -- a key of a label that was heard before
-  old_label : (key : List ℕ) (l : Label) → Heard l → key_of s.hash l ≡ key → IsOwn s w l → HasLabel s w key
-  old_label key l h e o = record { label = l; fine = h.fine; heard = h.heard; is = e; own = o }
+  old_label : (key party : List ℕ) (l : Label) → label_party l ≡ party → Heard l → key_of s.hash l ≡ key → IsOwn s w l → IsKeyOf s w party key
+  old_label key party l p h e o = record { known = record { label = l; fine = h.fine; heard = h.heard; is = e; own = o }; whose = p }
 
   -- a party's key of its deposits
-  of_deposit : (key a : List ℕ) → is_declared s a ≡ true → deposit_key s.hash a ≡ key → HasLabel s w key
-  of_deposit key a decl e = old_label key (labels.Deposit a) (deposit_label s size few_contracts g w kept check w.hashed clear (λ t h. h) a decl) e tt
+  of_deposit : (key a : List ℕ) → is_declared s a ≡ true → deposit_key s.hash a ≡ key → IsKeyOf s w a key
+  of_deposit key a decl e = old_label key a (labels.Deposit a) refl (deposit_label s size few_contracts g w kept check w.hashed clear (λ t h. h) a decl) e tt
 
   -- where these pairs are signed, what is posted and what is hashed
   signing : (ps : List Pair) (tip : ℕ) (hashes posts : List (List ℕ)) → ((k d : List ℕ) → has_signed ps k d ≡ true → HasLabel s w k) → KeptLabels s (record w { tip = tip; book = signed_all w.book ps; hashed = noted_all w.hashed hashes; posted = posts })
@@ -141,24 +146,24 @@ module _ (s : Setup) (size : HashesBytes s.hash) (few_contracts : length s.contr
 
   -- ---- who signs what
 
-  endorsed_labels : (party : List ℕ) → is_declared s party ≡ true → (k : ℕ) (o : Option Setting) → compiled_at s w k ≡ o → (key d : List ℕ) → has_signed (endorsing_pairs s party o) key d ≡ true → HasLabel s w key
+  pub endorsed_labels : (party : List ℕ) → is_declared s party ≡ true → (k : ℕ) (o : Option Setting) → compiled_at s w k ≡ o → (key d : List ℕ) → has_signed (endorsing_pairs s party o) key d ≡ true → IsKeyOf s w party key
   endorsed_labels party decl k None c key d h = cc
   endorsed_labels party decl k (Some st) c key d h =
       let r = need_of_pair party (needs_at s st) key d h in
       by_need r.0 (need_is s.hash st r.0 r.1) r.2 r.3
     where
-      by_need : (n : Need) → NeedIs s.hash st n → n.party ≡ party → n.key ≡ key → HasLabel s w key
+      by_need : (n : Need) → NeedIs s.hash st n → n.party ≡ party → n.key ≡ key → IsKeyOf s w party key
       by_need n (branch_need path dr br part free nk dig) np e =
           let named : st.contract ≡ k = ap (λ (y : Setting). y.contract) (compiled_is s w k st c).is in
           let l = heard_label s size few_contracts g w kept check w.hashed clear (λ t h. h) k st br.is_branch.position br.here br.is_branch.choice br.index br.branch n.party c br.is_branch.stands br.is_branch.there part in
-          old_label key (branch_label k (br.is_branch.position ++ To br.index ∷ []) n.party) l (sym (λ m. key_of s.hash (branch_label (named m) (br.is_branch.path_is m) n.party)) ∙ sym nk ∙ e) (λ honest. ap is_some c)
-      by_need n (put_need path dr br nk y i dig) np e = of_deposit key n.party (subst (λ z. is_declared s z ≡ true) (sym np) decl) (sym nk ∙ e)
+          old_label key party (branch_label k (br.is_branch.position ++ To br.index ∷ []) n.party) np l (sym (λ m. key_of s.hash (branch_label (named m) (br.is_branch.path_is m) n.party)) ∙ sym nk ∙ e) (λ honest. ap is_some c)
+      by_need n (put_need path dr br nk y i dig) np e = of_deposit key party decl (ap (deposit_key s.hash) (sym np) ∙ sym nk ∙ e)
 
-  started_labels : (party : List ℕ) → is_declared s party ≡ true → (o : Option Setting) (key d : List ℕ) → has_signed (initial_pairs s party o) key d ≡ true → HasLabel s w key
+  pub started_labels : (party : List ℕ) → is_declared s party ≡ true → (o : Option Setting) (key d : List ℕ) → has_signed (initial_pairs s party o) key d ≡ true → IsKeyOf s w party key
   started_labels party decl None key d h = cc
   started_labels party decl (Some st) key d h = of_deposit key party decl (pair_of_deposit s st (tx_of (initial_unsigned s.hash st)) party (persistent st.advert.pre) key d h).0
 
-  authorised_labels : (party : List ℕ) (n j : ℕ) (o : Option Held) → held_at w n ≡ o → is_some (branch_held s o j) ≡ true → is_among party (asked_by (branch_held s o j)) ≡ true → (key d : List ℕ) → has_signed (authorising_pairs s w party o j) key d ≡ true → HasLabel s w key
+  pub authorised_labels : (party : List ℕ) (n j : ℕ) (o : Option Held) → held_at w n ≡ o → is_some (branch_held s o j) ≡ true → is_among party (asked_by (branch_held s o j)) ≡ true → (key d : List ℕ) → has_signed (authorising_pairs s w party o j) key d ≡ true → IsKeyOf s w party key
   authorised_labels party n j None e b a key d h = cc
   authorised_labels party n j (Some held) e b a key d h = by_branch (held_branch s held j) refl b a
     where
@@ -168,7 +173,7 @@ module _ (s : Setup) (size : HashesBytes s.hash) (few_contracts : length s.contr
       hf : HeldFine s w act.output held
       hf = kept.held n act.output held act.there act.holds
 
-      by_branch : (o : Option term.Branch) → held_branch s held j ≡ o → is_some o ≡ true → is_among party (asked_by o) ≡ true → HasLabel s w key
+      by_branch : (o : Option term.Branch) → held_branch s held j ≡ o → is_some o ≡ true → is_among party (asked_by o) ≡ true → IsKeyOf s w party key
       by_branch None u v q = cc
       by_branch (Some c) u v q =
           let in_text : at hf.setting.advert.root (held.position ++ To j ∷ []) ≡ Some c = ap (λ o. branch_in o (held_path held j)) (sym (held_contract s w held act.output hf)) ∙ u in
@@ -178,9 +183,9 @@ module _ (s : Setup) (size : HashesBytes s.hash) (few_contracts : length s.contr
           let pairs = ap (λ (x : Option Setting). branch_pair s party held.contract (held_path held j) (prepared_in s x (held_path held j))) hf.compiled
           ∙ ap (λ x. branch_pair s party held.contract (held_path held j) (option_map (prepared s.hash) x)) (unsigned_of_branch s.hash hf.setting held.position hf.here hf.choice j c hf.stands has) in
           let p = one_pair (key_of s.hash (branch_label held.contract (held.position ++ To j ∷ []) party)) _ key d (subst (λ ps. has_signed ps key d ≡ true) pairs h) in
-          old_label key (branch_label held.contract (held.position ++ To j ∷ []) party) l p.0 (λ honest. ap is_some hf.compiled)
+          old_label key party (branch_label held.contract (held.position ++ To j ∷ []) party) refl l p.0 (λ honest. ap is_some hf.compiled)
 
-  given_labels : (party : List ℕ) → is_declared s party ≡ true → (inputs : List ℕ) (outputs : List (List ℕ × ℕ)) (key d : List ℕ) → has_signed (given_pairs s w party inputs outputs) key d ≡ true → HasLabel s w key
+  pub given_labels : (party : List ℕ) → is_declared s party ≡ true → (inputs : List ℕ) (outputs : List (List ℕ × ℕ)) (key d : List ℕ) → has_signed (given_pairs s w party inputs outputs) key d ≡ true → IsKeyOf s w party key
   given_labels party decl inputs outputs key d h = of_deposit key party decl (key_given (deposit_key s.hash party) (given_digest s w party (unsigned_gift s w inputs outputs)) inputs key d h).0
 
   -- ---- what reaches the ledger
@@ -220,12 +225,12 @@ module _ (s : Setup) (size : HashesBytes s.hash) (few_contracts : length s.contr
       unless_labels (first_reason (digest_row s w contract party digests)) (committed_strings s contract party) _ (λ q.
       committed_labels contract party digests (committed_draft s (with_promise s w contract party digests) contract party (committed_strings s contract party)).hashes (w.posted ++ [])))
   labels_after (events.Endorse contract party) is = unless_labels (first_reason (endorse_row s w contract party)) [] _ (λ r.
-      signing (endorsing_pairs s party (compiled_at s w contract)) w.tip [] (w.posted ++ []) (endorsed_labels party is contract (compiled_at s w contract) refl))
+      signing (endorsing_pairs s party (compiled_at s w contract)) w.tip [] (w.posted ++ []) (λ x y h. (endorsed_labels party is contract (compiled_at s w contract) refl x y h).known))
   labels_after (events.Init contract party) is = unless_labels (first_reason (init_row s w contract party)) [] _ (λ r.
-      signing (initial_pairs s party (compiled_at s w contract)) w.tip [] (w.posted ++ []) (started_labels party is (compiled_at s w contract)))
+      signing (initial_pairs s party (compiled_at s w contract)) w.tip [] (w.posted ++ []) (λ x y h. (started_labels party is (compiled_at s w contract) x y h).known))
   labels_after (events.Authorise party output branch) is = unless_labels (first_reason (authorise_row s w party output branch)) [] _ (λ r.
       let row = no_reason-none_true (authorise_row s w party output branch) r in
-      signing (authorising_pairs s w party (held_at w output) branch) w.tip [] (w.posted ++ []) (authorised_labels party output branch (held_at w output) refl (not-false _ row.1.0) (not-false _ row.1.1.0)))
+      signing (authorising_pairs s w party (held_at w output) branch) w.tip [] (w.posted ++ []) (λ x y h. (authorised_labels party output branch (held_at w output) refl (not-false _ row.1.0) (not-false _ row.1.1.0) x y h).known))
   labels_after (events.Reveal contract party secret) is = unless_labels (first_reason (reveal_row s w contract party secret)) [] _ (λ r. signing [] w.tip (own_secret s party secret ∷ []) (w.posted ++ own_secret s party secret ∷ []) nothing)
   labels_after (events.Post bytes) is = signing [] w.tip (bytes ∷ []) (w.posted ++ bytes ∷ []) nothing
   labels_after (events.Sign party label digest) is = unless_labels (first_reason (sign_row s party label)) [] _ (λ r.
@@ -245,7 +250,7 @@ module _ (s : Setup) (size : HashesBytes s.hash) (few_contracts : length s.contr
       lying next (labels.Deposit a) h = tt
       lying next (labels.Branch k path a) h = λ honest. absurd (both_ways _ h honest)
   labels_after (events.Give party inputs outputs) is = unless_labels (first_reason (give_row s w party inputs outputs)) [] _ (λ r.
-      judged_labels (given_pairs s w party inputs outputs) (gift s w party inputs outputs) (verdict_in s (with_pairs w (given_pairs s w party inputs outputs)) (gift s w party inputs outputs)) (given_labels party is.giver inputs outputs))
+      judged_labels (given_pairs s w party inputs outputs) (gift s w party inputs outputs) (verdict_in s (with_pairs w (given_pairs s w party inputs outputs)) (gift s w party inputs outputs)) (λ x y h. (given_labels party is.giver inputs outputs x y h).known))
   labels_after (events.Append bytes) is = read_labels (transaction_of bytes)
   labels_after (events.FireInit contract) is = unless_labels (first_reason (fire_init_row s w contract)) [] _ (λ r. if_labels (initial_by s (compiled_at s w contract)))
   labels_after (events.Fire output branch) is = unless_labels (first_reason (fire_row s w output branch)) [] _ (λ r. if_labels (taking_by s w (held_at w output) branch))

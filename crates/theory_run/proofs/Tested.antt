@@ -144,7 +144,7 @@ secret_named (Persistent party value name ∷ pre) n h = or_right (bytes_eq name
 secret_named (Volatile party value name ∷ pre) n h = or_right (bytes_eq name n) _ (secret_named pre n h)
 secret_named (Secret party name ∷ pre) n h = elim (or_cases (bytes_eq name n) (is_among n (names_of (secrets pre))) h) [ inl a ↦ or_left _ _ a | inr b ↦ or_right (bytes_eq name n) _ (secret_named pre n b) ]
 
-secrets_different : (pre : List Pre) → are_different (map name_in pre) ≡ true → are_different (names_of (secrets pre)) ≡ true
+pub secrets_different : (pre : List Pre) → are_different (map name_in pre) ≡ true → are_different (names_of (secrets pre)) ≡ true
 secrets_different [] h = refl
 secrets_different (Persistent party value name ∷ pre) h = secrets_different pre (and_parts (not (is_among name (map name_in pre))) (are_different (map name_in pre)) h).1
 secrets_different (Volatile party value name ∷ pre) h = secrets_different pre (and_parts (not (is_among name (map name_in pre))) (are_different (map name_in pre)) h).1

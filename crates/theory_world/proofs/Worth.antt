@@ -116,7 +116,7 @@ append_keeps : (s : Setup) (w : World) (r : Result Tx ℕ) → DraftKeeps w (app
 append_keeps s w (Ok tx) = reaches_keeps s w w tx refl
 append_keeps s w (Err place) = same_value w _ w refl
 
-draft_keeps : (s : Setup) (w : World) (e : Event) → DraftKeeps w (draft s w e)
+pub draft_keeps : (s : Setup) (w : World) (e : Event) → DraftKeeps w (draft s w e)
 draft_keeps s w (events.Advertise contract bindings) = unless_keeps w (first_reason (advertise_row s w contract bindings)) [] _ (same_value w _ _ refl)
 draft_keeps s w (events.Commit contract party digests) =
     unless_keeps w (first_reason (commit_row s w contract party digests)) [] _

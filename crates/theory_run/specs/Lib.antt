@@ -1,0 +1,2 @@
+pub mod OwnSignatures
+pub mod WorldsOfRuns

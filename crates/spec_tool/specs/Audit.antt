@@ -14,7 +14,7 @@ use Rattle.spec_compiler.specs.Transactions.{tx_of, digest_of_spent}
 use Rattle.spec_run.specs.Setup.{Setup}
 use Rattle.spec_run.specs.World.{World}
 use Rattle.spec_run.specs.Compiled.{compiled_at}
-use Rattle.spec_run.specs.Messages.{collision}
+use Rattle.spec_data.specs.Messages.{collision}
 use Rattle.spec_run.specs.Ledger.{same_bare, verdict_in, strings_of, Kind, Begins, Takes, Moves, kind_of}
 use Rattle.spec_data.specs.Digits.{read_hex}
 use Rattle.spec_text.specs.Lines.{lines_of, words_of}

@@ -10,7 +10,7 @@ use Rattle.spec_run.specs.World.{World}
 use Rattle.spec_run.specs.Ledger.{reason_of}
 use Rattle.spec_run.specs.Compiled.{compiled_at}
 use Rattle.spec_run.specs.declared.event.Event.{Event}
-use Rattle.spec_run.specs.Event.{last_world}
+use Rattle.spec_run.specs.Translation.{last_world}
 use Rattle.spec_text.specs.RunText.{newline, output_text}
 use Rattle.spec_text.specs.OutcomeText.{reason_text}
 use Rattle.spec_text.specs.PlayText.{collided_line}

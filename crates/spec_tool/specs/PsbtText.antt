@@ -17,7 +17,7 @@ use Rattle.spec_run.specs.declared.event.Event.{Event}
 use Rattle.spec_run.specs.Setup.{Setup, contract_at}
 use Rattle.spec_run.specs.World.{World}
 use Rattle.spec_run.specs.Compiled.{compiled_at}
-use Rattle.spec_run.specs.Event.{last_world}
+use Rattle.spec_run.specs.Translation.{last_world}
 use Rattle.spec_data.specs.Digits.{hex_text}
 use Rattle.spec_text.specs.Words.{◌>>=◌, given}
 use Rattle.spec_text.specs.RunText.{newline}

@@ -11,7 +11,7 @@ use Rattle.spec_compiler.specs.Compilation.{Compilation, compilation}
 use Rattle.spec_run.specs.declared.event.Event.{Event}
 use Rattle.spec_run.specs.Setup.{Setup}
 use Rattle.spec_run.specs.Compiled.{compiled_at}
-use Rattle.spec_run.specs.Event.{last_world}
+use Rattle.spec_run.specs.Translation.{last_world}
 use Rattle.spec_data.specs.Digits.{hex_text}
 use Rattle.spec_text.specs.RunText.{newline}
 use Rattle.spec_tool.specs.declared.weight.Weight.{Weight}

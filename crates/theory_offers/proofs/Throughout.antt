@@ -11,7 +11,7 @@ use Rattle.spec_calculus.specs.Branches.{length_at, is_revealed}
 use Rattle.spec_run.specs.declared.event.Event.{Event}
 use Rattle.spec_run.specs.declared.outcome.Record.{Record}
 use Rattle.spec_run.specs.Setup.{Setup, is_honest, held_secret}
-use Rattle.spec_run.specs.Messages.{collision}
+use Rattle.spec_data.specs.Messages.{collision}
 use Rattle.spec_run.specs.World.{Promise, World}
 use Rattle.spec_run.specs.Conditions.{IsSetup, IsEvent}
 use Rattle.spec_run.specs.Draft.{settled, guess}

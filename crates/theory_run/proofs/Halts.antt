@@ -7,7 +7,7 @@ use Rattle.std.specs.Str.{bytes_eq}
 use Rattle.std.proofs.lemmas.Bool.{and_parts, and_from, both_ways, not-true}
 use Rattle.spec_data.specs.Lists.{is_among}
 use Rattle.spec_run.specs.declared.header.HeldSecret.{HeldSecret}
-use Rattle.spec_run.specs.Messages.{noted, noted_all, is_twin, clash, collision}
+use Rattle.spec_data.specs.Messages.{noted, noted_all, is_twin, clash, collision}
 use Rattle.spec_run.specs.World.{World}
 use Rattle.spec_run.specs.Draft.{Draft, is_allowed, is_guessed}
 use Rattle.spec_run.specs.Halting.{AreApart, Collides, GivesAway, GivesNoneAway, Guesses, SameStrings}

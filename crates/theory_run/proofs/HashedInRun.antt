@@ -4,7 +4,7 @@ use Rattle.std.specs.List.{flat_map}
 use Rattle.std.proofs.lemmas.List.Concat.{flat_map-cons}
 use Rattle.spec_run.specs.Setup.{Setup}
 use Rattle.spec_run.specs.World.{World}
-use Rattle.spec_run.specs.Messages.{noted, noted_all}
+use Rattle.spec_data.specs.Messages.{noted, noted_all}
 use Rattle.spec_run.specs.Event.{Passed}
 use Rattle.spec_run.specs.Translation.{world_after}
 use Rattle.theory_run.proofs.AllPassed.{AllPassed}

@@ -10,7 +10,7 @@ use Rattle.spec_bitcoin.specs.Keys.{IsLabel, label_text, key_of, has_signed}
 use Rattle.spec_run.specs.declared.event.Event.{Event}
 use Rattle.spec_run.specs.Setup.{Setup, is_honest}
 use Rattle.spec_run.specs.Conditions.{are_all_among}
-use Rattle.spec_run.specs.Messages.{noted_all}
+use Rattle.spec_data.specs.Messages.{noted_all}
 use Rattle.spec_run.specs.World.{Held, Output, Promise, World, output_at}
 use Rattle.spec_run.specs.Compiled.{compiled_at}
 use Rattle.spec_run.specs.Agreement.{is_place, compiled_place}

@@ -2,7 +2,6 @@
 #![tactic(auto)]
 
 ghost use Rattle.spec_run.specs.Statements.{SimulationTheorem, LicenceTheorem, HonestDepositsTheorem, HaltsTheorem};
-ghost use Rattle.spec_run.specs.Statements.{SimulationTheorem, LicenceTheorem, HonestDepositsTheorem};
 ghost use Rattle.theory_run.specs.WorldsOfRuns.{WorldsOfRuns};
 
 /// Every run of events is, step by step, a legal run of the calculus, and configuration and world
@@ -26,6 +25,8 @@ pub fn honest_deposits_theorem()
 /// with one digest, or of a secret that somebody else gave away; so is the collision of an opening.
 pub fn halts_theorem()
     ensures { HaltsTheorem }
+{}
+
 /// Every world that a run comes to has the messages that its events hashed, in turn; under each
 /// party's keys the pairs that the party itself signed; contract outputs exactly where they are
 /// compiled to; different commitments, an honest party's to its own secrets; and money within bounds.

@@ -5,7 +5,6 @@ ghost use Rattle.spec_bitcoin.specs.Statements.{WrittenIsRead};
 ghost use Rattle.spec_compiler.specs.Statements.{ScriptTheorem, OpenedIsChosen, SizeTheorem, WitnessOpens, DepositMeaning};
 ghost use Rattle.theory_script.specs.Choices.{WitnessChooses, ChoosesByItems};
 ghost use Rattle.theory_script.specs.Endorsed.{MissingIsFirst};
-ghost use Rattle.theory_script.specs.Listed.{PathsAreListed, ScriptsAreListed, PositionsStand};
 ghost use Rattle.theory_script.specs.Listed.{PathsAreListed, ScriptsAreListed, PositionsStand, PathsInOrder};
 ghost use Rattle.theory_script.specs.Limits.{NoLimitIsMet, OperationsAddOne};
 ghost use Rattle.theory_script.specs.Money.{MoneyIsKept};
@@ -70,6 +69,8 @@ pub fn positions_stand()
 /// the first that is missing.
 pub fn missing_is_first()
     ensures { MissingIsFirst }
+{}
+
 /// A contract has one transaction for each of its branches and one script for each of its positions, in the order of the text.
 pub fn paths_in_order()
     ensures { PathsInOrder }

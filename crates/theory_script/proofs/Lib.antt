@@ -28,3 +28,4 @@ pub mod Faultless
 pub mod Balances
 mod Money
 mod Items
+mod Once

@@ -1,5 +1,6 @@
 -- What is claimed of the lists of a contract's transactions and scripts: each path and each position once, with what stands there.
-use Rattle.std.specs.Prelude.{◌≡◌, ℕ, List, [], ◌∷◌, map, Option, Some, None, option_map, if◌then◌else◌}
+use Rattle.std.specs.Prelude.{◌≡◌, ℕ, List, [], ◌∷◌, map, Bool, true, ◌&&◌, not, Option, Some, None, option_map, if◌then◌else◌}
+use Rattle.std.specs.List.{list_any}
 use Rattle.spec_terms.specs.Term.{Choice}
 use Rattle.spec_terms.specs.Paths.{choice_at, path_eq}
 use Rattle.spec_terms.specs.Order.{branch_paths, position_paths}
@@ -35,10 +36,21 @@ abbrev pub PositionsStand : Type 0
 PositionsStand = (hash : List ℕ → List ℕ) (s : Setting) (position : List PathStep) (here : Standing) (choice : Choice)
     → position_at hash s position ≡ Some (here, choice) → StandsAt hash s position here choice
 
--- the transactions are those of the contract's branches, and the scripts those of its positions, each once and in the order of the text
+-- whether a path is one of these
+abbrev pub is_path_among : List PathStep → List (List PathStep) → Bool
+is_path_among path paths = list_any (path_eq path) paths
+
+-- whether each of these paths stands there once
+abbrev pub are_once : List (List PathStep) → Bool
+are_once [] = true
+are_once (path ∷ paths) = not (is_path_among path paths) && are_once paths
+
+-- the transactions are those of the contract's branches, and the scripts those of its positions, in the order of the text, each once
 pub record IsInOrder (hash : List ℕ → List ℕ) (s : Setting) : Type 0 where
   pub paths : map (λ p. p.0) (compilation hash s).paths ≡ branch_paths s.advert.root
+  pub paths_once : are_once (branch_paths s.advert.root) ≡ true
   pub scripts : map (λ p. p.0) (compilation hash s).scripts ≡ position_paths s.advert.root
+  pub scripts_once : are_once (position_paths s.advert.root) ≡ true
 
 abbrev pub PathsInOrder : Type 0
 PathsInOrder = (hash : List ℕ → List ℕ) (s : Setting) → IsInOrder hash s

@@ -1,5 +1,11 @@
-use Rattle.theory_script.proofs.InOrder as proofs
+use Rattle.theory_script.proofs.InOrder.{paths_in_order, scripts_in_order}
+use Rattle.theory_script.proofs.Once.{branches_once, positions_once}
 use Rattle.theory_script.proofs.paths_in_order.Goals as goal
 
 pub returns : goal.returns
-returns c = λ hash s. record { paths = proofs.paths_in_order hash s; scripts = proofs.scripts_in_order hash s }
+returns c = λ hash s. record {
+  paths = paths_in_order hash s;
+  paths_once = branches_once s.advert.root;
+  scripts = scripts_in_order hash s;
+  scripts_once = positions_once s.advert.root;
+}

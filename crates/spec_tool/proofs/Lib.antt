@@ -8,3 +8,4 @@ pub mod WorkedHash
 pub mod WorkedAudit
 pub mod WorkedWeights
 pub mod WorkedWholeRun
+pub mod WorkedVerdicts

@@ -21,7 +21,7 @@ use Rattle.spec_calculus.specs.Steps.{fails, premises, branch_at}
 use Rattle.spec_calculus.specs.Offers.{is_enabled, beginnings, taking, takings, branches_at, branches_in, branches_of, all_takings, offers}
 use Rattle.theory_calculus.specs.InOrder.{stands_in_order, are_ascending}
 use Rattle.theory_calculus.specs.Offered.{is_contract_step, key_of, is_key_less, is_offered_before, EveryEnabledIsOffered, OffersStandInOrder}
-use Rattle.theory_calculus.proofs.Members.{Is_in, in_left, in_right, in_from_contains, contains_from_in, in_filter, filter_has, all_in, all_append, found, some_there, no_false}
+use Rattle.theory_calculus.proofs.Members.{Is_in, in_left, in_right, in_from_contains, contains_from_in, in_filter, filter_has, all_in, all_append, all_filter, found, some_there, no_false}
 use Rattle.theory_calculus.proofs.Ordered.{in_order-append, in_order-filter}
 
 -- ---- a branch by its path is the branch of its number at the position
@@ -185,6 +185,12 @@ offered_enabled g s h =
     let r = in_filter (λ x. is_enabled g x) all s (in_from_contains (offers g) s h) in
     let kinds = all_append is_contract_step (beginnings 0 g.contracts) (all_takings g.contracts g.active) (beginnings_kind 0 g.contracts) (all_takings_kind g.contracts g.active) in
     (all_in is_contract_step all s kinds r.0, eqb-true (fails g s) 0 r.1)
+
+-- all offers are steps by which contracts begin or go on
+pub offers_kind : (g : Configuration) → list_all is_contract_step (offers g) ≡ true
+offers_kind g =
+    all_filter is_contract_step (λ s. is_enabled g s) (beginnings 0 g.contracts ++ all_takings g.contracts g.active)
+    (all_append is_contract_step (beginnings 0 g.contracts) (all_takings g.contracts g.active) (beginnings_kind 0 g.contracts) (all_takings_kind g.contracts g.active))
 
 pub every_enabled : EveryEnabledIsOffered
 every_enabled g s = (offered_enabled g s, λ h. enabled_offered g s h.0 h.1)

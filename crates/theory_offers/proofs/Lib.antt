@@ -24,3 +24,4 @@ mod Telling
 mod Unlocked
 mod Unmet
 pub mod Whole
+mod HaveEvents

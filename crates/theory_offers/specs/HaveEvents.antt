@@ -17,7 +17,8 @@ pub record HasEvents (g : Configuration) : Type 0 where
   -- so a step has an offer exactly where a contract begins or goes on by it and no premise fails
   pub complete : (step : Step) → Contains (map (λ o. o.step) (offers g)) step ↔ ((is_contract_step step ≡ true) × (fails g step ≡ 0))
   -- and where the active contracts stand by ascending numbers, each stands before all that come after it
-  pub ordered : are_ascending (map (λ a. a.number) g.active) ≡ true → stands_in_order is_offered_before (map (λ o. o.step) (offers g)) ≡ true
+  pub ordered : are_ascending (map (λ a. a.number) g.active) ≡ true
+      → stands_in_order is_offered_before (map (λ o. o.step) (offers g)) ≡ true
 
 abbrev pub OffersHaveEvents : Type 0
 OffersHaveEvents = (g : Configuration) → HasEvents g

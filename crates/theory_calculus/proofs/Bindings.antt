@@ -30,13 +30,15 @@ bytes_same xs = (bytes_eq-Decides xs xs).1 refl
 pub record IsBound (ds : List Deposit) (next : ℕ) (entries : List (List ℕ × Holding)) (bindings : List (List ℕ × ℕ)) : Type 0 where
   pub below : (x : List ℕ) (n : ℕ) → look_up x bindings ≡ Some n → n < next
   pub apart : (x y : List ℕ) (n : ℕ) → look_up x bindings ≡ Some n → look_up y bindings ≡ Some n → x ≡ y
-  pub values : (x : List ℕ) (n : ℕ) (h : Holding) (d : Deposit) → look_up x bindings ≡ Some n → Is_in (x, h) entries → deposit_at ds n ≡ Some d → d.value ≡ h.value
+  pub values : (x : List ℕ) (n : ℕ) (h : Holding) (d : Deposit) → look_up x bindings ≡ Some n → Is_in (x, h) entries
+      → deposit_at ds n ≡ Some d → d.value ≡ h.value
 
 -- a deposit of an earlier number was there before
 abbrev pub IsEarlier : List Deposit → List Deposit → ℕ → Type 0
 IsEarlier ds later next = (n : ℕ) (d : Deposit) → n < next → deposit_at later n ≡ Some d → deposit_at ds n ≡ Some d
 
-pub bound_later : (ds later : List Deposit) (next more : ℕ) (entries : List (List ℕ × Holding)) (bindings : List (List ℕ × ℕ)) → next ≤ more → IsEarlier ds later next → IsBound ds next entries bindings → IsBound later more entries bindings
+pub bound_later : (ds later : List Deposit) (next more : ℕ) (entries : List (List ℕ × Holding)) (bindings : List (List ℕ × ℕ))
+    → next ≤ more → IsEarlier ds later next → IsBound ds next entries bindings → IsBound later more entries bindings
 bound_later ds later next more entries bindings l e b = record {
   below = λ x n h. let s = b.below x n h in omega (arith, s, l);
   apart = b.apart;
@@ -80,7 +82,8 @@ found_by (x ∷ ds) d h (inr i) =
     rw t (found_by ds d p.1 i)
 
 -- where all others have later numbers, earlier deposits are as they were
-pub earlier : (ds later : List Deposit) (next : ℕ) → are_ascending (names ds) ≡ true → ((d : Deposit) → Is_in d later → Is_in d ds ⊎ (next ≤ d.number)) → IsEarlier ds later next
+pub earlier : (ds later : List Deposit) (next : ℕ) → are_ascending (names ds) ≡ true
+    → ((d : Deposit) → Is_in d later → Is_in d ds ⊎ (next ≤ d.number)) → IsEarlier ds later next
 earlier ds later next h each n d l e =
     let f = found (λ (x : Deposit). x.number == n) later d e in
     let q : d.number ≡ n = eqb-true d.number n f.1 in
@@ -92,7 +95,8 @@ earlier ds later next h each n d l e =
 -- ---- bindings that fit
 
 module _ (ds : List Deposit) where
-  pub binds_live : (es : List (List ℕ × Holding)) (bs : List (List ℕ × ℕ)) (x : List ℕ) (n : ℕ) → binds_each ds es bs ≡ true → look_up x bs ≡ Some n → is_live ds n ≡ true
+  pub binds_live : (es : List (List ℕ × Holding)) (bs : List (List ℕ × ℕ)) (x : List ℕ) (n : ℕ) → binds_each ds es bs ≡ true
+      → look_up x bs ≡ Some n → is_live ds n ≡ true
   binds_live [] [] x n h k = cc
   binds_live [] (b ∷ bs) x n h k = cc
   binds_live (e ∷ es) [] x n h k = cc
@@ -103,7 +107,8 @@ module _ (ds : List Deposit) where
       let s = and_parts (is_live ds (b.1)) (owner_eq (owner_at ds (b.1)) (Party e.1.owner)) r.0 in
       by_test (bytes_eq (b.0) x) k s.0 (binds_live es bs x n p.1)
     where
-      by_test : (t : Bool) → (if t then Some (b.1) else look_up x bs) ≡ Some n → is_live ds (b.1) ≡ true → (look_up x bs ≡ Some n → is_live ds n ≡ true) → is_live ds n ≡ true
+      by_test : (t : Bool) → (if t then Some (b.1) else look_up x bs) ≡ Some n → is_live ds (b.1) ≡ true
+          → (look_up x bs ≡ Some n → is_live ds n ≡ true) → is_live ds n ≡ true
       by_test true f s ih = let z : b.1 ≡ n = cc in subst (λ m. is_live ds m ≡ true) z s
       by_test false f s ih = ih f
 
@@ -121,9 +126,11 @@ module _ (ds : List Deposit) where
       let q = and_parts (bytes_eq (b.0) (e.0)) (fits_deposit ds (b.1) e.1.owner e.1.value) p.0 in
       let r = and_parts _ (value_at ds (b.1) == e.1.value) q.1 in
       let names_apart = and_parts (not (is_among (e.0) (names_of es))) (are_different (names_of es)) d in
-      by_place i (bytes_true (b.0) (e.0) q.0) (eqb-true (value_at ds (b.1)) e.1.value r.1) (not-true _ names_apart.0) (λ j f. binds_value es bs x n h p.1 names_apart.1 j f)
+      by_place i (bytes_true (b.0) (e.0) q.0) (eqb-true (value_at ds (b.1)) e.1.value r.1) (not-true _ names_apart.0)
+      (λ j f. binds_value es bs x n h p.1 names_apart.1 j f)
     where
-      by_place : Is_in (x, h) (e ∷ es) → b.0 ≡ e.0 → value_at ds (b.1) ≡ e.1.value → is_among (e.0) (names_of es) ≡ false → (Is_in (x, h) es → look_up x bs ≡ Some n → value_at ds n ≡ h.value) → value_at ds n ≡ h.value
+      by_place : Is_in (x, h) (e ∷ es) → b.0 ≡ e.0 → value_at ds (b.1) ≡ e.1.value → is_among (e.0) (names_of es) ≡ false
+          → (Is_in (x, h) es → look_up x bs ≡ Some n → value_at ds n ≡ h.value) → value_at ds n ≡ h.value
       by_place (inl f) same v apart ih =
           let nx : x ≡ e.0 = ap (λ y. y.0) f in
           let t : bytes_eq (b.0) x ≡ true = subst (λ y. bytes_eq (b.0) y ≡ true) (same ∙ sym nx) (bytes_same (b.0)) in
@@ -131,19 +138,23 @@ module _ (ds : List Deposit) where
           let z : b.1 ≡ n = cc in
           subst (λ m. value_at ds m ≡ h.value) z (v ∙ ap (λ y. (y.1).value) (sym f))
       by_place (inr j) same v apart ih =
-          let f : bytes_eq (b.0) x ≡ false = false_from_ne_true _ (λ t. both_ways _ apart (subst (λ y. is_among y (names_of es) ≡ true) (sym (bytes_true (b.0) x t) ∙ same) (named es x h j))) in
+          let f : bytes_eq (b.0) x ≡ false =
+          false_from_ne_true _
+          (λ t. both_ways _ apart (subst (λ y. is_among y (names_of es) ≡ true) (sym (bytes_true (b.0) x t) ∙ same) (named es x h j))) in
           ih j (rw f at k)
 
 looked_bound : (bs : List (List ℕ × ℕ)) (x : List ℕ) (n : ℕ) → look_up x bs ≡ Some n → list_any (λ c. c.1 == n) bs ≡ true
 looked_bound [] x n h = cc
 looked_bound (b ∷ bs) x n h = by_test (bytes_eq (b.0) x) h (looked_bound bs x n)
   where
-    by_test : (t : Bool) → (if t then Some (b.1) else look_up x bs) ≡ Some n → (look_up x bs ≡ Some n → list_any (λ c. c.1 == n) bs ≡ true) → list_any (λ c. c.1 == n) (b ∷ bs) ≡ true
+    by_test : (t : Bool) → (if t then Some (b.1) else look_up x bs) ≡ Some n
+        → (look_up x bs ≡ Some n → list_any (λ c. c.1 == n) bs ≡ true) → list_any (λ c. c.1 == n) (b ∷ bs) ≡ true
     by_test true f ih = or_left _ _ (eq-eqb (b.1) n (let z : b.1 ≡ n = cc in z))
     by_test false f ih = or_right (b.1 == n) _ (ih f)
 
 -- names bound to one number are one
-pub bound_once : (bs : List (List ℕ × ℕ)) (x y : List ℕ) (n : ℕ) → are_bound_apart bs ≡ true → look_up x bs ≡ Some n → look_up y bs ≡ Some n → x ≡ y
+pub bound_once : (bs : List (List ℕ × ℕ)) (x y : List ℕ) (n : ℕ) → are_bound_apart bs ≡ true → look_up x bs ≡ Some n
+    → look_up y bs ≡ Some n → x ≡ y
 bound_once [] x y n h k l = cc
 bound_once (b ∷ bs) x y n h k l =
     let p = and_parts (not (list_any (λ c. c.1 == b.1) bs)) (are_bound_apart bs) h in
@@ -152,7 +163,8 @@ bound_once (b ∷ bs) x y n h k l =
     not_later : (z : List ℕ) → list_any (λ c. c.1 == b.1) bs ≡ false → b.1 ≡ n → look_up z bs ≡ Some n → ⊥
     not_later z a e f = both_ways _ a (subst (λ m. list_any (λ c. c.1 == m) bs ≡ true) (sym e) (looked_bound bs z n f))
 
-    by_tests : (t u : Bool) → bytes_eq (b.0) x ≡ t → bytes_eq (b.0) y ≡ u → list_any (λ c. c.1 == b.1) bs ≡ false → (if t then Some (b.1) else look_up x bs) ≡ Some n → (if u then Some (b.1) else look_up y bs) ≡ Some n
+    by_tests : (t u : Bool) → bytes_eq (b.0) x ≡ t → bytes_eq (b.0) y ≡ u → list_any (λ c. c.1 == b.1) bs ≡ false
+        → (if t then Some (b.1) else look_up x bs) ≡ Some n → (if u then Some (b.1) else look_up y bs) ≡ Some n
         → (look_up x bs ≡ Some n → look_up y bs ≡ Some n → x ≡ y) → x ≡ y
     by_tests true true e f a k l ih = sym (bytes_true (b.0) x e) ∙ bytes_true (b.0) y f
     by_tests true false e f a k l ih = absurd (not_later y a (let z : b.1 ≡ n = cc in z) l)
@@ -160,14 +172,16 @@ bound_once (b ∷ bs) x y n h k l =
     by_tests false false e f a k l ih = ih k l
 
 -- bindings that fit are kept well
-pub bound_now : (ds : List Deposit) (next : ℕ) (es : List (List ℕ × Holding)) (bs : List (List ℕ × ℕ)) → list_all (λ n. nat_lt n next) (names ds) ≡ true
+pub bound_now : (ds : List Deposit) (next : ℕ) (es : List (List ℕ × Holding)) (bs : List (List ℕ × ℕ))
+    → list_all (λ n. nat_lt n next) (names ds) ≡ true
     → (binds_each ds es bs && are_bound_apart bs) ≡ true → are_different (names_of es) ≡ true → IsBound ds next es bs
 bound_now ds next es bs low fit d =
     let p = and_parts (binds_each ds es bs) (are_bound_apart bs) fit in
     record {
       below = λ x n h. live_below n (binds_live ds es bs x n p.0 h);
       apart = λ x y n h k. bound_once bs x y n p.1 h k;
-      values = λ x n h c k i f. (let v = binds_value ds es bs x n h p.0 d i k in let w : value_at ds n ≡ c.value = ap moves.value_of f in sym w ∙ v);
+      values = λ x n h c k i f. (let v = binds_value ds es bs x n h p.0 d i k in let w : value_at ds n
+          ≡ c.value = ap moves.value_of f in sym w ∙ v);
     }
   where
     live_below : (n : ℕ) → is_live ds n ≡ true → n < next
@@ -183,8 +197,10 @@ bindings_more [] k j b h = refl
 bindings_more (x ∷ xs) k j b h = by_tests (x.contract == j) (k == j) refl refl h (bindings_more xs k j b)
   where
     by_tests : (t u : Bool) → (x.contract == j) ≡ t → (k == j) ≡ u → ((x.contract == k) || is_advertised xs k) ≡ false
-        → (is_advertised xs k ≡ false → bindings_of (xs ++ record { contract = k; bindings = b } ∷ []) j ≡ (if k == j then b else bindings_of xs j))
-        → (if t then x.bindings else bindings_of (xs ++ record { contract = k; bindings = b } ∷ []) j) ≡ (if u then b else (if t then x.bindings else bindings_of xs j))
+        → (is_advertised xs k ≡ false → bindings_of (xs ++ record { contract = k; bindings = b } ∷ []) j
+        ≡ (if k == j then b else bindings_of xs j))
+        → (if t then x.bindings else bindings_of (xs ++ record { contract = k; bindings = b } ∷ []) j)
+        ≡ (if u then b else (if t then x.bindings else bindings_of xs j))
     by_tests true true e f a ih =
         let p : x.contract ≡ k = eqb-true x.contract j e ∙ sym (eqb-true k j f) in
         let q : ((x.contract == k) || is_advertised xs k) ≡ true = or_left _ _ (eq-eqb x.contract k p) in
@@ -196,38 +212,45 @@ bindings_more (x ∷ xs) k j b h = by_tests (x.contract == j) (k == j) refl refl
 -- ---- the deposits of names
 
 module _ (ds : List Deposit) (bs : List (List ℕ × ℕ)) where
-  number_named : (xs : List (List ℕ)) (n : ℕ) → has_number n (numbers_of bs xs) ≡ true → (y : List ℕ) × (is_among y xs ≡ true) × (look_up y bs ≡ Some n)
+  number_named : (xs : List (List ℕ)) (n : ℕ) → has_number n (numbers_of bs xs) ≡ true
+      → (y : List ℕ) × (is_among y xs ≡ true) × (look_up y bs ≡ Some n)
   number_named [] n h = cc
   number_named (x ∷ xs) n h = by_bound (look_up x bs) refl h (number_named xs n)
     where
       by_bound : (o : Option ℕ) → look_up x bs ≡ o → has_number n (and_then o (numbers_of bs xs)) ≡ true
-          → (has_number n (numbers_of bs xs) ≡ true → (y : List ℕ) × (is_among y xs ≡ true) × (look_up y bs ≡ Some n)) → (y : List ℕ) × (is_among y (x ∷ xs) ≡ true) × (look_up y bs ≡ Some n)
+          → (has_number n (numbers_of bs xs) ≡ true → (y : List ℕ) × (is_among y xs ≡ true) × (look_up y bs ≡ Some n))
+          → (y : List ℕ) × (is_among y (x ∷ xs) ≡ true) × (look_up y bs ≡ Some n)
       by_bound None e q ih = let r = ih q in (r.0, or_right (bytes_eq x r.0) _ r.1, r.2)
       by_bound (Some m) e q ih = elim (or_cases (m == n) (has_number n (numbers_of bs xs)) q) [
         | inl a ↦ (x, or_left _ _ (bytes_same x), subst (λ k. look_up x bs ≡ Some k) (eqb-true m n a) e)
         | inr b ↦ (let r = ih b in (r.0, or_right (bytes_eq x r.0) _ r.1, r.2))
       ]
 
-  pub numbers_distinct : (xs : List (List ℕ)) → ((x y : List ℕ) (n : ℕ) → look_up x bs ≡ Some n → look_up y bs ≡ Some n → x ≡ y) → are_different xs ≡ true → are_distinct (numbers_of bs xs) ≡ true
+  pub numbers_distinct : (xs : List (List ℕ)) → ((x y : List ℕ) (n : ℕ) → look_up x bs ≡ Some n → look_up y bs ≡ Some n → x ≡ y)
+      → are_different xs ≡ true → are_distinct (numbers_of bs xs) ≡ true
   numbers_distinct [] apart d = refl
   numbers_distinct (x ∷ xs) apart d =
       let p = and_parts (not (is_among x xs)) (are_different xs) d in
       by_bound (look_up x bs) refl (not-true _ p.0) (numbers_distinct xs apart p.1)
     where
-      by_bound : (o : Option ℕ) → look_up x bs ≡ o → is_among x xs ≡ false → are_distinct (numbers_of bs xs) ≡ true → are_distinct (and_then o (numbers_of bs xs)) ≡ true
+      by_bound : (o : Option ℕ) → look_up x bs ≡ o → is_among x xs ≡ false → are_distinct (numbers_of bs xs) ≡ true
+          → are_distinct (and_then o (numbers_of bs xs)) ≡ true
       by_bound None e a ih = ih
       by_bound (Some m) e a ih =
-          and_from _ _ (not_from_false _ (false_from_ne_true _ (λ t. let r = number_named xs m t in both_ways _ a (subst (λ z. is_among z xs ≡ true) (sym (apart x r.0 m e r.2)) r.1)))) ih
+          and_from _ _ (not_from_false _ (false_from_ne_true _
+          (λ t. let r = number_named xs m t in both_ways _ a (subst (λ z. is_among z xs ≡ true) (sym (apart x r.0 m e r.2)) r.1)))) ih
 
   -- what names are bound to is worth what is said of each
-  pub names_value : (worth : List ℕ → ℕ) (xs : List (List ℕ)) → ((x : List ℕ) (n : ℕ) (d : Deposit) → is_among x xs ≡ true → look_up x bs ≡ Some n → deposit_at ds n ≡ Some d → d.value ≡ worth x)
+  pub names_value : (worth : List ℕ → ℕ) (xs : List (List ℕ))
+      → ((x : List ℕ) (n : ℕ) (d : Deposit) → is_among x xs ≡ true → look_up x bs ≡ Some n → deposit_at ds n ≡ Some d → d.value ≡ worth x)
       → are_there ds bs xs ≡ true → value_in ds (numbers_of bs xs) ≡ sum_by worth xs
   names_value worth [] each t = refl
   names_value worth (x ∷ xs) each t =
       let p = and_parts (is_there ds (look_up x bs)) (are_there ds bs xs) t in
       by_bound (look_up x bs) refl p.0 (names_value worth xs (λ y n d a. each y n d (or_right (bytes_eq x y) _ a)) p.1)
     where
-      by_bound : (o : Option ℕ) → look_up x bs ≡ o → is_there ds o ≡ true → value_in ds (numbers_of bs xs) ≡ sum_by worth xs → value_in ds (and_then o (numbers_of bs xs)) ≡ sum_by worth (x ∷ xs)
+      by_bound : (o : Option ℕ) → look_up x bs ≡ o → is_there ds o ≡ true → value_in ds (numbers_of bs xs) ≡ sum_by worth xs
+          → value_in ds (and_then o (numbers_of bs xs)) ≡ sum_by worth (x ∷ xs)
       by_bound None e h ih = cc
       by_bound (Some n) e h ih =
           let c = some_there (deposit_at ds n) h in
@@ -235,14 +258,17 @@ module _ (ds : List Deposit) (bs : List (List ℕ × ℕ)) where
           sum_by-cons (λ m. value_at ds m) n (numbers_of bs xs) ∙ (λ i. v i + ih i) ∙ sym (sum_by-cons worth x xs)
 
   -- the same, of deposits with their values
-  pub entries_value : (es : List (List ℕ × Holding)) → ((x : List ℕ) (n : ℕ) (h : Holding) (d : Deposit) → Is_in (x, h) es → look_up x bs ≡ Some n → deposit_at ds n ≡ Some d → d.value ≡ h.value)
+  pub entries_value : (es : List (List ℕ × Holding))
+      → ((x : List ℕ) (n : ℕ) (h : Holding) (d : Deposit) → Is_in (x, h) es → look_up x bs ≡ Some n → deposit_at ds n ≡ Some d → d.value
+      ≡ h.value)
       → are_there ds bs (names_of es) ≡ true → value_in ds (numbers_of bs (names_of es)) ≡ total_of es
   entries_value [] each t = refl
   entries_value (e ∷ es) each t =
       let p = and_parts (is_there ds (look_up (e.0) bs)) (are_there ds bs (names_of es)) t in
       by_bound (look_up (e.0) bs) refl p.0 (entries_value es (λ x n h d i. each x n h d (inr i)) p.1)
     where
-      by_bound : (o : Option ℕ) → look_up (e.0) bs ≡ o → is_there ds o ≡ true → value_in ds (numbers_of bs (names_of es)) ≡ total_of es → value_in ds (and_then o (numbers_of bs (names_of es))) ≡ total_of (e ∷ es)
+      by_bound : (o : Option ℕ) → look_up (e.0) bs ≡ o → is_there ds o ≡ true → value_in ds (numbers_of bs (names_of es)) ≡ total_of es
+          → value_in ds (and_then o (numbers_of bs (names_of es))) ≡ total_of (e ∷ es)
       by_bound None f h ih = cc
       by_bound (Some n) f h ih =
           let c = some_there (deposit_at ds n) h in

@@ -53,17 +53,20 @@ among_append : (n : List ℕ) (xs ys : List (List ℕ)) → is_among n (xs ++ ys
 among_append n [] ys = refl
 among_append n (x ∷ xs) ys = grind (arith, among_append n xs ys)
 
-none_repeated : (k : ℕ) (before xs : List (List ℕ)) → first_repeated k before xs ≡ None → (are_different xs ≡ true) × ((n : List ℕ) → is_among n xs ≡ true → is_among n before ≡ false)
+none_repeated : (k : ℕ) (before xs : List (List ℕ)) → first_repeated k before xs ≡ None
+    → (are_different xs ≡ true) × ((n : List ℕ) → is_among n xs ≡ true → is_among n before ≡ false)
 none_repeated k before [] h = (refl, λ n i. cc)
 none_repeated k before (x ∷ xs) h = by_test (is_among x before) refl h (none_repeated (k + 1) (before ++ x ∷ []) xs)
   where
     by_test : (b : Bool) → is_among x before ≡ b → (if b then Some k else first_repeated (k + 1) (before ++ x ∷ []) xs) ≡ None
-        → (first_repeated (k + 1) (before ++ x ∷ []) xs ≡ None → (are_different xs ≡ true) × ((n : List ℕ) → is_among n xs ≡ true → is_among n (before ++ x ∷ []) ≡ false))
+        → (first_repeated (k + 1) (before ++ x ∷ []) xs ≡ None
+        → (are_different xs ≡ true) × ((n : List ℕ) → is_among n xs ≡ true → is_among n (before ++ x ∷ []) ≡ false))
         → (are_different (x ∷ xs) ≡ true) × ((n : List ℕ) → is_among n (x ∷ xs) ≡ true → is_among n before ≡ false)
     by_test true e q ih = cc
     by_test false e q ih =
         let r = ih q in
-        let here : is_among x (before ++ x ∷ []) ≡ true = among_append x before (x ∷ []) ∙ or_right (is_among x before) _ (or_left _ _ (bytes_same x)) in
+        let here : is_among x (before ++ x ∷ []) ≡ true =
+        among_append x before (x ∷ []) ∙ or_right (is_among x before) _ (or_left _ _ (bytes_same x)) in
         let apart : is_among x xs ≡ false = false_from_ne_true _ (λ t. both_ways _ (r.1 x t) here) in (
           and_from _ _ (not_from_false _ apart) r.0,
           λ n i. elim (or_cases (bytes_eq x n) (is_among n xs) i) [
@@ -73,22 +76,30 @@ none_repeated k before (x ∷ xs) h = by_test (is_among x before) refl h (none_r
         )
 
 all_different : (a : Advert) → IsWellFormed a → are_different (map name_in a.pre) ≡ true
-all_different a h = (none_repeated 0 [] (map name_in a.pre) (map_none places.Pre (first_repeated 0 [] (map name_in a.pre)) (no_fault a h).0)).0
+all_different a h =
+    (none_repeated 0 [] (map name_in a.pre) (map_none places.Pre (first_repeated 0 [] (map name_in a.pre)) (no_fault a h).0)).0
 
-module _ (pick : List Pre → List (List ℕ × Holding)) (named : (pre : List Pre) (n : List ℕ) → is_among n (names_of (pick pre)) ≡ true → is_among n (map name_in pre) ≡ true) where
+module _ (pick : List Pre → List (List ℕ × Holding)) (named : (pre : List Pre) (n : List ℕ) → is_among n (names_of (pick pre)) ≡ true
+    → is_among n (map name_in pre) ≡ true) where
   not_named : (name : List ℕ) (pre : List Pre) → is_among name (map name_in pre) ≡ false → is_among name (names_of (pick pre)) ≡ false
   not_named name pre h = false_from_ne_true _ (λ t. both_ways _ h (named pre name t))
 
 persistent_named : (pre : List Pre) (n : List ℕ) → is_among n (names_of (persistent pre)) ≡ true → is_among n (map name_in pre) ≡ true
 persistent_named [] n h = h
-persistent_named (Persistent party value name ∷ pre) n h = elim (or_cases (bytes_eq name n) (is_among n (names_of (persistent pre))) h) [ inl a ↦ or_left _ _ a | inr b ↦ or_right (bytes_eq name n) _ (persistent_named pre n b) ]
+persistent_named (Persistent party value name ∷ pre) n h =
+    elim (or_cases (bytes_eq name n) (is_among n (names_of (persistent pre))) h)
+    [ inl a ↦ or_left _ _ a | inr b ↦ or_right (bytes_eq name n) _ (persistent_named pre n b) ]
 persistent_named (Volatile party value name ∷ pre) n h = or_right (bytes_eq name n) _ (persistent_named pre n h)
 persistent_named (Secret party name ∷ pre) n h = or_right (bytes_eq name n) _ (persistent_named pre n h)
 
 deposit_named : (pre : List Pre) (n : List ℕ) → is_among n (names_of (deposits pre)) ≡ true → is_among n (map name_in pre) ≡ true
 deposit_named [] n h = h
-deposit_named (Persistent party value name ∷ pre) n h = elim (or_cases (bytes_eq name n) (is_among n (names_of (deposits pre))) h) [ inl a ↦ or_left _ _ a | inr b ↦ or_right (bytes_eq name n) _ (deposit_named pre n b) ]
-deposit_named (Volatile party value name ∷ pre) n h = elim (or_cases (bytes_eq name n) (is_among n (names_of (deposits pre))) h) [ inl a ↦ or_left _ _ a | inr b ↦ or_right (bytes_eq name n) _ (deposit_named pre n b) ]
+deposit_named (Persistent party value name ∷ pre) n h =
+    elim (or_cases (bytes_eq name n) (is_among n (names_of (deposits pre))) h)
+    [ inl a ↦ or_left _ _ a | inr b ↦ or_right (bytes_eq name n) _ (deposit_named pre n b) ]
+deposit_named (Volatile party value name ∷ pre) n h =
+    elim (or_cases (bytes_eq name n) (is_among n (names_of (deposits pre))) h)
+    [ inl a ↦ or_left _ _ a | inr b ↦ or_right (bytes_eq name n) _ (deposit_named pre n b) ]
 deposit_named (Secret party name ∷ pre) n h = or_right (bytes_eq name n) _ (deposit_named pre n h)
 
 persistent_different : (pre : List Pre) → are_different (map name_in pre) ≡ true → are_different (names_of (persistent pre)) ≡ true
@@ -96,8 +107,10 @@ persistent_different [] h = refl
 persistent_different (Persistent party value name ∷ pre) h =
     let p = and_parts (not (is_among name (map name_in pre))) (are_different (map name_in pre)) h in
     and_from _ _ (not_from_false _ (not_named persistent persistent_named name pre (not-true _ p.0))) (persistent_different pre p.1)
-persistent_different (Volatile party value name ∷ pre) h = persistent_different pre (and_parts (not (is_among name (map name_in pre))) (are_different (map name_in pre)) h).1
-persistent_different (Secret party name ∷ pre) h = persistent_different pre (and_parts (not (is_among name (map name_in pre))) (are_different (map name_in pre)) h).1
+persistent_different (Volatile party value name ∷ pre) h =
+    persistent_different pre (and_parts (not (is_among name (map name_in pre))) (are_different (map name_in pre)) h).1
+persistent_different (Secret party name ∷ pre) h =
+    persistent_different pre (and_parts (not (is_among name (map name_in pre))) (are_different (map name_in pre)) h).1
 
 deposits_different : (pre : List Pre) → are_different (map name_in pre) ≡ true → are_different (names_of (deposits pre)) ≡ true
 deposits_different [] h = refl
@@ -107,7 +120,8 @@ deposits_different (Persistent party value name ∷ pre) h =
 deposits_different (Volatile party value name ∷ pre) h =
     let p = and_parts (not (is_among name (map name_in pre))) (are_different (map name_in pre)) h in
     and_from _ _ (not_from_false _ (not_named deposits deposit_named name pre (not-true _ p.0))) (deposits_different pre p.1)
-deposits_different (Secret party name ∷ pre) h = deposits_different pre (and_parts (not (is_among name (map name_in pre))) (are_different (map name_in pre)) h).1
+deposits_different (Secret party name ∷ pre) h =
+    deposits_different pre (and_parts (not (is_among name (map name_in pre))) (are_different (map name_in pre)) h).1
 
 pub persistent_deposit : (pre : List Pre) (d : List ℕ × Holding) → Is_in d (persistent pre) → Is_in d (deposits pre)
 persistent_deposit [] d h = absurd h
@@ -127,15 +141,19 @@ pub looked_in : (ps : List (List ℕ × Holding)) (name : List ℕ) (v : Holding
 looked_in [] name v h = cc
 looked_in (p ∷ ps) name v h = by_test (bytes_eq (p.0) name) refl h (looked_in ps name v)
   where
-    by_test : (b : Bool) → bytes_eq (p.0) name ≡ b → (if b then Some (p.1) else look_up name ps) ≡ Some v → (look_up name ps ≡ Some v → Is_in (name, v) ps) → Is_in (name, v) (p ∷ ps)
+    by_test : (b : Bool) → bytes_eq (p.0) name ≡ b → (if b then Some (p.1) else look_up name ps) ≡ Some v
+        → (look_up name ps ≡ Some v → Is_in (name, v) ps) → Is_in (name, v) (p ∷ ps)
     by_test true e q ih = let z : p.1 ≡ v = cc in let n = sym (bytes_true (p.0) name e) in let y = sym z in inl (λ i. (n i, y i))
     by_test false e q ih = inr (ih q)
 
-pub in_looked : (ps : List (List ℕ × Holding)) (name : List ℕ) → is_among name (names_of ps) ≡ true → (v : Holding) × (look_up name ps ≡ Some v)
+pub in_looked : (ps : List (List ℕ × Holding)) (name : List ℕ) → is_among name (names_of ps) ≡ true
+    → (v : Holding) × (look_up name ps ≡ Some v)
 in_looked [] name h = cc
 in_looked (p ∷ ps) name h = by_test (bytes_eq (p.0) name) h (in_looked ps name)
   where
-    by_test : (b : Bool) → (b || is_among name (names_of ps)) ≡ true → (is_among name (names_of ps) ≡ true → (v : Holding) × (look_up name ps ≡ Some v)) → (v : Holding) × ((if b then Some (p.1) else look_up name ps) ≡ Some v)
+    by_test : (b : Bool) → (b || is_among name (names_of ps)) ≡ true
+        → (is_among name (names_of ps) ≡ true → (v : Holding) × (look_up name ps ≡ Some v))
+        → (v : Holding) × ((if b then Some (p.1) else look_up name ps) ≡ Some v)
     by_test true q ih = (p.1, refl)
     by_test false q ih = ih q
 
@@ -178,23 +196,29 @@ module _ (a : Advert) (well : IsWellFormed a) where
 
   -- ---- what each branch names
 
-  branch_at : (s : Stand) (b : Branch) (t : Branch → Bool) → first_place (λ y. at_core t y.spot) (stands a) ≡ None → Is_in s (stands a) → s.spot ≡ at_branch b → t (core b) ≡ false
+  branch_at : (s : Stand) (b : Branch) (t : Branch → Bool) → first_place (λ y. at_core t y.spot) (stands a) ≡ None → Is_in s (stands a)
+      → s.spot ≡ at_branch b → t (core b) ≡ false
   branch_at s b t h i e = subst (λ y. at_core t y ≡ false) e (none_at (λ y. at_core t y.spot) (stands a) s h i)
 
-  pub puts_known : (q : List PathStep) (v : ℤ) (b : Branch) → Is_in (stand q v (at_branch b)) (stands a) → are_among (cores.puts_of (core b)) (names_of (volatile a.pre)) ≡ true
+  pub puts_known : (q : List PathStep) (v : ℤ) (b : Branch) → Is_in (stand q v (at_branch b)) (stands a)
+      → are_among (cores.puts_of (core b)) (names_of (volatile a.pre)) ≡ true
   puts_known q v b i = not-false _ (branch_at (stand q v (at_branch b)) b (puts_unknown a.pre) (no_fault a well).1.0 i refl)
 
-  pub puts_differ : (q : List PathStep) (v : ℤ) (b : Branch) → Is_in (stand q v (at_branch b)) (stands a) → are_different (cores.puts_of (core b)) ≡ true
+  pub puts_differ : (q : List PathStep) (v : ℤ) (b : Branch) → Is_in (stand q v (at_branch b)) (stands a)
+      → are_different (cores.puts_of (core b)) ≡ true
   puts_differ q v b i =
-      (and_parts (are_different (cores.puts_of (core b))) (are_different (cores.reveals_of (core b))) (not-false _ (branch_at (stand q v (at_branch b)) b repeats (no_fault a well).1.1.1.0 i refl))).0
+      (and_parts (are_different (cores.puts_of (core b))) (are_different (cores.reveals_of (core b)))
+      (not-false _ (branch_at (stand q v (at_branch b)) b repeats (no_fault a well).1.1.1.0 i refl))).0
 
   -- ---- balances that pay
 
   -- a position's balance isn't negative
   pub position_pays : (q : List PathStep) (v : ℤ) (c : Choice) → Is_in (stand q v (position c)) (stands a) → int_lt v (pos 0) ≡ false
-  position_pays q v c i = none_at (λ y. is_short a.fee y.balance y.spot) (stands a) (stand q v (position c)) (no_fault a well).1.1.1.1.1.1.1.0 i
+  position_pays q v c i =
+      none_at (λ y. is_short a.fee y.balance y.spot) (stands a) (stand q v (position c)) (no_fault a well).1.1.1.1.1.1.1.0 i
 
-  short_withdraw : (v : ℕ) (c : Branch) (party : List ℕ) → c ≡ withdraw party → (is_withdraw c && int_lt (pos v) (pos a.fee)) ≡ false → a.fee ≤ v
+  short_withdraw : (v : ℕ) (c : Branch) (party : List ℕ) → c ≡ withdraw party → (is_withdraw c && int_lt (pos v) (pos a.fee)) ≡ false
+      → a.fee ≤ v
   short_withdraw v c party e h = no_less v a.fee (subst (λ y. (is_withdraw y && int_lt (pos v) (pos a.fee)) ≡ false) e h)
 
   even_split : (v : ℕ) (c : Branch) (parts : Parts) → c ≡ split parts → is_uneven a.fee (pos v) c ≡ false → sum_of_parts parts + a.fee ≡ v
@@ -204,9 +228,16 @@ module _ (a : Advert) (well : IsWellFormed a) where
   branch_pays q v b i = by_core (core b) refl
     where
       by_core : (c : Branch) → core b ≡ c → Pays a v c
-      by_core (put_reveal puts reveals test next) e = enough v (value_of_puts (volatile a.pre) puts) a.fee (position_pays q (after_put (volatile a.pre) a.fee (pos v) puts) next (stands_next a q (pos v) b puts reveals test next i e))
-      by_core (withdraw party) e = short_withdraw v (core b) party e (none_at (λ y. is_short a.fee y.balance y.spot) (stands a) (stand q (pos v) (at_branch b)) (no_fault a well).1.1.1.1.1.1.1.0 i)
-      by_core (split parts) e = even_split v (core b) parts e (none_at (λ y. at_core (is_uneven a.fee y.balance) y.spot) (stands a) (stand q (pos v) (at_branch b)) (no_fault a well).1.1.1.1.1.1.0 i)
+      by_core (put_reveal puts reveals test next) e =
+          enough v (value_of_puts (volatile a.pre) puts) a.fee
+          (position_pays q (after_put (volatile a.pre) a.fee (pos v) puts) next (stands_next a q (pos v) b puts reveals test next i e))
+      by_core (withdraw party) e =
+          short_withdraw v (core b) party e
+          (none_at (λ y. is_short a.fee y.balance y.spot) (stands a) (stand q (pos v) (at_branch b)) (no_fault a well).1.1.1.1.1.1.1.0 i)
+      by_core (split parts) e =
+          even_split v (core b) parts e
+          (none_at (λ y. at_core (is_uneven a.fee y.balance) y.spot) (stands a) (stand q (pos v) (at_branch b))
+          (no_fault a well).1.1.1.1.1.1.0 i)
       by_core (auth party body) e = tt
       by_core (after height body) e = tt
 

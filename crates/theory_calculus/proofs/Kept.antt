@@ -48,7 +48,8 @@ split_some : (o : Option Branch) → is_split o ≡ true → is_some o ≡ true
 split_some None h = h
 split_some (Some b) h = refl
 
-put_core : (c : Branch) → is_put_core c ≡ true → (puts : List (List ℕ)) × (reveals : List (List ℕ)) × (test : Test) × (next : Choice) × (c ≡ put_reveal puts reveals test next)
+put_core : (c : Branch) → is_put_core c ≡ true
+    → (puts : List (List ℕ)) × (reveals : List (List ℕ)) × (test : Test) × (next : Choice) × (c ≡ put_reveal puts reveals test next)
 put_core (put_reveal puts reveals test next) h = (puts, reveals, test, next, refl)
 put_core (auth party body) h = cc
 put_core (after height body) h = cc
@@ -78,7 +79,8 @@ module _ (g : Configuration) (fine : IsFine g) where
   others_stand output a i = fine.standing a (in_filter (λ (x : ActiveContract). not (x.number == output)) g.active a i).0
 
   -- those of a list, and one more
-  and_one : (xs : List ActiveContract) (new : ActiveContract) → ((a : ActiveContract) → Is_in a xs → StandsAt g.contracts a) → StandsAt g.contracts new
+  and_one : (xs : List ActiveContract) (new : ActiveContract) → ((a : ActiveContract) → Is_in a xs → StandsAt g.contracts a)
+      → StandsAt g.contracts new
       → (a : ActiveContract) → Is_in a (xs ++ new ∷ []) → StandsAt g.contracts a
   and_one xs new old h a i = elim (in_append a xs (new ∷ []) i) [ inl k ↦ old a k | inr k ↦ only a k ]
     where
@@ -92,17 +94,29 @@ module _ (g : Configuration) (fine : IsFine g) where
     abbrev begins : List ℕ
     begins = numbers_of (bindings_of g.advertised k) (persistent_names (pre_of (contract_at g.contracts k)))
 
-    init_all : (advert : Advert) × (contract_at g.contracts k ≡ Some advert) × (are_there g.deposits (bindings_of g.advertised k) (persistent_names advert.pre) ≡ true)
+    init_all : (advert : Advert) × (contract_at g.contracts k ≡ Some advert) ×
+        (are_there g.deposits (bindings_of g.advertised k) (persistent_names advert.pre) ≡ true)
     init_all =
         let p = no_false 1 (premises g (steps.Init k)) (omega arith) e in
         let c = some_there (contract_at g.contracts k) (and_parts (is_some (contract_at g.contracts k)) _ p.0).0 in
         (c.0, c.1, subst (λ o. are_there g.deposits (bindings_of g.advertised k) (persistent_names (pre_of o)) ≡ true) c.1 p.1.0)
 
-    init_stands : StandsAt g.contracts (record { number = g.next; contract = k; position = []; balance = total_value (gone g.deposits begins) - fee_of (contract_at g.contracts k) })
+    init_stands : StandsAt g.contracts (record {
+      number = g.next;
+      contract = k;
+      position = [];
+      balance = total_value (gone g.deposits begins) - fee_of (contract_at g.contracts k);
+    })
     init_stands =
         let q = init_all in
         let c = q.1 in
-        let there : ActiveContract = record { number = g.next; contract = k; position = []; balance = total_value (gone g.deposits begins) - fee_of (contract_at g.contracts k) } in
+        let there : ActiveContract =
+        record {
+          number = g.next;
+          contract = k;
+          position = [];
+          balance = total_value (gone g.deposits begins) - fee_of (contract_at g.contracts k);
+        } in
         let here : ActiveContract = record {
           number = g.next;
           contract = k;
@@ -113,7 +127,8 @@ module _ (g : Configuration) (fine : IsFine g) where
           number = g.next;
           contract = k;
           position = [];
-          balance = total_value (gone g.deposits (numbers_of (bindings_of g.advertised k) (persistent_names (pre_of (c j))))) - fee_of (c j);
+          balance = total_value (gone g.deposits (numbers_of (bindings_of g.advertised k) (persistent_names (pre_of (c j))))) - fee_of
+              (c j);
         }) in
         subst (StandsAt g.contracts) (sym same) (begun_stands g fine k g.next q.0 c q.2)
 
@@ -123,8 +138,10 @@ module _ (g : Configuration) (fine : IsFine g) where
         let c = q.1 in
         let v = init_gone g fine k q.0 c q.2 in
         let l = root_enough q.0 (checked_at g.contracts k q.0 fine.checked c) in
-        let whole : q.0.fee ≤ total_value (gone g.deposits (numbers_of (bindings_of g.advertised k) (persistent_names q.0.pre))) = subst (λ m. q.0.fee ≤ m) (sym v) l in
-        subst (λ o. fee_of o ≤ total_value (gone g.deposits (numbers_of (bindings_of g.advertised k) (persistent_names (pre_of o))))) (sym c) whole
+        let whole : q.0.fee ≤ total_value (gone g.deposits (numbers_of (bindings_of g.advertised k) (persistent_names q.0.pre))) =
+        subst (λ m. q.0.fee ≤ m) (sym v) l in
+        subst (λ o. fee_of o ≤ total_value (gone g.deposits (numbers_of (bindings_of g.advertised k) (persistent_names (pre_of o)))))
+        (sym c) whole
 
   -- ---- puts and reveals
 
@@ -137,10 +154,12 @@ module _ (g : Configuration) (fine : IsFine g) where
       number = g.next;
       contract = place_of (active_at g.active output);
       position = position_of (active_at g.active output) ++ To i ∷ [];
-      balance = balance_of (active_at g.active output) + total_value (gone g.deposits puts_in) - fee_of (advert_of g.contracts (active_at g.active output));
+      balance = balance_of (active_at g.active output) + total_value (gone g.deposits puts_in) - fee_of
+          (advert_of g.contracts (active_at g.active output));
     }
 
-    put_both : StandsAt g.contracts put_new × (fee_at g output ≤ balance_of (active_at g.active output) + total_value (gone g.deposits puts_in))
+    put_both : StandsAt g.contracts put_new × (fee_at g output ≤ balance_of (active_at g.active output) + total_value
+        (gone g.deposits puts_in))
     put_both =
         let p = no_false 1 (premises g (steps.PutReveal output i)) (omega arith) e in
         let t = taken_by g fine output i p.0 (put_some (branch_at g output i) p.1.0) in
@@ -169,16 +188,20 @@ module _ (g : Configuration) (fine : IsFine g) where
 
   module _ (output i : ℕ) (e : fails g (steps.Split output i) ≡ 0) where
     abbrev split_new : List ActiveContract
-    split_new = parts_made g.next (place_of (active_at g.active output)) (position_of (active_at g.active output) ++ To i ∷ []) 0 (values_of (branch_at g output i))
+    split_new =
+        parts_made g.next (place_of (active_at g.active output)) (position_of (active_at g.active output) ++ To i ∷ []) 0
+        (values_of (branch_at g output i))
 
-    split_both : ((a : ActiveContract) → Is_in a split_new → StandsAt g.contracts a) × (sum_of (values_of (branch_at g output i)) + fee_at g output ≡ balance_of (active_at g.active output))
+    split_both : ((a : ActiveContract) → Is_in a split_new → StandsAt g.contracts a) ×
+        (sum_of (values_of (branch_at g output i)) + fee_at g output ≡ balance_of (active_at g.active output))
     split_both =
         let p = no_false 1 (premises g (steps.Split output i)) (omega arith) e in
         let t = taken_by g fine output i p.0 (split_some (branch_at g output i) p.1.0) in
         let c = split_core (core t.branch) (subst (λ o. is_split o ≡ true) t.taken p.1.0) in
         let q = branch_pays t.held.advert t.well (t.active.position ++ To i ∷ []) t.active.balance t.branch t.static in
         let l : sum_of_parts c.0 + t.held.advert.fee ≡ t.active.balance = subst (Pays t.held.advert t.active.balance) c.1 q in
-        let v : sum_of (values_of (branch_at g output i)) ≡ sum_of_parts c.0 = ap (λ o. sum_of (values_of o)) t.taken ∙ ap (λ x. sum_of (values_in x)) c.1 ∙ sum_of_values c.0 in
+        let v : sum_of (values_of (branch_at g output i)) ≡ sum_of_parts c.0 =
+        ap (λ o. sum_of (values_of o)) t.taken ∙ ap (λ x. sum_of (values_in x)) c.1 ∙ sum_of_values c.0 in
         let b : balance_of (active_at g.active output) ≡ t.active.balance = ap balance_of t.is in
         let w : fee_at g output ≡ t.held.advert.fee = ap fee_of t.of_advert in
         (divided_stands g fine output i t c.0 c.1, omega (arith, l, v, b, w))
@@ -186,11 +209,27 @@ module _ (g : Configuration) (fine : IsFine g) where
   -- ---- each step
 
   pub fine_after : (s : Step) → fails g s ≡ 0 → IsFine (effect g s)
-  fine_after (steps.Delay blocks) e = record { checked = fine.checked; numbered = numbered_after g (steps.Delay blocks) fine.numbered; bound = fine.bound; standing = fine.standing }
+  fine_after (steps.Delay blocks) e =
+      record {
+        checked = fine.checked;
+        numbered = numbered_after g (steps.Delay blocks) fine.numbered;
+        bound = fine.bound;
+        standing = fine.standing;
+      }
   fine_after (steps.AuthMove party action) e =
-      record { checked = fine.checked; numbered = numbered_after g (steps.AuthMove party action) fine.numbered; bound = fine.bound; standing = fine.standing }
+      record {
+        checked = fine.checked;
+        numbered = numbered_after g (steps.AuthMove party action) fine.numbered;
+        bound = fine.bound;
+        standing = fine.standing;
+      }
   fine_after (steps.Move action) e =
-      record { checked = fine.checked; numbered = numbered_after g (steps.Move action) fine.numbered; bound = bound_moved g fine action.inputs action.outputs; standing = fine.standing }
+      record {
+        checked = fine.checked;
+        numbered = numbered_after g (steps.Move action) fine.numbered;
+        bound = bound_moved g fine action.inputs action.outputs;
+        standing = fine.standing;
+      }
   fine_after (steps.Advertise contract bindings) e = record {
     checked = fine.checked;
     numbered = numbered_after g (steps.Advertise contract bindings) fine.numbered;
@@ -198,9 +237,19 @@ module _ (g : Configuration) (fine : IsFine g) where
     standing = fine.standing;
   }
   fine_after (steps.Commit contract party lengths) e =
-      record { checked = fine.checked; numbered = numbered_after g (steps.Commit contract party lengths) fine.numbered; bound = fine.bound; standing = fine.standing }
+      record {
+        checked = fine.checked;
+        numbered = numbered_after g (steps.Commit contract party lengths) fine.numbered;
+        bound = fine.bound;
+        standing = fine.standing;
+      }
   fine_after (steps.AuthInit contract party deposit) e =
-      record { checked = fine.checked; numbered = numbered_after g (steps.AuthInit contract party deposit) fine.numbered; bound = fine.bound; standing = fine.standing }
+      record {
+        checked = fine.checked;
+        numbered = numbered_after g (steps.AuthInit contract party deposit) fine.numbered;
+        bound = fine.bound;
+        standing = fine.standing;
+      }
   fine_after (steps.Init contract) e = record {
     checked = fine.checked;
     numbered = numbered_after g (steps.Init contract) fine.numbered;
@@ -208,9 +257,19 @@ module _ (g : Configuration) (fine : IsFine g) where
     standing = and_one g.active _ fine.standing (init_stands contract e);
   }
   fine_after (steps.Reveal contract party secret) e =
-      record { checked = fine.checked; numbered = numbered_after g (steps.Reveal contract party secret) fine.numbered; bound = fine.bound; standing = fine.standing }
+      record {
+        checked = fine.checked;
+        numbered = numbered_after g (steps.Reveal contract party secret) fine.numbered;
+        bound = fine.bound;
+        standing = fine.standing;
+      }
   fine_after (steps.AuthBranch party output branch) e =
-      record { checked = fine.checked; numbered = numbered_after g (steps.AuthBranch party output branch) fine.numbered; bound = fine.bound; standing = fine.standing }
+      record {
+        checked = fine.checked;
+        numbered = numbered_after g (steps.AuthBranch party output branch) fine.numbered;
+        bound = fine.bound;
+        standing = fine.standing;
+      }
   fine_after (steps.PutReveal output branch) e = record {
     checked = fine.checked;
     numbered = numbered_after g (steps.PutReveal output branch) fine.numbered;
@@ -227,7 +286,10 @@ module _ (g : Configuration) (fine : IsFine g) where
     checked = fine.checked;
     numbered = numbered_after g (steps.Split output branch) fine.numbered;
     bound = bound_divided g fine (length (values_of (branch_at g output branch)));
-    standing = λ a i. elim (in_append a (others g.active output) (split_new output branch e) i) [ inl k ↦ others_stand output a k | inr k ↦ (split_both output branch e).0 a k ];
+    standing = λ a i. elim (in_append a (others g.active output) (split_new output branch e) i) [
+      | inl k ↦ others_stand output a k
+      | inr k ↦ (split_both output branch e).0 a k
+    ];
   }
 
   money_kept : (s : Step) → fails g s ≡ 0 → IsMoneyKept g s
@@ -235,10 +297,14 @@ module _ (g : Configuration) (fine : IsFine g) where
       let p = no_false 1 (premises g (steps.Move action)) (omega arith) e in
       let q = and_parts (not (length action.inputs == 0) && are_distinct action.inputs) (are_live g.deposits action.inputs) p.0 in
       moved_total g fine.numbered action (and_parts (not (length action.inputs == 0)) (are_distinct action.inputs) q.0).1
-  money_kept (steps.Init contract) e = begun_total g contract (contract_at g.contracts contract) (begins contract e) (init_enough contract e)
-  money_kept (steps.PutReveal output branch) e = continued_total g fine.numbered output branch (puts_in output branch e) (put_both output branch e).1
-  money_kept (steps.Withdraw output branch) e = withdrawn_total g fine.numbered output (payee_of (branch_at g output branch)) (withdraw_enough output branch e)
-  money_kept (steps.Split output branch) e = divided_total g fine.numbered output branch (values_of (branch_at g output branch)) (split_both output branch e).1
+  money_kept (steps.Init contract) e =
+      begun_total g contract (contract_at g.contracts contract) (begins contract e) (init_enough contract e)
+  money_kept (steps.PutReveal output branch) e =
+      continued_total g fine.numbered output branch (puts_in output branch e) (put_both output branch e).1
+  money_kept (steps.Withdraw output branch) e =
+      withdrawn_total g fine.numbered output (payee_of (branch_at g output branch)) (withdraw_enough output branch e)
+  money_kept (steps.Split output branch) e =
+      divided_total g fine.numbered output branch (values_of (branch_at g output branch)) (split_both output branch e).1
   money_kept (steps.Delay blocks) e = refl
   money_kept (steps.AuthMove party action) e = refl
   money_kept (steps.Advertise contract bindings) e = refl
@@ -276,7 +342,8 @@ module _ (g : Configuration) (fine : IsFine g) where
         choice = st.choice;
         chosen = st.chosen;
         static = contains_from_in (stands st.advert) (stand a.position (pos a.balance) (position st.choice)) st.static;
-        pays = λ j b h. branch_pays st.advert well (a.position ++ To j ∷ []) a.balance b (stands_branch st.advert a.position (pos a.balance) st.choice j b st.static h);
+        pays = λ j b h. branch_pays st.advert well (a.position ++ To j ∷ []) a.balance b
+            (stands_branch st.advert a.position (pos a.balance) st.choice j b st.static h);
       }
 
   pub funded : IsFunded g
@@ -284,13 +351,21 @@ module _ (g : Configuration) (fine : IsFine g) where
 
 -- ---- from the opening on
 
-module _ (parties honest : List (List ℕ)) (deposits : List (List ℕ × ℕ)) (contracts : List Advert) (checked : AllByRecursion IsWellFormed contracts) where
+module _ (parties honest : List (List ℕ)) (deposits : List (List ℕ × ℕ)) (contracts : List Advert)
+    (checked : AllByRecursion IsWellFormed contracts) where
   opening_fine : IsFine (opening parties honest deposits contracts)
-  opening_fine = record { checked = checked; numbered = opening_numbered parties honest deposits contracts; bound = λ k. bound_by_none _ _ _; standing = λ a i. absurd i }
+  opening_fine =
+      record {
+        checked = checked;
+        numbered = opening_numbered parties honest deposits contracts;
+        bound = λ k. bound_by_none _ _ _;
+        standing = λ a i. absurd i;
+      }
 
 pub money_is_kept : MoneyIsKept
 money_is_kept parties honest deposits contracts ss g checked r =
-    funded g (kept_along IsFine (λ c s e f. fine_after c f s e) (opening parties honest deposits contracts) ss g r (opening_fine parties honest deposits contracts checked))
+    funded g (kept_along IsFine (λ c s e f. fine_after c f s e) (opening parties honest deposits contracts) ss g r
+    (opening_fine parties honest deposits contracts checked))
 
 abbrev FineWithin : Configuration → Type 0
 FineWithin g = IsFine g × (total_money g ≤ max_money)
@@ -309,5 +384,7 @@ within g numbered l = record {
 
 pub money_stays_within : MoneyStaysWithin
 money_stays_within parties honest deposits contracts ss g checked l r =
-    let f = kept_along FineWithin within_after (opening parties honest deposits contracts) ss g r (opening_fine parties honest deposits contracts checked, l) in
+    let f =
+    kept_along FineWithin within_after (opening parties honest deposits contracts) ss g r
+    (opening_fine parties honest deposits contracts checked, l) in
     within g f.0.numbered f.1

@@ -1,13 +1,13 @@
-mod Members
-mod Ordered
-mod Offered
-mod Runs
-mod Numbered
-mod Sums
-mod Stands
-mod Bindings
-mod Checked
-mod Funded
-mod Standing
-mod Totals
-mod Kept
+pub mod Members
+pub mod Ordered
+pub mod Offered
+pub mod Runs
+pub mod Numbered
+pub mod Sums
+pub mod Stands
+pub mod Bindings
+pub mod Checked
+pub mod Funded
+pub mod Standing
+pub mod Totals
+pub mod Kept

@@ -44,7 +44,8 @@ pub in_filter : {A : Type 0} (p : A → Bool) (xs : List A) (x : A) → Is_in x 
 in_filter p [] x h = absurd h
 in_filter p (y ∷ xs) x h = by_test (p y) refl h (in_filter p xs x)
   where
-    by_test : (b : Bool) → p y ≡ b → Is_in x (if b then y ∷ filter p xs else filter p xs) → (Is_in x (filter p xs) → Is_in x xs × (p x ≡ true)) → Is_in x (y ∷ xs) × (p x ≡ true)
+    by_test : (b : Bool) → p y ≡ b → Is_in x (if b then y ∷ filter p xs else filter p xs)
+        → (Is_in x (filter p xs) → Is_in x xs × (p x ≡ true)) → Is_in x (y ∷ xs) × (p x ≡ true)
     by_test true e (inl q) ih = (inl q, subst (λ z. p z ≡ true) (sym q) e)
     by_test true e (inr q) ih = let r = ih q in (inr r.0, r.1)
     by_test false e q ih = let r = ih q in (inr r.0, r.1)
@@ -77,7 +78,8 @@ all_filter f p (x ∷ xs) h = let q = and_parts (f x) (list_all f xs) h in by_te
     by_test true a ih = and_from _ _ a ih
     by_test false a ih = ih
 
-pub all_then : {A : Type 0} (f g : A → Bool) (xs : List A) → ((x : A) → f x ≡ true → g x ≡ true) → list_all f xs ≡ true → list_all g xs ≡ true
+pub all_then : {A : Type 0} (f g : A → Bool) (xs : List A) → ((x : A) → f x ≡ true → g x ≡ true) → list_all f xs ≡ true
+    → list_all g xs ≡ true
 all_then f g [] h a = refl
 all_then f g (x ∷ xs) h a = let p = and_parts (f x) (list_all f xs) a in and_from _ _ (h x p.0) (all_then f g xs h p.1)
 
@@ -88,7 +90,8 @@ pub found : {A : Type 0} (p : A → Bool) (xs : List A) (x : A) → find p xs �
 found p [] x h = cc
 found p (y ∷ xs) x h = by_test (p y) refl h (found p xs x)
   where
-    by_test : (b : Bool) → p y ≡ b → cond b (Some y) (find p xs) ≡ Some x → (find p xs ≡ Some x → Is_in x xs × (p x ≡ true)) → Is_in x (y ∷ xs) × (p x ≡ true)
+    by_test : (b : Bool) → p y ≡ b → cond b (Some y) (find p xs) ≡ Some x → (find p xs ≡ Some x → Is_in x xs × (p x ≡ true))
+        → Is_in x (y ∷ xs) × (p x ≡ true)
     by_test true e q ih = let z : y ≡ x = cc in (inl (sym z), subst (λ w. p w ≡ true) z e)
     by_test false e q ih = let r = ih q in (inr r.0, r.1)
 
@@ -104,6 +107,7 @@ pub no_false : (n : ℕ) (bs : List Bool) → 1 ≤ n → first_false n bs ≡ 0
 no_false n [] l h = tt
 no_false n (b ∷ bs) l h = by_test b refl h (no_false (n + 1) bs (omega arith))
   where
-    by_test : (c : Bool) → b ≡ c → (if c then first_false (n + 1) bs else n) ≡ 0 → (first_false (n + 1) bs ≡ 0 → AllTrue bs) → (b ≡ true) × AllTrue bs
+    by_test : (c : Bool) → b ≡ c → (if c then first_false (n + 1) bs else n) ≡ 0 → (first_false (n + 1) bs ≡ 0 → AllTrue bs)
+        → (b ≡ true) × AllTrue bs
     by_test true e q ih = (e, ih q)
     by_test false e q ih = absurd (omega (arith, l, q))

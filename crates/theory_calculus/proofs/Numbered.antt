@@ -78,7 +78,8 @@ module _ {X : Type 0} (name : X → ℕ) (p : X → Bool) where
       let q = and_parts (f (name x)) (list_all f (map name xs)) h in
       by_test (p x) q.0 (filtered_all f xs q.1)
     where
-      by_test : (b : Bool) → f (name x) ≡ true → list_all f (map name (filter p xs)) ≡ true → list_all f (map name (if b then x ∷ filter p xs else filter p xs)) ≡ true
+      by_test : (b : Bool) → f (name x) ≡ true → list_all f (map name (filter p xs)) ≡ true
+          → list_all f (map name (if b then x ∷ filter p xs else filter p xs)) ≡ true
       by_test true a ih = and_from _ _ a ih
       by_test false a ih = ih
 
@@ -88,7 +89,8 @@ module _ {X : Type 0} (name : X → ℕ) (p : X → Bool) where
       let q = and_parts (list_all (λ n. nat_lt (name x) n) (map name xs)) (are_ascending (map name xs)) h in
       by_test (p x) (filtered_all (λ n. nat_lt (name x) n) xs q.0) (filtered_ascends xs q.1)
     where
-      by_test : (b : Bool) → list_all (λ n. nat_lt (name x) n) (map name (filter p xs)) ≡ true → are_ascending (map name (filter p xs)) ≡ true → are_ascending (map name (if b then x ∷ filter p xs else filter p xs)) ≡ true
+      by_test : (b : Bool) → list_all (λ n. nat_lt (name x) n) (map name (filter p xs)) ≡ true
+          → are_ascending (map name (filter p xs)) ≡ true → are_ascending (map name (if b then x ∷ filter p xs else filter p xs)) ≡ true
       by_test true a ih = and_from _ _ a ih
       by_test false a ih = ih
 
@@ -98,11 +100,13 @@ module _ {X : Type 0} (name : X → ℕ) (p : X → Bool) where
       let q = or_parts (name x == n) (has_number n (map name xs)) h in
       by_test (p x) q.0 (filtered_lacks n xs q.1)
     where
-      by_test : (b : Bool) → (name x == n) ≡ false → has_number n (map name (filter p xs)) ≡ false → has_number n (map name (if b then x ∷ filter p xs else filter p xs)) ≡ false
+      by_test : (b : Bool) → (name x == n) ≡ false → has_number n (map name (filter p xs)) ≡ false
+          → has_number n (map name (if b then x ∷ filter p xs else filter p xs)) ≡ false
       by_test true a ih = or_from _ _ a ih
       by_test false a ih = ih
 
-  pub filtered_apart : (ns : List ℕ) (xs : List X) → list_all (λ n. not (has_number n (map name xs))) ns ≡ true → list_all (λ n. not (has_number n (map name (filter p xs)))) ns ≡ true
+  pub filtered_apart : (ns : List ℕ) (xs : List X) → list_all (λ n. not (has_number n (map name xs))) ns ≡ true
+      → list_all (λ n. not (has_number n (map name (filter p xs)))) ns ≡ true
   filtered_apart ns xs h =
       all_then (λ n. not (has_number n (map name xs))) (λ n. not (has_number n (map name (filter p xs)))) ns
       (λ n q. not_from_false _ (filtered_lacks n xs (not-true _ q))) h
@@ -113,7 +117,8 @@ made_numbers : (n : ℕ) (os : List (Owner × ℕ)) → map (λ (d : Deposit). d
 made_numbers n [] = refl
 made_numbers n (o ∷ os) = ap (λ ns. n ∷ ns) (made_numbers (n + 1) os)
 
-parts_numbers : (n contract : ℕ) (path : List PathStep) (k : ℕ) (vs : List ℕ) → map (λ (a : ActiveContract). a.number) (parts_made n contract path k vs) ≡ numbers_from n (length vs)
+parts_numbers : (n contract : ℕ) (path : List PathStep) (k : ℕ) (vs : List ℕ)
+    → map (λ (a : ActiveContract). a.number) (parts_made n contract path k vs) ≡ numbers_from n (length vs)
 parts_numbers n contract path k [] = refl
 parts_numbers n contract path k (v ∷ vs) = ap (λ ns. n ∷ ns) (parts_numbers (n + 1) contract path (k + 1) vs)
 
@@ -137,13 +142,15 @@ any_append : (n : ℕ) (xs ys : List ℕ) → has_number n xs ≡ false → has_
 any_append n [] ys h k = k
 any_append n (x ∷ xs) ys h k = let p = or_parts (x == n) (has_number n xs) h in or_from _ _ p.0 (any_append n xs ys p.1 k)
 
-apart_from_more : (n k : ℕ) (ds cs : List ℕ) → AllBelow n ds → list_all (λ d. not (has_number d cs)) ds ≡ true → list_all (λ d. not (has_number d (cs ++ numbers_from n k))) ds ≡ true
+apart_from_more : (n k : ℕ) (ds cs : List ℕ) → AllBelow n ds → list_all (λ d. not (has_number d cs)) ds ≡ true
+    → list_all (λ d. not (has_number d (cs ++ numbers_from n k))) ds ≡ true
 apart_from_more n k [] cs b h = refl
 apart_from_more n k (d ∷ ds) cs b h =
     let p = and_parts (nat_lt d n) (list_all (λ x. nat_lt x n) ds) b in
     let q = and_parts (not (has_number d cs)) (list_all (λ x. not (has_number x cs)) ds) h in
     let l : d < n = grind (arith, nat_tests, p.0) in
-    and_from _ _ (not_from_false _ (any_append d cs (numbers_from n k) (not-true _ q.0) (below_lacks d n k l))) (apart_from_more n k ds cs p.1 q.1)
+    and_from _ _ (not_from_false _ (any_append d cs (numbers_from n k) (not-true _ q.0) (below_lacks d n k l)))
+    (apart_from_more n k ds cs p.1 q.1)
 
 -- ---- each step
 
@@ -188,7 +195,8 @@ fewer_deposits n ds cs p r = record {
   apart = filtered_all (λ (d : Deposit). d.number) p (λ m. not (has_number m cs)) ds r.apart;
 }
 
-fewer_contracts : (n : ℕ) (ds : List ℕ) (cs : List ActiveContract) (p : ActiveContract → Bool) → Row n ds (a_names cs) → Row n ds (a_names (filter p cs))
+fewer_contracts : (n : ℕ) (ds : List ℕ) (cs : List ActiveContract) (p : ActiveContract → Bool) → Row n ds (a_names cs)
+    → Row n ds (a_names (filter p cs))
 fewer_contracts n ds cs p r = record {
   deposits = r.deposits;
   active = filtered_ascends (λ (a : ActiveContract). a.number) p cs r.active;
@@ -197,26 +205,33 @@ fewer_contracts n ds cs p r = record {
   apart = filtered_apart (λ (a : ActiveContract). a.number) p ds cs r.apart;
 }
 
-add_deposits : (n k : ℕ) (ds new : List Deposit) (cs : List ℕ) → d_names new ≡ numbers_from n k → Row n (d_names ds) cs → Row (n + k) (d_names (ds ++ new)) cs
+add_deposits : (n k : ℕ) (ds new : List Deposit) (cs : List ℕ) → d_names new ≡ numbers_from n k → Row n (d_names ds) cs
+    → Row (n + k) (d_names (ds ++ new)) cs
 add_deposits n k ds new cs e r =
-    let z : d_names (ds ++ new) ≡ d_names ds ++ numbers_from n k = map-append (λ (d : Deposit). d.number) ds new ∙ ap (λ xs. d_names ds ++ xs) e in
+    let z : d_names (ds ++ new) ≡ d_names ds ++ numbers_from n k =
+    map-append (λ (d : Deposit). d.number) ds new ∙ ap (λ xs. d_names ds ++ xs) e in
     subst (λ xs. Row (n + k) xs cs) (sym z) (more_deposits n k (d_names ds) cs r)
 
-add_contracts : (n k : ℕ) (ds : List ℕ) (cs new : List ActiveContract) → a_names new ≡ numbers_from n k → Row n ds (a_names cs) → Row (n + k) ds (a_names (cs ++ new))
+add_contracts : (n k : ℕ) (ds : List ℕ) (cs new : List ActiveContract) → a_names new ≡ numbers_from n k → Row n ds (a_names cs)
+    → Row (n + k) ds (a_names (cs ++ new))
 add_contracts n k ds cs new e r =
-    let z : a_names (cs ++ new) ≡ a_names cs ++ numbers_from n k = map-append (λ (a : ActiveContract). a.number) cs new ∙ ap (λ xs. a_names cs ++ xs) e in
+    let z : a_names (cs ++ new) ≡ a_names cs ++ numbers_from n k =
+    map-append (λ (a : ActiveContract). a.number) cs new ∙ ap (λ xs. a_names cs ++ xs) e in
     subst (λ xs. Row (n + k) ds xs) (sym z) (more_contracts n k ds (a_names cs) r)
 
 abbrev RowOf : Configuration → Type 0
 RowOf g = Row g.next (deposit_numbers g) (contract_numbers g)
 
-begun_row : (g : Configuration) (contract : ℕ) (advert : Option Advert) (numbers : List ℕ) → RowOf g → RowOf (begun g contract advert numbers)
+begun_row : (g : Configuration) (contract : ℕ) (advert : Option Advert) (numbers : List ℕ) → RowOf g
+    → RowOf (begun g contract advert numbers)
 begun_row g contract advert numbers r =
-    let new : ActiveContract = record { number = g.next; contract = contract; position = []; balance = total_value (gone g.deposits numbers) - fee_of advert } in
+    let new : ActiveContract =
+    record { number = g.next; contract = contract; position = []; balance = total_value (gone g.deposits numbers) - fee_of advert } in
     add_contracts g.next 1 (d_names (kept g.deposits numbers)) g.active (new ∷ []) refl
     (fewer_deposits g.next g.deposits (a_names g.active) (λ d. not (has_number d.number numbers)) r)
 
-continued_row : (g : Configuration) (output branch : ℕ) (active : Option ActiveContract) (numbers : List ℕ) → RowOf g → RowOf (continued g output branch active numbers)
+continued_row : (g : Configuration) (output branch : ℕ) (active : Option ActiveContract) (numbers : List ℕ) → RowOf g
+    → RowOf (continued g output branch active numbers)
 continued_row g output branch active numbers r =
     let new : ActiveContract = record {
       number = g.next;
@@ -228,21 +243,26 @@ continued_row g output branch active numbers r =
     (fewer_contracts g.next (d_names (kept g.deposits numbers)) g.active (λ x. not (x.number == output))
     (fewer_deposits g.next g.deposits (a_names g.active) (λ d. not (has_number d.number numbers)) r))
 
-withdrawn_row : (g : Configuration) (output : ℕ) (active : Option ActiveContract) (party : List ℕ) → RowOf g → RowOf (withdrawn g output active party)
+withdrawn_row : (g : Configuration) (output : ℕ) (active : Option ActiveContract) (party : List ℕ) → RowOf g
+    → RowOf (withdrawn g output active party)
 withdrawn_row g output active party r =
-    let new : Deposit = record { number = g.next; owner = Party party; value = balance_of active - fee_of (advert_of g.contracts active) } in
+    let new : Deposit =
+    record { number = g.next; owner = Party party; value = balance_of active - fee_of (advert_of g.contracts active) } in
     add_deposits g.next 1 g.deposits (new ∷ []) (a_names (others g.active output)) refl
     (fewer_contracts g.next (d_names g.deposits) g.active (λ x. not (x.number == output)) r)
 
-divided_row : (g : Configuration) (output branch : ℕ) (active : Option ActiveContract) (values : List ℕ) → RowOf g → RowOf (divided g output branch active values)
+divided_row : (g : Configuration) (output branch : ℕ) (active : Option ActiveContract) (values : List ℕ) → RowOf g
+    → RowOf (divided g output branch active values)
 divided_row g output branch active values r =
-    add_contracts g.next (length values) (d_names g.deposits) (others g.active output) (parts_made g.next (place_of active) (position_of active ++ To branch ∷ []) 0 values)
+    add_contracts g.next (length values) (d_names g.deposits) (others g.active output)
+    (parts_made g.next (place_of active) (position_of active ++ To branch ∷ []) 0 values)
     (parts_numbers g.next (place_of active) (position_of active ++ To branch ∷ []) 0 values)
     (fewer_contracts g.next (d_names g.deposits) g.active (λ x. not (x.number == output)) r)
 
 moved_row : (g : Configuration) (action : Move) → RowOf g → RowOf (moved g action)
 moved_row g action r =
-    add_deposits g.next (length action.outputs) (kept g.deposits action.inputs) (made g.next action.outputs) (a_names g.active) (made_numbers g.next action.outputs)
+    add_deposits g.next (length action.outputs) (kept g.deposits action.inputs) (made g.next action.outputs) (a_names g.active)
+    (made_numbers g.next action.outputs)
     (fewer_deposits g.next g.deposits (a_names g.active) (λ d. not (has_number d.number action.inputs)) r)
 
 row_after : (g : Configuration) (s : Step) → RowOf g → RowOf (effect g s)
@@ -253,19 +273,24 @@ row_after g (steps.Advertise contract bindings) r = r
 row_after g (steps.Commit contract party lengths) r = r
 row_after g (steps.AuthInit contract party deposit) r = r
 row_after g (steps.Init contract) r =
-    begun_row g contract (contract_at g.contracts contract) (numbers_of (bindings_of g.advertised contract) (persistent_names (pre_of (contract_at g.contracts contract)))) r
+    begun_row g contract (contract_at g.contracts contract)
+    (numbers_of (bindings_of g.advertised contract) (persistent_names (pre_of (contract_at g.contracts contract)))) r
 row_after g (steps.Reveal contract party secret) r = r
 row_after g (steps.AuthBranch party output branch) r = r
 row_after g (steps.PutReveal output branch) r =
-    continued_row g output branch (active_at g.active output) (numbers_of (bindings_of g.advertised (place_of (active_at g.active output))) (puts_of (branch_at g output branch))) r
+    continued_row g output branch (active_at g.active output)
+    (numbers_of (bindings_of g.advertised (place_of (active_at g.active output))) (puts_of (branch_at g output branch))) r
 row_after g (steps.Withdraw output branch) r = withdrawn_row g output (active_at g.active output) (payee_of (branch_at g output branch)) r
-row_after g (steps.Split output branch) r = divided_row g output branch (active_at g.active output) (values_of (branch_at g output branch)) r
+row_after g (steps.Split output branch) r =
+    divided_row g output branch (active_at g.active output) (values_of (branch_at g output branch)) r
 
 row_from : (g : Configuration) → IsNumbered g → RowOf g
-row_from g h = record { deposits = h.deposits; active = h.active; deposits_below = h.deposits_below; active_below = h.active_below; apart = h.apart }
+row_from g h =
+    record { deposits = h.deposits; active = h.active; deposits_below = h.deposits_below; active_below = h.active_below; apart = h.apart }
 
 numbered_from : (g : Configuration) → RowOf g → IsNumbered g
-numbered_from g h = record { deposits = h.deposits; active = h.active; deposits_below = h.deposits_below; active_below = h.active_below; apart = h.apart }
+numbered_from g h =
+    record { deposits = h.deposits; active = h.active; deposits_below = h.deposits_below; active_below = h.active_below; apart = h.apart }
 
 -- whatever the step
 pub numbered_after : (g : Configuration) (s : Step) → IsNumbered g → IsNumbered (effect g s)
@@ -279,9 +304,11 @@ none_absent : (ns : List ℕ) → list_all (λ n. not (has_number n [])) ns ≡ 
 none_absent [] = refl
 none_absent (n ∷ ns) = none_absent ns
 
-pub opening_numbered : (parties honest : List (List ℕ)) (deposits : List (List ℕ × ℕ)) (contracts : List Advert) → IsNumbered (opening parties honest deposits contracts)
+pub opening_numbered : (parties honest : List (List ℕ)) (deposits : List (List ℕ × ℕ)) (contracts : List Advert)
+    → IsNumbered (opening parties honest deposits contracts)
 opening_numbered parties honest deposits contracts =
-    let e : d_names (made 0 (owned deposits)) ≡ numbers_from 0 (length deposits) = made_numbers 0 (owned deposits) ∙ ap (numbers_from 0) (owned_length deposits) in
+    let e : d_names (made 0 (owned deposits)) ≡ numbers_from 0 (length deposits) =
+    made_numbers 0 (owned deposits) ∙ ap (numbers_from 0) (owned_length deposits) in
     record {
       deposits = subst (λ ns. are_ascending ns ≡ true) (sym e) (from_ascends 0 (length deposits));
       active = refl;
@@ -292,4 +319,5 @@ opening_numbered parties honest deposits contracts =
 
 pub numbers_apart : NumbersStandApart
 numbers_apart parties honest deposits contracts ss g r =
-    kept_along IsNumbered (λ c s e h. numbered_after c s h) (opening parties honest deposits contracts) ss g r (opening_numbered parties honest deposits contracts)
+    kept_along IsNumbered (λ c s e h. numbered_after c s h) (opening parties honest deposits contracts) ss g r
+    (opening_numbered parties honest deposits contracts)

@@ -21,12 +21,13 @@ use Rattle.spec_calculus.specs.Steps.{fails, premises, branch_at}
 use Rattle.spec_calculus.specs.Offers.{is_enabled, beginnings, taking, takings, branches_at, branches_in, branches_of, all_takings, offers}
 use Rattle.theory_calculus.specs.InOrder.{stands_in_order, are_ascending}
 use Rattle.theory_calculus.specs.Offered.{is_contract_step, key_of, is_key_less, is_offered_before, EveryEnabledIsOffered, OffersStandInOrder}
-use Rattle.theory_calculus.proofs.Members.{Is_in, in_left, in_right, in_from_contains, contains_from_in, in_filter, filter_has, all_in, all_append, found, some_there, no_false}
+use Rattle.theory_calculus.proofs.Members.{Is_in, in_left, in_right, in_from_contains, contains_from_in, in_filter, filter_has, all_in, all_append, all_filter, found, some_there, no_false}
 use Rattle.theory_calculus.proofs.Ordered.{in_order-append, in_order-filter}
 
 -- ---- a branch by its path is the branch of its number at the position
 
-pub branch_is : (contracts : List Advert) (a : ActiveContract) (i : ℕ) → branch_of contracts (Some a) i ≡ slice_get (branches_of contracts a) i
+pub branch_is : (contracts : List Advert) (a : ActiveContract) (i : ℕ)
+    → branch_of contracts (Some a) i ≡ slice_get (branches_of contracts a) i
 branch_is contracts a i = by_advert (contract_at contracts a.contract)
   where
     by_slot : (o : Option term.Branch) → option_and_then as_branch (option_map at_branch o) ≡ o
@@ -40,7 +41,8 @@ branch_is contracts a i = by_advert (contract_at contracts a.contract)
     by_core (withdraw party) = refl
     by_core (split parts) = refl
 
-    by_spot : (o : Option Spot) → option_and_then as_branch (option_and_then (λ q. next_spot q (To i)) o) ≡ slice_get (branches_at (option_and_then as_choice o)) i
+    by_spot : (o : Option Spot)
+        → option_and_then as_branch (option_and_then (λ q. next_spot q (To i)) o) ≡ slice_get (branches_at (option_and_then as_choice o)) i
     by_spot None = refl
     by_spot (Some (position c)) = by_slot (slice_get (branches c) i)
     by_spot (Some (at_branch b)) = by_core (core b)
@@ -51,27 +53,33 @@ branch_is contracts a i = by_advert (contract_at contracts a.contract)
 
 -- ---- the steps that may be offered
 
-beginning_there : (k j : ℕ) (contracts : List Advert) → is_some (contract_at contracts j) ≡ true → Is_in (steps.Init (j + k)) (beginnings k contracts)
+beginning_there : (k j : ℕ) (contracts : List Advert) → is_some (contract_at contracts j) ≡ true
+    → Is_in (steps.Init (j + k)) (beginnings k contracts)
 beginning_there k j [] h = cc
 beginning_there k zero (c ∷ cs) h = inl (ap steps.Init (omega arith))
 beginning_there k (suc j) (c ∷ cs) h =
     let e : j + (k + 1) ≡ suc j + k = omega arith in
     inr (subst (λ n. Is_in (steps.Init n) (beginnings (k + 1) cs)) e (beginning_there (k + 1) j cs h))
 
-taking_there : (output i j : ℕ) (bs : List term.Branch) (b : term.Branch) (s : Step) → slice_get bs j ≡ Some b → Is_in s (taking output (j + i) (core b)) → Is_in s (takings output i bs)
+taking_there : (output i j : ℕ) (bs : List term.Branch) (b : term.Branch) (s : Step) → slice_get bs j ≡ Some b
+    → Is_in s (taking output (j + i) (core b)) → Is_in s (takings output i bs)
 taking_there output i j [] b s e h = cc
 taking_there output i zero (d ∷ bs) b s e h =
     let z : d ≡ b = cc in
     let n : 0 + i ≡ i = omega arith in
-    in_left s (taking output i (core d)) (takings output (i + 1) bs) (subst (λ m. Is_in s (taking output m (core d))) n (subst (λ x. Is_in s (taking output (0 + i) (core x))) (sym z) h))
+    in_left s (taking output i (core d)) (takings output (i + 1) bs)
+    (subst (λ m. Is_in s (taking output m (core d))) n (subst (λ x. Is_in s (taking output (0 + i) (core x))) (sym z) h))
 taking_there output i (suc j) (d ∷ bs) b s e h =
     let n : suc j + i ≡ j + (i + 1) = omega arith in
-    in_right s (taking output i (core d)) (takings output (i + 1) bs) (taking_there output (i + 1) j bs b s e (subst (λ m. Is_in s (taking output m (core b))) n h))
+    in_right s (taking output i (core d)) (takings output (i + 1) bs)
+    (taking_there output (i + 1) j bs b s e (subst (λ m. Is_in s (taking output m (core b))) n h))
 
-contract_there : (contracts : List Advert) (xs : List ActiveContract) (a : ActiveContract) (s : Step) → Is_in a xs → Is_in s (takings a.number 0 (branches_of contracts a)) → Is_in s (all_takings contracts xs)
+contract_there : (contracts : List Advert) (xs : List ActiveContract) (a : ActiveContract) (s : Step) → Is_in a xs
+    → Is_in s (takings a.number 0 (branches_of contracts a)) → Is_in s (all_takings contracts xs)
 contract_there contracts [] a s i h = absurd i
 contract_there contracts (x ∷ xs) a s (inl e) h =
-    in_left s (takings x.number 0 (branches_of contracts x)) (all_takings contracts xs) (subst (λ (y : ActiveContract). Is_in s (takings y.number 0 (branches_of contracts y))) e h)
+    in_left s (takings x.number 0 (branches_of contracts x)) (all_takings contracts xs)
+    (subst (λ (y : ActiveContract). Is_in s (takings y.number 0 (branches_of contracts y))) e h)
 contract_there contracts (x ∷ xs) a s (inr i) h =
     in_right s (takings x.number 0 (branches_of contracts x)) (all_takings contracts xs) (contract_there contracts xs a s i h)
 
@@ -88,7 +96,8 @@ module _ (g : Configuration) where
       subst (λ o. good o ≡ true) (ap (λ o. branch_of g.contracts o i) a.1 ∙ branch_is g.contracts a.0 i) taken in
       by_branch a.0 f.0 n (slice_get (branches_of g.contracts a.0) i) refl t
     where
-      by_branch : (a : ActiveContract) → Is_in a g.active → a.number ≡ output → (o : Option term.Branch) → slice_get (branches_of g.contracts a) i ≡ o → good o ≡ true → Is_in s (all_takings g.contracts g.active)
+      by_branch : (a : ActiveContract) → Is_in a g.active → a.number ≡ output → (o : Option term.Branch)
+          → slice_get (branches_of g.contracts a) i ≡ o → good o ≡ true → Is_in s (all_takings g.contracts g.active)
       by_branch a there n None e t = cc
       by_branch a there n (Some b) e t =
           let z : i ≡ i + 0 = omega arith in
@@ -97,7 +106,8 @@ module _ (g : Configuration) where
 
   offered_from : (s : Step) → Is_in s (beginnings 0 g.contracts ++ all_takings g.contracts g.active) → fails g s ≡ 0 → Contains (offers g) s
   offered_from s i e =
-      contains_from_in (offers g) s (filter_has (λ x. is_enabled g x) (beginnings 0 g.contracts ++ all_takings g.contracts g.active) s i (eq-eqb (fails g s) 0 e))
+      contains_from_in (offers g) s (filter_has (λ x. is_enabled g x) (beginnings 0 g.contracts ++ all_takings g.contracts g.active) s i
+      (eq-eqb (fails g s) 0 e))
 
   put_kind : (output i : ℕ) (b : term.Branch) → is_put (Some b) ≡ true → Is_in (steps.PutReveal output i) (taking output i (core b))
   put_kind output i b h = by_core (core b) h
@@ -109,7 +119,8 @@ module _ (g : Configuration) where
       by_core (withdraw party) h = cc
       by_core (split parts) h = cc
 
-  withdraw_kind : (output i : ℕ) (b : term.Branch) → is_withdraw (Some b) ≡ true → Is_in (steps.Withdraw output i) (taking output i (core b))
+  withdraw_kind : (output i : ℕ) (b : term.Branch) → is_withdraw (Some b) ≡ true
+      → Is_in (steps.Withdraw output i) (taking output i (core b))
   withdraw_kind output i b h = by_core (core b) h
     where
       by_core : (c : term.Branch) → is_withdraw_core c ≡ true → Is_in (steps.Withdraw output i) (taking output i c)
@@ -138,11 +149,13 @@ module _ (g : Configuration) where
       (subst (λ n. Is_in (steps.Init n) (beginnings 0 g.contracts)) z (beginning_there 0 k g.contracts q.0))) e
   enabled_offered (steps.PutReveal output i) c e =
       let p = no_false 1 (premises g (steps.PutReveal output i)) (omega arith) e in
-      offered_from (steps.PutReveal output i) (in_right (steps.PutReveal output i) (beginnings 0 g.contracts) (all_takings g.contracts g.active)
+      offered_from (steps.PutReveal output i) (in_right (steps.PutReveal output i) (beginnings 0 g.contracts)
+      (all_takings g.contracts g.active)
       (taken_there output i (steps.PutReveal output i) is_put refl (put_kind output i) p.0 p.1.0)) e
   enabled_offered (steps.Withdraw output i) c e =
       let p = no_false 1 (premises g (steps.Withdraw output i)) (omega arith) e in
-      offered_from (steps.Withdraw output i) (in_right (steps.Withdraw output i) (beginnings 0 g.contracts) (all_takings g.contracts g.active)
+      offered_from (steps.Withdraw output i) (in_right (steps.Withdraw output i) (beginnings 0 g.contracts)
+      (all_takings g.contracts g.active)
       (taken_there output i (steps.Withdraw output i) is_withdraw refl (withdraw_kind output i) p.0 p.1.0)) e
   enabled_offered (steps.Split output i) c e =
       let p = no_false 1 (premises g (steps.Split output i)) (omega arith) e in
@@ -172,19 +185,31 @@ taking_kind output i (after height body) = refl
 
 takings_kind : (output i : ℕ) (bs : List term.Branch) → list_all is_contract_step (takings output i bs) ≡ true
 takings_kind output i [] = refl
-takings_kind output i (b ∷ bs) = all_append is_contract_step (taking output i (core b)) (takings output (i + 1) bs) (taking_kind output i (core b)) (takings_kind output (i + 1) bs)
+takings_kind output i (b ∷ bs) =
+    all_append is_contract_step (taking output i (core b)) (takings output (i + 1) bs) (taking_kind output i (core b))
+    (takings_kind output (i + 1) bs)
 
 all_takings_kind : (contracts : List Advert) (xs : List ActiveContract) → list_all is_contract_step (all_takings contracts xs) ≡ true
 all_takings_kind contracts [] = refl
 all_takings_kind contracts (x ∷ xs) =
-    all_append is_contract_step (takings x.number 0 (branches_of contracts x)) (all_takings contracts xs) (takings_kind x.number 0 (branches_of contracts x)) (all_takings_kind contracts xs)
+    all_append is_contract_step (takings x.number 0 (branches_of contracts x)) (all_takings contracts xs)
+    (takings_kind x.number 0 (branches_of contracts x)) (all_takings_kind contracts xs)
 
 offered_enabled : (g : Configuration) (s : Step) → Contains (offers g) s → (is_contract_step s ≡ true) × (fails g s ≡ 0)
 offered_enabled g s h =
     let all = beginnings 0 g.contracts ++ all_takings g.contracts g.active in
     let r = in_filter (λ x. is_enabled g x) all s (in_from_contains (offers g) s h) in
-    let kinds = all_append is_contract_step (beginnings 0 g.contracts) (all_takings g.contracts g.active) (beginnings_kind 0 g.contracts) (all_takings_kind g.contracts g.active) in
+    let kinds =
+    all_append is_contract_step (beginnings 0 g.contracts) (all_takings g.contracts g.active) (beginnings_kind 0 g.contracts)
+    (all_takings_kind g.contracts g.active) in
     (all_in is_contract_step all s kinds r.0, eqb-true (fails g s) 0 r.1)
+
+-- all offers are steps by which contracts begin or go on
+pub offers_kind : (g : Configuration) → list_all is_contract_step (offers g) ≡ true
+offers_kind g =
+    all_filter is_contract_step (λ s. is_enabled g s) (beginnings 0 g.contracts ++ all_takings g.contracts g.active)
+    (all_append is_contract_step (beginnings 0 g.contracts) (all_takings g.contracts g.active) (beginnings_kind 0 g.contracts)
+    (all_takings_kind g.contracts g.active))
 
 pub every_enabled : EveryEnabledIsOffered
 every_enabled g s = (offered_enabled g s, λ h. enabled_offered g s h.0 h.1)
@@ -219,13 +244,15 @@ taking_after key output i (auth party body) h = refl
 taking_after key output i (after height body) h = refl
 
 -- the branches of a contract from one on
-takings_after : (key : ℕ × ℕ × ℕ) (output i : ℕ) (bs : List term.Branch) → ((j : ℕ) → i ≤ j → is_key_less key (1, output, j) ≡ true) → AllAfter key (takings output i bs)
+takings_after : (key : ℕ × ℕ × ℕ) (output i : ℕ) (bs : List term.Branch) → ((j : ℕ) → i ≤ j → is_key_less key (1, output, j) ≡ true)
+    → AllAfter key (takings output i bs)
 takings_after key output i [] h = refl
 takings_after key output i (b ∷ bs) h =
     all_append (λ t. is_key_less key (key_of t)) (taking output i (core b)) (takings output (i + 1) bs)
     (taking_after key output i (core b) (h i (omega arith))) (takings_after key output (i + 1) bs (λ j l. h j (omega (arith, l))))
 
-contracts_after : (key : ℕ × ℕ × ℕ) (contracts : List Advert) (xs : List ActiveContract) (m : ℕ) → ((n j : ℕ) → m < n → is_key_less key (1, n, j) ≡ true)
+contracts_after : (key : ℕ × ℕ × ℕ) (contracts : List Advert) (xs : List ActiveContract) (m : ℕ)
+    → ((n j : ℕ) → m < n → is_key_less key (1, n, j) ≡ true)
     → list_all (λ n. nat_lt m n) (map (λ (a : ActiveContract). a.number) xs) ≡ true → AllAfter key (all_takings contracts xs)
 contracts_after key contracts [] m h l = refl
 contracts_after key contracts (x ∷ xs) m h l =
@@ -235,17 +262,20 @@ contracts_after key contracts (x ∷ xs) m h l =
     (takings_after key x.number 0 (branches_of contracts x) (λ j q. h x.number j less)) (contracts_after key contracts xs m h p.1)
 
 -- what stands after each key of a contract's branches stands after their steps
-taking_before : (output i : ℕ) (c : term.Branch) (ys : List Step) → AllAfter (1, output, i) ys → list_all (λ x. list_all (λ y. is_offered_before x y) ys) (taking output i c) ≡ true
+taking_before : (output i : ℕ) (c : term.Branch) (ys : List Step) → AllAfter (1, output, i) ys
+    → list_all (λ x. list_all (λ y. is_offered_before x y) ys) (taking output i c) ≡ true
 taking_before output i (put_reveal puts reveals test next) ys h = and_from _ _ h refl
 taking_before output i (withdraw party) ys h = and_from _ _ h refl
 taking_before output i (split parts) ys h = and_from _ _ h refl
 taking_before output i (auth party body) ys h = refl
 taking_before output i (after height body) ys h = refl
 
-takings_before : (output i : ℕ) (bs : List term.Branch) (ys : List Step) → ((j : ℕ) → AllAfter (1, output, j) ys) → list_all (λ x. list_all (λ y. is_offered_before x y) ys) (takings output i bs) ≡ true
+takings_before : (output i : ℕ) (bs : List term.Branch) (ys : List Step) → ((j : ℕ) → AllAfter (1, output, j) ys)
+    → list_all (λ x. list_all (λ y. is_offered_before x y) ys) (takings output i bs) ≡ true
 takings_before output i [] ys h = refl
 takings_before output i (b ∷ bs) ys h =
-    all_append (λ x. list_all (λ y. is_offered_before x y) ys) (taking output i (core b)) (takings output (i + 1) bs) (taking_before output i (core b) ys (h i)) (takings_before output (i + 1) bs ys h)
+    all_append (λ x. list_all (λ y. is_offered_before x y) ys) (taking output i (core b)) (takings output (i + 1) bs)
+    (taking_before output i (core b) ys (h i)) (takings_before output (i + 1) bs ys h)
 
 taking_order : (output i : ℕ) (c : term.Branch) → stands_in_order is_offered_before (taking output i c) ≡ true
 taking_order output i (put_reveal puts reveals test next) = refl
@@ -257,14 +287,21 @@ taking_order output i (after height body) = refl
 takings_order : (output i : ℕ) (bs : List term.Branch) → stands_in_order is_offered_before (takings output i bs) ≡ true
 takings_order output i [] = refl
 takings_order output i (b ∷ bs) =
-    in_order-append is_offered_before (taking output i (core b)) (takings output (i + 1) bs) (taking_order output i (core b)) (takings_order output (i + 1) bs)
-    (taking_before output i (core b) (takings output (i + 1) bs) (takings_after (1, output, i) output (i + 1) bs (λ j l. later_branch output i j (omega (arith, l)))))
+    in_order-append is_offered_before (taking output i (core b)) (takings output (i + 1) bs) (taking_order output i (core b))
+    (takings_order output (i + 1) bs)
+    (taking_before output i (core b) (takings output (i + 1) bs)
+    (takings_after (1, output, i) output (i + 1) bs (λ j l. later_branch output i j (omega (arith, l)))))
 
-all_takings_order : (contracts : List Advert) (xs : List ActiveContract) → are_ascending (map (λ (a : ActiveContract). a.number) xs) ≡ true → stands_in_order is_offered_before (all_takings contracts xs) ≡ true
+all_takings_order : (contracts : List Advert) (xs : List ActiveContract)
+    → are_ascending (map (λ (a : ActiveContract). a.number) xs) ≡ true
+    → stands_in_order is_offered_before (all_takings contracts xs) ≡ true
 all_takings_order contracts [] h = refl
 all_takings_order contracts (x ∷ xs) h =
-    let p = and_parts (list_all (λ n. nat_lt x.number n) (map (λ (a : ActiveContract). a.number) xs)) (are_ascending (map (λ (a : ActiveContract). a.number) xs)) h in
-    in_order-append is_offered_before (takings x.number 0 (branches_of contracts x)) (all_takings contracts xs) (takings_order x.number 0 (branches_of contracts x)) (all_takings_order contracts xs p.1)
+    let p =
+    and_parts (list_all (λ n. nat_lt x.number n) (map (λ (a : ActiveContract). a.number) xs))
+    (are_ascending (map (λ (a : ActiveContract). a.number) xs)) h in
+    in_order-append is_offered_before (takings x.number 0 (branches_of contracts x)) (all_takings contracts xs)
+    (takings_order x.number 0 (branches_of contracts x)) (all_takings_order contracts xs p.1)
     (takings_before x.number 0 (branches_of contracts x) (all_takings contracts xs)
     (λ j. contracts_after (1, x.number, j) contracts xs x.number (λ n i l. later_contract x.number j n i l) p.0))
 
@@ -274,13 +311,16 @@ takings_begun k output i bs = takings_after (0, k, 0) output i bs (λ j l. refl)
 all_begun : (k : ℕ) (contracts : List Advert) (xs : List ActiveContract) → AllAfter (0, k, 0) (all_takings contracts xs)
 all_begun k contracts [] = refl
 all_begun k contracts (x ∷ xs) =
-    all_append (λ t. is_key_less (0, k, 0) (key_of t)) (takings x.number 0 (branches_of contracts x)) (all_takings contracts xs) (takings_begun k x.number 0 (branches_of contracts x)) (all_begun k contracts xs)
+    all_append (λ t. is_key_less (0, k, 0) (key_of t)) (takings x.number 0 (branches_of contracts x)) (all_takings contracts xs)
+    (takings_begun k x.number 0 (branches_of contracts x)) (all_begun k contracts xs)
 
-beginnings_before : (k : ℕ) (cs contracts : List Advert) (xs : List ActiveContract) → list_all (λ x. list_all (λ y. is_offered_before x y) (all_takings contracts xs)) (beginnings k cs) ≡ true
+beginnings_before : (k : ℕ) (cs contracts : List Advert) (xs : List ActiveContract)
+    → list_all (λ x. list_all (λ y. is_offered_before x y) (all_takings contracts xs)) (beginnings k cs) ≡ true
 beginnings_before k [] contracts xs = refl
 beginnings_before k (c ∷ cs) contracts xs = and_from _ _ (all_begun k contracts xs) (beginnings_before (k + 1) cs contracts xs)
 
 pub in_order : OffersStandInOrder
 in_order g h =
     in_order-filter is_offered_before (λ s. is_enabled g s) (beginnings 0 g.contracts ++ all_takings g.contracts g.active)
-    (in_order-append is_offered_before (beginnings 0 g.contracts) (all_takings g.contracts g.active) (beginnings_order 0 g.contracts) (all_takings_order g.contracts g.active h) (beginnings_before 0 g.contracts g.contracts g.active))
+    (in_order-append is_offered_before (beginnings 0 g.contracts) (all_takings g.contracts g.active) (beginnings_order 0 g.contracts)
+    (all_takings_order g.contracts g.active h) (beginnings_before 0 g.contracts g.contracts g.active))

@@ -7,7 +7,8 @@ use Rattle.theory_calculus.specs.InOrder.{stands_in_order}
 use Rattle.theory_calculus.proofs.Members.{all_append, all_filter}
 
 module _ {X : Type 0} (before : X → X → Bool) where
-  pub in_order-append : (xs ys : List X) → stands_in_order before xs ≡ true → stands_in_order before ys ≡ true → list_all (λ x. list_all (λ y. before x y) ys) xs ≡ true → stands_in_order before (xs ++ ys) ≡ true
+  pub in_order-append : (xs ys : List X) → stands_in_order before xs ≡ true → stands_in_order before ys ≡ true
+      → list_all (λ x. list_all (λ y. before x y) ys) xs ≡ true → stands_in_order before (xs ++ ys) ≡ true
   in_order-append [] ys h k b = k
   in_order-append (x ∷ xs) ys h k b =
       let p = and_parts (list_all (λ y. before x y) xs) (stands_in_order before xs) h in
@@ -20,6 +21,7 @@ module _ {X : Type 0} (before : X → X → Bool) where
       let q = and_parts (list_all (λ y. before x y) xs) (stands_in_order before xs) h in
       by_test (p x) (all_filter (λ y. before x y) p xs q.0) (in_order-filter p xs q.1)
     where
-      by_test : (b : Bool) → list_all (λ y. before x y) (filter p xs) ≡ true → stands_in_order before (filter p xs) ≡ true → stands_in_order before (if b then x ∷ filter p xs else filter p xs) ≡ true
+      by_test : (b : Bool) → list_all (λ y. before x y) (filter p xs) ≡ true → stands_in_order before (filter p xs) ≡ true
+          → stands_in_order before (if b then x ∷ filter p xs else filter p xs) ≡ true
       by_test true a ih = and_from _ _ a ih
       by_test false a ih = ih

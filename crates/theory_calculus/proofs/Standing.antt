@@ -43,30 +43,39 @@ all_among f (x ∷ xs) a h i =
     ]
 
 module _ (g : Configuration) (fine : IsFine g) where
-  bound_of : (k : ℕ) (advert : Advert) → contract_at g.contracts k ≡ Some advert → IsBound g.deposits g.next (deposits advert.pre) (bindings_of g.advertised k)
+  bound_of : (k : ℕ) (advert : Advert) → contract_at g.contracts k ≡ Some advert
+      → IsBound g.deposits g.next (deposits advert.pre) (bindings_of g.advertised k)
   bound_of k advert e = subst (λ o. IsBound g.deposits g.next (deposits (pre_of o)) (bindings_of g.advertised k)) e (fine.bound k)
 
   -- ---- what is taken of the deposits
 
-  pub init_gone : (k : ℕ) (advert : Advert) → contract_at g.contracts k ≡ Some advert → are_there g.deposits (bindings_of g.advertised k) (persistent_names advert.pre) ≡ true
-      → total_value (gone g.deposits (numbers_of (bindings_of g.advertised k) (persistent_names advert.pre))) ≡ total_of (persistent advert.pre)
+  pub init_gone : (k : ℕ) (advert : Advert) → contract_at g.contracts k ≡ Some advert
+      → are_there g.deposits (bindings_of g.advertised k) (persistent_names advert.pre) ≡ true
+      → total_value (gone g.deposits (numbers_of (bindings_of g.advertised k) (persistent_names advert.pre)))
+      ≡ total_of (persistent advert.pre)
   init_gone k advert e t =
       let b = bound_of k advert e in
       let well = checked_at g.contracts k advert fine.checked e in
       let bs = bindings_of g.advertised k in
-      gone_value g.deposits (numbers_of bs (persistent_names advert.pre)) fine.numbered.deposits (numbers_distinct g.deposits bs (persistent_names advert.pre) b.apart (persistent_names_differ advert well))
-      ∙ entries_value g.deposits bs (persistent advert.pre) (λ x n h d i l f. b.values x n h d l (persistent_deposit advert.pre (x, h) i) f) t
+      gone_value g.deposits (numbers_of bs (persistent_names advert.pre)) fine.numbered.deposits
+      (numbers_distinct g.deposits bs (persistent_names advert.pre) b.apart (persistent_names_differ advert well))
+      ∙ entries_value g.deposits bs (persistent advert.pre)
+      (λ x n h d i l f. b.values x n h d l (persistent_deposit advert.pre (x, h) i) f) t
 
-  pub put_gone : (k : ℕ) (advert : Advert) (puts : List (List ℕ)) → contract_at g.contracts k ≡ Some advert → are_among puts (names_of (volatile advert.pre)) ≡ true → are_different puts ≡ true
-      → are_there g.deposits (bindings_of g.advertised k) puts ≡ true → total_value (gone g.deposits (numbers_of (bindings_of g.advertised k) puts)) ≡ value_of_puts (volatile advert.pre) puts
+  pub put_gone : (k : ℕ) (advert : Advert) (puts : List (List ℕ)) → contract_at g.contracts k ≡ Some advert
+      → are_among puts (names_of (volatile advert.pre)) ≡ true → are_different puts ≡ true
+      → are_there g.deposits (bindings_of g.advertised k) puts ≡ true
+      → total_value (gone g.deposits (numbers_of (bindings_of g.advertised k) puts)) ≡ value_of_puts (volatile advert.pre) puts
   put_gone k advert puts e known apart t =
       let b = bound_of k advert e in
       let bs = bindings_of g.advertised k in
       gone_value g.deposits (numbers_of bs puts) fine.numbered.deposits (numbers_distinct g.deposits bs puts b.apart apart)
-      ∙ names_value g.deposits bs (worth_among (volatile advert.pre)) puts (λ x n d a l f. worth x n d (all_among (λ y. is_among y (names_of (volatile advert.pre))) puts x known a) l f b) t
+      ∙ names_value g.deposits bs (worth_among (volatile advert.pre)) puts
+      (λ x n d a l f. worth x n d (all_among (λ y. is_among y (names_of (volatile advert.pre))) puts x known a) l f b) t
       ∙ puts_sum (volatile advert.pre) puts
     where
-      worth : (x : List ℕ) (n : ℕ) (d : Deposit) → is_among x (names_of (volatile advert.pre)) ≡ true → look_up x (bindings_of g.advertised k) ≡ Some n → deposit_at g.deposits n ≡ Some d
+      worth : (x : List ℕ) (n : ℕ) (d : Deposit) → is_among x (names_of (volatile advert.pre)) ≡ true
+          → look_up x (bindings_of g.advertised k) ≡ Some n → deposit_at g.deposits n ≡ Some d
           → IsBound g.deposits g.next (deposits advert.pre) (bindings_of g.advertised k) → d.value ≡ worth_among (volatile advert.pre) x
       worth x n d a l f b =
           let h = in_looked (volatile advert.pre) x a in
@@ -74,8 +83,14 @@ module _ (g : Configuration) (fine : IsFine g) where
 
   -- ---- a contract that begins
 
-  pub begun_stands : (k n : ℕ) (advert : Advert) → contract_at g.contracts k ≡ Some advert → are_there g.deposits (bindings_of g.advertised k) (persistent_names advert.pre) ≡ true
-      → StandsAt g.contracts (record { number = n; contract = k; position = []; balance = total_value (gone g.deposits (numbers_of (bindings_of g.advertised k) (persistent_names advert.pre))) - advert.fee })
+  pub begun_stands : (k n : ℕ) (advert : Advert) → contract_at g.contracts k ≡ Some advert
+      → are_there g.deposits (bindings_of g.advertised k) (persistent_names advert.pre) ≡ true
+      → StandsAt g.contracts (record {
+        number = n;
+        contract = k;
+        position = [];
+        balance = total_value (gone g.deposits (numbers_of (bindings_of g.advertised k) (persistent_names advert.pre))) - advert.fee;
+      })
   begun_stands k n advert e t =
       let v = init_gone k advert e t in
       let well = checked_at g.contracts k advert fine.checked e in
@@ -108,7 +123,8 @@ module _ (g : Configuration) (fine : IsFine g) where
       let st = fine.standing a.0 f.0 in
       let b = some_there (branch_at g output i) k in
       let same : branch_at g output i ≡ slice_get (branches st.choice) i =
-      ap (λ o. branch_of g.contracts o i) a.1 ∙ branch_is g.contracts a.0 i ∙ ap (λ o. slice_get (branches_in o a.0.position) i) st.there ∙ ap (λ o. slice_get (branches_at o) i) st.chosen in
+      ap (λ o. branch_of g.contracts o i) a.1 ∙ branch_is g.contracts a.0 i ∙ ap (λ o. slice_get (branches_in o a.0.position) i) st.there
+      ∙ ap (λ o. slice_get (branches_at o) i) st.chosen in
       let among = sym same ∙ b.1 in
       record {
         active = a.0;
@@ -124,42 +140,63 @@ module _ (g : Configuration) (fine : IsFine g) where
 
   module _ (output i : ℕ) (t : IsTaken output i) where
     module _ (puts reveals : List (List ℕ)) (test : Test) (next : Choice) (e : core t.branch ≡ put_reveal puts reveals test next)
-        (there : are_there g.deposits (bindings_of g.advertised (place_of (active_at g.active output))) (puts_of (branch_at g output i)) ≡ true) where
+        (there : are_there g.deposits (bindings_of g.advertised (place_of (active_at g.active output))) (puts_of (branch_at g output i))
+        ≡ true) where
       place_is : place_of (active_at g.active output) ≡ t.active.contract
       place_is = ap place_of t.is
 
       puts_is : puts_of (branch_at g output i) ≡ puts
       puts_is = ap puts_of t.taken ∙ ap cores.puts_of e
 
-      pub put_value : total_value (gone g.deposits (numbers_of (bindings_of g.advertised (place_of (active_at g.active output))) (puts_of (branch_at g output i)))) ≡ value_of_puts (volatile t.held.advert.pre) puts
+      pub put_value : total_value (gone g.deposits (numbers_of (bindings_of g.advertised (place_of (active_at g.active output)))
+          (puts_of (branch_at g output i)))) ≡ value_of_puts (volatile t.held.advert.pre) puts
       put_value =
-          let same : are_there g.deposits (bindings_of g.advertised (place_of (active_at g.active output))) (puts_of (branch_at g output i)) ≡ are_there g.deposits (bindings_of g.advertised t.active.contract) puts =
+          let same : are_there g.deposits (bindings_of g.advertised (place_of (active_at g.active output)))
+          (puts_of (branch_at g output i)) ≡ are_there g.deposits (bindings_of g.advertised t.active.contract) puts =
           (λ j. are_there g.deposits (bindings_of g.advertised (place_is j)) (puts_is j)) in
-          let moved : total_value (gone g.deposits (numbers_of (bindings_of g.advertised (place_of (active_at g.active output))) (puts_of (branch_at g output i)))) ≡ total_value (gone g.deposits (numbers_of (bindings_of g.advertised t.active.contract) puts)) =
+          let moved : total_value (gone g.deposits (numbers_of (bindings_of g.advertised (place_of (active_at g.active output)))
+          (puts_of (branch_at g output i)))) ≡ total_value
+          (gone g.deposits (numbers_of (bindings_of g.advertised t.active.contract) puts)) =
           (λ j. total_value (gone g.deposits (numbers_of (bindings_of g.advertised (place_is j)) (puts_is j)))) in
           let q = t.active.position ++ To i ∷ [] in
-          let known = subst (λ b. are_among (cores.puts_of b) (names_of (volatile t.held.advert.pre)) ≡ true) e (puts_known t.held.advert t.well q (pos t.active.balance) t.branch t.static) in
-          let apart = subst (λ b. are_different (cores.puts_of b) ≡ true) e (puts_differ t.held.advert t.well q (pos t.active.balance) t.branch t.static) in
+          let known =
+          subst (λ b. are_among (cores.puts_of b) (names_of (volatile t.held.advert.pre)) ≡ true) e
+          (puts_known t.held.advert t.well q (pos t.active.balance) t.branch t.static) in
+          let apart =
+          subst (λ b. are_different (cores.puts_of b) ≡ true) e
+          (puts_differ t.held.advert t.well q (pos t.active.balance) t.branch t.static) in
           moved ∙ put_gone t.active.contract t.held.advert puts t.held.there known apart (sym same ∙ there)
 
       pub put_enough : t.held.advert.fee ≤ t.active.balance + value_of_puts (volatile t.held.advert.pre) puts
-      put_enough = subst (Pays t.held.advert t.active.balance) e (branch_pays t.held.advert t.well (t.active.position ++ To i ∷ []) t.active.balance t.branch t.static)
+      put_enough =
+          subst (Pays t.held.advert t.active.balance) e
+          (branch_pays t.held.advert t.well (t.active.position ++ To i ∷ []) t.active.balance t.branch t.static)
 
       pub continued_stands : StandsAt g.contracts (record {
         number = g.next;
         contract = place_of (active_at g.active output);
         position = position_of (active_at g.active output) ++ To i ∷ [];
-        balance = balance_of (active_at g.active output) + total_value (gone g.deposits (numbers_of (bindings_of g.advertised (place_of (active_at g.active output))) (puts_of (branch_at g output i)))) - fee_of (advert_of g.contracts (active_at g.active output));
+        balance = balance_of (active_at g.active output) + total_value
+            (gone g.deposits (numbers_of (bindings_of g.advertised (place_of (active_at g.active output)))
+            (puts_of (branch_at g output i)))) - fee_of (advert_of g.contracts (active_at g.active output));
       })
       continued_stands =
           let q = t.active.position ++ To i ∷ [] in
           let v = put_value in
-          let here : ActiveContract = record { number = g.next; contract = t.active.contract; position = q; balance = t.active.balance + value_of_puts (volatile t.held.advert.pre) puts - t.held.advert.fee } in
+          let here : ActiveContract =
+          record {
+            number = g.next;
+            contract = t.active.contract;
+            position = q;
+            balance = t.active.balance + value_of_puts (volatile t.held.advert.pre) puts - t.held.advert.fee;
+          } in
           let there : ActiveContract = record {
             number = g.next;
             contract = place_of (active_at g.active output);
             position = position_of (active_at g.active output) ++ To i ∷ [];
-            balance = balance_of (active_at g.active output) + total_value (gone g.deposits (numbers_of (bindings_of g.advertised (place_of (active_at g.active output))) (puts_of (branch_at g output i)))) - fee_of (advert_of g.contracts (active_at g.active output));
+            balance = balance_of (active_at g.active output) + total_value
+                (gone g.deposits (numbers_of (bindings_of g.advertised (place_of (active_at g.active output)))
+                (puts_of (branch_at g output i)))) - fee_of (advert_of g.contracts (active_at g.active output));
           } in
           let same : there ≡ here = (λ j. record {
             number = g.next;
@@ -172,33 +209,50 @@ module _ (g : Configuration) (fine : IsFine g) where
             there = t.held.there;
             choice = next;
             chosen = choice_next t.held.advert.root t.active.position t.held.choice i t.branch puts reveals test next t.held.chosen t.among e;
-            static = subst (λ m. Is_in (stand q m (position next)) (stands t.held.advert)) (difference t.active.balance (value_of_puts (volatile t.held.advert.pre) puts) t.held.advert.fee put_enough)
+            static =
+                subst (λ m. Is_in (stand q m (position next)) (stands t.held.advert))
+                (difference t.active.balance (value_of_puts (volatile t.held.advert.pre) puts) t.held.advert.fee put_enough)
                 (stands_next t.held.advert q (pos t.active.balance) t.branch puts reveals test next t.static e);
           })
 
     -- ---- the parts of a split
 
     parts_stand : (n k contract : ℕ) (p : List PathStep) (ps : Parts)
-        → ((j m q : ℕ) (x : ℕ × Choice) → slice_get (parts_list ps) j ≡ Some x → q ≡ j + k → StandsAt g.contracts (record { number = m; contract = contract; position = p ++ Into q ∷ []; balance = x.0 }))
+        → ((j m q : ℕ) (x : ℕ × Choice) → slice_get (parts_list ps) j ≡ Some x → q ≡ j + k
+        → StandsAt g.contracts (record { number = m; contract = contract; position = p ++ Into q ∷ []; balance = x.0 }))
         → (y : ActiveContract) → Is_in y (parts_made n contract p k (part_values ps)) → StandsAt g.contracts y
     parts_stand n k contract p no_part each y h = absurd h
     parts_stand n k contract p (part v c ps) each y (inl e) = subst (StandsAt g.contracts) (sym e) (each 0 n k (v, c) refl (omega arith))
-    parts_stand n k contract p (part v c ps) each y (inr h) = parts_stand (n + 1) (k + 1) contract p ps (λ j m q x e f. each (suc j) m q x e (omega (arith, f))) y h
+    parts_stand n k contract p (part v c ps) each y (inr h) =
+        parts_stand (n + 1) (k + 1) contract p ps (λ j m q x e f. each (suc j) m q x e (omega (arith, f))) y h
 
     pub divided_stands : (parts : Parts) → core t.branch ≡ split parts → (y : ActiveContract)
-        → Is_in y (parts_made g.next (place_of (active_at g.active output)) (position_of (active_at g.active output) ++ To i ∷ []) 0 (values_of (branch_at g output i))) → StandsAt g.contracts y
+        → Is_in y (parts_made g.next (place_of (active_at g.active output)) (position_of (active_at g.active output) ++ To i ∷ []) 0
+        (values_of (branch_at g output i)))
+        → StandsAt g.contracts y
     divided_stands parts e y h =
         let p = t.active.position ++ To i ∷ [] in
         let vs : values_of (branch_at g output i) ≡ part_values parts = ap values_of t.taken ∙ ap values_in e in
-        let same : parts_made g.next (place_of (active_at g.active output)) (position_of (active_at g.active output) ++ To i ∷ []) 0 (values_of (branch_at g output i)) ≡ parts_made g.next t.active.contract p 0 (part_values parts) =
+        let same : parts_made g.next (place_of (active_at g.active output)) (position_of (active_at g.active output) ++ To i ∷ []) 0
+        (values_of (branch_at g output i)) ≡ parts_made g.next t.active.contract p 0 (part_values parts) =
         (λ j. parts_made g.next (place_of (t.is j)) (position_of (t.is j) ++ To i ∷ []) 0 (vs j)) in
         parts_stand g.next 0 t.active.contract p parts each y (subst (Is_in y) same h)
       where
         each : (j m q : ℕ) (x : ℕ × Choice) → slice_get (parts_list parts) j ≡ Some x → q ≡ j + 0
-            → StandsAt g.contracts (record { number = m; contract = t.active.contract; position = (t.active.position ++ To i ∷ []) ++ Into q ∷ []; balance = x.0 })
+            → StandsAt g.contracts (record {
+              number = m;
+              contract = t.active.contract;
+              position = (t.active.position ++ To i ∷ []) ++ Into q ∷ [];
+              balance = x.0;
+            })
         each j m q x f z =
             let n : j ≡ q = omega (arith, z) in
-            subst (λ r. StandsAt g.contracts (record { number = m; contract = t.active.contract; position = (t.active.position ++ To i ∷ []) ++ Into r ∷ []; balance = x.0 })) n (record {
+            subst (λ r. StandsAt g.contracts (record {
+              number = m;
+              contract = t.active.contract;
+              position = (t.active.position ++ To i ∷ []) ++ Into r ∷ [];
+              balance = x.0;
+            })) n (record {
               advert = t.held.advert;
               there = t.held.there;
               choice = x.1;

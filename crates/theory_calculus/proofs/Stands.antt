@@ -44,17 +44,22 @@ module _ (ds : List (List ℕ × Holding)) (fee : ℕ) where
   AllAmong xs ys = (s : Stand) → Is_in s xs → Is_in s ys
 
   mutual
-    pub choice_closed : (q : List PathStep) (v : ℤ) (i : ℕ) (c : Choice) (s : Stand) → Is_in s (branch_stands ds fee q v i c) → AllAmong (under_stand s) (branch_stands ds fee q v i c)
+    pub choice_closed : (q : List PathStep) (v : ℤ) (i : ℕ) (c : Choice) (s : Stand) → Is_in s (branch_stands ds fee q v i c)
+        → AllAmong (under_stand s) (branch_stands ds fee q v i c)
     choice_closed q v i no_branch s h = absurd h
     choice_closed q v i (branch b bs) s (inl e) =
         subst (λ y. AllAmong (under_stand y) (branch_stands ds fee q v i (branch b bs))) (sym e)
         (λ t k. inr (in_left t (stands_under ds fee (q ++ To i ∷ []) v b) (branch_stands ds fee q v (i + 1) bs) k))
-    choice_closed q v i (branch b bs) s (inr h) = elim (in_append s (stands_under ds fee (q ++ To i ∷ []) v b) (branch_stands ds fee q v (i + 1) bs) h) [
-      | inl a ↦ (λ t k. inr (in_left t (stands_under ds fee (q ++ To i ∷ []) v b) (branch_stands ds fee q v (i + 1) bs) (under_closed (q ++ To i ∷ []) v b s a t k)))
-      | inr a ↦ (λ t k. inr (in_right t (stands_under ds fee (q ++ To i ∷ []) v b) (branch_stands ds fee q v (i + 1) bs) (choice_closed q v (i + 1) bs s a t k)))
-    ]
+    choice_closed q v i (branch b bs) s (inr h) =
+        elim (in_append s (stands_under ds fee (q ++ To i ∷ []) v b) (branch_stands ds fee q v (i + 1) bs) h) [
+          | inl a ↦ (λ t k. inr (in_left t (stands_under ds fee (q ++ To i ∷ []) v b) (branch_stands ds fee q v (i + 1) bs)
+              (under_closed (q ++ To i ∷ []) v b s a t k)))
+          | inr a ↦ (λ t k. inr (in_right t (stands_under ds fee (q ++ To i ∷ []) v b) (branch_stands ds fee q v (i + 1) bs)
+              (choice_closed q v (i + 1) bs s a t k)))
+        ]
 
-    pub under_closed : (p : List PathStep) (v : ℤ) (b : Branch) (s : Stand) → Is_in s (stands_under ds fee p v b) → AllAmong (under_stand s) (stands_under ds fee p v b)
+    pub under_closed : (p : List PathStep) (v : ℤ) (b : Branch) (s : Stand) → Is_in s (stands_under ds fee p v b)
+        → AllAmong (under_stand s) (stands_under ds fee p v b)
     under_closed p v (auth party body) s h = under_closed p v body s h
     under_closed p v (after height body) s h = under_closed p v body s h
     under_closed p v (put_reveal puts reveals test next) s (inl e) =
@@ -63,18 +68,23 @@ module _ (ds : List (List ℕ × Holding)) (fee : ℕ) where
     under_closed p v (withdraw party) s h = absurd h
     under_closed p v (split parts) s h = parts_closed p 0 parts s h
 
-    pub parts_closed : (p : List PathStep) (k : ℕ) (ps : Parts) (s : Stand) → Is_in s (part_stands ds fee p k ps) → AllAmong (under_stand s) (part_stands ds fee p k ps)
+    pub parts_closed : (p : List PathStep) (k : ℕ) (ps : Parts) (s : Stand) → Is_in s (part_stands ds fee p k ps)
+        → AllAmong (under_stand s) (part_stands ds fee p k ps)
     parts_closed p k no_part s h = absurd h
     parts_closed p k (part v c ps) s (inl e) =
         subst (λ y. AllAmong (under_stand y) (part_stands ds fee p k (part v c ps))) (sym e)
         (λ t j. inr (in_left t (branch_stands ds fee (p ++ Into k ∷ []) (pos v) 0 c) (part_stands ds fee p (k + 1) ps) j))
-    parts_closed p k (part v c ps) s (inr h) = elim (in_append s (branch_stands ds fee (p ++ Into k ∷ []) (pos v) 0 c) (part_stands ds fee p (k + 1) ps) h) [
-      | inl a ↦ (λ t j. inr (in_left t (branch_stands ds fee (p ++ Into k ∷ []) (pos v) 0 c) (part_stands ds fee p (k + 1) ps) (choice_closed (p ++ Into k ∷ []) (pos v) 0 c s a t j)))
-      | inr a ↦ (λ t j. inr (in_right t (branch_stands ds fee (p ++ Into k ∷ []) (pos v) 0 c) (part_stands ds fee p (k + 1) ps) (parts_closed p (k + 1) ps s a t j)))
-    ]
+    parts_closed p k (part v c ps) s (inr h) =
+        elim (in_append s (branch_stands ds fee (p ++ Into k ∷ []) (pos v) 0 c) (part_stands ds fee p (k + 1) ps) h) [
+          | inl a ↦ (λ t j. inr (in_left t (branch_stands ds fee (p ++ Into k ∷ []) (pos v) 0 c) (part_stands ds fee p (k + 1) ps)
+              (choice_closed (p ++ Into k ∷ []) (pos v) 0 c s a t j)))
+          | inr a ↦ (λ t j. inr (in_right t (branch_stands ds fee (p ++ Into k ∷ []) (pos v) 0 c) (part_stands ds fee p (k + 1) ps)
+              (parts_closed p (k + 1) ps s a t j)))
+        ]
 
   -- a branch of a choice
-  branch_there : (q : List PathStep) (v : ℤ) (i j : ℕ) (c : Choice) (b : Branch) → slice_get (branches c) j ≡ Some b → Is_in (stand (q ++ To (j + i) ∷ []) v (at_branch b)) (branch_stands ds fee q v i c)
+  branch_there : (q : List PathStep) (v : ℤ) (i j : ℕ) (c : Choice) (b : Branch) → slice_get (branches c) j ≡ Some b
+      → Is_in (stand (q ++ To (j + i) ∷ []) v (at_branch b)) (branch_stands ds fee q v i c)
   branch_there q v i j no_branch b h = cc
   branch_there q v i zero (branch d c) b h =
       let z : d ≡ b = cc in
@@ -83,10 +93,12 @@ module _ (ds : List (List ℕ × Holding)) (fee : ℕ) where
   branch_there q v i (suc j) (branch d c) b h =
       let n : j + (i + 1) ≡ suc j + i = omega arith in
       inr (in_right _ (stands_under ds fee (q ++ To i ∷ []) v d) (branch_stands ds fee q v (i + 1) c)
-      (subst (λ m. Is_in (stand (q ++ To m ∷ []) v (at_branch b)) (branch_stands ds fee q v (i + 1) c)) n (branch_there q v (i + 1) j c b h)))
+      (subst (λ m. Is_in (stand (q ++ To m ∷ []) v (at_branch b)) (branch_stands ds fee q v (i + 1) c)) n
+      (branch_there q v (i + 1) j c b h)))
 
   -- a part of a split
-  part_there : (p : List PathStep) (k j : ℕ) (ps : Parts) (x : ℕ × Choice) → slice_get (parts_list ps) j ≡ Some x → Is_in (stand (p ++ Into (j + k) ∷ []) (pos (x.0)) (position (x.1))) (part_stands ds fee p k ps)
+  part_there : (p : List PathStep) (k j : ℕ) (ps : Parts) (x : ℕ × Choice) → slice_get (parts_list ps) j ≡ Some x
+      → Is_in (stand (p ++ Into (j + k) ∷ []) (pos (x.0)) (position (x.1))) (part_stands ds fee p k ps)
   part_there p k j no_part x h = cc
   part_there p k zero (part w c ps) x h =
       let z : (let y : ℕ × Choice = (w, c) in y) ≡ x = cc in
@@ -95,7 +107,8 @@ module _ (ds : List (List ℕ × Holding)) (fee : ℕ) where
   part_there p k (suc j) (part w c ps) x h =
       let n : j + (k + 1) ≡ suc j + k = omega arith in
       inr (in_right _ (branch_stands ds fee (p ++ Into k ∷ []) (pos w) 0 c) (part_stands ds fee p (k + 1) ps)
-      (subst (λ m. Is_in (stand (p ++ Into m ∷ []) (pos (x.0)) (position (x.1))) (part_stands ds fee p (k + 1) ps)) n (part_there p (k + 1) j ps x h)))
+      (subst (λ m. Is_in (stand (p ++ Into m ∷ []) (pos (x.0)) (position (x.1))) (part_stands ds fee p (k + 1) ps)) n
+      (part_there p (k + 1) j ps x h)))
 
   -- the core has below it what the branch has
   under_core : (p : List PathStep) (v : ℤ) (b : Branch) → stands_under ds fee p v b ≡ stands_under ds fee p v (core b)
@@ -116,33 +129,39 @@ module _ (a : Advert) where
   closed s (inr h) = λ t k. inr (choice_closed ds a.fee [] (root_balance a) 0 a.root s h t k)
 
   -- each branch of a position that stands there
-  pub stands_branch : (q : List PathStep) (v : ℤ) (c : Choice) (i : ℕ) (b : Branch) → Is_in (stand q v (position c)) (stands a) → slice_get (branches c) i ≡ Some b → Is_in (stand (q ++ To i ∷ []) v (at_branch b)) (stands a)
+  pub stands_branch : (q : List PathStep) (v : ℤ) (c : Choice) (i : ℕ) (b : Branch) → Is_in (stand q v (position c)) (stands a)
+      → slice_get (branches c) i ≡ Some b → Is_in (stand (q ++ To i ∷ []) v (at_branch b)) (stands a)
   stands_branch q v c i b h e =
       let n : i + 0 ≡ i = omega arith in
       closed (stand q v (position c)) h (stand (q ++ To i ∷ []) v (at_branch b))
       (subst (λ m. Is_in (stand (q ++ To m ∷ []) v (at_branch b)) (branch_stands ds a.fee q v 0 c)) n (branch_there ds a.fee q v 0 i c b e))
 
   -- and what its core goes on with
-  pub stands_next : (q : List PathStep) (v : ℤ) (b : Branch) (puts reveals : List (List ℕ)) (test : Test) (next : Choice) → Is_in (stand q v (at_branch b)) (stands a) → core b ≡ put_reveal puts reveals test next
+  pub stands_next : (q : List PathStep) (v : ℤ) (b : Branch) (puts reveals : List (List ℕ)) (test : Test) (next : Choice)
+      → Is_in (stand q v (at_branch b)) (stands a) → core b ≡ put_reveal puts reveals test next
       → Is_in (stand q (after_put ds a.fee v puts) (position next)) (stands a)
   stands_next q v b puts reveals test next h e =
       let s = stand q (after_put ds a.fee v puts) (position next) in
-      let u : stands_under ds a.fee q v b ≡ stands_under ds a.fee q v (put_reveal puts reveals test next) = under_core ds a.fee q v b ∙ ap (stands_under ds a.fee q v) e in
+      let u : stands_under ds a.fee q v b ≡ stands_under ds a.fee q v (put_reveal puts reveals test next) =
+      under_core ds a.fee q v b ∙ ap (stands_under ds a.fee q v) e in
       closed (stand q v (at_branch b)) h s (subst (λ xs. Is_in s xs) (sym u) (inl refl))
 
-  pub stands_part : (q : List PathStep) (v : ℤ) (b : Branch) (parts : Parts) (k : ℕ) (x : ℕ × Choice) → Is_in (stand q v (at_branch b)) (stands a) → core b ≡ split parts → slice_get (parts_list parts) k ≡ Some x
+  pub stands_part : (q : List PathStep) (v : ℤ) (b : Branch) (parts : Parts) (k : ℕ) (x : ℕ × Choice)
+      → Is_in (stand q v (at_branch b)) (stands a) → core b ≡ split parts → slice_get (parts_list parts) k ≡ Some x
       → Is_in (stand (q ++ Into k ∷ []) (pos (x.0)) (position (x.1))) (stands a)
   stands_part q v b parts k x h e f =
       let s = stand (q ++ Into k ∷ []) (pos (x.0)) (position (x.1)) in
       let n : k + 0 ≡ k = omega arith in
       let u : stands_under ds a.fee q v b ≡ part_stands ds a.fee q 0 parts = under_core ds a.fee q v b ∙ ap (stands_under ds a.fee q v) e in
       closed (stand q v (at_branch b)) h s
-      (subst (λ xs. Is_in s xs) (sym u) (subst (λ m. Is_in (stand (q ++ Into m ∷ []) (pos (x.0)) (position (x.1))) (part_stands ds a.fee q 0 parts)) n (part_there ds a.fee q 0 k parts x f)))
+      (subst (λ xs. Is_in s xs) (sym u) (subst (λ m. Is_in (stand (q ++ Into m ∷ []) (pos (x.0)) (position (x.1)))
+      (part_stands ds a.fee q 0 parts)) n (part_there ds a.fee q 0 k parts x f)))
 
 -- ---- paths
 
 -- the branch of a position at the end of its path
-spot_branch : (root : Choice) (q : List PathStep) (c : Choice) (i : ℕ) (b : Branch) → choice_at root q ≡ Some c → slice_get (branches c) i ≡ Some b → spot_from (position root) (q ++ To i ∷ []) ≡ Some (at_branch b)
+spot_branch : (root : Choice) (q : List PathStep) (c : Choice) (i : ℕ) (b : Branch) → choice_at root q ≡ Some c
+    → slice_get (branches c) i ≡ Some b → spot_from (position root) (q ++ To i ∷ []) ≡ Some (at_branch b)
 spot_branch root q c i b h e = spot_from-step (position root) q (To i) ∙ by_spot (spot_from (position root) q) h
   where
     here : (d : Choice) → d ≡ c → option_map at_branch (slice_get (branches d) i) ≡ Some (at_branch b)
@@ -160,12 +179,17 @@ spot_branch root q c i b h e = spot_from-step (position root) q (To i) ∙ by_sp
     by_spot (Some (position d)) k = here d (let z : d ≡ c = cc in z)
     by_spot (Some (at_branch d)) k = by_core (core d) k
 
-pub choice_next : (root : Choice) (q : List PathStep) (c : Choice) (i : ℕ) (b : Branch) (puts reveals : List (List ℕ)) (test : Test) (next : Choice)
-    → choice_at root q ≡ Some c → slice_get (branches c) i ≡ Some b → core b ≡ put_reveal puts reveals test next → choice_at root (q ++ To i ∷ []) ≡ Some next
+pub choice_next : (root : Choice) (q : List PathStep) (c : Choice) (i : ℕ) (b : Branch) (puts reveals : List (List ℕ)) (test : Test)
+    (next : Choice)
+    → choice_at root q ≡ Some c → slice_get (branches c) i ≡ Some b → core b ≡ put_reveal puts reveals test next
+    → choice_at root (q ++ To i ∷ []) ≡ Some next
 choice_next root q c i b puts reveals test next h e k = ap (option_and_then as_choice) (spot_branch root q c i b h e) ∙ ap continuation k
 
 pub choice_part : (root : Choice) (q : List PathStep) (c : Choice) (i : ℕ) (b : Branch) (parts : Parts) (k : ℕ) (x : ℕ × Choice)
-    → choice_at root q ≡ Some c → slice_get (branches c) i ≡ Some b → core b ≡ split parts → slice_get (parts_list parts) k ≡ Some x → choice_at root ((q ++ To i ∷ []) ++ Into k ∷ []) ≡ Some (x.1)
+    → choice_at root q ≡ Some c → slice_get (branches c) i ≡ Some b → core b ≡ split parts → slice_get (parts_list parts) k ≡ Some x
+    → choice_at root ((q ++ To i ∷ []) ++ Into k ∷ []) ≡ Some (x.1)
 choice_part root q c i b parts k x h e s f =
     ap (option_and_then as_choice)
-    (spot_from-step (position root) (q ++ To i ∷ []) (Into k) ∙ ap (option_and_then (λ y. next_spot y (Into k))) (spot_branch root q c i b h e) ∙ ap (λ y. below y (Into k)) s ∙ ap (option_map (λ p. position p.1)) f)
+    (spot_from-step (position root) (q ++ To i ∷ []) (Into k)
+    ∙ ap (option_and_then (λ y. next_spot y (Into k))) (spot_branch root q c i b h e) ∙ ap (λ y. below y (Into k)) s
+    ∙ ap (option_map (λ p. position p.1)) f)

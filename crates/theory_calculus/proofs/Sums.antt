@@ -29,12 +29,14 @@ numbers xs = map (λ a. a.number) xs
 
 -- ---- what goes and what stays
 
-sum_split : {X : Type 0} (f : X → ℕ) (p : X → Bool) (xs : List X) → sum_by f (filter (λ x. not (p x)) xs) + sum_by f (filter p xs) ≡ sum_by f xs
+sum_split : {X : Type 0} (f : X → ℕ) (p : X → Bool) (xs : List X)
+    → sum_by f (filter (λ x. not (p x)) xs) + sum_by f (filter p xs) ≡ sum_by f xs
 sum_split f p [] = refl
 sum_split f p (x ∷ xs) = by_test (p x) (sum_split f p xs)
   where
     by_test : (b : Bool) → sum_by f (filter (λ y. not (p y)) xs) + sum_by f (filter p xs) ≡ sum_by f xs
-        → sum_by f (if not b then x ∷ filter (λ y. not (p y)) xs else filter (λ y. not (p y)) xs) + sum_by f (if b then x ∷ filter p xs else filter p xs) ≡ sum_by f (x ∷ xs)
+        → sum_by f (if not b then x ∷ filter (λ y. not (p y)) xs else filter (λ y. not (p y)) xs) + sum_by f
+        (if b then x ∷ filter p xs else filter p xs) ≡ sum_by f (x ∷ xs)
     by_test true h = rw (sum_by-cons f x (filter p xs), sum_by-cons f x xs) (omega (arith, h))
     by_test false h = rw (sum_by-cons f x (filter (λ y. not (p y)) xs), sum_by-cons f x xs) (omega (arith, h))
 
@@ -47,13 +49,18 @@ gone_none : (ds : List Deposit) → total_value (gone ds []) ≡ 0
 gone_none [] = refl
 gone_none (d ∷ ds) = gone_none ds
 
-gone_more : (n : ℕ) (ns : List ℕ) (ds : List Deposit) → has_number n ns ≡ false → total_value (gone ds (n ∷ ns)) ≡ total_value (gone ds (n ∷ [])) + total_value (gone ds ns)
+gone_more : (n : ℕ) (ns : List ℕ) (ds : List Deposit) → has_number n ns ≡ false
+    → total_value (gone ds (n ∷ ns)) ≡ total_value (gone ds (n ∷ [])) + total_value (gone ds ns)
 gone_more n ns [] h = refl
 gone_more n ns (d ∷ ds) h = by_tests (n == d.number) (has_number d.number ns) refl refl (gone_more n ns ds h)
   where
-    by_tests : (a b : Bool) → (n == d.number) ≡ a → has_number d.number ns ≡ b → total_value (gone ds (n ∷ ns)) ≡ total_value (gone ds (n ∷ [])) + total_value (gone ds ns)
-        → total_value (if a || b then d ∷ gone ds (n ∷ ns) else gone ds (n ∷ ns)) ≡ total_value (if a || false then d ∷ gone ds (n ∷ []) else gone ds (n ∷ [])) + total_value (if b then d ∷ gone ds ns else gone ds ns)
-    by_tests true true ea eb ih = let q = eqb-true n d.number ea in let f : has_number d.number ns ≡ false = subst (λ m. has_number m ns ≡ false) q h in cc
+    by_tests : (a b : Bool) → (n == d.number) ≡ a → has_number d.number ns ≡ b
+        → total_value (gone ds (n ∷ ns)) ≡ total_value (gone ds (n ∷ [])) + total_value (gone ds ns)
+        → total_value (if a || b then d ∷ gone ds (n ∷ ns) else gone ds (n ∷ ns))
+        ≡ total_value (if a || false then d ∷ gone ds (n ∷ []) else gone ds (n ∷ [])) + total_value
+        (if b then d ∷ gone ds ns else gone ds ns)
+    by_tests true true ea eb ih =
+        let q = eqb-true n d.number ea in let f : has_number d.number ns ≡ false = subst (λ m. has_number m ns ≡ false) q h in cc
     by_tests true false ea eb ih = rw (sum_by-cons value d (gone ds (n ∷ ns)), sum_by-cons value d (gone ds (n ∷ []))) (omega (arith, ih))
     by_tests false true ea eb ih = rw (sum_by-cons value d (gone ds (n ∷ ns)), sum_by-cons value d (gone ds ns)) (omega (arith, ih))
     by_tests false false ea eb ih = ih
@@ -71,7 +78,8 @@ gone_one n (d ∷ ds) h =
     let p = and_parts (list_all (λ m. nat_lt d.number m) (names ds)) (are_ascending (names ds)) h in
     by_test (n == d.number) refl p.0 (gone_one n ds p.1)
   where
-    by_test : (b : Bool) → (n == d.number) ≡ b → list_all (λ m. nat_lt d.number m) (names ds) ≡ true → total_value (gone ds (n ∷ [])) ≡ value_at ds n → total_value (gone (d ∷ ds) (n ∷ [])) ≡ value_at (d ∷ ds) n
+    by_test : (b : Bool) → (n == d.number) ≡ b → list_all (λ m. nat_lt d.number m) (names ds) ≡ true
+        → total_value (gone ds (n ∷ [])) ≡ value_at ds n → total_value (gone (d ∷ ds) (n ∷ [])) ≡ value_at (d ∷ ds) n
     by_test true e l ih =
         let q = eqb-true n d.number e in
         let t : (d.number == n) ≡ true = grind (arith, nat_tests, q) in
@@ -81,7 +89,8 @@ gone_one n (d ∷ ds) h =
     by_test false e l ih = let f : (d.number == n) ≡ false = grind (arith, nat_tests, e) in rw (e, f) ih
 
 -- distinct numbers' deposits have their values
-pub gone_value : (ds : List Deposit) (ns : List ℕ) → are_ascending (names ds) ≡ true → are_distinct ns ≡ true → total_value (gone ds ns) ≡ value_in ds ns
+pub gone_value : (ds : List Deposit) (ns : List ℕ) → are_ascending (names ds) ≡ true → are_distinct ns ≡ true
+    → total_value (gone ds ns) ≡ value_in ds ns
 gone_value ds [] h d = gone_none ds
 gone_value ds (n ∷ ns) h d =
     let p = and_parts (not (has_number n ns)) (are_distinct ns) d in
@@ -99,14 +108,17 @@ others_above n (x ∷ xs) h =
     let e : (x.number == n) ≡ false = grind (arith, nat_tests, p.0) in
     rw e (ap (λ ys. x ∷ ys) (others_above n xs p.1))
 
-pub others_balance : (n : ℕ) (xs : List ActiveContract) → are_ascending (numbers xs) ≡ true → total_balance (others xs n) + balance_of (active_at xs n) ≡ total_balance xs
+pub others_balance : (n : ℕ) (xs : List ActiveContract) → are_ascending (numbers xs) ≡ true
+    → total_balance (others xs n) + balance_of (active_at xs n) ≡ total_balance xs
 others_balance n [] h = refl
 others_balance n (x ∷ xs) h =
     let p = and_parts (list_all (λ m. nat_lt x.number m) (numbers xs)) (are_ascending (numbers xs)) h in
     by_test (x.number == n) refl p.0 (others_balance n xs p.1)
   where
-    by_test : (b : Bool) → (x.number == n) ≡ b → list_all (λ m. nat_lt x.number m) (numbers xs) ≡ true → total_balance (others xs n) + balance_of (active_at xs n) ≡ total_balance xs
-        → total_balance (if not b then x ∷ others xs n else others xs n) + balance_of (cond b (Some x) (active_at xs n)) ≡ total_balance (x ∷ xs)
+    by_test : (b : Bool) → (x.number == n) ≡ b → list_all (λ m. nat_lt x.number m) (numbers xs) ≡ true
+        → total_balance (others xs n) + balance_of (active_at xs n) ≡ total_balance xs
+        → total_balance (if not b then x ∷ others xs n else others xs n) + balance_of (cond b (Some x) (active_at xs n))
+        ≡ total_balance (x ∷ xs)
     by_test true e l ih =
         let q = eqb-true x.number n e in
         let o : others xs n ≡ xs = others_above n xs (subst (λ k. list_all (λ m. nat_lt k m) (numbers xs) ≡ true) q l) in
@@ -128,7 +140,8 @@ abbrev pub sum_of : List ℕ → ℕ
 sum_of [] = 0
 sum_of (v ∷ vs) = v + sum_of vs
 
-pub parts_value : (n contract : ℕ) (path : List PathStep) (k : ℕ) (vs : List ℕ) → total_balance (parts_made n contract path k vs) ≡ sum_of vs
+pub parts_value : (n contract : ℕ) (path : List PathStep) (k : ℕ) (vs : List ℕ)
+    → total_balance (parts_made n contract path k vs) ≡ sum_of vs
 parts_value n contract path k [] = refl
 parts_value n contract path k (v ∷ vs) =
     let ih = parts_value (n + 1) contract path (k + 1) vs in

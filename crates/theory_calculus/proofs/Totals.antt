@@ -27,43 +27,62 @@ value d = d.value
 abbrev balance : ActiveContract → ℕ
 balance a = a.balance
 
-pub begun_total : (g : Configuration) (contract : ℕ) (advert : Option Advert) (numbers : List ℕ) → fee_of advert ≤ total_value (gone g.deposits numbers)
+pub begun_total : (g : Configuration) (contract : ℕ) (advert : Option Advert) (numbers : List ℕ)
+    → fee_of advert ≤ total_value (gone g.deposits numbers)
     → total_money (begun g contract advert numbers) + fee_of advert ≡ total_money g
 begun_total g contract advert numbers l =
-    let new : ActiveContract = record { number = g.next; contract = contract; position = []; balance = total_value (gone g.deposits numbers) - fee_of advert } in
+    let new : ActiveContract =
+    record { number = g.next; contract = contract; position = []; balance = total_value (gone g.deposits numbers) - fee_of advert } in
     let k = kept_gone g.deposits numbers in
     rw (sum_by_push balance g.active new) (omega (arith, k, l))
 
 module _ (g : Configuration) (numbered : IsNumbered g) where
-  pub continued_total : (output branch : ℕ) (numbers : List ℕ) → fee_of (advert_of g.contracts (active_at g.active output)) ≤ balance_of (active_at g.active output) + total_value (gone g.deposits numbers)
-      → total_money (continued g output branch (active_at g.active output) numbers) + fee_of (advert_of g.contracts (active_at g.active output)) ≡ total_money g
+  pub continued_total : (output branch : ℕ) (numbers : List ℕ)
+      → fee_of (advert_of g.contracts (active_at g.active output)) ≤ balance_of (active_at g.active output) + total_value
+      (gone g.deposits numbers)
+      → total_money (continued g output branch (active_at g.active output) numbers) + fee_of
+      (advert_of g.contracts (active_at g.active output)) ≡ total_money g
   continued_total output branch numbers l =
       let new : ActiveContract = record {
         number = g.next;
         contract = place_of (active_at g.active output);
         position = position_of (active_at g.active output) ++ To branch ∷ [];
-        balance = balance_of (active_at g.active output) + total_value (gone g.deposits numbers) - fee_of (advert_of g.contracts (active_at g.active output));
+        balance = balance_of (active_at g.active output) + total_value (gone g.deposits numbers) - fee_of
+            (advert_of g.contracts (active_at g.active output));
       } in
       let k = kept_gone g.deposits numbers in
       let o = others_balance output g.active numbered.active in
       rw (sum_by_push balance (others g.active output) new) (omega (arith, k, o, l))
 
-  pub withdrawn_total : (output : ℕ) (party : List ℕ) → fee_of (advert_of g.contracts (active_at g.active output)) ≤ balance_of (active_at g.active output)
-      → total_money (withdrawn g output (active_at g.active output) party) + fee_of (advert_of g.contracts (active_at g.active output)) ≡ total_money g
+  pub withdrawn_total : (output : ℕ) (party : List ℕ)
+      → fee_of (advert_of g.contracts (active_at g.active output)) ≤ balance_of (active_at g.active output)
+      → total_money (withdrawn g output (active_at g.active output) party) + fee_of (advert_of g.contracts (active_at g.active output))
+      ≡ total_money g
   withdrawn_total output party l =
-      let new : Deposit = record { number = g.next; owner = Party party; value = balance_of (active_at g.active output) - fee_of (advert_of g.contracts (active_at g.active output)) } in
+      let new : Deposit =
+      record {
+        number = g.next;
+        owner = Party party;
+        value = balance_of (active_at g.active output) - fee_of
+            (advert_of g.contracts (active_at g.active output));
+      } in
       let o = others_balance output g.active numbered.active in
       rw (sum_by_push value g.deposits new) (omega (arith, o, l))
 
-  pub divided_total : (output branch : ℕ) (values : List ℕ) → sum_of values + fee_of (advert_of g.contracts (active_at g.active output)) ≡ balance_of (active_at g.active output)
-      → total_money (divided g output branch (active_at g.active output) values) + fee_of (advert_of g.contracts (active_at g.active output)) ≡ total_money g
+  pub divided_total : (output branch : ℕ) (values : List ℕ)
+      → sum_of values + fee_of (advert_of g.contracts (active_at g.active output)) ≡ balance_of (active_at g.active output)
+      → total_money (divided g output branch (active_at g.active output) values) + fee_of
+      (advert_of g.contracts (active_at g.active output)) ≡ total_money g
   divided_total output branch values e =
-      let new = parts_made g.next (place_of (active_at g.active output)) (position_of (active_at g.active output) ++ To branch ∷ []) 0 values in
-      let v = parts_value g.next (place_of (active_at g.active output)) (position_of (active_at g.active output) ++ To branch ∷ []) 0 values in
+      let new =
+      parts_made g.next (place_of (active_at g.active output)) (position_of (active_at g.active output) ++ To branch ∷ []) 0 values in
+      let v =
+      parts_value g.next (place_of (active_at g.active output)) (position_of (active_at g.active output) ++ To branch ∷ []) 0 values in
       let o = others_balance output g.active numbered.active in
       rw (sum_by-append balance (others g.active output) new) (omega (arith, v, o, e))
 
-  pub moved_total : (action : Move) → are_distinct action.inputs ≡ true → total_money (moved g action) + value_in g.deposits action.inputs ≡ total_money g + value_out action.outputs
+  pub moved_total : (action : Move) → are_distinct action.inputs ≡ true
+      → total_money (moved g action) + value_in g.deposits action.inputs ≡ total_money g + value_out action.outputs
   moved_total action d =
       let k = kept_gone g.deposits action.inputs in
       let v = gone_value g.deposits action.inputs numbered.deposits d in

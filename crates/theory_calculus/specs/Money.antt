@@ -54,8 +54,10 @@ fee_at g output = fee_of (advert_of g.contracts (active_at g.active output))
 
 -- the money before a step is the money after it with what is left to the miner: a contract's fee, or what a move doesn't pay out
 abbrev pub IsMoneyKept : Configuration → Step → Type 0
-IsMoneyKept g (steps.Move action) = total_money (effect g (steps.Move action)) + value_in g.deposits action.inputs ≡ total_money g + value_out action.outputs
-IsMoneyKept g (steps.Init contract) = total_money (effect g (steps.Init contract)) + fee_of (contract_at g.contracts contract) ≡ total_money g
+IsMoneyKept g (steps.Move action) =
+    total_money (effect g (steps.Move action)) + value_in g.deposits action.inputs ≡ total_money g + value_out action.outputs
+IsMoneyKept g (steps.Init contract) =
+    total_money (effect g (steps.Init contract)) + fee_of (contract_at g.contracts contract) ≡ total_money g
 IsMoneyKept g (steps.PutReveal output branch) = total_money (effect g (steps.PutReveal output branch)) + fee_at g output ≡ total_money g
 IsMoneyKept g (steps.Withdraw output branch) = total_money (effect g (steps.Withdraw output branch)) + fee_at g output ≡ total_money g
 IsMoneyKept g (steps.Split output branch) = total_money (effect g (steps.Split output branch)) + fee_at g output ≡ total_money g
@@ -76,7 +78,8 @@ pub record IsFunded (g : Configuration) : Type 0 where
 
 -- with contracts that have passed the check, wherever a legal run leads to from an opening
 abbrev pub MoneyIsKept : Type 0
-MoneyIsKept = (parties honest : List (List ℕ)) (deposits : List (List ℕ × ℕ)) (contracts : List Advert) (steps : List Step) (g : Configuration)
+MoneyIsKept =
+    (parties honest : List (List ℕ)) (deposits : List (List ℕ × ℕ)) (contracts : List Advert) (steps : List Step) (g : Configuration)
     → AllByRecursion IsWellFormed contracts → IsLegalRun (opening parties honest deposits contracts) steps g → IsFunded g
 
 -- ---- how much there is
@@ -92,6 +95,7 @@ pub record IsWithinAllMoney (g : Configuration) : Type 0 where
 
 -- where the deposits at the opening are no more than that
 abbrev pub MoneyStaysWithin : Type 0
-MoneyStaysWithin = (parties honest : List (List ℕ)) (deposits : List (List ℕ × ℕ)) (contracts : List Advert) (steps : List Step) (g : Configuration)
+MoneyStaysWithin =
+    (parties honest : List (List ℕ)) (deposits : List (List ℕ × ℕ)) (contracts : List Advert) (steps : List Step) (g : Configuration)
     → AllByRecursion IsWellFormed contracts → total_money (opening parties honest deposits contracts) ≤ max_money
     → IsLegalRun (opening parties honest deposits contracts) steps g → IsWithinAllMoney g

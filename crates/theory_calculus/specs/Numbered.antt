@@ -37,5 +37,6 @@ pub record IsNumbered (g : Configuration) : Type 0 where
 
 -- deposits and contracts are so numbered wherever a legal run leads to from an opening
 abbrev pub NumbersStandApart : Type 0
-NumbersStandApart = (parties honest : List (List ℕ)) (deposits : List (List ℕ × ℕ)) (contracts : List Advert) (steps : List Step) (g : Configuration)
+NumbersStandApart =
+    (parties honest : List (List ℕ)) (deposits : List (List ℕ × ℕ)) (contracts : List Advert) (steps : List Step) (g : Configuration)
     → IsLegalRun (opening parties honest deposits contracts) steps g → IsNumbered g

@@ -56,4 +56,5 @@ is_offered_before a b = is_key_less (key_of a) (key_of b)
 
 -- where the active contracts stand by ascending numbers, each offer stands before all that come after it, and so once
 abbrev pub OffersStandInOrder : Type 0
-OffersStandInOrder = (g : Configuration) → are_ascending (map (λ a. a.number) g.active) ≡ true → stands_in_order is_offered_before (offers g) ≡ true
+OffersStandInOrder =
+    (g : Configuration) → are_ascending (map (λ a. a.number) g.active) ≡ true → stands_in_order is_offered_before (offers g) ≡ true

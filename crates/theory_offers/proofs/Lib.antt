@@ -27,3 +27,4 @@ mod Unlocked
 mod Unmet
 pub mod Throughout
 pub mod Whole
+mod HaveEvents

@@ -2,6 +2,11 @@
 #![tactic(auto)]
 
 ghost use Rattle.spec_run.specs.Statements.{OffersTheorem, OffersThroughoutTheorem};
+//! What follows of the offers at the end of a run: each theorem is the contract of a function that does nothing.
+#![tactic(auto)]
+
+ghost use Rattle.spec_run.specs.Statements.{OffersTheorem};
+ghost use Rattle.theory_offers.specs.HaveEvents.{OffersHaveEvents};
 
 /// Every enabled and authorised contract step after a run has a compiled transaction that the
 /// ledger accepts, and its event leads to the step.
@@ -13,4 +18,8 @@ pub fn offers_theorem()
 /// what is offered there is what the run offers that ends there.
 pub fn offers_throughout_theorem()
     ensures { OffersThroughoutTheorem }
+/// The offers with their events are the offers of the calculus: every enabled contract step, each
+/// once, in their order.
+pub fn offers_have_events()
+    ensures { OffersHaveEvents }
 {}

@@ -8,6 +8,3 @@ mod lexer;
 pub use error::LexError;
 pub use lexer::tokens;
 pub use spec_text::{Keyword, Kind, Symbol, Token};
-
-#[cfg(test)]
-mod tests;

@@ -9,6 +9,3 @@ pub use bounds::{bound, is_bounded};
 pub use sizes::cost;
 pub use spec_terms::ScriptSize;
 pub use values::value;
-
-#[cfg(test)]
-mod tests;

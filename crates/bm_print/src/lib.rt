@@ -9,6 +9,3 @@ pub mod printer;
 mod text;
 
 pub use printer::print_advert;
-
-#[cfg(test)]
-mod tests;

@@ -17,6 +17,3 @@ mod predicate;
 pub use adverts::read_advert;
 pub use bm_syntax::Limit;
 pub use error::ReaderError;
-
-#[cfg(test)]
-mod tests;

@@ -16,6 +16,3 @@ pub use spec_data::Name;
 pub use spec_terms::{Limit, Path, PathStep, Pre};
 pub use term::{Contract, Expr, Guarded, Part, Pred};
 pub use walk::{at, branch_at, choice_at};
-
-#[cfg(test)]
-mod tests;

@@ -6,6 +6,3 @@ mod hexadecimal;
 
 pub use decimals::{decimal_reads_back, put_decimal, read_decimal};
 pub use hexadecimal::{HexError, hexadecimal_reads_back, put_hex, read_hex};
-
-#[cfg(test)]
-mod tests;

@@ -4,9 +4,10 @@ use Rattle.std.specs.List.{AllByRecursion}
 use Rattle.spec_data.specs.Lists.{is_among}
 use Rattle.spec_run.specs.declared.header.HeldSecret.{HeldSecret}
 use Rattle.spec_run.specs.declared.event.Event.{Event}
+use Rattle.spec_run.specs.declared.event.Event.TheVariants as events
 use Rattle.spec_run.specs.Setup.{Setup}
 use Rattle.spec_run.specs.World.{World}
-use Rattle.spec_run.specs.Draft.{Draft, Halt, Collided, Guessed}
+use Rattle.spec_run.specs.Draft.{Halt, Collided, Guessed}
 use Rattle.spec_run.specs.Event.{opening_strings, draft}
 
 -- ---- strings with one digest
@@ -29,42 +30,47 @@ pub record Collides (hash : List ℕ → List ℕ) (before hashes : List (List �
 
 -- ---- secrets that are given away
 
--- an event that comes to this draft would post the secret's bytes, which weren't posted, and isn't its owner's reveal of it
-pub record GivesAway (w : World) (d : Draft) (secret : HeldSecret) : Type 0 where
-  pub posted_now : is_among secret.bytes d.posts ≡ true
+-- the event is the owner's reveal of the secret
+abbrev pub IsOwnReveal : Event → HeldSecret → Type 0
+IsOwnReveal (events.Reveal contract party name) secret = (party ≡ secret.party) × (name ≡ secret.name)
+IsOwnReveal _ secret = ⊥
+
+-- the event would post the secret's bytes, which weren't posted before, and isn't its owner's reveal of it
+pub record GivesAway (s : Setup) (w : World) (e : Event) (secret : HeldSecret) : Type 0 where
+  pub posted_now : is_among secret.bytes (draft s w e).posts ≡ true
   pub not_before : is_among secret.bytes w.posted ≡ false
-  pub not_allowed : d.allowed ≡ Some (secret.party, secret.name) → ⊥
+  pub not_own : IsOwnReveal e secret → ⊥
 
 -- none of these secrets is given away
-abbrev pub GivesNoneAway : World → Draft → List HeldSecret → Type 0
-GivesNoneAway w d secrets = AllByRecursion (λ secret. GivesAway w d secret → ⊥) secrets
+abbrev pub GivesNoneAway : Setup → World → Event → List HeldSecret → Type 0
+GivesNoneAway s w e secrets = AllByRecursion (λ secret. GivesAway s w e secret → ⊥) secrets
 
 -- the party's secret of this name is given away, and is the first such of these
-pub record Guesses (w : World) (d : Draft) (secrets : List HeldSecret) (party name : List ℕ) : Type 0 where
+pub record Guesses (s : Setup) (w : World) (e : Event) (secrets : List HeldSecret) (party name : List ℕ) : Type 0 where
   pub secret : HeldSecret
   pub is_owner : secret.party ≡ party
   pub is_name : secret.name ≡ name
-  pub given : GivesAway w d secret
+  pub given : GivesAway s w e secret
   pub sooner : List HeldSecret
   pub afterwards : List HeldSecret
   pub in_order : secrets ≡ sooner ++ secret ∷ afterwards
-  pub none_sooner : GivesNoneAway w d sooner
+  pub none_sooner : GivesNoneAway s w e sooner
 
 -- ---- events
 
--- the strings before and those of an event that comes to this draft don't collide
-abbrev pub IsCalm : Setup → World → Draft → Type 0
-IsCalm s w d = AreApart s.hash (w.hashed ++ d.hashes)
+-- the strings hashed before and those of the event don't collide
+abbrev pub IsCalm : Setup → World → Event → Type 0
+IsCalm s w e = AreApart s.hash (w.hashed ++ (draft s w e).hashes)
 
--- what an event halts with is there; a collision comes before a guess
-abbrev pub HaltIsThere : Setup → World → Draft → Halt → Type 0
-HaltIsThere s w d (Collided earlier later) = Collides s.hash w.hashed d.hashes earlier later
-HaltIsThere s w d (Guessed party secret) = IsCalm s w d × Guesses w d s.header.secrets party secret
+-- what the event halts with is there; a collision comes before a guess
+abbrev pub HaltIsThere : Setup → World → Event → Halt → Type 0
+HaltIsThere s w e (Collided earlier later) = Collides s.hash w.hashed (draft s w e).hashes earlier later
+HaltIsThere s w e (Guessed party secret) = IsCalm s w e × Guesses s w e s.header.secrets party secret
 
 -- an event that goes on has neither
-pub record NothingHalts (s : Setup) (w : World) (d : Draft) : Type 0 where
-  pub calm : IsCalm s w d
-  pub unguessed : GivesNoneAway w d s.header.secrets
+pub record NothingHalts (s : Setup) (w : World) (e : Event) : Type 0 where
+  pub calm : IsCalm s w e
+  pub unguessed : GivesNoneAway s w e s.header.secrets
 
 -- the same strings are among both lists
 abbrev pub SameStrings : List (List ℕ) → List (List ℕ) → Type 0

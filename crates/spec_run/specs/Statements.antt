@@ -149,7 +149,7 @@ pub record GoesOn (s : Setup) (w : World) (t : Turn) : Type 0 where
   pub outcome : t.outcome ≡ (draft s w t.event).outcome
   pub tx : t.tx ≡ (draft s w t.event).tx
   pub world : t.world ≡ settled w (draft s w t.event)
-  pub halts : NothingHalts s w (draft s w t.event)
+  pub halts : NothingHalts s w t.event
   -- the messages after it are those before it and what it hashes
   pub hashed : SameStrings t.world.hashed (w.hashed ++ (draft s w t.event).hashes)
 
@@ -159,7 +159,7 @@ went_on s before g w t = GoesOn s w t
 -- these events are all that were to be played, or those before the halting one, which halts in this world with what is there
 abbrev pub EndsAs : Setup → List Event → List Event → World → Option (Event × Halt) → Type 0
 EndsAs s es before w None = before ≡ es
-EndsAs s es before w (Some h) = ((later : List Event) × (es ≡ before ++ h.0 ∷ later)) × HaltIsThere s w (draft s w (h.0)) (h.1)
+EndsAs s es before w (Some h) = ((later : List Event) × (es ≡ before ++ h.0 ∷ later)) × HaltIsThere s w (h.0) (h.1)
 
 -- each event goes on where nothing halts it, and the run halts only where something does
 pub record HaltsRightly (s : Setup) (es : List Event) : Type 0 where

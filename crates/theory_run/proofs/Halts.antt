@@ -4,14 +4,18 @@ use Rattle.std.specs.Prelude.{◌&&◌, ◌||◌, if◌then◌else◌}
 use Rattle.std.specs.List.{find}
 use Rattle.std.specs.Option.{option_map, option_or}
 use Rattle.std.specs.Str.{bytes_eq}
-use Rattle.std.proofs.lemmas.Bool.{and_parts, and_from, both_ways, not-true}
+use Rattle.std.proofs.lemmas.Bool.{and_parts, both_ways, not-true}
 use Rattle.spec_data.specs.Lists.{is_among}
+use Rattle.spec_run.specs.declared.event.Event.{Event}
 use Rattle.spec_run.specs.declared.header.HeldSecret.{HeldSecret}
+use Rattle.spec_run.specs.Setup.{Setup}
 use Rattle.spec_data.specs.Messages.{noted, noted_all, is_twin, clash, collision}
 use Rattle.spec_run.specs.World.{World}
-use Rattle.spec_run.specs.Draft.{Draft, is_allowed, is_guessed}
+use Rattle.spec_run.specs.Draft.{is_allowed, is_guessed}
+use Rattle.spec_run.specs.Event.{draft}
 use Rattle.spec_run.specs.Halting.{AreApart, Collides, GivesAway, GivesNoneAway, Guesses, SameStrings}
 use Rattle.theory_world.proofs.Same.{bytes-true, bytes_refl}
+use Rattle.theory_run.proofs.Allowing.{allowed_own, own_allowed}
 use Rattle.theory_world.proofs.Hashed.{NoClash, no_clash, among-append, among_head}
 
 -- ---- the same strings
@@ -118,68 +122,62 @@ module _ (hash : List ℕ → List ℕ) where
 
 -- ---- guesses
 
-module _ (w : World) (d : Draft) where
-  gives : (x : HeldSecret) → is_guessed w.posted d.posts d.allowed x ≡ true → GivesAway w d x
+module _ (s : Setup) (w : World) (e : Event) where
+  abbrev is_given : HeldSecret → Bool
+  is_given x = is_guessed w.posted (draft s w e).posts (draft s w e).allowed x
+
+  gives : (x : HeldSecret) → is_given x ≡ true → GivesAway s w e x
   gives x h =
+      let d = draft s w e in
       let a = and_parts (is_among x.bytes d.posts && not (is_among x.bytes w.posted)) (not (is_allowed d.allowed x)) h in
       let b = and_parts (is_among x.bytes d.posts) (not (is_among x.bytes w.posted)) a.0 in
-      let own : is_allowed (Some (x.party, x.name)) x ≡ true = and_from _ _ (bytes_refl x.party) (bytes_refl x.name) in
       record {
         posted_now = b.0;
         not_before = not-true _ b.1;
-        not_allowed = λ e. both_ways (is_allowed d.allowed x) (not-true _ a.1) (subst (λ o. is_allowed o x ≡ true) (sym e) own);
+        not_own = λ own. both_ways (is_allowed d.allowed x) (not-true _ a.1) (allowed_own s w e x own b.0);
       }
 
-  not_allowed : (x : HeldSecret) (o : Option (List ℕ × List ℕ)) → (o ≡ Some (x.party, x.name) → ⊥) → is_allowed o x ≡ false
-  not_allowed x None h = refl
-  not_allowed x (Some p) h = by_test (bytes_eq (p.0) x.party && bytes_eq (p.1) x.name) refl
+  gives_not : (x : HeldSecret) → is_given x ≡ false → GivesAway s w e x → ⊥
+  gives_not x h away = by_allowed (is_allowed (draft s w e).allowed x) refl
     where
-      by_test : (b : Bool) → (bytes_eq (p.0) x.party && bytes_eq (p.1) x.name) ≡ b → b ≡ false
-      by_test false e = refl
-      by_test true e =
-          let a = and_parts (bytes_eq (p.0) x.party) (bytes_eq (p.1) x.name) e in
-          let party = bytes-true (p.0) x.party a.0 in
-          let name = bytes-true (p.1) x.name a.1 in
-          absurd (h (λ i. Some (party i, name i)))
-
-  gives_not : (x : HeldSecret) → is_guessed w.posted d.posts d.allowed x ≡ false → GivesAway w d x → ⊥
-  gives_not x h away =
-      let a = not_allowed x d.allowed away.not_allowed in
-      let p = away.posted_now in
-      let n = away.not_before in
-      let t : is_guessed w.posted d.posts d.allowed x ≡ true = grind (arith, p, n, a) in
-      both_ways (is_guessed w.posted d.posts d.allowed x) h t
+      by_allowed : (b : Bool) → is_allowed (draft s w e).allowed x ≡ b → ⊥
+      by_allowed true a = away.not_own (own_allowed s w e x a)
+      by_allowed false a =
+          let p = away.posted_now in
+          let n = away.not_before in
+          let t : is_given x ≡ true = rw (p, n, a) refl in
+          both_ways (is_given x) h t
 
   -- where nothing is guessed, no secret is given away
-  pub none_away : (xs : List HeldSecret) → find (is_guessed w.posted d.posts d.allowed) xs ≡ None → GivesNoneAway w d xs
+  pub none_away : (xs : List HeldSecret) → find (is_guessed w.posted (draft s w e).posts (draft s w e).allowed) xs ≡ None → GivesNoneAway s w e xs
   none_away [] h = tt
-  none_away (x ∷ xs) h = by_test (is_guessed w.posted d.posts d.allowed x) refl h (none_away xs)
+  none_away (x ∷ xs) h = by_test (is_given x) refl h (none_away xs)
     where
-      by_test : (b : Bool) → is_guessed w.posted d.posts d.allowed x ≡ b → (if b then Some x else find (is_guessed w.posted d.posts d.allowed) xs) ≡ None
-          → (find (is_guessed w.posted d.posts d.allowed) xs ≡ None → GivesNoneAway w d xs) → GivesNoneAway w d (x ∷ xs)
-      by_test true e k ih = cc
-      by_test false e k ih = (gives_not x e, ih k)
+      by_test : (b : Bool) → is_given x ≡ b → (if b then Some x else find (is_guessed w.posted (draft s w e).posts (draft s w e).allowed) xs) ≡ None
+          → (find (is_guessed w.posted (draft s w e).posts (draft s w e).allowed) xs ≡ None → GivesNoneAway s w e xs) → GivesNoneAway s w e (x ∷ xs)
+      by_test true q k ih = cc
+      by_test false q k ih = (gives_not x q, ih k)
 
   -- what is guessed is the first secret that is given away
-  pub guesses : (xs : List HeldSecret) (held : HeldSecret) → find (is_guessed w.posted d.posts d.allowed) xs ≡ Some held → Guesses w d xs held.party held.name
+  pub guesses : (xs : List HeldSecret) (held : HeldSecret) → find (is_guessed w.posted (draft s w e).posts (draft s w e).allowed) xs ≡ Some held → Guesses s w e xs held.party held.name
   guesses [] held h = cc
-  guesses (x ∷ xs) held h = by_test (is_guessed w.posted d.posts d.allowed x) refl h (guesses xs held)
+  guesses (x ∷ xs) held h = by_test (is_given x) refl h (guesses xs held)
     where
-      by_test : (b : Bool) → is_guessed w.posted d.posts d.allowed x ≡ b → (if b then Some x else find (is_guessed w.posted d.posts d.allowed) xs) ≡ Some held
-          → (find (is_guessed w.posted d.posts d.allowed) xs ≡ Some held → Guesses w d xs held.party held.name) → Guesses w d (x ∷ xs) held.party held.name
-      by_test true e k ih =
-          let q : x ≡ held = cc in
+      by_test : (b : Bool) → is_given x ≡ b → (if b then Some x else find (is_guessed w.posted (draft s w e).posts (draft s w e).allowed) xs) ≡ Some held
+          → (find (is_guessed w.posted (draft s w e).posts (draft s w e).allowed) xs ≡ Some held → Guesses s w e xs held.party held.name) → Guesses s w e (x ∷ xs) held.party held.name
+      by_test true q k ih =
+          let same : x ≡ held = cc in
           record {
             secret = x;
-            is_owner = ap (λ (y : HeldSecret). y.party) q;
-            is_name = ap (λ (y : HeldSecret). y.name) q;
-            given = gives x e;
+            is_owner = ap (λ (y : HeldSecret). y.party) same;
+            is_name = ap (λ (y : HeldSecret). y.name) same;
+            given = gives x q;
             sooner = [];
             afterwards = xs;
             in_order = refl;
             none_sooner = tt;
           }
-      by_test false e k ih =
+      by_test false q k ih =
           let later = ih k in
           record {
             secret = later.secret;
@@ -189,5 +187,5 @@ module _ (w : World) (d : Draft) where
             sooner = x ∷ later.sooner;
             afterwards = later.afterwards;
             in_order = ap (λ ys. x ∷ ys) later.in_order;
-            none_sooner = (gives_not x e, later.none_sooner);
+            none_sooner = (gives_not x q, later.none_sooner);
           }

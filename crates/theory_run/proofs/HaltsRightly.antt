@@ -28,7 +28,7 @@ keeps_clear s z = record {
       outcome = refl;
       tx = refl;
       world = refl;
-      halts = record { calm = calm_is s.hash w.hashed (draft s w e).hashes fresh calm; unguessed = none_away w (draft s w e) s.header.secrets unguessed };
+      halts = record { calm = calm_is s.hash w.hashed (draft s w e).hashes fresh calm; unguessed = none_away s w e s.header.secrets unguessed };
       hashed = all_noted w.hashed (draft s w e).hashes;
     },
     no_clash s.hash w.hashed (draft s w e).hashes fresh calm,
@@ -56,7 +56,7 @@ ends s (e ∷ es) w fresh =
         → ((next : World) → NoClash s.hash next.hashed → EndsAfter s es next (played_from s next es))
         → EndsAfter s (e ∷ es) w (goes_on e (settle w (draft s w e) c u) (λ next. played_from s next es))
     by_answer (Some pair) u ec eu ih = ((es, refl), collides s.hash w.hashed (draft s w e).hashes pair.0 pair.1 fresh ec)
-    by_answer None (Some held) ec eu ih = ((es, refl), (calm_is s.hash w.hashed (draft s w e).hashes fresh ec, guesses w (draft s w e) s.header.secrets held eu))
+    by_answer None (Some held) ec eu ih = ((es, refl), (calm_is s.hash w.hashed (draft s w e).hashes fresh ec, guesses s w e s.header.secrets held eu))
     by_answer None None ec eu ih =
         let next = settled w (draft s w e) in
         let later = played_from s next es in

@@ -2,6 +2,7 @@ pub mod Accept
 pub mod Advertises
 pub mod Adverts
 pub mod AllSecrets
+pub mod Allowing
 pub mod Awaiting
 pub mod Beginnings
 pub mod Bookkeeping

@@ -24,3 +24,5 @@ mod Telling
 mod Unlocked
 mod Unmet
 pub mod Whole
+pub mod Beginning
+pub mod BegunInRun

@@ -34,7 +34,7 @@ pub record KeptAll (s : Setup) (z : List (List ℕ)) (before : List Record) (g :
 
 module _ (s : Setup) (setup : IsSetup s) (z : List (List ℕ)) (before : List Record) (g : Configuration) (w : World) (kept : KeptAll s z before g w)
     (e : Event) (is : IsEvent s e) (calm : collision s.hash w.hashed (draft s w e).hashes ≡ None) (unguessed : guess s w.posted (draft s w e).posts (draft s w e).allowed ≡ None) (begins : Begins z (settled w (draft s w e)).posted) where
-  all_after : KeptAll s z (before ++ record_of e (draft s w e) ∷ []) (after g (steps_of s z g w (settled w (draft s w e)) e (draft s w e))) (settled w (draft s w e))
+  pub all_after : KeptAll s z (before ++ record_of e (draft s w e) ∷ []) (after g (steps_of s z g w (settled w (draft s w e)) e (draft s w e))) (settled w (draft s w e))
   all_after =
       let books = kept.honest.run.books in
       record {
@@ -43,7 +43,7 @@ module _ (s : Setup) (setup : IsSetup s) (z : List (List ℕ)) (before : List Re
         more = offers_after s setup z before g w books kept.honest.leave kept.starts kept.more e is calm;
       }
 
-opening_all : (s : Setup) (es : List Event) → IsRun s es → (z : List (List ℕ)) → KeptAll s z [] (opening_configuration s) (opening_world s)
+pub opening_all : (s : Setup) (es : List Event) → IsRun s es → (z : List (List ℕ)) → KeptAll s z [] (opening_configuration s) (opening_world s)
 opening_all s es run z = record { honest = opening_honest s es run z; starts = opening_starts s (opening_world s); more = opening_kept s run.setup }
 
 keeps_all : (s : Setup) → IsSetup s → (z : List (List ℕ)) → Keeps s (spends_with_leave s) (KeptAll s z) z

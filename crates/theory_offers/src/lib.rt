@@ -2,9 +2,15 @@
 #![tactic(auto)]
 
 ghost use Rattle.spec_run.specs.Statements.{OffersTheorem};
+ghost use Rattle.theory_offers.specs.Begun.{EndorsedBeforeStart};
 
 /// Every enabled and authorised contract step after a run has a compiled transaction that the
 /// ledger accepts, and its event leads to the step.
 pub fn offers_theorem()
     ensures { OffersTheorem }
+{}
+
+/// A contract begins in a run only where all its endorsements are in the book, and they stay there.
+pub fn endorsed_before_start()
+    ensures { EndorsedBeforeStart }
 {}

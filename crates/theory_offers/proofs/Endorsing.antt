@@ -39,7 +39,7 @@ pub record KeptStarts (s : Setup) (before : List Record) (w : World) : Type 0 wh
 pub opening_starts : (s : Setup) (w : World) → KeptStarts s [] w
 opening_starts s w = record { started = λ k a h d. cc }
 
-ready_later : (s : Setup) (w next : World) → Grows s w next → (k : ℕ) → IsReady s w k → IsReady s next k
+pub ready_later : (s : Setup) (w next : World) → Grows s w next → (k : ℕ) → IsReady s w k → IsReady s next k
 ready_later s w next grows k r = record { setting = r.setting; compiled = grows.compiled k r.setting r.compiled; endorsed = endorsed_later s.hash r.setting w.book next.book grows.book r.endorsed }
 
 -- what an honest party's start has seen

@@ -36,7 +36,7 @@ use Rattle.theory_run.proofs.HonestSpends.{leave_of_event}
 use Rattle.theory_offers.proofs.Endorsing.{KeptStarts}
 use Rattle.theory_offers.proofs.Offered.{KeptOffers}
 use Rattle.theory_offers.proofs.OffersEvery.{OffersKept, refused_offers, endorse_every, sign_every, mine_every, authorise_every, init_every, post_every, reveal_every, advertise_every, commit_every}
-use Rattle.theory_offers.proofs.OffersReached.{accepted_every, given_accepted}
+use Rattle.theory_offers.proofs.OffersReached.{BeginsEndorsed, accepted_every, given_accepted}
 use Rattle.theory_offers.proofs.OffersBegun.{begins_endorsed}
 
 module _ (s : Setup) (setup : IsSetup s) (z : List (List ℕ)) (before : List Record) (g : Configuration) (w : World) (books : KeptBooks s g w) (leave : KeptLeave s before g w) (starts : KeptStarts s before w) (more : KeptOffers s g w) where
@@ -44,16 +44,21 @@ module _ (s : Setup) (setup : IsSetup s) (z : List (List ℕ)) (before : List Re
 
   -- in an event whose signatures were there before
   module _ (e : Event) (is : IsEvent s e) (no_gift : (a : List ℕ) (n : ℕ) → gives a n e ≡ false) where
+    -- a contract that begins by an accepted transaction is endorsed
+    pub begins_ready : (tx : Tx) (spent made : List ℕ) → verdict_in s w tx ≡ verdicts.Accepted spent made → draft s w e ≡ accepted s w tx spent
+        → collision s.hash w.hashed (accepted s w tx spent).hashes ≡ None → BeginsEndorsed s w tx
+    begins_ready tx spent made h d c =
+        let left : SpendsWithLeave s before w (record_of e (draft s w e)) (settled w (draft s w e)) = leave_of_event s setup before g w books.book (fits s setup g w books) (checks s setup g w books) leave books.clear e is (subst (λ x. collision s.hash w.hashed x.hashes ≡ None) (sym d) c) in
+        let went : SpendsWithLeave s before w (record_of e (accepted s w tx spent)) (settled w (accepted s w tx spent)) = subst (λ x. SpendsWithLeave s before w (record_of e x) (settled w x)) d left in
+        begins_endorsed s g w books.book (checks s setup g w books) books.clear before starts e tx spent (accepted_by s w tx spent made h) went no_gift
+
     reaches_offers : (tx : Tx) → draft s w e ≡ reaches s w w tx → collision s.hash w.hashed (reaches s w w tx).hashes ≡ None → OffersKept s z g w books.book more e (reaches s w w tx)
     reaches_offers tx same calm = by_verdict (verdict_in s w tx) refl same calm
       where
         by_verdict : (v : Verdict) → verdict_in s w tx ≡ v → draft s w e ≡ judged s w w tx v → collision s.hash w.hashed (judged s w w tx v).hashes ≡ None → OffersKept s z g w books.book more e (judged s w w tx v)
         by_verdict (verdicts.Refused r) h d c = refused_offers s z g w books.book more e (strings_of s w tx) (reason_of r)
         by_verdict (verdicts.Accepted spent made) h d c =
-            let left : SpendsWithLeave s before w (record_of e (draft s w e)) (settled w (draft s w e)) = leave_of_event s setup before g w books.book (fits s setup g w books) (checks s setup g w books) leave books.clear e is (subst (λ x. collision s.hash w.hashed x.hashes ≡ None) (sym d) c) in
-            let went : SpendsWithLeave s before w (record_of e (accepted s w tx spent)) (settled w (accepted s w tx spent)) = subst (λ x. SpendsWithLeave s before w (record_of e x) (settled w x)) d left in
-            let ok = accepted_by s w tx spent made h in
-            accepted_every s z g w books.book more tx spent ok e (begins_endorsed s g w books.book (checks s setup g w books) books.clear before starts e tx spent ok went no_gift)
+            accepted_every s z g w books.book more tx spent (accepted_by s w tx spent made h) e (begins_ready tx spent made h d c)
 
     reaches_if_offers : (o : Option Tx) → draft s w e ≡ reaches_if s w o → collision s.hash w.hashed (reaches_if s w o).hashes ≡ None → OffersKept s z g w books.book more e (reaches_if s w o)
     reaches_if_offers None same calm = refused_offers s z g w books.book more e [] reason.NotCompiled
@@ -79,7 +84,7 @@ module _ (s : Setup) (setup : IsSetup s) (z : List (List ℕ)) (before : List Re
     abbrev given : Tx
     given = gift s w party inputs outputs
 
-    starts_nothing : initial_of s w given ≡ None
+    pub starts_nothing : initial_of s w given ≡ None
     starts_nothing = by_found (initial_of s w given) refl
       where
         by_found : (o : Option ℕ) → initial_of s w given ≡ o → o ≡ None

@@ -28,3 +28,5 @@ mod Unmet
 pub mod Throughout
 pub mod Whole
 mod HaveEvents
+pub mod Beginning
+pub mod BegunInRun

@@ -22,7 +22,6 @@ use Rattle.spec_run.specs.Setup.{Setup}
 use Rattle.spec_run.specs.World.{Held, Output, Promise, World, output_at, is_deposit, held_at, active_held, bindings_at, is_advertised, has_promised}
 use Rattle.spec_run.specs.Committing.{secrets_at}
 use Rattle.spec_run.specs.Steps.{names_deposit}
-use Rattle.spec_run.specs.Owners.{paid_to}
 use Rattle.spec_run.specs.Compiled.{compiled_at}
 use Rattle.spec_run.specs.Conditions.{IsSetup}
 use Rattle.spec_run.specs.Ledger.{made_from}
@@ -31,11 +30,11 @@ use Rattle.spec_data.specs.Ranges.{max_money}
 use Rattle.spec_run.specs.Steps.{is_bound_live}
 use Rattle.spec_run.specs.Event.{opening_outputs, holds_nothing, opening_world}
 use Rattle.spec_run.specs.Translation.{opening_configuration}
-use Rattle.theory_world.proofs.Tests.{all_then, sum_map}
-use Rattle.theory_world.proofs.Spend.{total-made}
+use Rattle.theory_world.proofs.Tests.{all_then}
 use Rattle.theory_world.proofs.Positions.{Is_in}
 use Rattle.theory_run.proofs.Commits.{Constant}
 use Rattle.theory_run.proofs.Kept.{KeptBook}
+use Rattle.theory_run.proofs.WorthInRun.{opening_worth}
 use Rattle.theory_world.proofs.Later.{compiled_is}
 use Rattle.theory_offers.proofs.Offered.{KeptOffers}
 
@@ -50,13 +49,10 @@ pub opening_kept : (s : Setup) → IsSetup s → KeptOffers s (opening_configura
 opening_kept s setup =
     let id = txid s.hash (opening_transaction (opening_outputs s)) in
     let none : (n : ℕ) (h : Held) → held_at (opening_world s) n ≡ Some h → ⊥ = λ n h e. let e' = none_held id 0 n (opening_outputs s) in cc in
-    let total = total-made holds_nothing id 0 (opening_outputs s) in
-    let sums = sum_map (λ (o : TxOut). o.value) (λ (d : List ℕ × ℕ). record { value = d.1; script = paid_to s (d.0) }) s.header.deposits in
-    let money = setup.header.money in
     record {
       constant = record { parties = refl; honest = refl; contracts = refl };
       height = omega arith;
-      money = omega (arith, total, sums, money);
+      money = opening_worth s setup;
       told = λ k a h. cc;
       named = λ p name i h. absurd i;
       compiled_first = λ k x h. cc;

@@ -1,1 +1,2 @@
 pub mod HaveEvents
+pub mod Begun

@@ -7,6 +7,7 @@ ghost use Rattle.spec_run.specs.Statements.{OffersTheorem, OffersThroughoutTheor
 
 ghost use Rattle.spec_run.specs.Statements.{OffersTheorem};
 ghost use Rattle.theory_offers.specs.HaveEvents.{OffersHaveEvents};
+ghost use Rattle.theory_offers.specs.Begun.{EndorsedBeforeStart};
 
 /// Every enabled and authorised contract step after a run has a compiled transaction that the
 /// ledger accepts, and its event leads to the step.
@@ -22,4 +23,7 @@ pub fn offers_throughout_theorem()
 /// once, in their order.
 pub fn offers_have_events()
     ensures { OffersHaveEvents }
+/// A contract begins in a run only where all its endorsements are in the book, and they stay there.
+pub fn endorsed_before_start()
+    ensures { EndorsedBeforeStart }
 {}

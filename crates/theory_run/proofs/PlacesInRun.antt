@@ -10,13 +10,14 @@ use Rattle.spec_terms.specs.declared.path.PathStep.{PathStep}
 use Rattle.spec_bitcoin.specs.Live.{same_place}
 use Rattle.spec_calculus.specs.Configuration.{Configuration}
 use Rattle.spec_compiler.specs.Setting.{Setting}
-use Rattle.spec_compiler.specs.Transactions.{Standing}
+use Rattle.spec_compiler.specs.Transactions.{Standing, pays}
 use Rattle.spec_compiler.specs.ByPath.{position_at}
 use Rattle.spec_run.specs.Setup.{Setup}
 use Rattle.spec_run.specs.World.{Held, Output, World, output_at}
 use Rattle.spec_run.specs.Compiled.{compiled_at}
+use Rattle.spec_run.specs.Ledger.{tx_out}
 use Rattle.spec_run.specs.Agreement.{is_place, compiled_place}
-use Rattle.theory_run.specs.WorldsOfRuns.{is_position_of, is_of_contract, HasPlaces}
+use Rattle.theory_run.specs.WorldsOfRuns.{is_position_of, is_of_contract, compiled_output, HasPlaces}
 use Rattle.theory_script.proofs.Listing.{path_same}
 use Rattle.theory_world.proofs.Same.{place-true, place_refl}
 use Rattle.theory_run.proofs.Kept.{KeptBook, HeldFine}
@@ -93,9 +94,21 @@ module _ (s : Setup) (g : Configuration) (w : World) (kept : KeptBook s g w) whe
           cc)
       by_compiled (Some st) c = by_position st c (position_at s.hash st q) refl
 
+  -- what holds a position is the output that the position is compiled to
+  same_output : (k : ℕ) (q : List PathStep) (n : ℕ) (o : Output) → output_at w n ≡ Some o → is_position_of k q o.holds ≡ true
+      → compiled_output s (compiled_at s w k) q ≡ Some (tx_out o)
+  same_output k q n o there h =
+      let hf = fine k q n o there h in
+      let v = sym hf.value in
+      let c = sym hf.script in
+      ap (λ c. compiled_output s c q) hf.compiled
+      ∙ ap (option_map (λ (p : Standing × Choice). pays s.hash p.0.output.script p.0.output.value)) hf.stands
+      ∙ (λ i. Some (record { value = v i; script = c i }))
+
   pub has_places : HasPlaces s w
   has_places = record {
     different = kept.apart;
     held = held_there;
+    same = same_output;
     none = λ k c. none_any (λ (o : Output). is_of_contract k o.holds) w.outputs (none_held k c);
   }

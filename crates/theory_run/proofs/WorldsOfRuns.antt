@@ -1,6 +1,7 @@
 -- What every world of a run is: put together.
-use Rattle.std.proofs.Common.{◌≡◌, ℕ, List, [], ◌∷◌, true, refl, sym, ap, ◌∙◌, subst, arith}
-use Rattle.std.specs.List.{flat_map}
+use Rattle.std.proofs.Common.{◌≡◌, ℕ, zero, suc, ◌+◌, List, [], ◌∷◌, take, true, Some, refl, sym, ap, ◌∙◌, subst, arith}
+use Rattle.std.specs.Prelude.{slice_get}
+use Rattle.std.specs.List.{flat_map, AllByRecursion}
 use Rattle.std.proofs.lemmas.Bool.{and_from}
 use Rattle.spec_data.specs.Lists.{is_among}
 use Rattle.spec_calculus.specs.Configuration.{Configuration}
@@ -8,12 +9,13 @@ use Rattle.spec_run.specs.declared.event.Event.{Event}
 use Rattle.spec_run.specs.declared.outcome.Record.{Record}
 use Rattle.spec_run.specs.Setup.{Setup}
 use Rattle.spec_run.specs.World.{World}
-use Rattle.spec_run.specs.Conditions.{are_all_among}
+use Rattle.spec_run.specs.Conditions.{are_all_among, IsEvent}
 use Rattle.spec_run.specs.Values.{live_value}
-use Rattle.spec_run.specs.Event.{opening_strings, opening_world, played}
-use Rattle.spec_run.specs.Translation.{opening_configuration, last_configuration, last_world, world_after}
+use Rattle.spec_run.specs.Event.{Passed, event, goes_on, opening_strings, opening_world, played_from, played}
+use Rattle.spec_run.specs.Draft.{Answer, Went, Halted}
+use Rattle.spec_run.specs.Translation.{Turn, turn_of, turns_from, opening_configuration, last_configuration, last_world, world_after}
 use Rattle.spec_run.specs.Statements.{IsRun, simulated}
-use Rattle.theory_run.specs.WorldsOfRuns.{HasMessages, HasCommitments, IsWorldOfRun, WorldsOfRuns}
+use Rattle.theory_run.specs.WorldsOfRuns.{HasMessages, HasCommitments, IsWorldOfRun, WorldsOfRuns, WorldsOfTurns}
 use Rattle.theory_world.proofs.Hashed.{among_head, among_tail}
 use Rattle.theory_run.proofs.Following.{Keeps, run_posts, last_left, kept_at_end}
 use Rattle.theory_run.proofs.Simulated.{KeptRun, run_after, simulates, opening_run}
@@ -92,6 +94,40 @@ module _ (s : Setup) (es : List Event) (run : IsRun s es) where
         let c = ap live_value left in
         omega (arith, a, b, c);
   }
+
+-- ---- the turns
+
+taken_events : (s : Setup) (k : ℕ) (es : List Event) → AllByRecursion (IsEvent s) es → AllByRecursion (IsEvent s) (take k es)
+taken_events s zero es h = tt
+taken_events s (suc k) [] h = tt
+taken_events s (suc k) (e ∷ es) h = (h.0, taken_events s k es h.1)
+
+-- the first events of a run are played as the first of all
+taken_passed : (s : Setup) (k : ℕ) (es : List Event) (w : World) → (played_from s w (take k es)).passed ≡ take k (played_from s w es).passed
+taken_passed s zero es w = refl
+taken_passed s (suc k) [] w = refl
+taken_passed s (suc k) (e ∷ es) w = by_answer (event s w e) (taken_passed s k es)
+  where
+    by_answer : (a : Answer) → ((next : World) → (played_from s next (take k es)).passed ≡ take k (played_from s next es).passed)
+        → (goes_on e a (λ next. played_from s next (take k es))).passed ≡ take (suc k) (goes_on e a (λ next. played_from s next es)).passed
+    by_answer (Halted halt) ih = refl
+    by_answer (Went d next) ih = ap (λ ps. record { event = e; draft = d; world = next } ∷ ps) (ih next)
+
+-- a turn's world is left by the events up to it
+turn_left : (s : Setup) (strings : List (List ℕ)) (ps : List Passed) (g : Configuration) (w : World) (n : ℕ) (t : Turn)
+    → slice_get (turns_from s strings g w ps) n ≡ Some t → world_after w (take (suc n) ps) ≡ t.world
+turn_left s strings [] g w n t h = cc
+turn_left s strings (p ∷ ps) g w zero t h = let e : turn_of s strings g w p ≡ t = cc in ap (λ (x : Turn). x.world) e
+turn_left s strings (p ∷ ps) g w (suc n) t h = turn_left s strings ps (turn_of s strings g w p).configuration p.world n t h
+
+pub worlds_of_turns : WorldsOfTurns
+worlds_of_turns s es run n t h =
+    let k : n + 1 ≡ suc n = omega arith in
+    let front : IsRun s (take (suc n) es) =
+    record { setup = run.setup; opens = run.opens; events = taken_events s (suc n) es run.events } in
+    let same = left s (take (suc n) es) front ∙ ap (world_after (opening_world s)) (taken_passed s (suc n) es (opening_world s))
+    ∙ turn_left s (run_posts s es) (played s es).passed (opening_configuration s) (opening_world s) n t h in
+    rw k (subst (IsWorldOfRun s (take (suc n) es)) same (world_of_run s (take (suc n) es) front))
 
 pub worlds_of_runs : WorldsOfRuns
 worlds_of_runs s es run = world_of_run s es run

@@ -1,5 +1,6 @@
 -- What is claimed of every world that a run comes to: messages, signatures, places, commitments, money; of this project's profile of BitML.
-use Rattle.std.specs.Prelude.{◌≡◌, ℕ, ◌≤◌, List, [], ◌++◌, Bool, true, false, ◌&&◌, ◌==◌, Option, Some, None}
+use Rattle.std.specs.Prelude.{◌≡◌, ℕ, ◌+◌, ◌≤◌, List, [], ◌++◌, Bool, true, false, ◌&&◌, ◌==◌}
+use Rattle.std.specs.Prelude.{Option, Some, None, option_map, slice_get, take}
 use Rattle.std.specs.List.{list_any, flat_map, AllByRecursion}
 use Rattle.spec_data.specs.Lists.{is_among, are_different}
 use Rattle.spec_data.specs.Ranges.{max_money}
@@ -7,6 +8,10 @@ use Rattle.spec_terms.specs.Paths.{path_eq}
 use Rattle.spec_terms.specs.declared.path.PathStep.{PathStep}
 use Rattle.spec_bitcoin.specs.declared.label.Label.{Label}
 use Rattle.spec_bitcoin.specs.Keys.{IsLabel, label_text, key_of, has_signed}
+use Rattle.spec_bitcoin.specs.declared.tx.TxOut.{TxOut}
+use Rattle.spec_compiler.specs.Setting.{Setting}
+use Rattle.spec_compiler.specs.Transactions.{pays}
+use Rattle.spec_compiler.specs.ByPath.{position_at}
 use Rattle.spec_run.specs.declared.event.Event.{Event}
 use Rattle.spec_run.specs.Setup.{Setup, is_honest}
 use Rattle.spec_run.specs.Conditions.{are_all_among}
@@ -16,9 +21,10 @@ use Rattle.spec_run.specs.Compiled.{compiled_at}
 use Rattle.spec_run.specs.Agreement.{is_place, compiled_place}
 use Rattle.spec_run.specs.Signing.{label_party}
 use Rattle.spec_run.specs.Committing.{secrets_at, own_digests, used_digests}
+use Rattle.spec_run.specs.Ledger.{tx_out}
 use Rattle.spec_run.specs.Values.{live_value}
 use Rattle.spec_run.specs.Event.{opening_strings, played}
-use Rattle.spec_run.specs.Translation.{last_world}
+use Rattle.spec_run.specs.Translation.{Turn, course, last_world}
 use Rattle.spec_run.specs.Statements.{IsRun}
 use Rattle.theory_run.specs.OwnSignatures.{own_pairs_in}
 
@@ -66,12 +72,21 @@ abbrev pub is_of_contract : ℕ → Option Held → Bool
 is_of_contract contract None = false
 is_of_contract contract (Some held) = held.contract == contract
 
+-- the output that a position is compiled to, where the contract is compiled
+abbrev pub compiled_output : Setup → Option Setting → List PathStep → Option TxOut
+compiled_output s None position = None
+compiled_output s (Some setting) position =
+    option_map (λ p. pays s.hash p.0.output.script p.0.output.value) (position_at s.hash setting position)
+
 -- outputs, spent ones included, are told by their places. One holds a position exactly where it lies at the place that the position
 -- is compiled to; so before all participants of a contract have committed, none holds one of its positions
 pub record HasPlaces (s : Setup) (w : World) : Type 0 where
   pub different : (m n : ℕ) (o p : Output) → output_at w m ≡ Some o → output_at w n ≡ Some p → o.place ≡ p.place → m ≡ n
   pub held : (contract : ℕ) (position : List PathStep) (n : ℕ) (o : Output) → output_at w n ≡ Some o
       → is_position_of contract position o.holds ≡ is_place o.place (compiled_place s (compiled_at s w contract) position)
+  -- and then it has the value and the script that the position is compiled to
+  pub same : (contract : ℕ) (position : List PathStep) (n : ℕ) (o : Output) → output_at w n ≡ Some o
+      → is_position_of contract position o.holds ≡ true → compiled_output s (compiled_at s w contract) position ≡ Some (tx_out o)
   pub none : (contract : ℕ) → compiled_at s w contract ≡ None → list_any (λ (o : Output). is_of_contract contract o.holds) w.outputs ≡ false
 
 -- ---- what is committed
@@ -95,6 +110,11 @@ pub record IsWorldOfRun (s : Setup) (es : List Event) (w : World) : Type 0 where
   -- the live outputs are worth no more than the most there is
   pub money : live_value w ≤ max_money
 
--- so is the world after any events of a run, up to the first halt
+-- a run's last world is one
 abbrev pub WorldsOfRuns : Type 0
 WorldsOfRuns = (s : Setup) (es : List Event) → IsRun s es → IsWorldOfRun s es (last_world s es)
+
+-- and so is the world that each of its turns left, of the run up to there
+abbrev pub WorldsOfTurns : Type 0
+WorldsOfTurns = (s : Setup) (es : List Event) → IsRun s es → (n : ℕ) (t : Turn) → slice_get (course s es).turns n ≡ Some t
+    → IsWorldOfRun s (take (n + 1) es) t.world

@@ -3,6 +3,8 @@
 
 ghost use Rattle.spec_run.specs.Statements.{SimulationTheorem, LicenceTheorem, HonestDepositsTheorem, HaltsTheorem};
 ghost use Rattle.theory_run.specs.WorldsOfRuns.{WorldsOfRuns};
+ghost use Rattle.spec_run.specs.Statements.{SimulationTheorem, LicenceTheorem, HonestDepositsTheorem};
+ghost use Rattle.theory_run.specs.WorldsOfRuns.{WorldsOfRuns, WorldsOfTurns};
 
 /// Every run of events is, step by step, a legal run of the calculus, and configuration and world
 /// agree at the opening and after every event.
@@ -32,4 +34,9 @@ pub fn halts_theorem()
 /// compiled to; different commitments, an honest party's to its own secrets; and money within bounds.
 pub fn worlds_of_runs()
     ensures { WorldsOfRuns }
+{}
+
+/// So has the world that each turn of a run left.
+pub fn worlds_of_turns()
+    ensures { WorldsOfTurns }
 {}

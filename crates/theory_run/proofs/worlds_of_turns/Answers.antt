@@ -1,0 +1,5 @@
+use Rattle.theory_run.proofs.WorldsOfRuns.{worlds_of_turns}
+use Rattle.theory_run.proofs.worlds_of_turns.Goals as goal
+
+pub returns : goal.returns
+returns c = worlds_of_turns

@@ -1,6 +1,6 @@
 //! The messages that were hashed.
 
-ghost use Rattle.std.specs.Prelude.{◌≡◌, ◌++◌, ◌∷◌, [], IfOk, IfErr, OnOk, OnErr, length, IfNone, IfSome, Some, None};
+ghost use Rattle.std.specs.Prelude.{◌≡◌, ◌++◌, ◌∷◌, [], IfOk, OnOk, OnErr, length, is_some, IfNone, IfSome, Some, None};
 ghost use Rattle.std.specs.Option.{option_map, option_copied};
 ghost use Rattle.std.specs.Vec.{vec_len};
 ghost use Rattle.std.specs.Ordering.{nat_cmp};
@@ -8,7 +8,7 @@ ghost use Rattle.std.specs.Cmp.Lexicographic.{slice_cmp};
 ghost use Rattle.std.specs.BTreeMap.{Updates, IsUnchanged};
 ghost use Rattle.bm_hash.specs.declared.messages.TrailError.TheVariants.{Collided, Memory};
 ghost use Rattle.bm_hash.specs.Messages.{evidence_of, message_of};
-ghost use Rattle.bm_hash.specs.Trails.{HashedAlong, StopsAlong, IsClash, HaveApartDigests};
+ghost use Rattle.bm_hash.specs.Trails.{Hashes, IsClash, HaveApartDigests};
 
 use crate::hashing::Hash32;
 use spec_data::{Bytes, OutOfMemory};
@@ -105,10 +105,8 @@ impl<H: Hash32 + Drop> Trail<H> {
 
     /// The digest of a message, which is then on the trail.
     pub fn hash(&mut self, message: &[u8]) -> Result<[u8; 32], TrailError>
-        ensures hasher { self.new.hasher ≡ self.old.hasher }
         ensures digest { IfOk result (λ d. d ≡ H.digest_of self.old.hasher message.now) }
-        ensures ok { OnOk result (HashedAlong H.digest_of self.old self.new (message.now ∷ [])) }
-        ensures err { IfErr result (StopsAlong H.digest_of self.old self.new (message.now ∷ [])) }
+        ensures trail { Hashes H.digest_of self.old self.new (message.now ∷ []) result }
     {
         if self.collision.is_some() {
             return Err(TrailError::Collided);
@@ -137,14 +135,14 @@ impl<H: Hash32 + Drop> Trail<H> {
     }
 
     /// The digest of the digest of a message.
+    #[tactic(auto, using(crate::proofs::HashesLemmas::hashing))]
     pub fn double(&mut self, message: &[u8]) -> Result<[u8; 32], TrailError>
-        ensures hasher { self.new.hasher ≡ self.old.hasher }
         ensures digest { IfOk result (λ d. d ≡ H.digest_of self.old.hasher (H.digest_of self.old.hasher message.now)) }
-        ensures ok { OnOk result (HashedAlong H.digest_of self.old self.new (message.now ∷ H.digest_of self.old.hasher message.now ∷ [])) }
-        ensures err { IfErr result (StopsAlong H.digest_of self.old self.new (message.now ∷ H.digest_of self.old.hasher message.now ∷ [])) }
+        ensures trail { Hashes H.digest_of self.old self.new (message.now ∷ H.digest_of self.old.hasher message.now ∷ []) result }
     {
-        let digest = self.hash(message)?;
-        self.hash(&digest)
+        let first = self.hash(message)?;
+        let second = self.hash(&first)?;
+        Ok(second)
     }
 
     // The messages at the places that are kept.
@@ -157,6 +155,13 @@ impl<H: Hash32 + Drop> Trail<H> {
             self.messages[place].as_slice(),
             self.messages[last].as_slice(),
         ))
+    }
+
+    /// Whether two of the messages have one digest.
+    pub fn has_collided(&self) -> bool
+        ensures { result ≡ is_some (evidence_of (H.digest_of self.now.hasher) self.now.messages) }
+    {
+        self.clash_pair().is_some()
     }
 
     /// Two different messages with one digest, the earlier one first.

@@ -1,4 +1,3 @@
-mod Collided
 mod NumberAt
 mod Steps
 mod LabelLemmas

@@ -1,20 +1,13 @@
 //! Keys, and what is made of them.
 
-ghost use Rattle.std.specs.Prelude.{◌≡◌, IfOk, IfErr, OnOk, is_some, ◌∷◌, []};
-ghost use Rattle.bm_hash.specs.Messages.{evidence_of};
-ghost use Rattle.bm_hash.specs.Trails.{HashedAlong, StopsAlong};
+ghost use Rattle.std.specs.Prelude.{◌≡◌, IfOk, ◌∷◌, []};
+ghost use Rattle.bm_hash.specs.Trails.{Hashes};
 ghost use Rattle.spec_bitcoin.specs.Keys as spec;
 
 use crate::texts::label_text;
 use bm_hash::{Hash32, Trail, TrailError};
 use spec_bitcoin::Label;
 use std::alloc::Global;
-
-fn has_collided<H: Hash32 + Drop>(trail: &Trail<H>) -> bool
-    ensures { result ≡ is_some (evidence_of (H.digest_of trail.now.hasher) trail.now.messages) }
-{
-    trail.evidence().is_some()
-}
 
 fn key_with(digest: &[u8; 32]) -> [u8; 33]
     ensures { result ≡ 2 ∷ digest.now }
@@ -25,18 +18,16 @@ fn key_with(digest: &[u8; 32]) -> [u8; 33]
 }
 
 /// The key of a label: byte 02 and the hash of the label's text, which is hashed.
-#[tactic(auto, using(crate::proofs::Collided::stops_collided, crate::proofs::Collided::stops_at_first))]
+#[tactic(auto, using(bm_hash::proofs::HashesLemmas::stopping))]
 pub fn key<H: Hash32 + Drop>(
     alloc: Global,
     trail: &mut Trail<H>,
     label: &Label,
 ) -> Result<[u8; 33], TrailError>
-    ensures hasher { trail.new.hasher ≡ trail.old.hasher }
     ensures key { IfOk result (λ key. key ≡ spec.key_of (H.digest_of trail.old.hasher) label.now) }
-    ensures ok { OnOk result (HashedAlong H.digest_of trail.old trail.new (spec.label_text label.now ∷ [])) }
-    ensures err { IfErr result (StopsAlong H.digest_of trail.old trail.new (spec.label_text label.now ∷ [])) }
+    ensures trail { Hashes H.digest_of trail.old trail.new (spec.label_text label.now ∷ []) result }
 {
-    if has_collided(trail) {
+    if trail.has_collided() {
         return Err(TrailError::Collided);
     }
     let text = label_text(alloc, label)?;

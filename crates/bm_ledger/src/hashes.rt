@@ -1,8 +1,8 @@
 //! What is hashed for a transaction, whatever its verdict.
 
-ghost use Rattle.std.specs.Prelude.{◌≡◌, ◌∷◌, None, IfOk, IfErr, OnOk};
+ghost use Rattle.std.specs.Prelude.{◌≡◌, ◌∷◌, None, IfOk};
 ghost use Rattle.bm_hash.specs.Messages.{evidence_of};
-ghost use Rattle.bm_hash.specs.Trails.{HashedAlong, StopsAlong};
+ghost use Rattle.bm_hash.specs.Trails.{Hashes};
 ghost use Rattle.bm_sighash.specs.Shared.{hashes_of};
 ghost use Rattle.spec_bitcoin.specs.Digests as spec;
 ghost use Rattle.spec_bitcoin.specs.Verdict.{input_strings};
@@ -34,11 +34,9 @@ fn hash_spending<H: Hash32 + Drop>(
     value: u64,
 ) -> Result<InputHashes, TrailError>
     requires lists { lists.now ≡ hashes_of (H.digest_of trail.old.hasher) tx.now }
-    ensures hasher { trail.new.hasher ≡ trail.old.hasher }
     ensures script { IfOk result (λ hashes. hashes.script ≡ H.digest_of trail.old.hasher script.now) }
     ensures digest { IfOk result (λ hashes. hashes.digest ≡ spec.digest (H.digest_of trail.old.hasher) tx.now input.now script.now value) }
-    ensures ok { OnOk result (HashedAlong H.digest_of trail.old trail.new (script.now ∷ spec.digest_strings (H.digest_of trail.old.hasher) tx.now input.now script.now value)) }
-    ensures err { IfErr result (StopsAlong H.digest_of trail.old trail.new (script.now ∷ spec.digest_strings (H.digest_of trail.old.hasher) tx.now input.now script.now value)) }
+    ensures trail { Hashes H.digest_of trail.old trail.new (script.now ∷ spec.digest_strings (H.digest_of trail.old.hasher) tx.now input.now script.now value) result }
 {
     let program = trail.hash(script)?;
     let digest = digest_of_input(alloc, trail, tx, lists, input, script, value)?;
@@ -60,10 +58,8 @@ pub(crate) fn hash_input<H: Hash32 + Drop>(
 ) -> Result<Option<InputHashes>, TrailError>
     requires lists { lists.now ≡ hashes_of (H.digest_of trail.old.hasher) tx.now }
     requires clear { evidence_of (H.digest_of trail.old.hasher) trail.old.messages ≡ None }
-    ensures hasher { trail.new.hasher ≡ trail.old.hasher }
     ensures hashes { IfOk result (λ hashes. hashes ≡ input_hashes (H.digest_of trail.old.hasher) live.now.entries tx.now input.now) }
-    ensures ok { OnOk result (HashedAlong H.digest_of trail.old trail.new (input_strings (H.digest_of trail.old.hasher) live.now.entries tx.now input.now)) }
-    ensures err { IfErr result (StopsAlong H.digest_of trail.old trail.new (input_strings (H.digest_of trail.old.hasher) live.now.entries tx.now input.now)) }
+    ensures trail { Hashes H.digest_of trail.old trail.new (input_strings (H.digest_of trail.old.hasher) live.now.entries tx.now input.now) result }
 {
     if input.witness.is_empty() {
         return Ok(None);

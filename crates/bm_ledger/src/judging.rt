@@ -1,11 +1,11 @@
 //! The verdict on a transaction.
 
-ghost use Rattle.std.specs.Prelude.{◌≡◌, ◌<◌, ◌^◌, length, None, IfOk, IfErr, OnOk};
+ghost use Rattle.std.specs.Prelude.{◌≡◌, ◌<◌, ◌^◌, length, None, IfOk};
 ghost use Rattle.std.specs.List.{flat_map};
 ghost use Rattle.std.specs.Option.{option_and_then};
 ghost use Rattle.spec_data.specs.Lists.{or_else};
 ghost use Rattle.bm_hash.specs.Messages.{evidence_of};
-ghost use Rattle.bm_hash.specs.Trails.{HashedAlong, StopsAlong};
+ghost use Rattle.bm_hash.specs.Trails.{Hashes};
 ghost use Rattle.bm_sighash.specs.Shared.{hashes_of};
 ghost use Rattle.spec_bitcoin.specs.Digests as digests;
 ghost use Rattle.spec_bitcoin.specs.Live.{at_place};
@@ -26,7 +26,7 @@ use std::alloc::Global;
 
 /// A transaction's txid, and why it is refused, if it is.
 #[derive(Clone, Copy)]
-pub(crate) struct Judged {
+pub struct Judged {
     pub txid: [u8; 32],
     pub refusal: Option<Refusal>,
 }
@@ -63,10 +63,8 @@ fn judge_inputs<H: Hash32 + Drop>(
     requires few { length tx.now.inputs < 2 ^ 32 }
     requires lists { lists.now ≡ hashes_of (H.digest_of trail.old.hasher) tx.now }
     requires clear { evidence_of (H.digest_of trail.old.hasher) trail.old.messages ≡ None }
-    ensures hasher { trail.new.hasher ≡ trail.old.hasher }
     ensures first { IfOk result (λ r. r ≡ or_else whole (inputs_refusal (H.digest_of trail.old.hasher) book.now live.now.entries tx.now 0 tx.now.inputs)) }
-    ensures ok { OnOk result (HashedAlong H.digest_of trail.old trail.new (flat_map (input_strings (H.digest_of trail.old.hasher) live.now.entries tx.now) tx.now.inputs)) }
-    ensures err { IfErr result (StopsAlong H.digest_of trail.old trail.new (flat_map (input_strings (H.digest_of trail.old.hasher) live.now.entries tx.now) tx.now.inputs)) }
+    ensures trail { Hashes H.digest_of trail.old trail.new (flat_map (input_strings (H.digest_of trail.old.hasher) live.now.entries tx.now) tx.now.inputs) result }
 {
     let inputs = tx.inputs.as_slice();
     let mut first = whole;
@@ -96,11 +94,9 @@ pub(crate) fn examine<H: Hash32 + Drop>(
     tx: &Tx,
 ) -> Result<Judged, TrailError>
     requires few { length tx.now.inputs < 2 ^ 32 }
-    ensures hasher { trail.new.hasher ≡ trail.old.hasher }
     ensures id { IfOk result (λ judged. judged.txid ≡ digests.txid (H.digest_of trail.old.hasher) tx.now) }
     ensures refusal { IfOk result (λ judged. judged.refusal ≡ refusal_of (H.digest_of trail.old.hasher) book.now tip live.now.entries tx.now) }
-    ensures ok { OnOk result (HashedAlong H.digest_of trail.old trail.new (transaction_strings (H.digest_of trail.old.hasher) live.now.entries tx.now)) }
-    ensures err { IfErr result (StopsAlong H.digest_of trail.old trail.new (transaction_strings (H.digest_of trail.old.hasher) live.now.entries tx.now)) }
+    ensures trail { Hashes H.digest_of trail.old trail.new (transaction_strings (H.digest_of trail.old.hasher) live.now.entries tx.now) result }
 {
     let id = txid(alloc, trail, tx)?;
     let lists = shared(alloc, trail, tx)?;

@@ -10,6 +10,7 @@ mod signatures;
 mod state;
 mod whole;
 
+pub use judging::Judged;
 pub use spec_bitcoin::{OutPoint, Refusal, Tx, TxIn, TxOut, Verdict};
 pub use state::Ledger;
 

@@ -1,8 +1,7 @@
 //! The transaction that opens a ledger.
 
-ghost use Rattle.std.specs.Prelude.{◌≡◌, ◌<◌, ◌^◌, length, is_some, IfOk, IfErr, OnOk};
-ghost use Rattle.bm_hash.specs.Messages.{evidence_of};
-ghost use Rattle.bm_hash.specs.Trails.{HashedAlong, StopsAlong};
+ghost use Rattle.std.specs.Prelude.{◌≡◌, ◌<◌, ◌^◌, length, IfOk};
+ghost use Rattle.bm_hash.specs.Trails.{Hashes};
 ghost use Rattle.spec_bitcoin.specs.Digests as spec;
 ghost use Rattle.spec_bitcoin.specs.Live.{born};
 
@@ -14,12 +13,6 @@ use spec_bitcoin::tx::copy_outputs;
 use spec_bitcoin::{Tx, TxOut};
 use spec_data::{OutOfMemory, Seq};
 use std::alloc::Global;
-
-fn has_collided<H: Hash32 + Drop>(trail: &Trail<H>) -> bool
-    ensures { result ≡ is_some (evidence_of (H.digest_of trail.now.hasher) trail.now.messages) }
-{
-    trail.evidence().is_some()
-}
 
 // The transaction that makes these outputs of nothing.
 fn opening_tx(alloc: Global, outputs: &[TxOut]) -> Result<Tx, OutOfMemory>
@@ -34,18 +27,16 @@ fn opening_tx(alloc: Global, outputs: &[TxOut]) -> Result<Tx, OutOfMemory>
 }
 
 /// The txid of the transaction that makes these outputs of nothing. It hashes the transaction, and its hash.
-#[tactic(auto, using(crate::proofs::Chained::stops_collided, crate::proofs::Chained::stops_at_first))]
+#[tactic(auto, using(bm_hash::proofs::HashesLemmas::stopping))]
 pub(crate) fn opening_txid<H: Hash32 + Drop>(
     alloc: Global,
     trail: &mut Trail<H>,
     outputs: &[TxOut],
 ) -> Result<[u8; 32], TrailError>
-    ensures hasher { trail.new.hasher ≡ trail.old.hasher }
     ensures id { IfOk result (λ d. d ≡ spec.txid (H.digest_of trail.old.hasher) (spec.opening_transaction outputs.now)) }
-    ensures ok { OnOk result (HashedAlong H.digest_of trail.old trail.new (spec.txid_strings (H.digest_of trail.old.hasher) (spec.opening_transaction outputs.now))) }
-    ensures err { IfErr result (StopsAlong H.digest_of trail.old trail.new (spec.txid_strings (H.digest_of trail.old.hasher) (spec.opening_transaction outputs.now))) }
+    ensures trail { Hashes H.digest_of trail.old trail.new (spec.txid_strings (H.digest_of trail.old.hasher) (spec.opening_transaction outputs.now)) result }
 {
-    if has_collided(trail) {
+    if trail.has_collided() {
         return Err(TrailError::Collided);
     }
     let tx = opening_tx(alloc, outputs)?;

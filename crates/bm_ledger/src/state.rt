@@ -1,18 +1,18 @@
 //! The ledger's state, and what it is asked.
 
-ghost use Rattle.std.specs.Prelude.{◌≡◌, ◌+◌, ◌<◌, ◌≤◌, ◌^◌, ◌↔◌, length, None, slice_get, IsTrue, IfOk, IfErr, OnOk, OnErr};
+ghost use Rattle.std.specs.Prelude.{◌≡◌, ◌+◌, ◌<◌, ◌≤◌, ◌^◌, ◌↔◌, length, None, slice_get, IsTrue, IfOk, OnOk, OnErr};
 ghost use Rattle.std.specs.Map.Iter.{deref_pair};
 ghost use Rattle.std.specs.Option.{option_map, option_copied};
 ghost use Rattle.spec_data.specs.Lists.{first_reason};
 ghost use Rattle.spec_data.specs.Ranges.{last_height};
-ghost use Rattle.bm_hash.specs.Trails.{HashedAlong, StopsAlong};
+ghost use Rattle.bm_hash.specs.Trails.{Hashes};
 ghost use Rattle.spec_bitcoin.specs.Digests as digests;
 ghost use Rattle.spec_bitcoin.specs.Live.{at_place, opening_chain, after_transaction, IsNewTxid};
 ghost use Rattle.spec_bitcoin.specs.Verdict as spec;
 ghost use Rattle.bm_ledger.specs.Judging.{after_verdict, after_blocks};
 ghost use Rattle.bm_ledger.specs.Ordered.{numbered};
 
-use crate::judging::examine;
+use crate::judging::{Judged, examine};
 use crate::opening::{first_outputs, opening_txid};
 use crate::outputs::{
     Live, find, find_number, has_txid, made_numbers, replace_spent, spent_numbers,
@@ -48,17 +48,15 @@ impl Model for Ledger {
 impl Ledger {
     /// The ledger whose only transaction is the opening one, which makes these outputs of nothing.
     /// It hashes the opening transaction, and its hash.
-    #[tactic(auto, using(crate::proofs::Chained::stops_late))]
+    #[tactic(auto, using(bm_hash::proofs::HashesLemmas::stops_late))]
     pub fn opening<H: Hash32 + Drop>(
         alloc: Global,
         trail: &mut Trail<H>,
         outputs: &[TxOut],
     ) -> Result<Ledger, TrailError>
         requires { length outputs.now < 2 ^ 32 }
-        ensures hasher { trail.new.hasher ≡ trail.old.hasher }
         ensures opened { IfOk result (λ ledger. ledger ≡ opening_chain (digests.txid (H.digest_of trail.old.hasher) (digests.opening_transaction outputs.now)) outputs.now) }
-        ensures ok { OnOk result (HashedAlong H.digest_of trail.old trail.new (digests.txid_strings (H.digest_of trail.old.hasher) (digests.opening_transaction outputs.now))) }
-        ensures err { IfErr result (StopsAlong H.digest_of trail.old trail.new (digests.txid_strings (H.digest_of trail.old.hasher) (digests.opening_transaction outputs.now))) }
+        ensures trail { Hashes H.digest_of trail.old trail.new (digests.txid_strings (H.digest_of trail.old.hasher) (digests.opening_transaction outputs.now)) result }
     {
         let txid = opening_txid(alloc, trail, outputs)?;
         let live = first_outputs(alloc, &txid, outputs)?;
@@ -154,17 +152,30 @@ impl Ledger {
         tx: &Tx,
     ) -> Result<Option<Refusal>, TrailError>
         requires few { length tx.now.inputs < 2 ^ 32 }
-        ensures hasher { trail.new.hasher ≡ trail.old.hasher }
         ensures refusal { IfOk result (λ r. r ≡ spec.refusal_of (H.digest_of trail.old.hasher) book.now self.now.tip self.now.live tx.now) }
-        ensures ok { OnOk result (HashedAlong H.digest_of trail.old trail.new (spec.transaction_strings (H.digest_of trail.old.hasher) self.now.live tx.now)) }
-        ensures err { IfErr result (StopsAlong H.digest_of trail.old trail.new (spec.transaction_strings (H.digest_of trail.old.hasher) self.now.live tx.now)) }
+        ensures trail { Hashes H.digest_of trail.old trail.new (spec.transaction_strings (H.digest_of trail.old.hasher) self.now.live tx.now) result }
     {
         let judged = examine(self.alloc, trail, book, self.tip, &self.outputs, tx)?;
         Ok(judged.refusal)
     }
 
-    // Puts the new outputs in place of the spent ones.
-    fn spend(&mut self, txid: &[u8; 32], tx: &Tx) -> Result<(), OutOfMemory>
+    /// The txid of a transaction, and why `try_append` would refuse it, if it would. It hashes the strings of the transaction, whatever the answer.
+    pub fn examine<H: Hash32 + Drop>(
+        &self,
+        trail: &mut Trail<H>,
+        book: &Book,
+        tx: &Tx,
+    ) -> Result<Judged, TrailError>
+        requires few { length tx.now.inputs < 2 ^ 32 }
+        ensures id { IfOk result (λ j. j.txid ≡ digests.txid (H.digest_of trail.old.hasher) tx.now) }
+        ensures refusal { IfOk result (λ j. j.refusal ≡ spec.refusal_of (H.digest_of trail.old.hasher) book.now self.now.tip self.now.live tx.now) }
+        ensures trail { Hashes H.digest_of trail.old trail.new (spec.transaction_strings (H.digest_of trail.old.hasher) self.now.live tx.now) result }
+    {
+        examine(self.alloc, trail, book, self.tip, &self.outputs, tx)
+    }
+
+    /// Puts the new outputs of a transaction that is accepted in place of the spent ones. After an error the ledger is as before.
+    pub fn spend(&mut self, txid: &[u8; 32], tx: &Tx) -> Result<(), OutOfMemory>
         requires room { self.old.births + length tx.now.outputs < 2 ^ 32 }
         requires passed { first_reason (spec.whole_row self.old.tip self.old.live tx.now) ≡ None }
         requires new { IsNewTxid self.old.live txid.now }
@@ -178,7 +189,7 @@ impl Ledger {
 
     /// Appends a transaction, unless it is refused. After an error the ledger is as before.
     /// It hashes the strings of the transaction, whatever the verdict.
-    #[tactic(auto, using(crate::proofs::Chained::stops_late))]
+    #[tactic(auto, using(bm_hash::proofs::HashesLemmas::stops_late))]
     pub fn try_append<H: Hash32 + Drop>(
         &mut self,
         trail: &mut Trail<H>,
@@ -188,12 +199,10 @@ impl Ledger {
         requires few { length tx.now.inputs < 2 ^ 32 }
         requires room { self.old.births + length tx.now.outputs < 2 ^ 32 }
         requires new { spec.refusal_of (H.digest_of trail.old.hasher) book.now self.old.tip self.old.live tx.now ≡ None → IsNewTxid self.old.live (digests.txid (H.digest_of trail.old.hasher) tx.now) }
-        ensures hasher { trail.new.hasher ≡ trail.old.hasher }
         ensures verdict { IfOk result (λ v. v ≡ spec.verdict (H.digest_of trail.old.hasher) book.now self.old tx.now) }
         ensures chain { IfOk result (λ v. self.new ≡ after_verdict (H.digest_of trail.old.hasher) self.old tx.now v) }
         ensures same { OnErr result (self.new ≡ self.old) }
-        ensures ok { OnOk result (HashedAlong H.digest_of trail.old trail.new (spec.transaction_strings (H.digest_of trail.old.hasher) self.old.live tx.now)) }
-        ensures err { IfErr result (StopsAlong H.digest_of trail.old trail.new (spec.transaction_strings (H.digest_of trail.old.hasher) self.old.live tx.now)) }
+        ensures trail { Hashes H.digest_of trail.old trail.new (spec.transaction_strings (H.digest_of trail.old.hasher) self.old.live tx.now) result }
     {
         let judged = examine(self.alloc, trail, book, self.tip, &self.outputs, tx)?;
         if let Some(refusal) = judged.refusal {

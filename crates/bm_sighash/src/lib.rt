@@ -1,7 +1,6 @@
 //! The digest that the signature of an input signs, by BIP 143 with the hash type ALL.
 #![tactic(auto)]
 
-mod fields;
 mod list_hashes;
 mod signing;
 

@@ -1,13 +1,12 @@
 //! The hashes of three lists, which all inputs of a transaction share.
 
-ghost use Rattle.std.specs.Prelude.{◌≡◌, IfOk, IfErr, OnOk, is_some};
-ghost use Rattle.bm_hash.specs.Messages.{evidence_of};
-ghost use Rattle.bm_hash.specs.Trails.{HashedAlong, StopsAlong};
+ghost use Rattle.std.specs.Prelude.{◌≡◌, IfOk};
+ghost use Rattle.bm_hash.specs.Trails.{Hashes};
 ghost use Rattle.spec_bitcoin.specs.Digests as spec;
 ghost use Rattle.bm_sighash.specs.Shared.{hashes_of, strings_of};
 
-use crate::fields::{put_output, put_place, put_word};
 use bm_hash::{Hash32, Trail, TrailError};
+use bm_tx::{put_output, put_place, put_word};
 use spec_bitcoin::Tx;
 use spec_data::OutOfMemory;
 use std::alloc::Global;
@@ -54,12 +53,6 @@ fn outputs_bytes(alloc: Global, tx: &Tx) -> Result<Vec<u8>, OutOfMemory>
     Ok(out)
 }
 
-pub(crate) fn has_collided<H: Hash32 + Drop>(trail: &Trail<H>) -> bool
-    ensures { result ≡ is_some (evidence_of (H.digest_of trail.now.hasher) trail.now.messages) }
-{
-    trail.evidence().is_some()
-}
-
 // The double hashes of three messages.
 #[tactic(auto, using(crate::proofs::Doubles::doubling))]
 fn hash_lists<H: Hash32 + Drop>(
@@ -68,10 +61,8 @@ fn hash_lists<H: Hash32 + Drop>(
     counters: &[u8],
     made: &[u8],
 ) -> Result<ListHashes, TrailError>
-    ensures hasher { trail.new.hasher ≡ trail.old.hasher }
     ensures hashes { IfOk result (λ hashes. hashes ≡ (let hash = H.digest_of trail.old.hasher in record { prevouts = spec.double hash places.now; sequences = spec.double hash counters.now; outputs = spec.double hash made.now })) }
-    ensures ok { OnOk result (HashedAlong H.digest_of trail.old trail.new (strings_of (H.digest_of trail.old.hasher) places.now counters.now made.now)) }
-    ensures err { IfErr result (StopsAlong H.digest_of trail.old trail.new (strings_of (H.digest_of trail.old.hasher) places.now counters.now made.now)) }
+    ensures trail { Hashes H.digest_of trail.old trail.new (strings_of (H.digest_of trail.old.hasher) places.now counters.now made.now) result }
 {
     let prevouts = trail.double(places)?;
     let sequences = trail.double(counters)?;
@@ -84,18 +75,16 @@ fn hash_lists<H: Hash32 + Drop>(
 }
 
 /// The double hashes of the three lists of a transaction. It hashes each list, followed at once by its hash.
-#[tactic(auto, using(crate::proofs::Doubles::stops_collided, crate::proofs::Doubles::stops_at_first))]
+#[tactic(auto, using(bm_hash::proofs::HashesLemmas::stopping))]
 pub fn shared<H: Hash32 + Drop>(
     alloc: Global,
     trail: &mut Trail<H>,
     tx: &Tx,
 ) -> Result<ListHashes, TrailError>
-    ensures hasher { trail.new.hasher ≡ trail.old.hasher }
     ensures hashes { IfOk result (λ hashes. hashes ≡ hashes_of (H.digest_of trail.old.hasher) tx.now) }
-    ensures ok { OnOk result (HashedAlong H.digest_of trail.old trail.new (spec.shared_strings (H.digest_of trail.old.hasher) tx.now)) }
-    ensures err { IfErr result (StopsAlong H.digest_of trail.old trail.new (spec.shared_strings (H.digest_of trail.old.hasher) tx.now)) }
+    ensures trail { Hashes H.digest_of trail.old trail.new (spec.shared_strings (H.digest_of trail.old.hasher) tx.now) result }
 {
-    if has_collided(trail) {
+    if trail.has_collided() {
         return Err(TrailError::Collided);
     }
     let places = places_bytes(alloc, tx)?;

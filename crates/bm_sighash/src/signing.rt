@@ -1,13 +1,13 @@
 //! The digest of an input.
 
-ghost use Rattle.std.specs.Prelude.{◌≡◌, ◌<◌, ◌++◌, IfOk, IfErr, OnOk, length};
-ghost use Rattle.bm_hash.specs.Trails.{HashedAlong, StopsAlong};
+ghost use Rattle.std.specs.Prelude.{◌≡◌, ◌<◌, ◌++◌, IfOk, length};
+ghost use Rattle.bm_hash.specs.Trails.{Hashes};
 ghost use Rattle.spec_bitcoin.specs.Digests as spec;
 ghost use Rattle.bm_sighash.specs.Shared.{hashes_of, preimage_with, strings_at};
 
-use crate::fields::{put_long_word, put_place, put_sized, put_word};
-use crate::list_hashes::{ListHashes, has_collided};
+use crate::list_hashes::ListHashes;
 use bm_hash::{Hash32, Trail, TrailError};
+use bm_tx::{put_long_word, put_place, put_sized, put_word};
 use spec_bitcoin::{Tx, TxIn};
 use spec_data::OutOfMemory;
 use std::alloc::Global;
@@ -40,7 +40,7 @@ fn preimage_bytes(
 
 /// The digest of an input of the transaction that spends an output with this script and value, in satoshi.
 /// It hashes what is signed, and its hash.
-#[tactic(auto, unfolding(spec_bitcoin::specs::Digests::preimage), using(crate::proofs::Doubles::stops_collided, crate::proofs::Doubles::stops_at_first))]
+#[tactic(auto, unfolding(spec_bitcoin::specs::Digests::preimage), using(bm_hash::proofs::HashesLemmas::stopping))]
 pub fn digest_of_input<H: Hash32 + Drop>(
     alloc: Global,
     trail: &mut Trail<H>,
@@ -51,12 +51,10 @@ pub fn digest_of_input<H: Hash32 + Drop>(
     value: u64,
 ) -> Result<[u8; 32], TrailError>
     requires shared { shared.now ≡ hashes_of (H.digest_of trail.old.hasher) tx.now }
-    ensures hasher { trail.new.hasher ≡ trail.old.hasher }
     ensures digest { IfOk result (λ d. d ≡ spec.digest (H.digest_of trail.old.hasher) tx.now input.now script.now value) }
-    ensures ok { OnOk result (HashedAlong H.digest_of trail.old trail.new (spec.digest_strings (H.digest_of trail.old.hasher) tx.now input.now script.now value)) }
-    ensures err { IfErr result (StopsAlong H.digest_of trail.old trail.new (spec.digest_strings (H.digest_of trail.old.hasher) tx.now input.now script.now value)) }
+    ensures trail { Hashes H.digest_of trail.old trail.new (spec.digest_strings (H.digest_of trail.old.hasher) tx.now input.now script.now value) result }
 {
-    if has_collided(trail) {
+    if trail.has_collided() {
         return Err(TrailError::Collided);
     }
     let bytes = preimage_bytes(alloc, tx, shared, input, script, value)?;
@@ -77,10 +75,8 @@ pub fn digest<H: Hash32 + Drop>(
 ) -> Result<[u8; 32], TrailError>
     requires input { input < length tx.now.inputs }
     requires shared { shared.now ≡ hashes_of (H.digest_of trail.old.hasher) tx.now }
-    ensures hasher { trail.new.hasher ≡ trail.old.hasher }
     ensures digest { IfOk result (λ d. d ≡ spec.digest_at (H.digest_of trail.old.hasher) tx.now input script.now value) }
-    ensures ok { OnOk result (HashedAlong H.digest_of trail.old trail.new (strings_at (H.digest_of trail.old.hasher) tx.now input script.now value)) }
-    ensures err { IfErr result (StopsAlong H.digest_of trail.old trail.new (strings_at (H.digest_of trail.old.hasher) tx.now input script.now value)) }
+    ensures trail { Hashes H.digest_of trail.old trail.new (strings_at (H.digest_of trail.old.hasher) tx.now input script.now value) result }
 {
     let signed = &tx.inputs.as_slice()[input];
     digest_of_input(alloc, trail, tx, shared, signed, script, value)

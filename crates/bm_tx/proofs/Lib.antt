@@ -1,3 +1,2 @@
 mod Loop
 mod Filled
-mod Collided

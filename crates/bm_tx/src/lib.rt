@@ -11,7 +11,9 @@ pub use fault::TxError;
 pub use identity::txid;
 pub use reading::decode;
 pub use spec_bitcoin::{OutPoint, Tx, TxIn, TxOut};
-pub use writing::{encode, encode_stripped};
+pub use writing::{
+    encode, encode_stripped, put_long_word, put_output, put_place, put_sized, put_word,
+};
 
 #[cfg(test)]
 mod tests;

@@ -8,13 +8,15 @@ use spec_bitcoin::{OutPoint, Tx, TxIn, TxOut};
 use spec_data::{Bytes, OutOfMemory};
 use std::alloc::Global;
 
-fn put_word(out: &mut Vec<u8>, number: u32) -> Result<(), OutOfMemory>
+/// Writes a number of 4 bytes, the lowest first.
+pub fn put_word(out: &mut Vec<u8>, number: u32) -> Result<(), OutOfMemory>
     ensures { OnOk result (out.new.items ≡ out.old.items ++ spec.word number) }
 {
     out.extend_from_slice(&number.to_le_bytes())
 }
 
-fn put_long_word(out: &mut Vec<u8>, number: u64) -> Result<(), OutOfMemory>
+/// Writes a number of 8 bytes, the lowest first.
+pub fn put_long_word(out: &mut Vec<u8>, number: u64) -> Result<(), OutOfMemory>
     ensures { OnOk result (out.new.items ≡ out.old.items ++ spec.long_word number) }
 {
     out.extend_from_slice(&number.to_le_bytes())
@@ -40,14 +42,16 @@ fn put_count(out: &mut Vec<u8>, count: u64) -> Result<(), OutOfMemory>
     Ok(())
 }
 
-fn put_sized(out: &mut Vec<u8>, bytes: &[u8]) -> Result<(), OutOfMemory>
+/// Writes a byte string after its length.
+pub fn put_sized(out: &mut Vec<u8>, bytes: &[u8]) -> Result<(), OutOfMemory>
     ensures { OnOk result (out.new.items ≡ out.old.items ++ spec.sized bytes.now) }
 {
     put_count(out, bytes.len() as u64)?;
     out.extend_from_slice(bytes)
 }
 
-fn put_place(out: &mut Vec<u8>, place: &OutPoint) -> Result<(), OutOfMemory>
+/// Writes the place of an output: its txid and its number.
+pub fn put_place(out: &mut Vec<u8>, place: &OutPoint) -> Result<(), OutOfMemory>
     ensures { OnOk result (out.new.items ≡ out.old.items ++ spec.place_bytes place.now) }
 {
     out.extend_from_slice(&place.txid)?;
@@ -62,7 +66,8 @@ fn put_input(out: &mut Vec<u8>, input: &TxIn) -> Result<(), OutOfMemory>
     put_word(out, input.sequence)
 }
 
-fn put_output(out: &mut Vec<u8>, output: &TxOut) -> Result<(), OutOfMemory>
+/// Writes an output: its value and its script.
+pub fn put_output(out: &mut Vec<u8>, output: &TxOut) -> Result<(), OutOfMemory>
     ensures { OnOk result (out.new.items ≡ out.old.items ++ spec.output_bytes output.now) }
 {
     put_long_word(out, output.value)?;

@@ -30,7 +30,7 @@ use Rattle.spec_terms.specs.declared.path.PathStep.TheVariants.{Branch as To}
 use Rattle.spec_bitcoin.specs.declared.tx.Tx.{Tx}
 use Rattle.spec_bitcoin.specs.Spelling.{spelling}
 use Rattle.spec_compiler.specs.Transactions.{tx_of}
-use Rattle.spec_compiler.specs.ByPath.{draft_at}
+use Rattle.spec_compiler.specs.ByPath.{unsigned_at}
 use Rattle.spec_run.specs.declared.event.Run.{Run}
 use Rattle.spec_run.specs.Setup.{Setup}
 use Rattle.spec_run.specs.World.{World, held_at}
@@ -52,7 +52,7 @@ shown tx = option_map_or (λ t. hex_text (spelling t)) tx []
 -- the transaction of a path, without its witnesses
 abbrev pub path_shown : List PathStep → Setup → World → List ℕ
 path_shown path s w =
-    shown (option_and_then (λ setting. option_map_or (λ d. Some (tx_of d)) (draft_at s.hash setting path) None) (compiled_at s w 0))
+    shown (option_and_then (λ setting. option_map_or (λ d. Some (tx_of d)) (unsigned_at s.hash setting path) None) (compiled_at s w 0))
 
 -- the transaction that takes branch 0 of output 2, with its witness
 abbrev pub taking_shown : Setup → World → List ℕ

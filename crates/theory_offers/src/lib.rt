@@ -2,10 +2,6 @@
 #![tactic(auto)]
 
 ghost use Rattle.spec_run.specs.Statements.{OffersTheorem, OffersThroughoutTheorem};
-//! What follows of the offers at the end of a run: each theorem is the contract of a function that does nothing.
-#![tactic(auto)]
-
-ghost use Rattle.spec_run.specs.Statements.{OffersTheorem};
 ghost use Rattle.theory_offers.specs.HaveEvents.{OffersHaveEvents};
 ghost use Rattle.theory_offers.specs.Begun.{EndorsedBeforeStart};
 
@@ -19,10 +15,14 @@ pub fn offers_theorem()
 /// what is offered there is what the run offers that ends there.
 pub fn offers_throughout_theorem()
     ensures { OffersThroughoutTheorem }
+{}
+
 /// The offers with their events are the offers of the calculus: every enabled contract step, each
 /// once, in their order.
 pub fn offers_have_events()
     ensures { OffersHaveEvents }
+{}
+
 /// A contract begins in a run only where all its endorsements are in the book, and they stay there.
 pub fn endorsed_before_start()
     ensures { EndorsedBeforeStart }

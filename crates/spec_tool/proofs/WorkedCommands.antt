@@ -34,27 +34,27 @@ size_just_right = refl
 -- ---- check
 
 pub split_is_accepted : check_answer (codes "{A:! 10 @ x} fee 1 split [5 -> withdraw A, 3 -> withdraw A]") ≡ prints 0 (line (codes "contract 0 accepted") (line (codes "{A:! 10 @ x} fee 1 split [5 -> withdraw A, 3 -> withdraw A]") []))
-unfolding word_front number_front symbol_front read_answer advert_of_all advert_at entries_at entry_at head_at deposit_at secret_at fee_at choice_with branches_at branch_at parts_at auth_at after_at put_at reveal_at split_at reveals_at puts_at put_reveals_at headed_at one_branch_at condition_at names_from test_at comparison_at formula_at constant_at length_at withdraw_at digits
+unfolding word_front number_front symbol_front read_answer advert_of_all advert_at entries_at entry_at head_at deposit_at secret_at fee_at choice_with branches_at branch_at parts_at auth_at after_at put_at reveal_at split_at reveals_at puts_at put_reveals_at headed_at one_branch_at condition_at names_from test_at comparison_at formula_at constant_at length_at withdraw_at digits is_name
 split_is_accepted = refl
 
 pub split_takes_too_much : check_answer (codes "{A:! 10 @ x} fee 1 split [5 -> withdraw A, 4 -> withdraw A]") ≡ prints 1 (line (codes "contract 0 refused fault 7 SplitSum r.0") [])
-unfolding word_front number_front symbol_front read_answer advert_of_all advert_at entries_at entry_at head_at deposit_at secret_at fee_at choice_with branches_at branch_at parts_at auth_at after_at put_at reveal_at split_at reveals_at puts_at put_reveals_at headed_at one_branch_at condition_at names_from test_at comparison_at formula_at constant_at length_at withdraw_at digits
+unfolding word_front number_front symbol_front read_answer advert_of_all advert_at entries_at entry_at head_at deposit_at secret_at fee_at choice_with branches_at branch_at parts_at auth_at after_at put_at reveal_at split_at reveals_at puts_at put_reveals_at headed_at one_branch_at condition_at names_from test_at comparison_at formula_at constant_at length_at withdraw_at digits is_name
 split_takes_too_much = refl
 
 pub fee_above_all : check_answer (codes "{A:! 10 @ x} fee 11 withdraw A") ≡ prints 1 (line (codes "contract 0 refused fault 8 FeeShort r") [])
-unfolding word_front number_front symbol_front read_answer advert_of_all advert_at entries_at entry_at head_at deposit_at secret_at fee_at choice_with branches_at branch_at parts_at auth_at after_at put_at reveal_at split_at reveals_at puts_at put_reveals_at headed_at one_branch_at condition_at names_from test_at comparison_at formula_at constant_at length_at withdraw_at digits
+unfolding word_front number_front symbol_front read_answer advert_of_all advert_at entries_at entry_at head_at deposit_at secret_at fee_at choice_with branches_at branch_at parts_at auth_at after_at put_at reveal_at split_at reveals_at puts_at put_reveals_at headed_at one_branch_at condition_at names_from test_at comparison_at formula_at constant_at length_at withdraw_at digits is_name
 fee_above_all = refl
 
 pub fee_above_the_balance : check_answer (codes "{A:! 10 @ x} fee 6 withdraw A") ≡ prints 1 (line (codes "contract 0 refused fault 8 FeeShort r.0") [])
-unfolding word_front number_front symbol_front read_answer advert_of_all advert_at entries_at entry_at head_at deposit_at secret_at fee_at choice_with branches_at branch_at parts_at auth_at after_at put_at reveal_at split_at reveals_at puts_at put_reveals_at headed_at one_branch_at condition_at names_from test_at comparison_at formula_at constant_at length_at withdraw_at digits
+unfolding word_front number_front symbol_front read_answer advert_of_all advert_at entries_at entry_at head_at deposit_at secret_at fee_at choice_with branches_at branch_at parts_at auth_at after_at put_at reveal_at split_at reveals_at puts_at put_reveals_at headed_at one_branch_at condition_at names_from test_at comparison_at formula_at constant_at length_at withdraw_at digits is_name
 fee_above_the_balance = refl
 
 pub name_repeated : check_answer (codes "{A:! 1 @ x | A: secret x} withdraw A") ≡ prints 1 (line (codes "contract 0 refused fault 1 NameRepeated pre 1") [])
-unfolding word_front number_front symbol_front read_answer advert_of_all advert_at entries_at entry_at head_at deposit_at secret_at fee_at choice_with branches_at branch_at parts_at auth_at after_at put_at reveal_at split_at reveals_at puts_at put_reveals_at headed_at one_branch_at condition_at names_from test_at comparison_at formula_at constant_at length_at withdraw_at digits
+unfolding word_front number_front symbol_front read_answer advert_of_all advert_at entries_at entry_at head_at deposit_at secret_at fee_at choice_with branches_at branch_at parts_at auth_at after_at put_at reveal_at split_at reveals_at puts_at put_reveals_at headed_at one_branch_at condition_at names_from test_at comparison_at formula_at constant_at length_at withdraw_at digits is_name
 name_repeated = refl
 
 pub no_deposit_of_a_participant : check_answer (codes "{A:! 1 @ x} withdraw B") ≡ prints 1 (line (codes "contract 0 refused fault 6 NoPersistent B") [])
-unfolding word_front number_front symbol_front read_answer advert_of_all advert_at entries_at entry_at head_at deposit_at secret_at fee_at choice_with branches_at branch_at parts_at auth_at after_at put_at reveal_at split_at reveals_at puts_at put_reveals_at headed_at one_branch_at condition_at names_from test_at comparison_at formula_at constant_at length_at withdraw_at digits
+unfolding word_front number_front symbol_front read_answer advert_of_all advert_at entries_at entry_at head_at deposit_at secret_at fee_at choice_with branches_at branch_at parts_at auth_at after_at put_at reveal_at split_at reveals_at puts_at put_reveals_at headed_at one_branch_at condition_at names_from test_at comparison_at formula_at constant_at length_at withdraw_at digits is_name
 no_deposit_of_a_participant = refl
 
 -- ---- play
@@ -76,7 +76,7 @@ unfolding play_text digits label_text stripped compact is_name
 labels_that_collide = refl
 
 pub contract_refused_behind_the_run : play_answer same (codes "--") (codes "{" ∷ []) ≡ prints 1 (line (codes "contract 0 refused syntax 1") [])
-unfolding word_front number_front symbol_front read_answer advert_of_all advert_at entries_at entry_at head_at deposit_at secret_at fee_at choice_with branches_at branch_at parts_at auth_at after_at put_at reveal_at split_at reveals_at puts_at put_reveals_at headed_at one_branch_at condition_at names_from test_at comparison_at formula_at constant_at length_at withdraw_at digits
+unfolding word_front number_front symbol_front read_answer advert_of_all advert_at entries_at entry_at head_at deposit_at secret_at fee_at choice_with branches_at branch_at parts_at auth_at after_at put_at reveal_at split_at reveals_at puts_at put_reveals_at headed_at one_branch_at condition_at names_from test_at comparison_at formula_at constant_at length_at withdraw_at digits is_name
 contract_refused_behind_the_run = refl
 
 pub run_refused_first : play_answer same (codes "-") (codes "{" ∷ []) ≡ prints 6 (line (codes "run refused line 1") [])

@@ -1,7 +1,7 @@
 -- What a compiled contract holds at its positions is their static balance: it pays for their branches, and is no more than all money.
 use Rattle.std.proofs.Common.{◌≡◌, ℕ, zero, suc, ◌+◌, ◌-◌, ◌≤◌, List, [], ◌∷◌, ◌++◌, Bool, true, false, not, Option, Some, None, refl, sym, ap, ◌∙◌, subst, arith}
 use Rattle.std.specs.Prelude.{◌&&◌, slice_get, option_map, option_and_then, pos, ◌-ℤ◌, int_lt, if◌then◌else◌}
-use Rattle.std.specs.List.{list_all}
+use Rattle.std.specs.List.{list_all, Contains}
 use Rattle.std.proofs.lemmas.Bool.{and_parts, and_from, not-true, not_from_false}
 use Rattle.std.proofs.lemmas.Int.{ints}
 use Rattle.spec_data.proofs.ListLemmas.{or_else-none}
@@ -23,7 +23,6 @@ use Rattle.spec_compiler.specs.Setting.{Setting, branch_path}
 use Rattle.spec_compiler.specs.Transactions.{Standing, continued_value, part_position, branch_unsigned, continued, part_standing, root_value, root_standing}
 use Rattle.spec_compiler.specs.ByPath as by_path
 use Rattle.spec_compiler.specs.ByPath.{Stand, branch_stand, continued_stand, part_stand, next_stand, stand_from, stand_at, as_position, position_at}
-use Rattle.theory_script.proofs.Covered.{all_split}
 use Rattle.theory_script.proofs.Faultless.{no_fault, no_limit}
 
 -- ---- the checks of balances, of all positions and branches
@@ -83,8 +82,24 @@ position_kept fee q m f c h =
 -- ---- what stands below
 
 module _ (hash : List ℕ → List ℕ) (s : Setting) where
+  -- a stand of the contract, where the check saw nothing wrong
+  abbrev Good : balance.Stand → Type 0
+  Good x = (is_kept s.advert.fee x ≡ true) × Contains (stands s.advert) x
+
   abbrev all_fine : List balance.Stand → Type 0
-  all_fine xs = list_all (is_kept s.advert.fee) xs ≡ true
+  all_fine [] = Unit {0}
+  all_fine (x ∷ xs) = Good x × all_fine xs
+
+  fine_split : (xs ys : List balance.Stand) → all_fine (xs ++ ys) → all_fine xs × all_fine ys
+  fine_split [] ys h = (tt, h)
+  fine_split (x ∷ xs) ys h = let p = fine_split xs ys h.1 in ((h.0, p.0), p.1)
+
+  all_good : (xs : List balance.Stand) → list_all (is_kept s.advert.fee) xs ≡ true
+      → ((x : balance.Stand) → Contains xs x → Contains (stands s.advert) x) → all_fine xs
+  all_good [] h f = tt
+  all_good (x ∷ xs) h f =
+      let p = and_parts (is_kept s.advert.fee x) (list_all (is_kept s.advert.fee) xs) h in
+      ((p.0, f x (zero, omega arith, refl)), all_good xs p.1 (λ y c. f y (suc c.0, omega (arith, c.1), c.2)))
 
   abbrev below_choice : List PathStep → ℕ → ℕ → Choice → List balance.Stand
   below_choice q v j c = branch_stands (volatile s.advert.pre) s.advert.fee q (pos v) j c
@@ -94,23 +109,32 @@ module _ (hash : List ℕ → List ℕ) (s : Setting) where
 
   -- what is kept at a branch and below it
   abbrev BranchFine : List PathStep → ℕ → term.Branch → Type 0
-  BranchFine p v b = (is_kept s.advert.fee (balance.stand p (pos v) (terms.at_branch b)) ≡ true) × all_fine (below_branch p v b)
+  BranchFine p v b = Good (balance.stand p (pos v) (terms.at_branch b)) × all_fine (below_branch p v b)
 
-  -- the value is no more than all money, and so below
+  -- a position's value is its static balance and no more than all money, and what is below is kept
+  abbrev PositionFine : List PathStep → ℕ → Choice → Type 0
+  PositionFine q v c = (v ≤ max_money) × Contains (stands s.advert) (balance.stand q (pos v) (terms.position c)) × all_fine (below_choice q v 0 c)
+
+  -- nothing is cut off where the position's stand is good
+  kept_position : (q : List PathStep) (m f : ℕ) (c : Choice) → Good (balance.stand q (pos m -ℤ pos f) (terms.position c))
+      → all_fine (branch_stands (volatile s.advert.pre) s.advert.fee q (pos m -ℤ pos f) 0 c) → PositionFine q (m - f) c × (f ≤ m)
+  kept_position q m f c g r =
+      let k = position_kept s.advert.fee q m f c g.0 in
+      let static = subst (λ z. Contains (stands s.advert) (balance.stand q z (terms.position c))) k.0 g.1 in
+      let below = subst (λ z. all_fine (branch_stands (volatile s.advert.pre) s.advert.fee q z 0 c)) k.0 r in
+      ((k.1, static, below), k.2)
+
+  -- what is kept where something stands
   abbrev pub Fine : Stand → Type 0
-  Fine (by_path.at_position here choice) = (here.output.value ≤ max_money) × all_fine (below_choice here.position here.output.value 0 choice)
+  Fine (by_path.at_position here choice) = PositionFine here.position here.output.value choice
   Fine (by_path.at_branch here i b) = (here.output.value ≤ max_money) × BranchFine (branch_path here.position i) here.output.value b
 
   -- the first branch, and those after it
   first_fine : (q : List PathStep) (v j : ℕ) (d : term.Branch) (c : Choice) → all_fine (below_choice q v j (branch d c))
       → BranchFine (branch_path q j) v d × all_fine (below_choice q v (j + 1) c)
   first_fine q v j d c k =
-      let fine = is_kept s.advert.fee in
-      let below = below_branch (branch_path q j) v d in
-      let others = below_choice q v (j + 1) c in
-      let r = and_parts (fine (balance.stand (q ++ To j ∷ []) (pos v) (terms.at_branch d))) (list_all fine (below ++ others)) k in
-      let t = all_split fine below others r.1 in
-      ((r.0, t.0), t.1)
+      let t = fine_split (below_branch (branch_path q j) v d) (below_choice q v (j + 1) c) k.1 in
+      ((k.0, t.0), t.1)
 
   choice_fine : (q : List PathStep) (v j i : ℕ) (c : Choice) (b : term.Branch) → slice_get (branches c) i ≡ Some b → all_fine (below_choice q v j c) → BranchFine (branch_path q (i + j)) v b
   choice_fine q v j i no_branch b h k = cc
@@ -138,40 +162,41 @@ module _ (hash : List ℕ → List ℕ) (s : Setting) where
       by_branch (Some b) e q =
           let z : by_path.at_branch here i b ≡ st = cc in
           let n : i + 0 ≡ i = omega arith in
-          subst Fine z (f.0, subst (λ m. BranchFine (branch_path here.position m) here.output.value b) n (choice_fine here.position here.output.value 0 i choice b e f.1))
+          subst Fine z (f.0, subst (λ m. BranchFine (branch_path here.position m) here.output.value b) n (choice_fine here.position here.output.value 0 i choice b e f.2))
 
   -- what a put goes on with
-  put_fine : (p : List PathStep) (v : ℕ) (puts reveals : List (List ℕ)) (test : term.Test) (next : Choice) → all_fine (below_branch p v (put_reveal puts reveals test next))
-      → (continued_value s v puts ≤ max_money) × all_fine (below_choice p (continued_value s v puts) 0 next) × (s.advert.fee ≤ v + value_of_puts (volatile s.advert.pre) puts)
-  put_fine p v puts reveals test next h =
-      let m = v + value_of_puts (volatile s.advert.pre) puts in
-      let b = after_put (volatile s.advert.pre) s.advert.fee (pos v) puts in
-      let r = and_parts (is_kept s.advert.fee (balance.stand p b (terms.position next))) (list_all (is_kept s.advert.fee) (branch_stands (volatile s.advert.pre) s.advert.fee p b 0 next)) h in
-      let k = position_kept s.advert.fee p m s.advert.fee next r.0 in
-      (k.1, subst (λ z. all_fine (branch_stands (volatile s.advert.pre) s.advert.fee p z 0 next)) k.0 r.1, k.2)
+  put_fine : (p : List PathStep) (v : ℕ) (puts reveals : List (List ℕ)) (test : term.Test) (next : Choice)
+      → all_fine (below_branch p v (put_reveal puts reveals test next))
+      → PositionFine p (continued_value s v puts) next × (s.advert.fee ≤ v + value_of_puts (volatile s.advert.pre) puts)
+  put_fine p v puts reveals test next h = kept_position p (v + value_of_puts (volatile s.advert.pre) puts) s.advert.fee next h.0 h.1
 
-  part_fine : (p : List PathStep) (j k : ℕ) (ps : Parts) (x : ℕ × Choice) → slice_get (parts_list ps) k ≡ Some x → all_fine (part_stands (volatile s.advert.pre) s.advert.fee p j ps) → (x.0 ≤ max_money) × all_fine (below_choice (part_position p (k + j)) x.0 0 x.1)
+  -- the first part, and those after it
+  first_part : (p : List PathStep) (j v : ℕ) (c : Choice) (ps : Parts)
+      → all_fine (part_stands (volatile s.advert.pre) s.advert.fee p j (part v c ps))
+      → PositionFine (part_position p j) v c × all_fine (part_stands (volatile s.advert.pre) s.advert.fee p (j + 1) ps)
+  first_part p j v c ps f =
+      let t = fine_split (below_choice (part_position p j) v 0 c) (part_stands (volatile s.advert.pre) s.advert.fee p (j + 1) ps) f.1 in
+      let m = and_parts (not (int_lt (pos v) (pos 0)) && true) (not (int_lt (pos max_money) (pos v))) f.0.0 in
+      ((within v (not-true _ m.1), f.0.1, t.0), t.1)
+
+  part_fine : (p : List PathStep) (j k : ℕ) (ps : Parts) (x : ℕ × Choice) → slice_get (parts_list ps) k ≡ Some x
+      → all_fine (part_stands (volatile s.advert.pre) s.advert.fee p j ps) → PositionFine (part_position p (k + j)) x.0 x.1
   part_fine p j k no_part x h f = cc
   part_fine p j zero (part v c ps) x h f =
       let e : (let q : ℕ × Choice = (v, c) in q) ≡ x = cc in
       let z : 0 + j ≡ j = omega arith in
-      let r = and_parts (is_kept s.advert.fee (balance.stand (p ++ Into j ∷ []) (pos v) (terms.position c))) (list_all (is_kept s.advert.fee) (below_choice (part_position p j) v 0 c ++ part_stands (volatile s.advert.pre) s.advert.fee p (j + 1) ps)) f in
-      let t = all_split (is_kept s.advert.fee) (below_choice (part_position p j) v 0 c) (part_stands (volatile s.advert.pre) s.advert.fee p (j + 1) ps) r.1 in
-      let m = and_parts (not (int_lt (pos v) (pos 0)) && true) (not (int_lt (pos max_money) (pos v))) r.0 in
-      subst (λ (y : ℕ × Choice). (y.0 ≤ max_money) × all_fine (below_choice (part_position p (0 + j)) y.0 0 y.1)) e
-      (within v (not-true _ m.1), subst (λ n. all_fine (below_choice (part_position p n) v 0 c)) (sym z) t.0)
+      subst (λ (y : ℕ × Choice). PositionFine (part_position p (0 + j)) y.0 y.1) e
+      (subst (λ n. PositionFine (part_position p n) v c) (sym z) (first_part p j v c ps f).0)
   part_fine p j (suc k) (part v c ps) x h f =
       let z : k + (j + 1) ≡ suc k + j = omega arith in
-      let r = and_parts (is_kept s.advert.fee (balance.stand (p ++ Into j ∷ []) (pos v) (terms.position c))) (list_all (is_kept s.advert.fee) (below_choice (part_position p j) v 0 c ++ part_stands (volatile s.advert.pre) s.advert.fee p (j + 1) ps)) f in
-      let t = all_split (is_kept s.advert.fee) (below_choice (part_position p j) v 0 c) (part_stands (volatile s.advert.pre) s.advert.fee p (j + 1) ps) r.1 in
-      subst (λ n. (x.0 ≤ max_money) × all_fine (below_choice (part_position p n) x.0 0 x.1)) z (part_fine p (j + 1) k ps x h t.1)
+      subst (λ n. PositionFine (part_position p n) x.0 x.1) z (part_fine p (j + 1) k ps x h (first_part p j v c ps f).1)
 
   continued_fine : (here : Standing) (i : ℕ) (b c : term.Branch) (p : Standing × Choice) → core b ≡ c → Fine (by_path.at_branch here i b) → continued_stand hash s here i b c ≡ Some p → Fine (by_path.at_position p.0 p.1)
   continued_fine here i b (put_reveal puts reveals test next) p e f h =
       let z : (let q : Standing × Choice = (continued hash s (branch_path here.position i) (branch_unsigned hash s here i b) (continued_value s here.output.value puts) next, next) in q) ≡ p = cc in
       let c : below_branch (branch_path here.position i) here.output.value b ≡ below_branch (branch_path here.position i) here.output.value (put_reveal puts reveals test next) = below_core (branch_path here.position i) here.output.value b ∙ ap (below_branch (branch_path here.position i) here.output.value) e in
       let r = put_fine (branch_path here.position i) here.output.value puts reveals test next (subst all_fine c f.1.1) in
-      subst (λ (q : Standing × Choice). Fine (by_path.at_position q.0 q.1)) z (r.0, r.1)
+      subst (λ (q : Standing × Choice). Fine (by_path.at_position q.0 q.1)) z r.0
   continued_fine here i b (withdraw party) p e f h = cc
   continued_fine here i b (split parts) p e f h = cc
   continued_fine here i b (auth party body) p e f h = cc
@@ -185,7 +210,7 @@ module _ (hash : List ℕ → List ℕ) (s : Setting) where
       let p = branch_path here.position i in
       let v = here.output.value in
       let c : below_branch p v b ≡ below_branch p v (put_reveal puts reveals test next) = below_core p v b ∙ ap (below_branch p v) e in
-      (put_fine p v puts reveals test next (subst all_fine c f.1.1)).2
+      (put_fine p v puts reveals test next (subst all_fine c f.1.1)).1
 
   split_fine : (here : Standing) (i k : ℕ) (b c : term.Branch) (st : Stand) → core b ≡ c → Fine (by_path.at_branch here i b) → part_stand hash s here i b k c ≡ Some st → Fine st
   split_fine here i k b (put_reveal puts reveals test next) st e f h = cc
@@ -199,7 +224,7 @@ module _ (hash : List ℕ → List ℕ) (s : Setting) where
           let n : k + 0 ≡ k = omega arith in
           let c : below_branch (branch_path here.position i) here.output.value b ≡ below_branch (branch_path here.position i) here.output.value (split ps) = below_core (branch_path here.position i) here.output.value b ∙ ap (below_branch (branch_path here.position i) here.output.value) e in
           let r = part_fine (branch_path here.position i) 0 k ps x g (subst all_fine c f.1.1) in
-          subst Fine z (r.0, subst (λ m. all_fine (below_choice (part_position (branch_path here.position i) m) x.0 0 x.1)) n r.1)
+          subst Fine z (subst (λ m. PositionFine (part_position (branch_path here.position i) m) x.0 x.1) n r)
   split_fine here i k b (auth party body) st e f h = cc
   split_fine here i k b (after height body) st e f h = cc
 
@@ -223,19 +248,18 @@ module _ (hash : List ℕ → List ℕ) (s : Setting) where
       by_next (Some next) e q go = go next e q
 
   module _ (well : IsWellFormed s.advert) where
-    root_parts : (is_kept s.advert.fee (balance.stand [] (root_balance s.advert) (terms.position s.advert.root)) ≡ true)
-        × (list_all (is_kept s.advert.fee) (branch_stands (volatile s.advert.pre) s.advert.fee [] (root_balance s.advert) 0 s.advert.root) ≡ true)
-    root_parts = and_parts _ _ (stands_kept s.advert well)
+    all_stands : all_fine (stands s.advert)
+    all_stands = all_good (stands s.advert) (stands_kept s.advert well) (λ x c. c)
 
-    root_kept : (root_balance s.advert ≡ pos (root_value s)) × (root_value s ≤ max_money) × (s.advert.fee ≤ total_of (persistent s.advert.pre))
-    root_kept = position_kept s.advert.fee [] (total_of (persistent s.advert.pre)) s.advert.fee s.advert.root root_parts.0
+    root_kept : PositionFine [] (root_value s) s.advert.root × (s.advert.fee ≤ total_of (persistent s.advert.pre))
+    root_kept = kept_position [] (total_of (persistent s.advert.pre)) s.advert.fee s.advert.root all_stands.0 all_stands.1
 
     root_fine : Fine (by_path.at_position (root_standing hash s) s.advert.root)
-    root_fine = (root_kept.1, subst (λ z. all_fine (branch_stands (volatile s.advert.pre) s.advert.fee [] z 0 s.advert.root)) root_kept.0 root_parts.1)
+    root_fine = root_kept.0
 
     -- the persistent deposits pay the fee
     pub root_enough : s.advert.fee ≤ total_of (persistent s.advert.pre)
-    root_enough = root_kept.2
+    root_enough = root_kept.1
 
     pub root_little : root_value s ≤ max_money
     root_little = root_fine.0
@@ -258,3 +282,8 @@ module _ (hash : List ℕ → List ℕ) (s : Setting) where
     -- no position holds more than all money
     pub position_little : (q : List PathStep) (here : Standing) (choice : Choice) → position_at hash s q ≡ Some (here, choice) → here.output.value ≤ max_money
     position_little q here choice h = (position_fine q here choice h).0
+
+    -- each holds its static balance
+    pub position_static : (q : List PathStep) (here : Standing) (choice : Choice) → position_at hash s q ≡ Some (here, choice)
+        → Contains (stands s.advert) (balance.stand here.position (pos here.output.value) (terms.position choice))
+    position_static q here choice h = (position_fine q here choice h).1

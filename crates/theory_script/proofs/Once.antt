@@ -68,10 +68,9 @@ mutual
   below_parts d step p k no_part h = tt
   below_parts d step p k (part v c ps) h =
       let here = longer p (Into k ∷ []) d step h in
-      let q = p ++ Into k ∷ [] in (
-        here,
-        all-append (Has d step) (branches_from q 0 c) (parts_from p (k + 1) ps) (below_choice d step q 0 c here) (below_parts d step p (k + 1) ps h),
-      )
+      let q = p ++ Into k ∷ [] in
+      let first = below_choice d step q 0 c here in
+      (here, all-append (Has d step) (branches_from q 0 c) (parts_from p (k + 1) ps) first (below_parts d step p (k + 1) ps h))
 
 -- the path's step at this depth is of this kind and has at least this number
 record Later (kind : ℕ → PathStep) (d i : ℕ) (r : List PathStep) : Type 0 where
@@ -104,8 +103,8 @@ later_parts p k (part v c ps) =
     let here = at_end p (Into k) in
     let q = p ++ Into k ∷ [] in
     let d = length p in
-    let first =
-    all_then (Has d (Into k)) (Later Into d k) (branches_from q 0 c) (later_of Into d k k (omega arith)) (below_choice d (Into k) q 0 c here) in
+    let below = below_choice d (Into k) q 0 c here in
+    let first = all_then (Has d (Into k)) (Later Into d k) (branches_from q 0 c) (later_of Into d k k (omega arith)) below in
     let rest =
     all_then (Later Into d (k + 1)) (Later Into d k) (parts_from p (k + 1) ps) (later_than Into d (k + 1) k (omega arith))
     (later_parts p (k + 1) ps) in

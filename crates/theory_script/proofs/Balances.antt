@@ -1,5 +1,6 @@
 -- What a compiled contract holds at its positions is their static balance: it pays for their branches, and is no more than all money.
-use Rattle.std.proofs.Common.{◌≡◌, ℕ, zero, suc, ◌+◌, ◌-◌, ◌≤◌, List, [], ◌∷◌, ◌++◌, Bool, true, false, not, Option, Some, None, refl, sym, ap, ◌∙◌, subst, arith}
+use Rattle.std.proofs.Common.{◌≡◌, ℕ, zero, suc, ◌+◌, ◌-◌, ◌≤◌, List, [], ◌∷◌, ◌++◌, Bool, true, false, not, Option, Some, None, refl, sym}
+use Rattle.std.proofs.Common.{subst, arith}
 use Rattle.std.specs.Prelude.{◌&&◌, slice_get, option_map, option_and_then, pos, ◌-ℤ◌, int_lt, if◌then◌else◌}
 use Rattle.std.specs.List.{list_all, Contains}
 use Rattle.std.proofs.lemmas.Bool.{and_parts, and_from, not-true, not_from_false}
@@ -7,7 +8,8 @@ use Rattle.std.proofs.lemmas.Int.{ints}
 use Rattle.spec_data.proofs.ListLemmas.{or_else-none}
 use Rattle.spec_terms.specs.Advert.{Advert}
 use Rattle.spec_terms.specs.Term as term
-use Rattle.spec_terms.specs.Term.{Choice, no_branch, branch, branches, Parts, no_part, part, parts_list, auth, after, put_reveal, withdraw, split}
+use Rattle.spec_terms.specs.Term.{Choice, no_branch, branch, branches, Parts, no_part, part, parts_list, auth, after, put_reveal, withdraw}
+use Rattle.spec_terms.specs.Term.{split}
 use Rattle.spec_terms.specs.Core.{core}
 use Rattle.spec_terms.specs.Precondition.{persistent, volatile, total_of, value_of_puts}
 use Rattle.spec_terms.specs.Paths.{Spot}
@@ -20,9 +22,11 @@ use Rattle.spec_terms.specs.declared.place.Place.{Place}
 use Rattle.spec_terms.specs.declared.path.PathStep.{PathStep}
 use Rattle.spec_terms.specs.declared.path.PathStep.TheVariants.{Branch as To, Part as Into}
 use Rattle.spec_compiler.specs.Setting.{Setting, branch_path}
-use Rattle.spec_compiler.specs.Transactions.{Standing, continued_value, part_position, branch_unsigned, continued, part_standing, root_value, root_standing}
+use Rattle.spec_compiler.specs.Transactions.{Standing, continued_value, part_position, branch_unsigned, continued, part_standing}
+use Rattle.spec_compiler.specs.Transactions.{root_value, root_standing}
 use Rattle.spec_compiler.specs.ByPath as by_path
-use Rattle.spec_compiler.specs.ByPath.{Stand, branch_stand, continued_stand, part_stand, next_stand, stand_from, stand_at, as_position, position_at}
+use Rattle.spec_compiler.specs.ByPath.{Stand, branch_stand, continued_stand, part_stand, next_stand, stand_from, stand_at, as_position}
+use Rattle.spec_compiler.specs.ByPath.{position_at}
 use Rattle.theory_script.proofs.Faultless.{no_fault, no_limit}
 
 -- ---- the checks of balances, of all positions and branches
@@ -71,7 +75,8 @@ within : (v : ℕ) → int_lt (pos max_money) (pos v) ≡ false → v ≤ max_mo
 within v h = grind (arith, ints, h)
 
 -- what is kept at a position
-position_kept : (fee : ℕ) (q : List PathStep) (m f : ℕ) (c : Choice) → is_kept fee (balance.stand q (pos m -ℤ pos f) (terms.position c)) ≡ true
+position_kept : (fee : ℕ) (q : List PathStep) (m f : ℕ) (c : Choice)
+    → is_kept fee (balance.stand q (pos m -ℤ pos f) (terms.position c)) ≡ true
     → (pos m -ℤ pos f ≡ pos (m - f)) × (m - f ≤ max_money) × (f ≤ m)
 position_kept fee q m f c h =
     let p = and_parts (not (int_lt (pos m -ℤ pos f) (pos 0)) && true) (not (int_lt (pos max_money) (pos m -ℤ pos f))) h in
@@ -136,7 +141,8 @@ module _ (hash : List ℕ → List ℕ) (s : Setting) where
       let t = fine_split (below_branch (branch_path q j) v d) (below_choice q v (j + 1) c) k.1 in
       ((k.0, t.0), t.1)
 
-  choice_fine : (q : List PathStep) (v j i : ℕ) (c : Choice) (b : term.Branch) → slice_get (branches c) i ≡ Some b → all_fine (below_choice q v j c) → BranchFine (branch_path q (i + j)) v b
+  choice_fine : (q : List PathStep) (v j i : ℕ) (c : Choice) (b : term.Branch) → slice_get (branches c) i ≡ Some b
+      → all_fine (below_choice q v j c) → BranchFine (branch_path q (i + j)) v b
   choice_fine q v j i no_branch b h k = cc
   choice_fine q v j zero (branch d c) b h k =
       let e : d ≡ b = cc in
@@ -154,7 +160,11 @@ module _ (hash : List ℕ → List ℕ) (s : Setting) where
   below_core p v (withdraw party) = refl
   below_core p v (split parts) = refl
 
-  pub branch_fine : (here : Standing) (choice : Choice) (i : ℕ) (st : Stand) → Fine (by_path.at_position here choice) → branch_stand here choice i ≡ Some st → Fine st
+  core_fine : (p : List PathStep) (v : ℕ) (b c : term.Branch) → core b ≡ c → all_fine (below_branch p v b) → all_fine (below_branch p v c)
+  core_fine p v b c e f = subst (λ x. all_fine (below_branch p v x)) e (subst all_fine (below_core p v b) f)
+
+  pub branch_fine : (here : Standing) (choice : Choice) (i : ℕ) (st : Stand) → Fine (by_path.at_position here choice)
+      → branch_stand here choice i ≡ Some st → Fine st
   branch_fine here choice i st f h = by_branch (slice_get (branches choice) i) refl h
     where
       by_branch : (o : Option term.Branch) → slice_get (branches choice) i ≡ o → option_map (by_path.at_branch here i) o ≡ Some st → Fine st
@@ -191,11 +201,12 @@ module _ (hash : List ℕ → List ℕ) (s : Setting) where
       let z : k + (j + 1) ≡ suc k + j = omega arith in
       subst (λ n. PositionFine (part_position p n) x.0 x.1) z (part_fine p (j + 1) k ps x h (first_part p j v c ps f).1)
 
-  continued_fine : (here : Standing) (i : ℕ) (b c : term.Branch) (p : Standing × Choice) → core b ≡ c → Fine (by_path.at_branch here i b) → continued_stand hash s here i b c ≡ Some p → Fine (by_path.at_position p.0 p.1)
+  continued_fine : (here : Standing) (i : ℕ) (b c : term.Branch) (p : Standing × Choice) → core b ≡ c → Fine (by_path.at_branch here i b)
+      → continued_stand hash s here i b c ≡ Some p → Fine (by_path.at_position p.0 p.1)
   continued_fine here i b (put_reveal puts reveals test next) p e f h =
       let z : (let q : Standing × Choice = (continued hash s (branch_path here.position i) (branch_unsigned hash s here i b) (continued_value s here.output.value puts) next, next) in q) ≡ p = cc in
-      let c : below_branch (branch_path here.position i) here.output.value b ≡ below_branch (branch_path here.position i) here.output.value (put_reveal puts reveals test next) = below_core (branch_path here.position i) here.output.value b ∙ ap (below_branch (branch_path here.position i) here.output.value) e in
-      let r = put_fine (branch_path here.position i) here.output.value puts reveals test next (subst all_fine c f.1.1) in
+      let path = branch_path here.position i in
+      let r = put_fine path here.output.value puts reveals test next (core_fine path here.output.value b _ e f.1.1) in
       subst (λ (q : Standing × Choice). Fine (by_path.at_position q.0 q.1)) z r.0
   continued_fine here i b (withdraw party) p e f h = cc
   continued_fine here i b (split parts) p e f h = cc
@@ -207,24 +218,24 @@ module _ (hash : List ℕ → List ℕ) (s : Setting) where
       → core b ≡ put_reveal puts reveals test next → Fine (by_path.at_branch here i b)
       → s.advert.fee ≤ here.output.value + value_of_puts (volatile s.advert.pre) puts
   put_enough here i b puts reveals test next e f =
-      let p = branch_path here.position i in
-      let v = here.output.value in
-      let c : below_branch p v b ≡ below_branch p v (put_reveal puts reveals test next) = below_core p v b ∙ ap (below_branch p v) e in
-      (put_fine p v puts reveals test next (subst all_fine c f.1.1)).1
+      let path = branch_path here.position i in
+      (put_fine path here.output.value puts reveals test next (core_fine path here.output.value b _ e f.1.1)).1
 
-  split_fine : (here : Standing) (i k : ℕ) (b c : term.Branch) (st : Stand) → core b ≡ c → Fine (by_path.at_branch here i b) → part_stand hash s here i b k c ≡ Some st → Fine st
+  split_fine : (here : Standing) (i k : ℕ) (b c : term.Branch) (st : Stand) → core b ≡ c → Fine (by_path.at_branch here i b)
+      → part_stand hash s here i b k c ≡ Some st → Fine st
   split_fine here i k b (put_reveal puts reveals test next) st e f h = cc
   split_fine here i k b (withdraw party) st e f h = cc
   split_fine here i k b (split ps) st e f h = by_part (slice_get (parts_list ps) k) refl h
     where
-      by_part : (o : Option (ℕ × Choice)) → slice_get (parts_list ps) k ≡ o → option_map (λ (p : ℕ × Choice). by_path.at_position (part_standing hash s (branch_path here.position i) (branch_unsigned hash s here i b) k p.0 p.1) p.1) o ≡ Some st → Fine st
+      by_part : (o : Option (ℕ × Choice)) → slice_get (parts_list ps) k ≡ o
+          → option_map (λ (p : ℕ × Choice). by_path.at_position (part_standing hash s (branch_path here.position i) (branch_unsigned hash s here i b) k p.0 p.1) p.1) o ≡ Some st → Fine st
       by_part None g q = cc
       by_part (Some x) g q =
           let z : by_path.at_position (part_standing hash s (branch_path here.position i) (branch_unsigned hash s here i b) k x.0 x.1) x.1 ≡ st = cc in
           let n : k + 0 ≡ k = omega arith in
-          let c : below_branch (branch_path here.position i) here.output.value b ≡ below_branch (branch_path here.position i) here.output.value (split ps) = below_core (branch_path here.position i) here.output.value b ∙ ap (below_branch (branch_path here.position i) here.output.value) e in
-          let r = part_fine (branch_path here.position i) 0 k ps x g (subst all_fine c f.1.1) in
-          subst Fine z (subst (λ m. PositionFine (part_position (branch_path here.position i) m) x.0 x.1) n r)
+          let path = branch_path here.position i in
+          let r = part_fine path 0 k ps x g (core_fine path here.output.value b _ e f.1.1) in
+          subst Fine z (subst (λ m. PositionFine (part_position path m) x.0 x.1) n r)
   split_fine here i k b (auth party body) st e f h = cc
   split_fine here i k b (after height body) st e f h = cc
 
@@ -233,7 +244,8 @@ module _ (hash : List ℕ → List ℕ) (s : Setting) where
   next_fine (Into k) (by_path.at_position here choice) next f h = cc
   next_fine (To j) (by_path.at_branch here i b) next f h = by_continued (continued_stand hash s here i b (core b)) refl h
     where
-      by_continued : (o : Option (Standing × Choice)) → continued_stand hash s here i b (core b) ≡ o → option_and_then (λ (p : Standing × Choice). branch_stand p.0 p.1 j) o ≡ Some next → Fine next
+      by_continued : (o : Option (Standing × Choice)) → continued_stand hash s here i b (core b) ≡ o
+          → option_and_then (λ (p : Standing × Choice). branch_stand p.0 p.1 j) o ≡ Some next → Fine next
       by_continued None e q = cc
       by_continued (Some p) e q = branch_fine p.0 p.1 j next (continued_fine here i b (core b) p refl f e) q
   next_fine (Into k) (by_path.at_branch here i b) next f h = split_fine here i k b (core b) next refl f h
@@ -242,7 +254,8 @@ module _ (hash : List ℕ → List ℕ) (s : Setting) where
   from_fine [] st end f h = let e : st ≡ end = cc in subst Fine e f
   from_fine (step ∷ path) st end f h = by_next (next_stand hash s step st) refl h (λ next e q. from_fine path next end (next_fine step st next f e) q)
     where
-      by_next : (o : Option Stand) → next_stand hash s step st ≡ o → option_and_then (λ (next : Stand). stand_from hash s next path) o ≡ Some end
+      by_next : (o : Option Stand) → next_stand hash s step st ≡ o
+          → option_and_then (λ (next : Stand). stand_from hash s next path) o ≡ Some end
           → ((next : Stand) → next_stand hash s step st ≡ Some next → stand_from hash s next path ≡ Some end → Fine end) → Fine end
       by_next None e q go = cc
       by_next (Some next) e q go = go next e q
@@ -268,19 +281,22 @@ module _ (hash : List ℕ → List ℕ) (s : Setting) where
     stand_fine path end h = from_fine path (by_path.at_position (root_standing hash s) s.advert.root) end root_fine h
 
     -- the same of a position with its branches
-    pub position_fine : (q : List PathStep) (here : Standing) (choice : Choice) → position_at hash s q ≡ Some (here, choice) → Fine (by_path.at_position here choice)
+    pub position_fine : (q : List PathStep) (here : Standing) (choice : Choice) → position_at hash s q ≡ Some (here, choice)
+        → Fine (by_path.at_position here choice)
     position_fine q here choice h = by_stand (stand_at hash s q) refl h
       where
         by_end : (st : Stand) → Fine st → as_position hash s st ≡ Some (here, choice) → Fine (by_path.at_position here choice)
         by_end (by_path.at_position a c) f e = let z : (let p : Standing × Choice = (a, c) in p) ≡ (here, choice) = cc in subst (λ (p : Standing × Choice). Fine (by_path.at_position p.0 p.1)) z f
         by_end (by_path.at_branch a i b) f e = continued_fine a i b (core b) (here, choice) refl f e
 
-        by_stand : (o : Option Stand) → stand_at hash s q ≡ o → option_and_then (as_position hash s) o ≡ Some (here, choice) → Fine (by_path.at_position here choice)
+        by_stand : (o : Option Stand) → stand_at hash s q ≡ o → option_and_then (as_position hash s) o ≡ Some (here, choice)
+            → Fine (by_path.at_position here choice)
         by_stand None e k = cc
         by_stand (Some st) e k = by_end st (stand_fine q st e) k
 
     -- no position holds more than all money
-    pub position_little : (q : List PathStep) (here : Standing) (choice : Choice) → position_at hash s q ≡ Some (here, choice) → here.output.value ≤ max_money
+    pub position_little : (q : List PathStep) (here : Standing) (choice : Choice) → position_at hash s q ≡ Some (here, choice)
+        → here.output.value ≤ max_money
     position_little q here choice h = (position_fine q here choice h).0
 
     -- each holds its static balance

@@ -1,13 +1,15 @@
 -- What a compiled contract holds at its positions is their static balance: it pays for their branches, and is no more than all money.
-use Rattle.std.proofs.Common.{◌≡◌, ℕ, zero, suc, ◌+◌, ◌-◌, ◌≤◌, List, [], ◌∷◌, ◌++◌, Bool, true, false, not, Option, Some, None, refl, sym, ap, ◌∙◌, subst, arith}
+use Rattle.std.proofs.Common.{◌≡◌, ℕ, zero, suc, ◌+◌, ◌-◌, ◌≤◌, List, [], ◌∷◌, ◌++◌, Bool, true, false, not, Option, Some, None, refl, sym}
+use Rattle.std.proofs.Common.{subst, arith}
 use Rattle.std.specs.Prelude.{◌&&◌, slice_get, option_map, option_and_then, pos, ◌-ℤ◌, int_lt, if◌then◌else◌}
-use Rattle.std.specs.List.{list_all}
+use Rattle.std.specs.List.{list_all, Contains}
 use Rattle.std.proofs.lemmas.Bool.{and_parts, and_from, not-true, not_from_false}
 use Rattle.std.proofs.lemmas.Int.{ints}
 use Rattle.spec_data.proofs.ListLemmas.{or_else-none}
 use Rattle.spec_terms.specs.Advert.{Advert}
 use Rattle.spec_terms.specs.Term as term
-use Rattle.spec_terms.specs.Term.{Choice, no_branch, branch, branches, Parts, no_part, part, parts_list, auth, after, put_reveal, withdraw, split}
+use Rattle.spec_terms.specs.Term.{Choice, no_branch, branch, branches, Parts, no_part, part, parts_list, auth, after, put_reveal, withdraw}
+use Rattle.spec_terms.specs.Term.{split}
 use Rattle.spec_terms.specs.Core.{core}
 use Rattle.spec_terms.specs.Precondition.{persistent, volatile, total_of, value_of_puts}
 use Rattle.spec_terms.specs.Paths.{Spot}
@@ -20,10 +22,11 @@ use Rattle.spec_terms.specs.declared.place.Place.{Place}
 use Rattle.spec_terms.specs.declared.path.PathStep.{PathStep}
 use Rattle.spec_terms.specs.declared.path.PathStep.TheVariants.{Branch as To, Part as Into}
 use Rattle.spec_compiler.specs.Setting.{Setting, branch_path}
-use Rattle.spec_compiler.specs.Transactions.{Standing, continued_value, part_position, branch_unsigned, continued, part_standing, root_value, root_standing}
+use Rattle.spec_compiler.specs.Transactions.{Standing, continued_value, part_position, branch_unsigned, continued, part_standing}
+use Rattle.spec_compiler.specs.Transactions.{root_value, root_standing}
 use Rattle.spec_compiler.specs.ByPath as by_path
-use Rattle.spec_compiler.specs.ByPath.{Stand, branch_stand, continued_stand, part_stand, next_stand, stand_from, stand_at, as_position, position_at}
-use Rattle.theory_script.proofs.Covered.{all_split}
+use Rattle.spec_compiler.specs.ByPath.{Stand, branch_stand, continued_stand, part_stand, next_stand, stand_from, stand_at, as_position}
+use Rattle.spec_compiler.specs.ByPath.{position_at}
 use Rattle.theory_script.proofs.Faultless.{no_fault, no_limit}
 
 -- ---- the checks of balances, of all positions and branches
@@ -72,7 +75,8 @@ within : (v : ℕ) → int_lt (pos max_money) (pos v) ≡ false → v ≤ max_mo
 within v h = grind (arith, ints, h)
 
 -- what is kept at a position
-position_kept : (fee : ℕ) (q : List PathStep) (m f : ℕ) (c : Choice) → is_kept fee (balance.stand q (pos m -ℤ pos f) (terms.position c)) ≡ true
+position_kept : (fee : ℕ) (q : List PathStep) (m f : ℕ) (c : Choice)
+    → is_kept fee (balance.stand q (pos m -ℤ pos f) (terms.position c)) ≡ true
     → (pos m -ℤ pos f ≡ pos (m - f)) × (m - f ≤ max_money) × (f ≤ m)
 position_kept fee q m f c h =
     let p = and_parts (not (int_lt (pos m -ℤ pos f) (pos 0)) && true) (not (int_lt (pos max_money) (pos m -ℤ pos f))) h in
@@ -83,8 +87,24 @@ position_kept fee q m f c h =
 -- ---- what stands below
 
 module _ (hash : List ℕ → List ℕ) (s : Setting) where
+  -- a stand of the contract, where the check saw nothing wrong
+  abbrev Good : balance.Stand → Type 0
+  Good x = (is_kept s.advert.fee x ≡ true) × Contains (stands s.advert) x
+
   abbrev all_fine : List balance.Stand → Type 0
-  all_fine xs = list_all (is_kept s.advert.fee) xs ≡ true
+  all_fine [] = Unit {0}
+  all_fine (x ∷ xs) = Good x × all_fine xs
+
+  fine_split : (xs ys : List balance.Stand) → all_fine (xs ++ ys) → all_fine xs × all_fine ys
+  fine_split [] ys h = (tt, h)
+  fine_split (x ∷ xs) ys h = let p = fine_split xs ys h.1 in ((h.0, p.0), p.1)
+
+  all_good : (xs : List balance.Stand) → list_all (is_kept s.advert.fee) xs ≡ true
+      → ((x : balance.Stand) → Contains xs x → Contains (stands s.advert) x) → all_fine xs
+  all_good [] h f = tt
+  all_good (x ∷ xs) h f =
+      let p = and_parts (is_kept s.advert.fee x) (list_all (is_kept s.advert.fee) xs) h in
+      ((p.0, f x (zero, omega arith, refl)), all_good xs p.1 (λ y c. f y (suc c.0, omega (arith, c.1), c.2)))
 
   abbrev below_choice : List PathStep → ℕ → ℕ → Choice → List balance.Stand
   below_choice q v j c = branch_stands (volatile s.advert.pre) s.advert.fee q (pos v) j c
@@ -94,25 +114,35 @@ module _ (hash : List ℕ → List ℕ) (s : Setting) where
 
   -- what is kept at a branch and below it
   abbrev BranchFine : List PathStep → ℕ → term.Branch → Type 0
-  BranchFine p v b = (is_kept s.advert.fee (balance.stand p (pos v) (terms.at_branch b)) ≡ true) × all_fine (below_branch p v b)
+  BranchFine p v b = Good (balance.stand p (pos v) (terms.at_branch b)) × all_fine (below_branch p v b)
 
-  -- the value is no more than all money, and so below
+  -- a position's value is its static balance and no more than all money, and what is below is kept
+  abbrev PositionFine : List PathStep → ℕ → Choice → Type 0
+  PositionFine q v c = (v ≤ max_money) × Contains (stands s.advert) (balance.stand q (pos v) (terms.position c)) × all_fine (below_choice q v 0 c)
+
+  -- nothing is cut off where the position's stand is good
+  kept_position : (q : List PathStep) (m f : ℕ) (c : Choice) → Good (balance.stand q (pos m -ℤ pos f) (terms.position c))
+      → all_fine (branch_stands (volatile s.advert.pre) s.advert.fee q (pos m -ℤ pos f) 0 c) → PositionFine q (m - f) c × (f ≤ m)
+  kept_position q m f c g r =
+      let k = position_kept s.advert.fee q m f c g.0 in
+      let static = subst (λ z. Contains (stands s.advert) (balance.stand q z (terms.position c))) k.0 g.1 in
+      let below = subst (λ z. all_fine (branch_stands (volatile s.advert.pre) s.advert.fee q z 0 c)) k.0 r in
+      ((k.1, static, below), k.2)
+
+  -- what is kept where something stands
   abbrev pub Fine : Stand → Type 0
-  Fine (by_path.at_position here choice) = (here.output.value ≤ max_money) × all_fine (below_choice here.position here.output.value 0 choice)
+  Fine (by_path.at_position here choice) = PositionFine here.position here.output.value choice
   Fine (by_path.at_branch here i b) = (here.output.value ≤ max_money) × BranchFine (branch_path here.position i) here.output.value b
 
   -- the first branch, and those after it
   first_fine : (q : List PathStep) (v j : ℕ) (d : term.Branch) (c : Choice) → all_fine (below_choice q v j (branch d c))
       → BranchFine (branch_path q j) v d × all_fine (below_choice q v (j + 1) c)
   first_fine q v j d c k =
-      let fine = is_kept s.advert.fee in
-      let below = below_branch (branch_path q j) v d in
-      let others = below_choice q v (j + 1) c in
-      let r = and_parts (fine (balance.stand (q ++ To j ∷ []) (pos v) (terms.at_branch d))) (list_all fine (below ++ others)) k in
-      let t = all_split fine below others r.1 in
-      ((r.0, t.0), t.1)
+      let t = fine_split (below_branch (branch_path q j) v d) (below_choice q v (j + 1) c) k.1 in
+      ((k.0, t.0), t.1)
 
-  choice_fine : (q : List PathStep) (v j i : ℕ) (c : Choice) (b : term.Branch) → slice_get (branches c) i ≡ Some b → all_fine (below_choice q v j c) → BranchFine (branch_path q (i + j)) v b
+  choice_fine : (q : List PathStep) (v j i : ℕ) (c : Choice) (b : term.Branch) → slice_get (branches c) i ≡ Some b
+      → all_fine (below_choice q v j c) → BranchFine (branch_path q (i + j)) v b
   choice_fine q v j i no_branch b h k = cc
   choice_fine q v j zero (branch d c) b h k =
       let e : d ≡ b = cc in
@@ -130,7 +160,11 @@ module _ (hash : List ℕ → List ℕ) (s : Setting) where
   below_core p v (withdraw party) = refl
   below_core p v (split parts) = refl
 
-  pub branch_fine : (here : Standing) (choice : Choice) (i : ℕ) (st : Stand) → Fine (by_path.at_position here choice) → branch_stand here choice i ≡ Some st → Fine st
+  core_fine : (p : List PathStep) (v : ℕ) (b c : term.Branch) → core b ≡ c → all_fine (below_branch p v b) → all_fine (below_branch p v c)
+  core_fine p v b c e f = subst (λ x. all_fine (below_branch p v x)) e (subst all_fine (below_core p v b) f)
+
+  pub branch_fine : (here : Standing) (choice : Choice) (i : ℕ) (st : Stand) → Fine (by_path.at_position here choice)
+      → branch_stand here choice i ≡ Some st → Fine st
   branch_fine here choice i st f h = by_branch (slice_get (branches choice) i) refl h
     where
       by_branch : (o : Option term.Branch) → slice_get (branches choice) i ≡ o → option_map (by_path.at_branch here i) o ≡ Some st → Fine st
@@ -138,40 +172,42 @@ module _ (hash : List ℕ → List ℕ) (s : Setting) where
       by_branch (Some b) e q =
           let z : by_path.at_branch here i b ≡ st = cc in
           let n : i + 0 ≡ i = omega arith in
-          subst Fine z (f.0, subst (λ m. BranchFine (branch_path here.position m) here.output.value b) n (choice_fine here.position here.output.value 0 i choice b e f.1))
+          subst Fine z (f.0, subst (λ m. BranchFine (branch_path here.position m) here.output.value b) n (choice_fine here.position here.output.value 0 i choice b e f.2))
 
   -- what a put goes on with
-  put_fine : (p : List PathStep) (v : ℕ) (puts reveals : List (List ℕ)) (test : term.Test) (next : Choice) → all_fine (below_branch p v (put_reveal puts reveals test next))
-      → (continued_value s v puts ≤ max_money) × all_fine (below_choice p (continued_value s v puts) 0 next) × (s.advert.fee ≤ v + value_of_puts (volatile s.advert.pre) puts)
-  put_fine p v puts reveals test next h =
-      let m = v + value_of_puts (volatile s.advert.pre) puts in
-      let b = after_put (volatile s.advert.pre) s.advert.fee (pos v) puts in
-      let r = and_parts (is_kept s.advert.fee (balance.stand p b (terms.position next))) (list_all (is_kept s.advert.fee) (branch_stands (volatile s.advert.pre) s.advert.fee p b 0 next)) h in
-      let k = position_kept s.advert.fee p m s.advert.fee next r.0 in
-      (k.1, subst (λ z. all_fine (branch_stands (volatile s.advert.pre) s.advert.fee p z 0 next)) k.0 r.1, k.2)
+  put_fine : (p : List PathStep) (v : ℕ) (puts reveals : List (List ℕ)) (test : term.Test) (next : Choice)
+      → all_fine (below_branch p v (put_reveal puts reveals test next))
+      → PositionFine p (continued_value s v puts) next × (s.advert.fee ≤ v + value_of_puts (volatile s.advert.pre) puts)
+  put_fine p v puts reveals test next h = kept_position p (v + value_of_puts (volatile s.advert.pre) puts) s.advert.fee next h.0 h.1
 
-  part_fine : (p : List PathStep) (j k : ℕ) (ps : Parts) (x : ℕ × Choice) → slice_get (parts_list ps) k ≡ Some x → all_fine (part_stands (volatile s.advert.pre) s.advert.fee p j ps) → (x.0 ≤ max_money) × all_fine (below_choice (part_position p (k + j)) x.0 0 x.1)
+  -- the first part, and those after it
+  first_part : (p : List PathStep) (j v : ℕ) (c : Choice) (ps : Parts)
+      → all_fine (part_stands (volatile s.advert.pre) s.advert.fee p j (part v c ps))
+      → PositionFine (part_position p j) v c × all_fine (part_stands (volatile s.advert.pre) s.advert.fee p (j + 1) ps)
+  first_part p j v c ps f =
+      let t = fine_split (below_choice (part_position p j) v 0 c) (part_stands (volatile s.advert.pre) s.advert.fee p (j + 1) ps) f.1 in
+      let m = and_parts (not (int_lt (pos v) (pos 0)) && true) (not (int_lt (pos max_money) (pos v))) f.0.0 in
+      ((within v (not-true _ m.1), f.0.1, t.0), t.1)
+
+  part_fine : (p : List PathStep) (j k : ℕ) (ps : Parts) (x : ℕ × Choice) → slice_get (parts_list ps) k ≡ Some x
+      → all_fine (part_stands (volatile s.advert.pre) s.advert.fee p j ps) → PositionFine (part_position p (k + j)) x.0 x.1
   part_fine p j k no_part x h f = cc
   part_fine p j zero (part v c ps) x h f =
       let e : (let q : ℕ × Choice = (v, c) in q) ≡ x = cc in
       let z : 0 + j ≡ j = omega arith in
-      let r = and_parts (is_kept s.advert.fee (balance.stand (p ++ Into j ∷ []) (pos v) (terms.position c))) (list_all (is_kept s.advert.fee) (below_choice (part_position p j) v 0 c ++ part_stands (volatile s.advert.pre) s.advert.fee p (j + 1) ps)) f in
-      let t = all_split (is_kept s.advert.fee) (below_choice (part_position p j) v 0 c) (part_stands (volatile s.advert.pre) s.advert.fee p (j + 1) ps) r.1 in
-      let m = and_parts (not (int_lt (pos v) (pos 0)) && true) (not (int_lt (pos max_money) (pos v))) r.0 in
-      subst (λ (y : ℕ × Choice). (y.0 ≤ max_money) × all_fine (below_choice (part_position p (0 + j)) y.0 0 y.1)) e
-      (within v (not-true _ m.1), subst (λ n. all_fine (below_choice (part_position p n) v 0 c)) (sym z) t.0)
+      subst (λ (y : ℕ × Choice). PositionFine (part_position p (0 + j)) y.0 y.1) e
+      (subst (λ n. PositionFine (part_position p n) v c) (sym z) (first_part p j v c ps f).0)
   part_fine p j (suc k) (part v c ps) x h f =
       let z : k + (j + 1) ≡ suc k + j = omega arith in
-      let r = and_parts (is_kept s.advert.fee (balance.stand (p ++ Into j ∷ []) (pos v) (terms.position c))) (list_all (is_kept s.advert.fee) (below_choice (part_position p j) v 0 c ++ part_stands (volatile s.advert.pre) s.advert.fee p (j + 1) ps)) f in
-      let t = all_split (is_kept s.advert.fee) (below_choice (part_position p j) v 0 c) (part_stands (volatile s.advert.pre) s.advert.fee p (j + 1) ps) r.1 in
-      subst (λ n. (x.0 ≤ max_money) × all_fine (below_choice (part_position p n) x.0 0 x.1)) z (part_fine p (j + 1) k ps x h t.1)
+      subst (λ n. PositionFine (part_position p n) x.0 x.1) z (part_fine p (j + 1) k ps x h (first_part p j v c ps f).1)
 
-  continued_fine : (here : Standing) (i : ℕ) (b c : term.Branch) (p : Standing × Choice) → core b ≡ c → Fine (by_path.at_branch here i b) → continued_stand hash s here i b c ≡ Some p → Fine (by_path.at_position p.0 p.1)
+  continued_fine : (here : Standing) (i : ℕ) (b c : term.Branch) (p : Standing × Choice) → core b ≡ c → Fine (by_path.at_branch here i b)
+      → continued_stand hash s here i b c ≡ Some p → Fine (by_path.at_position p.0 p.1)
   continued_fine here i b (put_reveal puts reveals test next) p e f h =
       let z : (let q : Standing × Choice = (continued hash s (branch_path here.position i) (branch_unsigned hash s here i b) (continued_value s here.output.value puts) next, next) in q) ≡ p = cc in
-      let c : below_branch (branch_path here.position i) here.output.value b ≡ below_branch (branch_path here.position i) here.output.value (put_reveal puts reveals test next) = below_core (branch_path here.position i) here.output.value b ∙ ap (below_branch (branch_path here.position i) here.output.value) e in
-      let r = put_fine (branch_path here.position i) here.output.value puts reveals test next (subst all_fine c f.1.1) in
-      subst (λ (q : Standing × Choice). Fine (by_path.at_position q.0 q.1)) z (r.0, r.1)
+      let path = branch_path here.position i in
+      let r = put_fine path here.output.value puts reveals test next (core_fine path here.output.value b _ e f.1.1) in
+      subst (λ (q : Standing × Choice). Fine (by_path.at_position q.0 q.1)) z r.0
   continued_fine here i b (withdraw party) p e f h = cc
   continued_fine here i b (split parts) p e f h = cc
   continued_fine here i b (auth party body) p e f h = cc
@@ -182,24 +218,24 @@ module _ (hash : List ℕ → List ℕ) (s : Setting) where
       → core b ≡ put_reveal puts reveals test next → Fine (by_path.at_branch here i b)
       → s.advert.fee ≤ here.output.value + value_of_puts (volatile s.advert.pre) puts
   put_enough here i b puts reveals test next e f =
-      let p = branch_path here.position i in
-      let v = here.output.value in
-      let c : below_branch p v b ≡ below_branch p v (put_reveal puts reveals test next) = below_core p v b ∙ ap (below_branch p v) e in
-      (put_fine p v puts reveals test next (subst all_fine c f.1.1)).2
+      let path = branch_path here.position i in
+      (put_fine path here.output.value puts reveals test next (core_fine path here.output.value b _ e f.1.1)).1
 
-  split_fine : (here : Standing) (i k : ℕ) (b c : term.Branch) (st : Stand) → core b ≡ c → Fine (by_path.at_branch here i b) → part_stand hash s here i b k c ≡ Some st → Fine st
+  split_fine : (here : Standing) (i k : ℕ) (b c : term.Branch) (st : Stand) → core b ≡ c → Fine (by_path.at_branch here i b)
+      → part_stand hash s here i b k c ≡ Some st → Fine st
   split_fine here i k b (put_reveal puts reveals test next) st e f h = cc
   split_fine here i k b (withdraw party) st e f h = cc
   split_fine here i k b (split ps) st e f h = by_part (slice_get (parts_list ps) k) refl h
     where
-      by_part : (o : Option (ℕ × Choice)) → slice_get (parts_list ps) k ≡ o → option_map (λ (p : ℕ × Choice). by_path.at_position (part_standing hash s (branch_path here.position i) (branch_unsigned hash s here i b) k p.0 p.1) p.1) o ≡ Some st → Fine st
+      by_part : (o : Option (ℕ × Choice)) → slice_get (parts_list ps) k ≡ o
+          → option_map (λ (p : ℕ × Choice). by_path.at_position (part_standing hash s (branch_path here.position i) (branch_unsigned hash s here i b) k p.0 p.1) p.1) o ≡ Some st → Fine st
       by_part None g q = cc
       by_part (Some x) g q =
           let z : by_path.at_position (part_standing hash s (branch_path here.position i) (branch_unsigned hash s here i b) k x.0 x.1) x.1 ≡ st = cc in
           let n : k + 0 ≡ k = omega arith in
-          let c : below_branch (branch_path here.position i) here.output.value b ≡ below_branch (branch_path here.position i) here.output.value (split ps) = below_core (branch_path here.position i) here.output.value b ∙ ap (below_branch (branch_path here.position i) here.output.value) e in
-          let r = part_fine (branch_path here.position i) 0 k ps x g (subst all_fine c f.1.1) in
-          subst Fine z (r.0, subst (λ m. all_fine (below_choice (part_position (branch_path here.position i) m) x.0 0 x.1)) n r.1)
+          let path = branch_path here.position i in
+          let r = part_fine path 0 k ps x g (core_fine path here.output.value b _ e f.1.1) in
+          subst Fine z (subst (λ m. PositionFine (part_position path m) x.0 x.1) n r)
   split_fine here i k b (auth party body) st e f h = cc
   split_fine here i k b (after height body) st e f h = cc
 
@@ -208,7 +244,8 @@ module _ (hash : List ℕ → List ℕ) (s : Setting) where
   next_fine (Into k) (by_path.at_position here choice) next f h = cc
   next_fine (To j) (by_path.at_branch here i b) next f h = by_continued (continued_stand hash s here i b (core b)) refl h
     where
-      by_continued : (o : Option (Standing × Choice)) → continued_stand hash s here i b (core b) ≡ o → option_and_then (λ (p : Standing × Choice). branch_stand p.0 p.1 j) o ≡ Some next → Fine next
+      by_continued : (o : Option (Standing × Choice)) → continued_stand hash s here i b (core b) ≡ o
+          → option_and_then (λ (p : Standing × Choice). branch_stand p.0 p.1 j) o ≡ Some next → Fine next
       by_continued None e q = cc
       by_continued (Some p) e q = branch_fine p.0 p.1 j next (continued_fine here i b (core b) p refl f e) q
   next_fine (Into k) (by_path.at_branch here i b) next f h = split_fine here i k b (core b) next refl f h
@@ -217,25 +254,25 @@ module _ (hash : List ℕ → List ℕ) (s : Setting) where
   from_fine [] st end f h = let e : st ≡ end = cc in subst Fine e f
   from_fine (step ∷ path) st end f h = by_next (next_stand hash s step st) refl h (λ next e q. from_fine path next end (next_fine step st next f e) q)
     where
-      by_next : (o : Option Stand) → next_stand hash s step st ≡ o → option_and_then (λ (next : Stand). stand_from hash s next path) o ≡ Some end
+      by_next : (o : Option Stand) → next_stand hash s step st ≡ o
+          → option_and_then (λ (next : Stand). stand_from hash s next path) o ≡ Some end
           → ((next : Stand) → next_stand hash s step st ≡ Some next → stand_from hash s next path ≡ Some end → Fine end) → Fine end
       by_next None e q go = cc
       by_next (Some next) e q go = go next e q
 
   module _ (well : IsWellFormed s.advert) where
-    root_parts : (is_kept s.advert.fee (balance.stand [] (root_balance s.advert) (terms.position s.advert.root)) ≡ true)
-        × (list_all (is_kept s.advert.fee) (branch_stands (volatile s.advert.pre) s.advert.fee [] (root_balance s.advert) 0 s.advert.root) ≡ true)
-    root_parts = and_parts _ _ (stands_kept s.advert well)
+    all_stands : all_fine (stands s.advert)
+    all_stands = all_good (stands s.advert) (stands_kept s.advert well) (λ x c. c)
 
-    root_kept : (root_balance s.advert ≡ pos (root_value s)) × (root_value s ≤ max_money) × (s.advert.fee ≤ total_of (persistent s.advert.pre))
-    root_kept = position_kept s.advert.fee [] (total_of (persistent s.advert.pre)) s.advert.fee s.advert.root root_parts.0
+    root_kept : PositionFine [] (root_value s) s.advert.root × (s.advert.fee ≤ total_of (persistent s.advert.pre))
+    root_kept = kept_position [] (total_of (persistent s.advert.pre)) s.advert.fee s.advert.root all_stands.0 all_stands.1
 
     root_fine : Fine (by_path.at_position (root_standing hash s) s.advert.root)
-    root_fine = (root_kept.1, subst (λ z. all_fine (branch_stands (volatile s.advert.pre) s.advert.fee [] z 0 s.advert.root)) root_kept.0 root_parts.1)
+    root_fine = root_kept.0
 
     -- the persistent deposits pay the fee
     pub root_enough : s.advert.fee ≤ total_of (persistent s.advert.pre)
-    root_enough = root_kept.2
+    root_enough = root_kept.1
 
     pub root_little : root_value s ≤ max_money
     root_little = root_fine.0
@@ -244,17 +281,25 @@ module _ (hash : List ℕ → List ℕ) (s : Setting) where
     stand_fine path end h = from_fine path (by_path.at_position (root_standing hash s) s.advert.root) end root_fine h
 
     -- the same of a position with its branches
-    pub position_fine : (q : List PathStep) (here : Standing) (choice : Choice) → position_at hash s q ≡ Some (here, choice) → Fine (by_path.at_position here choice)
+    pub position_fine : (q : List PathStep) (here : Standing) (choice : Choice) → position_at hash s q ≡ Some (here, choice)
+        → Fine (by_path.at_position here choice)
     position_fine q here choice h = by_stand (stand_at hash s q) refl h
       where
         by_end : (st : Stand) → Fine st → as_position hash s st ≡ Some (here, choice) → Fine (by_path.at_position here choice)
         by_end (by_path.at_position a c) f e = let z : (let p : Standing × Choice = (a, c) in p) ≡ (here, choice) = cc in subst (λ (p : Standing × Choice). Fine (by_path.at_position p.0 p.1)) z f
         by_end (by_path.at_branch a i b) f e = continued_fine a i b (core b) (here, choice) refl f e
 
-        by_stand : (o : Option Stand) → stand_at hash s q ≡ o → option_and_then (as_position hash s) o ≡ Some (here, choice) → Fine (by_path.at_position here choice)
+        by_stand : (o : Option Stand) → stand_at hash s q ≡ o → option_and_then (as_position hash s) o ≡ Some (here, choice)
+            → Fine (by_path.at_position here choice)
         by_stand None e k = cc
         by_stand (Some st) e k = by_end st (stand_fine q st e) k
 
     -- no position holds more than all money
-    pub position_little : (q : List PathStep) (here : Standing) (choice : Choice) → position_at hash s q ≡ Some (here, choice) → here.output.value ≤ max_money
+    pub position_little : (q : List PathStep) (here : Standing) (choice : Choice) → position_at hash s q ≡ Some (here, choice)
+        → here.output.value ≤ max_money
     position_little q here choice h = (position_fine q here choice h).0
+
+    -- each holds its static balance
+    pub position_static : (q : List PathStep) (here : Standing) (choice : Choice) → position_at hash s q ≡ Some (here, choice)
+        → Contains (stands s.advert) (balance.stand here.position (pos here.output.value) (terms.position choice))
+    position_static q here choice h = (position_fine q here choice h).1

@@ -8,7 +8,7 @@ use Rattle.spec_terms.specs.Bound.{lengths_of_formula, lengths_of_test}
 use Rattle.spec_terms.specs.Faults.{are_among}
 use Rattle.theory_script.proofs.Demanded.{covers, covers_test}
 
-pub all_split : {X : Type 0} (f : X → Bool) (xs ys : List X) → list_all f (xs ++ ys) ≡ true → (list_all f xs ≡ true) × (list_all f ys ≡ true)
+all_split : {X : Type 0} (f : X → Bool) (xs ys : List X) → list_all f (xs ++ ys) ≡ true → (list_all f xs ≡ true) × (list_all f ys ≡ true)
 all_split f [] ys h = (refl, h)
 all_split f (x ∷ xs) ys h =
     let p = and_parts (f x) (list_all f (xs ++ ys)) h in

@@ -1,6 +1,9 @@
 -- A contract's transactions pay out all that they spend but the fee.
 use Rattle.std.proofs.Common.{◌≡◌, ℕ, ◌+◌, ◌≤◌, List, [], ◌∷◌, map, Bool, true, not, Option, Some, None, refl, ap, ◌∙◌, subst, arith}
 use Rattle.std.specs.Prelude.{◌&&◌, slice_get, option_map, option_and_then, pos, int_lt, sum_by}
+use Rattle.std.specs.List.{Contains}
+use Rattle.spec_terms.specs.Balance as balance
+use Rattle.spec_terms.specs.Balance.{stands}
 use Rattle.std.specs.Ordering.{int_eq}
 use Rattle.std.proofs.lemmas.Bool.{and_parts, not-true}
 use Rattle.std.proofs.lemmas.Int.{ints}
@@ -22,7 +25,8 @@ use Rattle.spec_compiler.specs.Transactions.{core_unsigned, branch_unsigned, ini
 use Rattle.spec_compiler.specs.ByPath as by_path
 use Rattle.spec_compiler.specs.ByPath.{Stand, branch_stand, stand_at, as_position, position_at, as_unsigned, unsigned_at}
 use Rattle.theory_script.specs.Money.{IsKept, Pays}
-use Rattle.theory_script.proofs.Balances.{Fine, root_enough, stand_fine, put_enough, position_fine, branch_fine}
+use Rattle.theory_script.proofs.Balances.{Fine, root_enough, stand_fine, put_enough, position_fine, position_static, branch_fine}
+use Rattle.theory_script.proofs.Stands.{position_stands}
 
 -- ---- sums
 
@@ -85,7 +89,7 @@ module _ (hash : List ℕ → List ℕ) (s : Setting) where
       → (not (is_withdraw (core w) && int_lt (pos here.output.value) (pos s.advert.fee)) ≡ true)
       × (not (is_uneven s.advert.fee (pos here.output.value) (core w)) ≡ true)
   seen here i w f =
-      and_parts (not (is_short s.advert.fee (pos here.output.value) (terms.at_branch w))) _ (and_parts _ true f.1.0).0
+      and_parts (not (is_short s.advert.fee (pos here.output.value) (terms.at_branch w))) _ (and_parts _ true f.1.0.0).0
 
   core_pays : (here : Standing) (i : ℕ) (w b : term.Branch) → core w ≡ core b → Fine hash s (by_path.at_branch here i w)
       → Pays s.advert here.output.value (core b)
@@ -126,3 +130,9 @@ module _ (hash : List ℕ → List ℕ) (s : Setting) where
         let st : branch_stand here choice i ≡ Some (by_path.at_branch here i b) = ap (option_map (by_path.at_branch here i)) k in
         core_pays here i b b refl
         (branch_fine hash s here choice i (by_path.at_branch here i b) (position_fine hash s well position here choice h) st)
+
+    pub positions_static : (position : List PathStep) (here : Standing) (choice : Choice) → position_at hash s position ≡ Some (here, choice)
+        → Contains (stands s.advert) (balance.stand position (pos here.output.value) (terms.position choice))
+    positions_static position here choice h =
+        subst (λ q. Contains (stands s.advert) (balance.stand q (pos here.output.value) (terms.position choice)))
+        (position_stands hash s position here choice h).path (position_static hash s well position here choice h)

@@ -1,9 +1,8 @@
 -- Each path of a contract's branches stands once in the order of the text, and so does each of its positions.
-use Rattle.std.proofs.Common.{◌≡◌, ℕ, zero, suc, ◌+◌, ◌≤◌, List, [], ◌∷◌, ◌++◌, length, Bool, true, false, Option, Some, None, refl, sym}
+use Rattle.std.proofs.Common.{◌≡◌, ℕ, zero, suc, ◌+◌, ◌≤◌, List, [], ◌∷◌, ◌++◌, length, Bool, true, false, Some, None, refl, sym}
 use Rattle.std.proofs.Common.{ap, ◌∙◌, subst, arith}
 use Rattle.std.specs.Prelude.{slice_get, if◌then◌else◌, ◌||◌, not}
 use Rattle.std.proofs.lemmas.Bool.{and_parts, and_from, not-true, not_from_false}
-use Rattle.std.specs.List.{list_any}
 use Rattle.spec_terms.specs.Term.{Branch, auth, after, put_reveal, withdraw, split, Choice, no_branch, branch, Parts, no_part, part}
 use Rattle.spec_terms.specs.Paths.{Spot, position, at_branch, path_eq}
 use Rattle.spec_terms.specs.PathSameness.{path_eq-Decides}
@@ -52,10 +51,9 @@ mutual
   below_choice d step q i no_branch h = tt
   below_choice d step q i (branch b bs) h =
       let here = longer q (To i ∷ []) d step h in
-      let p = q ++ To i ∷ [] in (
-        here,
-        all-append (Has d step) (under p b) (branches_from q (i + 1) bs) (below_branch d step p b here) (below_choice d step q (i + 1) bs h),
-      )
+      let p = q ++ To i ∷ [] in
+      let first = below_branch d step p b here in
+      (here, all-append (Has d step) (under p b) (branches_from q (i + 1) bs) first (below_choice d step q (i + 1) bs h))
 
   below_branch : (d : ℕ) (step : PathStep) (p : List PathStep) (b : Branch) → Has d step p → All (Has d step) (under p b)
   below_branch d step p (auth party body) h = below_branch d step p body h
@@ -68,10 +66,9 @@ mutual
   below_parts d step p k no_part h = tt
   below_parts d step p k (part v c ps) h =
       let here = longer p (Into k ∷ []) d step h in
-      let q = p ++ Into k ∷ [] in (
-        here,
-        all-append (Has d step) (branches_from q 0 c) (parts_from p (k + 1) ps) (below_choice d step q 0 c here) (below_parts d step p (k + 1) ps h),
-      )
+      let q = p ++ Into k ∷ [] in
+      let first = below_choice d step q 0 c here in
+      (here, all-append (Has d step) (branches_from q 0 c) (parts_from p (k + 1) ps) first (below_parts d step p (k + 1) ps h))
 
 -- the path's step at this depth is of this kind and has at least this number
 record Later (kind : ℕ → PathStep) (d i : ℕ) (r : List PathStep) : Type 0 where
@@ -104,8 +101,8 @@ later_parts p k (part v c ps) =
     let here = at_end p (Into k) in
     let q = p ++ Into k ∷ [] in
     let d = length p in
-    let first =
-    all_then (Has d (Into k)) (Later Into d k) (branches_from q 0 c) (later_of Into d k k (omega arith)) (below_choice d (Into k) q 0 c here) in
+    let below = below_choice d (Into k) q 0 c here in
+    let first = all_then (Has d (Into k)) (Later Into d k) (branches_from q 0 c) (later_of Into d k k (omega arith)) below in
     let rest =
     all_then (Later Into d (k + 1)) (Later Into d k) (parts_from p (k + 1) ps) (later_than Into d (k + 1) k (omega arith))
     (later_parts p (k + 1) ps) in

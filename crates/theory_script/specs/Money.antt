@@ -1,5 +1,8 @@
 -- What is claimed of the money in a contract's transactions: each pays out all that it spends but the fee, and nothing is cut off at zero.
-use Rattle.std.specs.Prelude.{◌≡◌, ℕ, ◌+◌, ◌≤◌, List, Some, slice_get, sum_by}
+use Rattle.std.specs.Prelude.{◌≡◌, ℕ, ◌+◌, ◌≤◌, List, Some, slice_get, sum_by, pos}
+use Rattle.std.specs.List.{Contains}
+use Rattle.spec_terms.specs.Paths as spots
+use Rattle.spec_terms.specs.Balance.{stand, stands}
 use Rattle.spec_terms.specs.Term.{Branch, auth, after, put_reveal, withdraw, split, Choice, branches}
 use Rattle.spec_terms.specs.Advert.{Advert}
 use Rattle.spec_terms.specs.Core.{core}
@@ -31,10 +34,12 @@ Pays advert balance (split parts) = sum_of_parts parts + advert.fee ≡ balance
 Pays advert balance (auth party body) = Unit {0}
 Pays advert balance (after height body) = Unit {0}
 
--- every transaction of the contract keeps its money, and every position pays for each of its branches
+-- every transaction of the contract keeps its money; every position holds exactly its static balance, and pays for each of its branches
 pub record KeepsMoney (hash : List ℕ → List ℕ) (s : Setting) : Type 0 where
   pub initial : IsKept s.advert (initial_unsigned hash s)
   pub paths : (path : List PathStep) (d : Unsigned) → unsigned_at hash s path ≡ Some d → IsKept s.advert d
+  pub static : (position : List PathStep) (here : Standing) (choice : Choice) → position_at hash s position ≡ Some (here, choice)
+      → Contains (stands s.advert) (stand position (pos here.output.value) (spots.position choice))
   pub positions : (position : List PathStep) (here : Standing) (choice : Choice) (i : ℕ) (b : Branch)
       → position_at hash s position ≡ Some (here, choice) → slice_get (branches choice) i ≡ Some b
       → Pays s.advert here.output.value (core b)

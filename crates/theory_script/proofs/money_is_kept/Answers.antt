@@ -5,5 +5,6 @@ pub returns : goal.returns
 returns c = λ hash s well. record {
   initial = proofs.initial_kept hash s well;
   paths = proofs.paths_kept hash s well;
+  static = proofs.positions_static hash s well;
   positions = proofs.positions_pay hash s well;
 }

@@ -1,4 +1,5 @@
--- What is claimed of commands whose files are there: they answer to the texts of these, and well-formed files without a halt give the status 0; of this project's profile.
+-- What is claimed of commands whose files are there: they answer to the texts of these, and well-formed files without a halt give the
+-- status 0; of this project's profile.
 use Rattle.std.specs.Prelude.{◌≡◌, ℕ, List, [], ◌∷◌, length, Option, Some, None, Ok}
 use Rattle.spec_data.specs.Digits.{onto}
 use Rattle.spec_data.specs.Lists.{look_up}
@@ -10,7 +11,8 @@ use Rattle.spec_text.specs.Played.{ending}
 use Rattle.spec_text.specs.Refusals.{contract_of, run_of}
 use Rattle.spec_tool.specs.declared.which.Which.{Which}
 use Rattle.spec_tool.specs.Reads.{reads_in}
-use Rattle.spec_tool.specs.Commands.{Command, check, play, plan, psbt_of, weigh, audit, auto, files_of, Printed, check_answer, play_answer, plan_answer, contracts_from, both_judged, setup_of, ending_status}
+use Rattle.spec_tool.specs.Commands.{Command, check, play, plan, psbt_of, weigh, audit, auto, files_of, Printed, check_answer}
+use Rattle.spec_tool.specs.Commands.{play_answer, plan_answer, contracts_from, both_judged, setup_of, ending_status}
 use Rattle.spec_tool.specs.PsbtText.{psbt_text}
 use Rattle.spec_tool.specs.WeighText.{weigh_text}
 use Rattle.spec_tool.specs.Answers.{answer, if_whole, printed_of}
@@ -56,7 +58,8 @@ pub record CompletenessTheorem : Type 0 where
   pub check_ends : (hash : List ℕ → List ℕ) (there : Files) (contract text : List ℕ) (advert : Advert)
       → look_up contract there ≡ Some text → contract_of text ≡ Ok advert
       → (answer_there hash there (check contract)).status ≡ 0
-  pub play_ends : (hash : List ℕ → List ℕ) (there : Files) (run run_text : List ℕ) (contracts texts : List (List ℕ)) (r : Run) (adverts : List Advert)
+  pub play_ends : (hash : List ℕ → List ℕ) (there : Files) (run run_text : List ℕ) (contracts texts : List (List ℕ)) (r : Run)
+      (adverts : List Advert)
       → look_up run there ≡ Some run_text → texts_there there contracts ≡ Some texts
       → run_of run_text ≡ Ok r → contracts_from 0 texts ≡ Ok adverts
       → ending_status (ending (setup_of hash r adverts) r.events) ≡ 0
@@ -66,7 +69,8 @@ pub record CompletenessTheorem : Type 0 where
       → run_of run_text ≡ Ok r → contracts_from 0 (text ∷ []) ≡ Ok adverts
       → ending_status (ending (setup_of hash r adverts) r.events) ≡ 0
       → (answer_there hash there (plan run contract)).status ≡ 0
-  pub psbt_ends : (hash : List ℕ → List ℕ) (there : Files) (which : Which) (run run_text contract text : List ℕ) (r : Run) (adverts : List Advert)
+  pub psbt_ends : (hash : List ℕ → List ℕ) (there : Files) (which : Which) (run run_text contract text : List ℕ) (r : Run)
+      (adverts : List Advert)
       → look_up run there ≡ Some run_text → look_up contract there ≡ Some text
       → run_of run_text ≡ Ok r → contracts_from 0 (text ∷ []) ≡ Ok adverts
       → ending_status (ending (setup_of hash r adverts) r.events) ≡ 0

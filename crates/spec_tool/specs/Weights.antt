@@ -1,5 +1,6 @@
 -- The weights of a contract's transactions, by BIP 141, with witnesses of ideal signatures; of this project's profile.
-use Rattle.std.specs.Prelude.{◌≡◌, ℕ, ◌+◌, ◌*◌, ◌≤◌, List, [], ◌∷◌, ◌++◌, length, map, take, replicate, reverse, sum_by, Bool, true, false, Option, Some, None, if◌then◌else◌}
+use Rattle.std.specs.Prelude.{◌≡◌, ℕ, ◌+◌, ◌*◌, ◌≤◌, List, [], ◌∷◌, ◌++◌, length, map, take, replicate, reverse, sum_by, Bool, true}
+use Rattle.std.specs.Prelude.{false, Option, Some, None, if◌then◌else◌}
 use Rattle.std.specs.List.{flat_map, AllByRecursion}
 use Rattle.std.specs.Option.{option_map_or}
 use Rattle.spec_terms.specs.Term as term
@@ -89,11 +90,19 @@ any_signatures n = replicate n any_signature
 abbrev pub initial_weight : Draft → ℕ
 initial_weight d = weight_of (with_witnesses (tx_of d) (deposits_full (any_signatures (length d.spends)) d.spends))
 
+-- secrets of this size, as many as the branch at a path reveals
+abbrev pub any_secrets : Advert → List PathStep → ℕ → List (List ℕ)
+any_secrets advert path size = replicate (reveal_count advert path) (replicate size 0)
+
+-- full witnesses of a path's transaction, where all its secrets have this size
+abbrev pub any_full : Advert → List PathStep → ℕ → Draft → List (List (List ℕ))
+any_full advert path size d =
+    branch_full advert path (any_signatures (length (participants advert))) (any_secrets advert path size)
+    (any_signatures (length d.spends)) d.spends
+
 -- the weight of a path's transaction, where all its secrets have this size
 abbrev pub weight_with : Advert → List PathStep → ℕ → Draft → ℕ
-weight_with advert path size d =
-    weight_of (with_witnesses (tx_of d)
-    (branch_full advert path (any_signatures (length (participants advert))) (replicate (reveal_count advert path) (replicate size 0)) (any_signatures (length d.spends)) d.spends))
+weight_with advert path size d = weight_of (with_witnesses (tx_of d) (any_full advert path size d))
 
 abbrev pub exactly : ℕ → Weight
 exactly n = record { least = n; most = n }

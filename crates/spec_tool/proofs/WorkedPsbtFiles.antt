@@ -3,7 +3,8 @@ use Rattle.std.proofs.Common.{◌≡◌, ℕ, List, [], ◌∷◌, ◌++◌, Som
 use Rattle.std.specs.Prelude.{codes}
 use Rattle.std.specs.Fmt.{digits}
 use Rattle.spec_bitcoin.specs.Spelling.{stripped, compact}
-use Rattle.spec_bitcoin.specs.Reading.{many, wide_at, compact_at, string_at, input_at, inputs_at, output_at, outputs_at, witness_at, witnesses_at, plain_at, marked_at, transaction_at, all_at}
+use Rattle.spec_bitcoin.specs.Reading.{many, wide_at, compact_at, string_at, input_at, inputs_at, output_at, outputs_at, witness_at}
+use Rattle.spec_bitcoin.specs.Reading.{witnesses_at, plain_at, marked_at, transaction_at, all_at}
 use Rattle.spec_tool.specs.Base64.{base64_text, base64_bytes}
 use Rattle.spec_tool.specs.PsbtBytes.{psbt_of, psbt_bytes, records_at, maps_at}
 use Rattle.spec_text.specs.Refusals.{Judged}
@@ -46,15 +47,20 @@ abbrev pub written : List ℕ → List ℕ
 written file = line_of (psbt_in (Some file))
 
 -- both together say what the signed one says
-pub signature_joined : answer same (psbt_joined (codes "f") (codes "g")) (got signed_file ∷ got unsigned_file ∷ []) ≡ answer same (psbt_shown (codes "f")) (got signed_file ∷ [])
-unfolding stripped compact many wide_at compact_at string_at input_at inputs_at output_at outputs_at witness_at witnesses_at plain_at marked_at transaction_at all_at base64_text base64_bytes psbt_of psbt_bytes records_at maps_at digits
+pub signature_joined : answer same (psbt_joined (codes "f") (codes "g")) (got signed_file ∷ got unsigned_file ∷ [])
+    ≡ answer same (psbt_shown (codes "f")) (got signed_file ∷ [])
+unfolding stripped compact many wide_at compact_at string_at input_at inputs_at output_at outputs_at witness_at witnesses_at plain_at
+    marked_at transaction_at all_at base64_text base64_bytes psbt_of psbt_bytes records_at maps_at digits
 signature_joined = refl
 
 -- what is read of it is written again
 pub written_again : written signed_file ≡ line signed_file []
-unfolding stripped compact many wide_at compact_at string_at input_at inputs_at output_at outputs_at witness_at witnesses_at plain_at marked_at transaction_at all_at base64_text base64_bytes psbt_of psbt_bytes records_at maps_at digits
+unfolding stripped compact many wide_at compact_at string_at input_at inputs_at output_at outputs_at witness_at witnesses_at plain_at
+    marked_at transaction_at all_at base64_text base64_bytes psbt_of psbt_bytes records_at maps_at digits
 written_again = refl
 
-pub others_are_refused : answer same (psbt_joined (codes "f") (codes "g")) (got signed_file ∷ got other_file ∷ []) ≡ prints 9 (line (codes "psbt refused other") [])
-unfolding stripped compact many wide_at compact_at string_at input_at inputs_at output_at outputs_at witness_at witnesses_at plain_at marked_at transaction_at all_at base64_text base64_bytes psbt_of psbt_bytes records_at maps_at digits
+pub others_are_refused : answer same (psbt_joined (codes "f") (codes "g")) (got signed_file ∷ got other_file ∷ [])
+    ≡ prints 9 (line (codes "psbt refused other") [])
+unfolding stripped compact many wide_at compact_at string_at input_at inputs_at output_at outputs_at witness_at witnesses_at plain_at
+    marked_at transaction_at all_at base64_text base64_bytes psbt_of psbt_bytes records_at maps_at digits
 others_are_refused = refl

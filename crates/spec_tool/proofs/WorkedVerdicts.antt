@@ -1,5 +1,4 @@
 -- Worked values of audits: a compiled transaction of two branches, and one that the ledger accepts.
-use Rattle.spec_terms.specs.Readable.{is_name}
 use Rattle.std.proofs.Common.{◌≡◌, ℕ, List, [], ◌∷◌, ◌++◌, Option, Some, None, Ok, Err, refl}
 use Rattle.std.specs.Prelude.{codes, take}
 use Rattle.std.specs.Option.{option_map_or, option_and_then}
@@ -7,14 +6,17 @@ use Rattle.std.specs.Fmt.{digits}
 use Rattle.spec_bitcoin.specs.Keys.{label_text}
 use Rattle.spec_bitcoin.specs.Digests.{places_list, sequences_list, outputs_list, preimage}
 use Rattle.spec_bitcoin.specs.Spelling.{stripped, marked, compact}
-use Rattle.spec_bitcoin.specs.Reading.{many, wide_at, compact_at, string_at, input_at, inputs_at, output_at, outputs_at, witness_at, witnesses_at, plain_at, marked_at, transaction_at, all_at}
+use Rattle.spec_bitcoin.specs.Reading.{many, wide_at, compact_at, string_at, input_at, inputs_at, output_at, outputs_at, witness_at}
+use Rattle.spec_bitcoin.specs.Reading.{witnesses_at, plain_at, marked_at, transaction_at, all_at}
 use Rattle.spec_bitcoin.specs.Meaning.{script_meaning}
 use Rattle.spec_bitcoin.specs.Numbers.{number_of_item, signed_bytes, item_of_number}
 use Rattle.spec_bitcoin.specs.Scripts.{ops_of}
 use Rattle.spec_compiler.specs.Setting.{position_script}
 use Rattle.spec_text.specs.Lexis.{word_front, number_front, symbol_front}
-use Rattle.spec_text.specs.ReadAdvert.{read_answer as read_contract, advert_of_all, advert_at, entries_at, entry_at, head_at, deposit_at, secret_at, fee_at}
-use Rattle.spec_text.specs.ReadContract.{withdraw_at, condition_at, reveals_at, puts_at, put_reveals_at, headed_at, one_branch_at, branches_at, choice_with, parts_at, auth_at, after_at, put_at, reveal_at, split_at, branch_at}
+use Rattle.spec_text.specs.ReadAdvert.{read_answer as read_contract, advert_of_all, advert_at, entries_at, entry_at, head_at, deposit_at}
+use Rattle.spec_text.specs.ReadAdvert.{secret_at, fee_at}
+use Rattle.spec_text.specs.ReadContract.{withdraw_at, condition_at, reveals_at, puts_at, put_reveals_at, headed_at, one_branch_at}
+use Rattle.spec_text.specs.ReadContract.{branches_at, choice_with, parts_at, auth_at, after_at, put_at, reveal_at, split_at, branch_at}
 use Rattle.spec_text.specs.ReadTest.{constant_at, length_at, formula_at, comparison_at, test_at}
 use Rattle.spec_text.specs.Reading.{names_from}
 use Rattle.spec_tool.specs.Reads.{got}
@@ -31,12 +33,12 @@ use Rattle.spec_terms.specs.declared.path.PathStep.TheVariants.{Branch as To}
 use Rattle.spec_bitcoin.specs.declared.tx.Tx.{Tx}
 use Rattle.spec_bitcoin.specs.Spelling.{spelling}
 use Rattle.spec_compiler.specs.Transactions.{tx_of}
-use Rattle.spec_compiler.specs.ByPath.{unsigned_at}
+use Rattle.spec_compiler.specs.ByPath.{draft_at}
 use Rattle.spec_run.specs.declared.event.Run.{Run}
 use Rattle.spec_run.specs.Setup.{Setup}
 use Rattle.spec_run.specs.World.{World, held_at}
 use Rattle.spec_run.specs.Compiled.{compiled_at}
-use Rattle.spec_run.specs.Translation.{last_world}
+use Rattle.spec_run.specs.Event.{last_world}
 use Rattle.spec_run.specs.Firing.{taking_by}
 use Rattle.spec_data.specs.Digits.{hex_text}
 use Rattle.spec_text.specs.Refusals.{Judged, contract_of, run_of}
@@ -53,7 +55,7 @@ shown tx = option_map_or (λ t. hex_text (spelling t)) tx []
 -- the transaction of a path, without its witnesses
 abbrev pub path_shown : List PathStep → Setup → World → List ℕ
 path_shown path s w =
-    shown (option_and_then (λ setting. option_map_or (λ d. Some (tx_of d)) (unsigned_at s.hash setting path) None) (compiled_at s w 0))
+    shown (option_and_then (λ setting. option_map_or (λ d. Some (tx_of d)) (draft_at s.hash setting path) None) (compiled_at s w 0))
 
 -- the transaction that takes branch 0 of output 2, with its witness
 abbrev pub taking_shown : Setup → World → List ℕ
@@ -71,8 +73,15 @@ sibling_findings =
     line (codes "missing r.1 0 B:0:r.1:B") (
     [])))))))
 
-pub two_paths : answer small_hash (audit (codes "r") (codes "c") (codes "f")) (got endorsed_run ∷ got siblings ∷ got (after_run (path_shown (To 0 ∷ [])) (run_of endorsed_run) (contract_of siblings)) ∷ []) ≡ prints 0 sibling_findings
-unfolding word_front number_front symbol_front read_contract advert_of_all advert_at entries_at entry_at head_at deposit_at secret_at fee_at choice_with branches_at branch_at parts_at auth_at after_at put_at reveal_at split_at reveals_at puts_at put_reveals_at headed_at one_branch_at condition_at names_from test_at comparison_at formula_at constant_at length_at withdraw_at digits label_text stripped marked compact places_list sequences_list outputs_list preimage position_script many wide_at compact_at string_at input_at inputs_at output_at outputs_at witness_at witnesses_at plain_at marked_at transaction_at all_at script_meaning ops_of number_of_item signed_bytes item_of_number audit_answer is_name
+pub two_paths : answer small_hash (audit (codes "r") (codes "c") (codes "f"))
+    (got endorsed_run ∷ got siblings ∷ got (after_run (path_shown (To 0 ∷ [])) (run_of endorsed_run) (contract_of siblings)) ∷ [])
+    ≡ prints 0 sibling_findings
+unfolding word_front number_front symbol_front read_contract advert_of_all advert_at entries_at entry_at head_at deposit_at secret_at
+    fee_at choice_with branches_at branch_at parts_at auth_at after_at put_at reveal_at split_at reveals_at puts_at put_reveals_at
+    headed_at one_branch_at condition_at names_from test_at comparison_at formula_at constant_at length_at withdraw_at digits label_text
+    stripped marked compact places_list sequences_list outputs_list preimage position_script many wide_at compact_at string_at input_at
+    inputs_at output_at outputs_at witness_at witnesses_at plain_at marked_at transaction_at all_at script_meaning ops_of number_of_item
+    signed_bytes item_of_number audit_answer
 two_paths = refl
 
 -- a run up to the reveal of a secret
@@ -103,6 +112,17 @@ accepted_line = line (codes "line 1 path r.0 now branch #2 0") []
 abbrev pub beginning : Printed → List ℕ
 beginning printed = take 32 printed.text
 
-pub accepted_now : beginning (answer small_hash (audit (codes "r") (codes "c") (codes "f")) (got revealed_run ∷ got commitment ∷ got (after_run taking_shown (run_of revealed_run) (contract_of commitment)) ∷ [])) ≡ accepted_line
-unfolding word_front number_front symbol_front read_contract advert_of_all advert_at entries_at entry_at head_at deposit_at secret_at fee_at choice_with branches_at branch_at parts_at auth_at after_at put_at reveal_at split_at reveals_at puts_at put_reveals_at headed_at one_branch_at condition_at names_from test_at comparison_at formula_at constant_at length_at withdraw_at digits label_text stripped marked compact places_list sequences_list outputs_list preimage position_script many wide_at compact_at string_at input_at inputs_at output_at outputs_at witness_at witnesses_at plain_at marked_at transaction_at all_at script_meaning ops_of number_of_item signed_bytes item_of_number audit_answer is_name
+-- the transaction as a file
+abbrev pub taking_file : List ℕ
+taking_file = after_run taking_shown (run_of revealed_run) (contract_of commitment)
+
+pub accepted_now :
+    beginning (answer small_hash (audit (codes "r") (codes "c") (codes "f")) (got revealed_run ∷ got commitment ∷ got taking_file ∷ []))
+    ≡ accepted_line
+unfolding word_front number_front symbol_front read_contract advert_of_all advert_at entries_at entry_at head_at deposit_at secret_at
+    fee_at choice_with branches_at branch_at parts_at auth_at after_at put_at reveal_at split_at reveals_at puts_at put_reveals_at
+    headed_at one_branch_at condition_at names_from test_at comparison_at formula_at constant_at length_at withdraw_at digits label_text
+    stripped marked compact places_list sequences_list outputs_list preimage position_script many wide_at compact_at string_at input_at
+    inputs_at output_at outputs_at witness_at witnesses_at plain_at marked_at transaction_at all_at script_meaning ops_of number_of_item
+    signed_bytes item_of_number audit_answer
 accepted_now = refl

@@ -1,4 +1,5 @@
--- What the program answers to words and to what the reads of its files answered: a status and a text, for every command; of this project's profile.
+-- What the program answers to words and to what the reads of its files answered: a status and a text, for every command; of this
+-- project's profile.
 --
 --  0  otherwise
 --  1  a contract file is refused
@@ -15,7 +16,8 @@
 --
 -- The first that applies is answered, in this order: the words; the reads, in the order of the words; the run file; the
 -- contract files in theirs; the further file; the events.
-use Rattle.std.specs.Prelude.{ℕ, ◌+◌, List, [], ◌∷◌, ◌++◌, length, drop, Bool, true, false, ◌==◌, if◌then◌else◌, Option, Some, None, Result, Ok, Err, codes}
+use Rattle.std.specs.Prelude.{ℕ, ◌+◌, List, [], ◌∷◌, ◌++◌, length, drop, Bool, true, false, ◌==◌, if◌then◌else◌, Option, Some, None}
+use Rattle.std.specs.Prelude.{Result, Ok, Err, codes}
 use Rattle.spec_terms.specs.Advert.{Advert}
 use Rattle.spec_run.specs.declared.event.Event.{Event}
 use Rattle.spec_run.specs.declared.event.Run.{Run}
@@ -27,7 +29,9 @@ use Rattle.spec_text.specs.PlanText.{plan_text, unless_halted}
 use Rattle.spec_tool.specs.declared.which.Which.{Which}
 use Rattle.spec_tool.specs.declared.rule.Rule.{Rule}
 use Rattle.spec_tool.specs.Reads.{Read, Text, text_at, texts_read, are_made}
-use Rattle.spec_tool.specs.Commands.{Command, check, play, plan, make, psbt_of, psbt_shown, psbt_joined, weigh, audit, auto, command_of, files_of, Printed, prints, usage, run_refused, JudgedAll, onto_judged, check_judged, ending_status, run_answer, both_judged, contracts_judged, make_answer}
+use Rattle.spec_tool.specs.Commands.{Command, check, play, plan, make, psbt_of, psbt_shown, psbt_joined, weigh, audit, auto, command_of}
+use Rattle.spec_tool.specs.Commands.{files_of, Printed, prints, usage, run_refused, JudgedAll, onto_judged, check_judged, ending_status}
+use Rattle.spec_tool.specs.Commands.{run_answer, both_judged, contracts_judged, make_answer}
 use Rattle.spec_tool.specs.PsbtText.{psbt_text, shown_answer, joined_answer}
 use Rattle.spec_tool.specs.WeighText.{weigh_text}
 use Rattle.spec_tool.specs.AuditText.{audit_answer, audit_refused}
@@ -95,7 +99,8 @@ strategy_file run strategy s es = rules_judged (strategy_in (size_of run) s.head
 -- what a command answers to the texts of its files
 abbrev pub text_answer : (List ℕ → List ℕ) → Command → List Text → Printed
 text_answer hash (check contract) texts = check_judged (contract_in (text_at texts 0))
-text_answer hash (play run contracts) texts = both_judged (run_answer play_text) hash (run_in (text_at texts 0)) (contracts_in 0 (drop 1 texts))
+text_answer hash (play run contracts) texts = both_judged (run_answer play_text) hash (run_in (text_at texts 0))
+    (contracts_in 0 (drop 1 texts))
 text_answer hash (plan run contract) texts = with_contract (run_answer plan_text) hash texts
 text_answer hash (make number size) texts = make_answer hash number size
 text_answer hash (psbt_of run contract which) texts = with_contract (if_whole (printed_of (psbt_text which))) hash texts

@@ -1,5 +1,6 @@
 -- What an audit finds of the transactions in a file, after a run; of this project's profile.
-use Rattle.std.specs.Prelude.{ℕ, ◌+◌, List, [], ◌∷◌, ◌++◌, filter, map, Bool, true, false, not, if◌then◌else◌, Option, Some, None, Result, Ok, Err}
+use Rattle.std.specs.Prelude.{ℕ, ◌+◌, List, [], ◌∷◌, ◌++◌, filter, map, Bool, true, false, not, if◌then◌else◌, Option, Some, None, Result}
+use Rattle.std.specs.Prelude.{Ok, Err}
 use Rattle.std.specs.List.{flat_map, list_any, cons_option}
 use Rattle.std.specs.Option.{option_map_or}
 use Rattle.spec_bitcoin.specs.declared.tx.Tx.{Tx}
@@ -109,7 +110,8 @@ finding n kind = record { line = n; kind = kind }
 abbrev pub findings_from : Setup → World → List Listed → ℕ → List (List ℕ) → List Finding
 findings_from s w all n [] = []
 findings_from s w all n (line ∷ lines) =
-    option_map_or (λ kind. finding n kind ∷ findings_from s w all (n + 1) lines) (kind_given s w all (given_line line)) (findings_from s w all (n + 1) lines)
+    option_map_or (λ kind. finding n kind ∷ findings_from s w all (n + 1) lines) (kind_given s w all (given_line line))
+    (findings_from s w all (n + 1) lines)
 
 -- ---- what is absent and missing
 

@@ -1,5 +1,6 @@
 -- What `auto` prints: the run file that goes on by the rules of a strategy; of this project's profile.
-use Rattle.std.specs.Prelude.{ℕ, ◌+◌, ◌*◌, List, [], ◌∷◌, ◌++◌, length, Bool, true, false, if◌then◌else◌, nat_lt, nat_le, Option, Some, None, Result, Ok, Err, codes}
+use Rattle.std.specs.Prelude.{ℕ, ◌+◌, ◌*◌, List, [], ◌∷◌, ◌++◌, length, Bool, true, false, if◌then◌else◌, nat_lt, nat_le, Option, Some}
+use Rattle.std.specs.Prelude.{None, Result, Ok, Err, codes}
 use Rattle.std.specs.Fmt.{decimal}
 use Rattle.spec_run.specs.declared.event.Event.{Event}
 use Rattle.spec_run.specs.declared.event.Run.{Run}
@@ -18,7 +19,7 @@ use Rattle.spec_tool.specs.Sizes.{rule_line_bytes}
 use Rattle.spec_tool.specs.Reads.{Text}
 use Rattle.spec_tool.specs.Commands.{Printed, prints}
 use Rattle.spec_tool.specs.Strategy.{read_strategy}
-use Rattle.spec_tool.specs.Turns.{Turn, Turned, extended}
+use Rattle.spec_tool.specs.Turns.{Progress, Progressed, extended}
 
 -- ---- the strategy
 
@@ -65,13 +66,13 @@ halt_answer (Collided earlier later) = prints 8 (collided_line earlier later)
 halt_answer (Guessed party secret) = prints 7 (guessed_line party secret)
 
 -- the run with the events that the rules took behind its own
-abbrev pub longer_run : Header → List Event → Turn → Run
-longer_run h es turn = record { header = h; events = es ++ turn.events }
+abbrev pub longer_run : Header → List Event → Progress → Run
+longer_run h es progress = record { header = h; events = es ++ progress.events }
 
-abbrev pub turned_answer : Header → List Event → Turned → Printed
-turned_answer h es (Err halt) = halt_answer halt
-turned_answer h es (Ok turn) = prints 0 (run_text (longer_run h es turn))
+abbrev pub progressed_answer : Header → List Event → Progressed → Printed
+progressed_answer h es (Err halt) = halt_answer halt
+progressed_answer h es (Ok progress) = prints 0 (run_text (longer_run h es progress))
 
 -- what `auto` answers of a run that isn't halted
 unfoldable pub auto_answer : List Rule → Setup → List Event → Printed
-auto_answer rules s es = turned_answer s.header es (extended s (last_world s es) rules)
+auto_answer rules s es = progressed_answer s.header es (extended s (last_world s es) rules)

@@ -1,5 +1,6 @@
 -- The commands, and what each answers to the contents of its files: a status and a text; of this project's profile.
-use Rattle.std.specs.Prelude.{ℕ, ◌+◌, List, [], ◌∷◌, ◌++◌, length, map, ◌&&◌, if◌then◌else◌, nat_le, Option, Some, None, Result, Ok, Err, codes}
+use Rattle.std.specs.Prelude.{ℕ, ◌+◌, List, [], ◌∷◌, ◌++◌, length, map, ◌&&◌, if◌then◌else◌, nat_le, Option, Some, None, Result, Ok, Err}
+use Rattle.std.specs.Prelude.{codes}
 use Rattle.std.specs.Str.{bytes_eq}
 use Rattle.spec_terms.specs.Advert.{Advert}
 use Rattle.spec_run.specs.declared.event.Event.{Event}
@@ -223,4 +224,5 @@ plan_answer hash run contract = with_run plan_text hash (run_of run) (contract �
 
 -- what `make` answers: the made run is played with the made contract
 abbrev pub make_answer : (List ℕ → List ℕ) → ℕ → ℕ → Printed
-make_answer hash number size = run_answer make_text (setup_of hash (made_run number size) (made_contract number size ∷ [])) ((made_run number size).events)
+make_answer hash number size = run_answer make_text (setup_of hash (made_run number size) (made_contract number size ∷ []))
+    ((made_run number size).events)

@@ -16,3 +16,4 @@ pub mod Strategy
 pub mod Turns
 pub mod AutoText
 pub mod Answers
+pub mod Reading

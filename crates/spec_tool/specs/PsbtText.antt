@@ -1,5 +1,6 @@
 -- What the commands on partially signed transactions print; of this project's profile.
-use Rattle.std.specs.Prelude.{ℕ, ◌+◌, ◌-◌, List, [], ◌∷◌, ◌++◌, length, map, take, Bool, true, false, not, ◌&&◌, ◌==◌, if◌then◌else◌, Option, Some, None, is_some, Result, Ok, Err, slice_index, codes}
+use Rattle.std.specs.Prelude.{ℕ, ◌+◌, ◌-◌, List, [], ◌∷◌, ◌++◌, length, map, take, Bool, true, false, not, ◌&&◌, ◌==◌, if◌then◌else◌}
+use Rattle.std.specs.Prelude.{Option, Some, None, is_some, Result, Ok, Err, slice_index, codes}
 use Rattle.std.specs.Fmt.{decimal}
 use Rattle.std.specs.List.{flat_map}
 use Rattle.std.specs.Option.{option_map, option_map_or}
@@ -55,7 +56,8 @@ signed_input hash book draft spent signers = record {
 abbrev pub signed_inputs : (List ℕ → List ℕ) → List Pair → Unsigned → List Spent → List (List Label) → List PsbtInput
 signed_inputs hash book draft [] signers = []
 signed_inputs hash book draft (spent ∷ rest) [] = []
-signed_inputs hash book draft (spent ∷ rest) (labels ∷ others) = signed_input hash book draft spent labels ∷ signed_inputs hash book draft rest others
+signed_inputs hash book draft (spent ∷ rest) (labels ∷ others) = signed_input hash book draft spent labels
+    ∷ signed_inputs hash book draft rest others
 
 -- a compiled transaction with the signatures that the book has for it
 abbrev pub listed_psbt : (List ℕ → List ℕ) → List Pair → Listed → Psbt

@@ -1,5 +1,6 @@
 -- What the reads of a command's files answer, and what is taken of them; of this project's profile.
-use Rattle.std.specs.Prelude.{ℕ, List, [], ◌∷◌, length, take, map, Bool, true, false, ◌==◌, nat_le, if◌then◌else◌, Option, Some, None, slice_get}
+use Rattle.std.specs.Prelude.{ℕ, ◌+◌, List, [], ◌∷◌, length, take, map, Bool, true, false, ◌==◌, nat_le, if◌then◌else◌, Option, Some}
+use Rattle.std.specs.Prelude.{None, slice_get}
 use Rattle.std.specs.Option.{option_and_then}
 use Rattle.spec_data.specs.Lists.{look_up}
 use Rattle.spec_data.specs.Digits.{onto}
@@ -38,19 +39,28 @@ abbrev pub within : ℕ → Option (List ℕ) → Read
 within limit None = failed
 within limit (Some bytes) = if nat_le (length bytes) limit then got bytes else too_long
 
--- what a read answers where these files are there, and no read fails of itself
+-- what a read answers where these files are there
 abbrev pub read_in : List (List ℕ × List ℕ) → Asked → Read
 read_in there file = within (file.1) (look_up (file.0) there)
+
+-- whether the read that is to fail has this number
+abbrev pub is_to_fail : Option ℕ → ℕ → Bool
+is_to_fail None number = false
+is_to_fail (Some failing) number = failing == number
+
+abbrev pub read_at : List (List ℕ × List ℕ) → Option ℕ → ℕ → Asked → Read
+read_at there failing number file = if is_to_fail failing number then failed else read_in there file
 
 abbrev pub onto_reads : Read → List Read → List Read
 onto_reads (got bytes) later = got bytes ∷ later
 onto_reads too_long later = too_long ∷ later
 onto_reads failed later = failed ∷ []
 
--- what the reads of these files answer there
-abbrev pub reads_in : List (List ℕ × List ℕ) → List Asked → List Read
-reads_in there [] = []
-reads_in there (file ∷ files) = onto_reads (read_in there file) (reads_in there files)
+-- what the reads of these files answer, from read `number` on, where these files are there and one read is to fail, or none
+abbrev pub reads_in : List (List ℕ × List ℕ) → Option ℕ → ℕ → List Asked → List Read
+reads_in there failing number [] = []
+reads_in there failing number (file ∷ files) =
+    onto_reads (read_at there failing number file) (reads_in there failing (number + 1) files)
 
 -- ---- what is taken
 

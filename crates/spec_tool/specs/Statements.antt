@@ -10,6 +10,7 @@ use Rattle.spec_tool.specs.Commands.{contracts_from, setup_of}
 
 -- valid run files and well-formed contracts make a run of which the theorems on runs speak
 abbrev pub ValidRunTheorem : Type 0
-ValidRunTheorem = (hash : List ℕ → List ℕ) → HashesBytes hash → (run_file : List ℕ) (contract_files : List (List ℕ)) (run : Run) (contracts : List Advert)
+ValidRunTheorem = (hash : List ℕ → List ℕ) → HashesBytes hash
+    → (run_file : List ℕ) (contract_files : List (List ℕ)) (run : Run) (contracts : List Advert)
     → run_of run_file ≡ Ok run → contracts_from 0 contract_files ≡ Ok contracts → length contract_files ≤ 16
     → opening_collision (setup_of hash run contracts) ≡ None → IsRun (setup_of hash run contracts) run.events

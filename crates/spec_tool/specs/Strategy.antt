@@ -1,5 +1,6 @@
 -- Strategy files: the rules that the lines of a text spell, or the first line that is bad or one too many; of this project's profile.
-use Rattle.std.specs.Prelude.{ℕ, ◌+◌, List, [], ◌∷◌, length, Bool, true, false, if◌then◌else◌, nat_lt, Option, Some, None, Result, Ok, Err, codes}
+use Rattle.std.specs.Prelude.{ℕ, ◌+◌, List, [], ◌∷◌, length, Bool, true, false, if◌then◌else◌, nat_lt, Option, Some, None, Result, Ok}
+use Rattle.std.specs.Prelude.{Err, codes}
 use Rattle.std.specs.Str.{bytes_eq}
 use Rattle.spec_data.specs.Lists.{is_among}
 use Rattle.spec_run.specs.declared.header.Header.{Header}
@@ -99,7 +100,8 @@ rule_step n (says r) later = with_rule r later
 -- the rules of the lines from number n on, behind so many
 abbrev pub rules_from : Header → ℕ → ℕ → List (List ℕ) → Result (List Rule) StrategyFault
 rules_from h count n [] = Ok []
-rules_from h count n (line ∷ lines) = rule_step n (said_line h count line) (rules_from h (counted count (said_line h count line)) (n + 1) lines)
+rules_from h count n (line ∷ lines) = rule_step n (said_line h count line)
+    (rules_from h (counted count (said_line h count line)) (n + 1) lines)
 
 -- the rules that a text spells, or the first line that is bad or one too many
 abbrev pub read_strategy : Header → List ℕ → Result (List Rule) StrategyFault

@@ -1,5 +1,6 @@
 -- How the rules of a strategy go on with a run; of this project's profile.
-use Rattle.std.specs.Prelude.{ℕ, zero, suc, ◌+◌, List, [], ◌∷◌, ◌++◌, length, Bool, true, false, ◌&&◌, ◌==◌, if◌then◌else◌, Option, Some, None, Result, Ok, Err, is_some}
+use Rattle.std.specs.Prelude.{ℕ, zero, suc, ◌+◌, List, [], ◌∷◌, ◌++◌, length, Bool, true, false, ◌&&◌, ◌==◌, if◌then◌else◌, Option, Some}
+use Rattle.std.specs.Prelude.{None, Result, Ok, Err, is_some}
 use Rattle.std.specs.Option.{option_and_then, option_map_or}
 use Rattle.spec_terms.specs.Advert.{Advert}
 use Rattle.spec_terms.specs.Paths.{path_eq}
@@ -58,60 +59,60 @@ rule_event s w r = act_event s w r.party r.act
 -- ---- rounds
 
 -- what a round leaves: the world, the rules that weren't taken, and the events that were, in order
-pub record Turn : Type 0 where
+pub record Progress : Type 0 where
   pub world : World
   pub left : List Rule
   pub events : List Event
 
 -- a round, or the halt that ends it
-abbrev pub Turned : Type 0
-Turned = Result Turn Halt
+abbrev pub Progressed : Type 0
+Progressed = Result Progress Halt
 
-abbrev pub resting : World → Turn
+abbrev pub resting : World → Progress
 resting w = record { world = w; left = []; events = [] }
 
 -- a rule that isn't taken
-abbrev pub keeps : Rule → Turned → Turned
+abbrev pub keeps : Rule → Progressed → Progressed
 keeps r (Err halt) = Err halt
-keeps r (Ok turn) = Ok (record turn { left = r ∷ turn.left })
+keeps r (Ok progress) = Ok (record progress { left = r ∷ progress.left })
 
 -- a rule that is taken with this event
-abbrev pub takes : Event → Turned → Turned
+abbrev pub takes : Event → Progressed → Progressed
 takes e (Err halt) = Err halt
-takes e (Ok turn) = Ok (record turn { events = e ∷ turn.events })
+takes e (Ok progress) = Ok (record progress { events = e ∷ progress.events })
 
 -- a tried event that halts ends the round; one that is refused is not taken, and leaves its strings hashed
-abbrev pub tried : Rule → Event → Answer → (World → Turned) → Turned
+abbrev pub tried : Rule → Event → Answer → (World → Progressed) → Progressed
 tried r e (Halted halt) go = Err halt
 tried r e (Went d next) go = if is_refused d.outcome then keeps r (go next) else takes e (go next)
 
-abbrev pub tried_if : Setup → World → Rule → Option Event → (World → Turned) → Turned
+abbrev pub tried_if : Setup → World → Rule → Option Event → (World → Progressed) → Progressed
 tried_if s w r None go = keeps r (go w)
 tried_if s w r (Some e) go = tried r e (event s w e) go
 
 -- a round: the rules in order, each tried in the world that the ones before it left
-abbrev pub round : Setup → World → List Rule → Turned
+abbrev pub round : Setup → World → List Rule → Progressed
 round s w [] = Ok (resting w)
 round s w (r ∷ rs) = tried_if s w r (rule_event s w r) (λ next. round s next rs)
 
 -- the events that came before those of further rounds
-abbrev pub after_events : List Event → Turned → Turned
+abbrev pub after_events : List Event → Progressed → Progressed
 after_events before (Err halt) = Err halt
-after_events before (Ok turn) = Ok (record turn { events = before ++ turn.events })
+after_events before (Ok progress) = Ok (record progress { events = before ++ progress.events })
 
-abbrev pub rounds_go : Turn → (World → List Rule → Turned) → Turned
-rounds_go turn go = if length turn.events == 0 then Ok turn else after_events turn.events (go turn.world turn.left)
+abbrev pub rounds_go : Progress → (World → List Rule → Progressed) → Progressed
+rounds_go progress go = if length progress.events == 0 then Ok progress else after_events progress.events (go progress.world progress.left)
 
-abbrev pub rounds_on : Turned → (World → List Rule → Turned) → Turned
+abbrev pub rounds_on : Progressed → (World → List Rule → Progressed) → Progressed
 rounds_on (Err halt) go = Err halt
-rounds_on (Ok turn) go = rounds_go turn go
+rounds_on (Ok progress) go = rounds_go progress go
 
 -- at most so many rounds, up to the first that takes no rule
-unfoldable pub rounds : ℕ → Setup → World → List Rule → Turned
+unfoldable pub rounds : ℕ → Setup → World → List Rule → Progressed
 rounds zero s w rules = Ok (record { world = w; left = rules; events = [] })
 rounds (suc n) s w rules = rounds_on (round s w rules) (λ next left. rounds n s next left)
 
 -- The events by which the rules go on from this world, with the world that they lead to, or the halt that ends them.
 -- Each round but the last takes a rule, so there are at most as many rounds as rules, and one more.
-abbrev pub extended : Setup → World → List Rule → Turned
+abbrev pub extended : Setup → World → List Rule → Progressed
 extended s w rules = rounds (length rules + 1) s w rules

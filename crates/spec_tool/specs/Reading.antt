@@ -1,0 +1,82 @@
+-- What is claimed of commands whose files are there: they answer to the texts of these, and well-formed files without a halt give the
+-- status 0; of this project's profile.
+use Rattle.std.specs.Prelude.{◌≡◌, ℕ, List, [], ◌∷◌, length, Option, Some, None, Ok}
+use Rattle.spec_data.specs.Digits.{onto}
+use Rattle.spec_data.specs.Lists.{look_up}
+use Rattle.spec_terms.specs.Advert.{Advert}
+use Rattle.spec_run.specs.declared.event.Event.{Event}
+use Rattle.spec_run.specs.declared.event.Run.{Run}
+use Rattle.spec_run.specs.Setup.{Setup}
+use Rattle.spec_text.specs.Played.{ending}
+use Rattle.spec_text.specs.Refusals.{contract_of, run_of}
+use Rattle.spec_tool.specs.declared.which.Which.{Which}
+use Rattle.spec_tool.specs.Reads.{reads_in}
+use Rattle.spec_tool.specs.Commands.{Command, check, play, plan, psbt_of, weigh, audit, auto, files_of, Printed, check_answer}
+use Rattle.spec_tool.specs.Commands.{play_answer, plan_answer, contracts_from, both_judged, setup_of, ending_status}
+use Rattle.spec_tool.specs.PsbtText.{psbt_text}
+use Rattle.spec_tool.specs.WeighText.{weigh_text}
+use Rattle.spec_tool.specs.Answers.{answer, if_whole, printed_of}
+
+-- ---- texts
+
+-- files by their names, each with its bytes
+abbrev pub Files : Type 0
+Files = List (List ℕ × List ℕ)
+
+-- what these files hold, where all are there
+abbrev pub texts_there : Files → List (List ℕ) → Option (List (List ℕ))
+texts_there there [] = Some []
+texts_there there (name ∷ names) = onto (look_up name there) (texts_there there names)
+
+-- what a command answers where these files are there and no read fails of itself
+abbrev pub answer_there : (List ℕ → List ℕ) → Files → Command → Printed
+answer_there hash there command = answer hash command (reads_in there None 0 (files_of command))
+
+-- a file that is longer than it may be is refused whether its bytes or its length alone is known, so the answer is that to the texts
+pub record TextsTheorem : Type 0 where
+  pub check_text : (hash : List ℕ → List ℕ) (there : Files) (contract text : List ℕ)
+      → look_up contract there ≡ Some text → answer_there hash there (check contract) ≡ check_answer text
+  pub play_texts : (hash : List ℕ → List ℕ) (there : Files) (run run_text : List ℕ) (contracts texts : List (List ℕ))
+      → look_up run there ≡ Some run_text → texts_there there contracts ≡ Some texts
+      → answer_there hash there (play run contracts) ≡ play_answer hash run_text texts
+  pub plan_texts : (hash : List ℕ → List ℕ) (there : Files) (run run_text contract text : List ℕ)
+      → look_up run there ≡ Some run_text → look_up contract there ≡ Some text
+      → answer_there hash there (plan run contract) ≡ plan_answer hash run_text text
+  pub psbt_texts : (hash : List ℕ → List ℕ) (there : Files) (which : Which) (run run_text contract text : List ℕ)
+      → look_up run there ≡ Some run_text → look_up contract there ≡ Some text
+      → answer_there hash there (psbt_of run contract which)
+      ≡ both_judged (if_whole (printed_of (psbt_text which))) hash (run_of run_text) (contracts_from 0 (text ∷ []))
+  pub weigh_texts : (hash : List ℕ → List ℕ) (there : Files) (run run_text contract text : List ℕ)
+      → look_up run there ≡ Some run_text → look_up contract there ≡ Some text
+      → answer_there hash there (weigh run contract)
+      ≡ both_judged (if_whole (printed_of weigh_text)) hash (run_of run_text) (contracts_from 0 (text ∷ []))
+
+-- ---- completeness
+
+-- a well-formed contract, and a valid run of well-formed contracts without a guess or a collision, give the status 0
+pub record CompletenessTheorem : Type 0 where
+  pub check_ends : (hash : List ℕ → List ℕ) (there : Files) (contract text : List ℕ) (advert : Advert)
+      → look_up contract there ≡ Some text → contract_of text ≡ Ok advert
+      → (answer_there hash there (check contract)).status ≡ 0
+  pub play_ends : (hash : List ℕ → List ℕ) (there : Files) (run run_text : List ℕ) (contracts texts : List (List ℕ)) (r : Run)
+      (adverts : List Advert)
+      → look_up run there ≡ Some run_text → texts_there there contracts ≡ Some texts
+      → run_of run_text ≡ Ok r → contracts_from 0 texts ≡ Ok adverts
+      → ending_status (ending (setup_of hash r adverts) r.events) ≡ 0
+      → (answer_there hash there (play run contracts)).status ≡ 0
+  pub plan_ends : (hash : List ℕ → List ℕ) (there : Files) (run run_text contract text : List ℕ) (r : Run) (adverts : List Advert)
+      → look_up run there ≡ Some run_text → look_up contract there ≡ Some text
+      → run_of run_text ≡ Ok r → contracts_from 0 (text ∷ []) ≡ Ok adverts
+      → ending_status (ending (setup_of hash r adverts) r.events) ≡ 0
+      → (answer_there hash there (plan run contract)).status ≡ 0
+  pub psbt_ends : (hash : List ℕ → List ℕ) (there : Files) (which : Which) (run run_text contract text : List ℕ) (r : Run)
+      (adverts : List Advert)
+      → look_up run there ≡ Some run_text → look_up contract there ≡ Some text
+      → run_of run_text ≡ Ok r → contracts_from 0 (text ∷ []) ≡ Ok adverts
+      → ending_status (ending (setup_of hash r adverts) r.events) ≡ 0
+      → (answer_there hash there (psbt_of run contract which)).status ≡ 0
+  pub weigh_ends : (hash : List ℕ → List ℕ) (there : Files) (run run_text contract text : List ℕ) (r : Run) (adverts : List Advert)
+      → look_up run there ≡ Some run_text → look_up contract there ≡ Some text
+      → run_of run_text ≡ Ok r → contracts_from 0 (text ∷ []) ≡ Ok adverts
+      → ending_status (ending (setup_of hash r adverts) r.events) ≡ 0
+      → (answer_there hash there (weigh run contract)).status ≡ 0

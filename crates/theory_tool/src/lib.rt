@@ -1,0 +1,15 @@
+//! What follows of the program's answers: each theorem is the contract of a function that does nothing.
+#![tactic(auto)]
+
+ghost use Rattle.spec_tool.specs.Reading.{TextsTheorem, CompletenessTheorem};
+
+/// Where the files of a command are there and no read fails, its answer is that to their texts,
+/// whether a file is longer than it may be or not.
+pub fn commands_answer_texts()
+    ensures { TextsTheorem }
+{}
+
+/// Well-formed contracts and a valid run without a guess and without a collision give the status 0.
+pub fn well_formed_files_end()
+    ensures { CompletenessTheorem }
+{}

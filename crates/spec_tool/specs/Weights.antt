@@ -13,8 +13,10 @@ use Rattle.spec_terms.specs.declared.path.PathStep.TheVariants.{Branch as To, Pa
 use Rattle.spec_bitcoin.specs.declared.tx.Tx.{Tx}
 use Rattle.spec_bitcoin.specs.Spelling.{stripped, spelling}
 use Rattle.spec_compiler.specs.Setting.{Setting}
-use Rattle.spec_compiler.specs.Transactions.{Spent, Draft, tx_of, initial_draft}
-use Rattle.spec_compiler.specs.Compilation.{drafts}
+use Rattle.spec_compiler.specs.declared.unsigned.Spent.{Spent}
+use Rattle.spec_compiler.specs.declared.unsigned.Unsigned.{Unsigned}
+use Rattle.spec_compiler.specs.Transactions.{tx_of, initial_unsigned}
+use Rattle.spec_compiler.specs.Compilation.{path_transactions}
 use Rattle.spec_compiler.specs.Witness.{witness_of}
 use Rattle.spec_run.specs.Ledger.{count_of}
 use Rattle.spec_run.specs.Firing.{with_witnesses}
@@ -87,7 +89,7 @@ abbrev pub any_signatures : ℕ → List (List ℕ)
 any_signatures n = replicate n any_signature
 
 -- the initial transaction's weight, with its full witnesses
-abbrev pub initial_weight : Draft → ℕ
+abbrev pub initial_weight : Unsigned → ℕ
 initial_weight d = weight_of (with_witnesses (tx_of d) (deposits_full (any_signatures (length d.spends)) d.spends))
 
 -- secrets of this size, as many as the branch at a path reveals
@@ -95,20 +97,20 @@ abbrev pub any_secrets : Advert → List PathStep → ℕ → List (List ℕ)
 any_secrets advert path size = replicate (reveal_count advert path) (replicate size 0)
 
 -- full witnesses of a path's transaction, where all its secrets have this size
-abbrev pub any_full : Advert → List PathStep → ℕ → Draft → List (List (List ℕ))
+abbrev pub any_full : Advert → List PathStep → ℕ → Unsigned → List (List (List ℕ))
 any_full advert path size d =
     branch_full advert path (any_signatures (length (participants advert))) (any_secrets advert path size)
     (any_signatures (length d.spends)) d.spends
 
 -- the weight of a path's transaction, where all its secrets have this size
-abbrev pub weight_with : Advert → List PathStep → ℕ → Draft → ℕ
+abbrev pub weight_with : Advert → List PathStep → ℕ → Unsigned → ℕ
 weight_with advert path size d = weight_of (with_witnesses (tx_of d) (any_full advert path size d))
 
 abbrev pub exactly : ℕ → Weight
 exactly n = record { least = n; most = n }
 
 -- the least and the greatest weight of a path's transaction
-abbrev pub path_weight : Advert → List PathStep → Draft → Weight
+abbrev pub path_weight : Advert → List PathStep → Unsigned → Weight
 path_weight advert path d = record { least = weight_with advert path least_secret d; most = weight_with advert path most_secret d }
 
 abbrev pub added : Weight → Weight → Weight
@@ -131,7 +133,7 @@ with_totals init all [] = []
 with_totals init all (p ∷ ps) = (p.1, total_to (p.0) init all) ∷ with_totals init all ps
 
 abbrev pub path_weights : (List ℕ → List ℕ) → Setting → List (List PathStep × Weight)
-path_weights hash setting = map (λ p. (p.0, path_weight setting.advert (p.0) (p.1))) (drafts hash setting)
+path_weights hash setting = map (λ p. (p.0, path_weight setting.advert (p.0) (p.1))) (path_transactions hash setting)
 
 abbrev pub all_weights : Weight → List (List PathStep × Weight) → List (Weight × Weight)
 all_weights init paths = (init, init) ∷ with_totals init paths paths
@@ -139,7 +141,7 @@ all_weights init paths = (init, init) ∷ with_totals init paths paths
 -- Of the initial transaction and then of each path its weight and its total: the weights of all transactions that lead
 -- there, the initial one's included.
 abbrev pub weights : (List ℕ → List ℕ) → Setting → List (Weight × Weight)
-weights hash setting = all_weights (exactly (initial_weight (initial_draft hash setting))) (path_weights hash setting)
+weights hash setting = all_weights (exactly (initial_weight (initial_unsigned hash setting))) (path_weights hash setting)
 
 -- ---- what is full
 
@@ -151,14 +153,14 @@ pub record IsSecret (item : List ℕ) : Type 0 where
   pub short : length item ≤ most_secret
 
 -- full witnesses of the initial transaction
-pub record IsInitialFull (d : Draft) (witnesses : List (List (List ℕ))) : Type 0 where
+pub record IsInitialFull (d : Unsigned) (witnesses : List (List (List ℕ))) : Type 0 where
   pub signatures : List (List ℕ)
   pub each : AllByRecursion IsSignature signatures
   pub count : length signatures ≡ length d.spends
   pub same : witnesses ≡ deposits_full signatures d.spends
 
 -- full witnesses of a path's transaction: signatures of 66 bytes, secrets of 16 to 520
-pub record IsPathFull (advert : Advert) (path : List PathStep) (d : Draft) (witnesses : List (List (List ℕ))) : Type 0 where
+pub record IsPathFull (advert : Advert) (path : List PathStep) (d : Unsigned) (witnesses : List (List (List ℕ))) : Type 0 where
   pub signatures : List (List ℕ)
   pub secrets : List (List ℕ)
   pub others : List (List ℕ)

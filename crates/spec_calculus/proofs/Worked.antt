@@ -331,7 +331,8 @@ asking = record {
   pre = Persistent A 10 x ∷ Volatile A 5 z ∷ Secret A a ∷ [];
   fee = 1;
   root = branch (auth A (after 5 (put_reveal (z ∷ []) (a ∷ []) (less (length_of a) (constant 3)) (branch (withdraw A) no_branch))))
-      (branch (auth A (after 5 (split (part 4 (branch (withdraw A) no_branch) (part 4 (branch (withdraw A) no_branch) no_part))))) no_branch);
+      (branch (auth A (after 5 (split (part 4 (branch (withdraw A) no_branch)
+      (part 4 (branch (withdraw A) no_branch) no_part))))) no_branch);
 }
 
 -- begun, where the secret has this length
@@ -355,7 +356,11 @@ asked secret_length = after_all (asks secret_length) (
     ∷ []
     )
 
-authorised_once : (asked 2).branch_authorised ≡ record { party = A; output = 2; branch = 0 } ∷ record { party = A; output = 2; branch = 1 } ∷ []
+authorised_once : (asked 2).branch_authorised ≡ record { party = A; output = 2; branch = 0 } ∷ record {
+  party = A;
+  output = 2;
+  branch = 1;
+} ∷ []
 authorised_once = refl
 
 put_not_active : fails (asked 2) (steps.PutReveal 3 0) ≡ 1
@@ -373,7 +378,8 @@ predicate_false = refl
 predicate_true : fails (asked 2) (steps.PutReveal 2 0) ≡ 0
 predicate_true = refl
 
-fee_of_the_put : (after_all (asked 2) (steps.PutReveal 2 0 ∷ [])).active ≡ record { number = 3; contract = 0; position = To 0 ∷ []; balance = 13 } ∷ []
+fee_of_the_put : (after_all (asked 2) (steps.PutReveal 2 0 ∷ [])).active
+    ≡ record { number = 3; contract = 0; position = To 0 ∷ []; balance = 13 } ∷ []
 fee_of_the_put = refl
 
 split_not_active : fails (asked 2) (steps.Split 3 1) ≡ 1

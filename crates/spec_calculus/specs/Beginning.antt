@@ -44,7 +44,8 @@ is_advertised advertised contract = list_any (λ a. a.contract == contract) adve
 
 -- whether there is a deposit of this number with this owner and value
 abbrev pub fits_deposit : List Deposit → ℕ → List ℕ → ℕ → Bool
-fits_deposit deposits number party value = is_live deposits number && owner_eq (owner_at deposits number) (Party party) && (value_at deposits number == value)
+fits_deposit deposits number party value =
+    is_live deposits number && owner_eq (owner_at deposits number) (Party party) && (value_at deposits number == value)
 
 -- whether a binding is of this deposit of a precondition, to one that fits
 abbrev pub binds_one : List Deposit → List ℕ × Holding → List ℕ × ℕ → Bool

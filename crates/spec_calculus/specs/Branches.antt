@@ -39,7 +39,8 @@ known_length (Some (Some length)) = length
 
 -- whether the party's secret is revealed
 abbrev pub is_revealed : List Revealed → ℕ → List ℕ → List ℕ → Bool
-is_revealed revealed contract party secret = list_any (λ r. (r.contract == contract) && bytes_eq r.party party && bytes_eq r.secret secret) revealed
+is_revealed revealed contract party secret =
+    list_any (λ r. (r.contract == contract) && bytes_eq r.party party && bytes_eq r.secret secret) revealed
 
 -- whether the secret of this party is revealed, where there is one
 abbrev pub is_revealed_by : List Revealed → ℕ → Option (List ℕ) → List ℕ → Bool
@@ -222,4 +223,5 @@ others active number = filter (λ a. not (a.number == number)) active
 abbrev pub parts_made : ℕ → ℕ → List PathStep → ℕ → List ℕ → List ActiveContract
 parts_made next contract path k [] = []
 parts_made next contract path k (value ∷ values) =
-    record { number = next; contract = contract; position = path ++ Into k ∷ []; balance = value } ∷ parts_made (next + 1) contract path (k + 1) values
+    record { number = next; contract = contract; position = path ++ Into k ∷ []; balance = value }
+    ∷ parts_made (next + 1) contract path (k + 1) values

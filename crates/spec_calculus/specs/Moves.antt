@@ -90,7 +90,8 @@ made next (o ∷ os) = record { number = next; owner = o.0; value = o.1 } ∷ ma
 
 -- the authorisations, among which the party's of this move stands once
 abbrev pub with_authorisation : List MoveAuthorisation → List ℕ → Move → List MoveAuthorisation
-with_authorisation authorised party action = cond (has_authorised authorised party action) authorised (authorised ++ record { party = party; action = action } ∷ [])
+with_authorisation authorised party action =
+    cond (has_authorised authorised party action) authorised (authorised ++ record { party = party; action = action } ∷ [])
 
 -- the authorisations but those of this move
 abbrev pub without_move : List MoveAuthorisation → Move → List MoveAuthorisation

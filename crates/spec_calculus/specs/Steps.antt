@@ -255,22 +255,28 @@ with_init authorised contract deposit =
 -- the authorisations of branches, among which this one stands once
 abbrev pub with_branch : List BranchAuthorisation → List ℕ → ℕ → ℕ → List BranchAuthorisation
 with_branch authorised party output branch =
-    cond (has_branch_authorised authorised output branch party) authorised (authorised ++ record { party = party; output = output; branch = branch } ∷ [])
+    cond (has_branch_authorised authorised output branch party) authorised
+    (authorised ++ record { party = party; output = output; branch = branch } ∷ [])
 
 -- what a step makes of a configuration
 abbrev pub effect : Configuration → Step → Configuration
 effect g (steps.Delay blocks) = record g { time = g.time + blocks }
 effect g (steps.AuthMove party action) = record g { move_authorised = with_authorisation g.move_authorised party action }
 effect g (steps.Move action) = moved g action
-effect g (steps.Advertise contract bindings) = record g { advertised = g.advertised ++ record { contract = contract; bindings = bindings } ∷ [] }
-effect g (steps.Commit contract party lengths) = record g { committed = g.committed ++ record { contract = contract; party = party; lengths = lengths } ∷ [] }
+effect g (steps.Advertise contract bindings) =
+    record g { advertised = g.advertised ++ record { contract = contract; bindings = bindings } ∷ [] }
+effect g (steps.Commit contract party lengths) =
+    record g { committed = g.committed ++ record { contract = contract; party = party; lengths = lengths } ∷ [] }
 effect g (steps.AuthInit contract party deposit) = record g { init_authorised = with_init g.init_authorised contract deposit }
 effect g (steps.Init contract) =
-    begun g contract (contract_at g.contracts contract) (numbers_of (bindings_of g.advertised contract) (persistent_names (pre_of (contract_at g.contracts contract))))
-effect g (steps.Reveal contract party secret) = record g { revealed = g.revealed ++ record { contract = contract; party = party; secret = secret } ∷ [] }
+    begun g contract (contract_at g.contracts contract)
+    (numbers_of (bindings_of g.advertised contract) (persistent_names (pre_of (contract_at g.contracts contract))))
+effect g (steps.Reveal contract party secret) =
+    record g { revealed = g.revealed ++ record { contract = contract; party = party; secret = secret } ∷ [] }
 effect g (steps.AuthBranch party output branch) = record g { branch_authorised = with_branch g.branch_authorised party output branch }
 effect g (steps.PutReveal output branch) =
-    continued g output branch (active_at g.active output) (numbers_of (bindings_of g.advertised (place_of (active_at g.active output))) (puts_of (branch_at g output branch)))
+    continued g output branch (active_at g.active output)
+    (numbers_of (bindings_of g.advertised (place_of (active_at g.active output))) (puts_of (branch_at g output branch)))
 effect g (steps.Withdraw output branch) = withdrawn g output (active_at g.active output) (payee_of (branch_at g output branch))
 effect g (steps.Split output branch) = divided g output branch (active_at g.active output) (values_of (branch_at g output branch))
 

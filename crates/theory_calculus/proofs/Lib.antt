@@ -11,3 +11,4 @@ pub mod Funded
 pub mod Standing
 pub mod Totals
 pub mod Kept
+mod Worked

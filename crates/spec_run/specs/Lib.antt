@@ -12,6 +12,7 @@ pub mod Revealing
 pub mod Giving
 pub mod Firing
 pub mod Event
+pub mod Halting
 pub mod Secrets
 pub mod Steps
 pub mod Translation

@@ -1,5 +1,5 @@
--- What is claimed of every run; of this project's profile of BitML.
-use Rattle.std.specs.Prelude.{◌≡◌, ℕ, List, [], ◌∷◌, ◌++◌, Option, Some, None}
+-- What is claimed of every run.
+use Rattle.std.specs.Prelude.{◌≡◌, ℕ, List, [], ◌∷◌, ◌++◌, map, Option, Some, None}
 use Rattle.std.specs.List.{Contains, AllByRecursion}
 use Rattle.spec_bitcoin.specs.declared.tx.Tx.{Tx}
 use Rattle.spec_bitcoin.specs.declared.verdict.Verdict.TheVariants as verdicts
@@ -11,13 +11,14 @@ use Rattle.spec_run.specs.declared.event.Event.TheVariants as events
 use Rattle.spec_run.specs.declared.outcome.Record.{Record}
 use Rattle.spec_run.specs.Setup.{Setup}
 use Rattle.spec_run.specs.World.{World, held_at}
-use Rattle.spec_run.specs.Draft.{Answer, Went, Halted}
+use Rattle.spec_run.specs.Draft.{Answer, Went, Halted, Halt, settled}
 use Rattle.spec_run.specs.Compiled.{compiled_at}
 use Rattle.spec_run.specs.Ledger.{verdict_in}
 use Rattle.spec_run.specs.Firing.{initial_by, taking_by}
-use Rattle.spec_run.specs.Event.{event, opening_world, opening_collision}
+use Rattle.spec_run.specs.Event.{draft, event, opening_world, opening_collision}
+use Rattle.spec_run.specs.Halting.{HaltIsThere, NothingHalts, SameStrings, OpeningIs}
 use Rattle.spec_run.specs.Steps.{steps_of}
-use Rattle.spec_run.specs.Translation.{Turn, record_in, opening_configuration, course, translated, in_order, last_configuration, last_world}
+use Rattle.spec_run.specs.Translation.{Turn, record_in, opening_configuration, course, translated, in_order, last_configuration, last_world, first_halt}
 use Rattle.spec_run.specs.Agreement.{Agree}
 use Rattle.spec_run.specs.Licence.{Licensed}
 use Rattle.spec_run.specs.Offers.{Offer, offers}
@@ -109,6 +110,29 @@ abbrev pub OffersTheorem : Type 0
 OffersTheorem = (s : Setup) (es : List Event) → IsRun s es
     → (offer : Offer) → Contains (offers (last_configuration s es)) offer → IsKept s (last_configuration s es) (last_world s es) offer
 
+-- the run that ends with this turn
+abbrev pub events_until : List Record → Turn → List Event
+events_until before t = map (λ r. r.event) (before ++ record_in t ∷ [])
+
+-- what is offered after an event of a run
+pub record OffersAreKept (s : Setup) (before : List Record) (t : Turn) : Type 0 where
+  -- is what is offered at the end of the run that ends there, in the same world
+  pub same_offers : offers t.configuration ≡ offers (last_configuration s (events_until before t))
+  pub same_world : t.world ≡ last_world s (events_until before t)
+  -- and each of it is kept
+  pub kept : (offer : Offer) → Contains (offers t.configuration) offer → IsKept s t.configuration t.world offer
+
+abbrev pub offers_kept : Setup → Claim
+offers_kept s before g w t = OffersAreKept s before t
+
+pub record OffersThroughout (s : Setup) (es : List Event) : Type 0 where
+  pub opening : (offer : Offer) → Contains (offers (opening_configuration s)) offer → IsKept s (opening_configuration s) (opening_world s) offer
+  pub events : HoldsThroughout s (offers_kept s) es
+
+-- every enabled and authorised contract step at the opening and after every event is kept
+abbrev pub OffersThroughoutTheorem : Type 0
+OffersThroughoutTheorem = (s : Setup) (es : List Event) → IsRun s es → OffersThroughout s es
+
 -- ---- the honest deposits theorem
 
 abbrev pub spends_with_leave : Setup → Claim
@@ -117,6 +141,35 @@ spends_with_leave s before g w t = SpendsWithLeave s before w (record_in t) t.wo
 -- an honest party's live deposit goes only by its own gift, or by a transaction of a contract that it endorsed or started
 abbrev pub HonestDepositsTheorem : Type 0
 HonestDepositsTheorem = (s : Setup) (es : List Event) → IsRun s es → HoldsThroughout s (spends_with_leave s) es
+
+-- ---- the halts theorem
+
+-- the event is what it comes to in the world before it, and nothing halts it
+pub record GoesOn (s : Setup) (w : World) (t : Turn) : Type 0 where
+  pub outcome : t.outcome ≡ (draft s w t.event).outcome
+  pub tx : t.tx ≡ (draft s w t.event).tx
+  pub world : t.world ≡ settled w (draft s w t.event)
+  pub halts : NothingHalts s w t.event
+  -- the messages after it are those before it and what it hashes
+  pub hashed : SameStrings t.world.hashed (w.hashed ++ (draft s w t.event).hashes)
+
+abbrev pub went_on : Setup → Claim
+went_on s before g w t = GoesOn s w t
+
+-- these events are all that were to be played, or those before the halting one, which halts in this world with what is there
+abbrev pub EndsAs : Setup → List Event → List Event → World → Option (Event × Halt) → Type 0
+EndsAs s es before w None = before ≡ es
+EndsAs s es before w (Some h) = ((later : List Event) × (es ≡ before ++ h.0 ∷ later)) × HaltIsThere s w (h.0) (h.1)
+
+-- each event goes on where nothing halts it, and the run halts only where something does
+pub record HaltsRightly (s : Setup) (es : List Event) : Type 0 where
+  pub events : HoldsThroughout s (went_on s) es
+  pub ends : EndsAs s es (map (λ t. t.event) (course s es).turns) (last_world s es) (first_halt s es)
+
+-- the opening, and every run after an opening that doesn't collide
+pub record HaltsTheorem : Type 0 where
+  pub opening : (s : Setup) → OpeningIs s (opening_collision s)
+  pub runs : (s : Setup) (es : List Event) → IsRun s es → HaltsRightly s es
 
 -- ---- what holds in any world
 

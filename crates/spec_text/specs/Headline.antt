@@ -15,7 +15,8 @@ use Rattle.spec_run.specs.Conditions.{HashesBytes}
 use Rattle.spec_run.specs.Event.{opening_collision}
 use Rattle.spec_run.specs.Translation.{Turn, opening_configuration, course, last_world, last_configuration, first_halt, in_order}
 use Rattle.spec_run.specs.Offers.{Offer, offers}
-use Rattle.spec_run.specs.Statements.{Simulates, HoldsThroughout, licensed, IsKept}
+use Rattle.spec_run.specs.Halting.{OpeningIs}
+use Rattle.spec_run.specs.Statements.{Simulates, HoldsThroughout, licensed, IsKept, OffersThroughout, HaltsRightly}
 use Rattle.spec_text.specs.Refusals.{run_of}
 use Rattle.spec_text.specs.declared.entry.Entry.{Entry}
 use Rattle.spec_text.specs.PlayText.{Ending, whole, guessed, collided, report_text}
@@ -66,6 +67,10 @@ pub record IsFaithful (s : Setup) (es : List Event) : Type 0 where
   -- every enabled and authorised contract step at the end has a compiled transaction that the ledger accepts, and
   -- its event leads to the step
   pub offers : (offer : Offer) → Contains (offers (last_configuration s es)) offer → IsKept s (last_configuration s es) (last_world s es) offer
+  -- and so it is at the opening and after every event; what is offered there is what the run offers that ends there
+  pub offers_throughout : OffersThroughout s es
+  -- each event goes on where nothing halts it, and the run halts only where strings collide or a secret is given away
+  pub halts : HaltsRightly s es
   -- and it is what is printed
   pub shown : IsShown s es (entries s es) (ending s es)
 
@@ -82,6 +87,8 @@ pub record Headline (hash : List ℕ → List ℕ) (run_file : List ℕ) (contra
       ≡ report_text run.header.deposits (entries (setup_of hash run contracts) run.events) (ending (setup_of hash run contracts) run.events)
   -- 0 at the end of all events, 7 after a guess, 8 after a collision
   pub status : printed.status ≡ ending_status (ending (setup_of hash run contracts) run.events)
+  -- where the opening is said to collide it does
+  pub opening : OpeningIs (setup_of hash run contracts) (opening_collision (setup_of hash run contracts))
   -- what it shows is a faithful run, unless the opening collides
   pub faithful : opening_collision (setup_of hash run contracts) ≡ None → IsFaithful (setup_of hash run contracts) run.events
 

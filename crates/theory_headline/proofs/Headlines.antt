@@ -29,6 +29,8 @@ use Rattle.theory_text.proofs.ValidRuns.{run_file_is}
 use Rattle.spec_text.specs.Headline.{AreEntriesOf, EndsRun, IsShown, HeadlineTheorem}
 use Rattle.theory_run.proofs.Simulated.{simulation}
 use Rattle.theory_run.proofs.Honest.{licence}
+use Rattle.theory_run.proofs.HaltsRightly.{halts}
+use Rattle.theory_offers.proofs.Throughout.{kept_throughout_offers}
 use Rattle.theory_offers.proofs.Whole.{kept_offers}
 
 -- ---- one contract
@@ -179,6 +181,7 @@ headline hash bytes run_file contract_files run contracts r c few =
       well_formed = c;
       text = ap (λ (p : Printed). p.text) answer ∙ text_is s run.events;
       status = ap (λ (p : Printed). p.status) answer;
+      opening = halts.opening s;
       faithful = λ opens.
           let is = valid_runs_are hash bytes run_file contract_files run contracts r c few opens in
           let simulates = simulation s run.events is in
@@ -186,6 +189,8 @@ headline hash bytes run_file contract_files run contracts r c few =
             simulates = simulates;
             licensed = licence s run.events is;
             offers = kept_offers s run.events is;
+            offers_throughout = kept_throughout_offers s run.events is;
+            halts = halts.runs s run.events is;
             shown = shown_is s run.events opens simulates;
           };
     }

@@ -1,5 +1,7 @@
 mod AllSigned
 mod Balanced
+mod Blanked
+mod CutRuns
 mod Endorsing
 mod Faithful
 mod Leads
@@ -23,6 +25,7 @@ mod Takings
 mod Telling
 mod Unlocked
 mod Unmet
+pub mod Throughout
 pub mod Whole
 pub mod Beginning
 pub mod BegunInRun

@@ -46,7 +46,7 @@ module _ (s : Setup) (setup : IsSetup s) (z : List (List ℕ)) (before : List Re
 pub opening_all : (s : Setup) (es : List Event) → IsRun s es → (z : List (List ℕ)) → KeptAll s z [] (opening_configuration s) (opening_world s)
 opening_all s es run z = record { honest = opening_honest s es run z; starts = opening_starts s (opening_world s); more = opening_kept s run.setup }
 
-keeps_all : (s : Setup) → IsSetup s → (z : List (List ℕ)) → Keeps s (spends_with_leave s) (KeptAll s z) z
+pub keeps_all : (s : Setup) → IsSetup s → (z : List (List ℕ)) → Keeps s (spends_with_leave s) (KeptAll s z) z
 keeps_all s setup z = record { step = λ before g w e k is calm unguessed begins. (left_with_leave s setup z before g w k.honest e is calm unguessed begins, all_after s setup z before g w k e is calm unguessed begins) }
 
 -- what is offered after a run is kept

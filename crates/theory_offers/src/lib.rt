@@ -1,13 +1,19 @@
-//! What follows of the offers at the end of a run: the theorem is the contract of a function that does nothing.
+//! What follows of the offers of a run: each theorem is the contract of a function that does nothing.
 #![tactic(auto)]
 
-ghost use Rattle.spec_run.specs.Statements.{OffersTheorem};
+ghost use Rattle.spec_run.specs.Statements.{OffersTheorem, OffersThroughoutTheorem};
 ghost use Rattle.theory_offers.specs.Begun.{EndorsedBeforeStart};
 
 /// Every enabled and authorised contract step after a run has a compiled transaction that the
 /// ledger accepts, and its event leads to the step.
 pub fn offers_theorem()
     ensures { OffersTheorem }
+{}
+
+/// So has every enabled and authorised contract step at the opening and after every event of a run, and
+/// what is offered there is what the run offers that ends there.
+pub fn offers_throughout_theorem()
+    ensures { OffersThroughoutTheorem }
 {}
 
 /// A contract begins in a run only where all its endorsements are in the book, and they stay there.

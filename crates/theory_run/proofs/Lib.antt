@@ -2,6 +2,7 @@ pub mod Accept
 pub mod Advertises
 pub mod Adverts
 pub mod AllSecrets
+pub mod Allowing
 pub mod Awaiting
 pub mod Beginnings
 pub mod Bookkeeping
@@ -20,6 +21,8 @@ pub mod Following
 pub mod Given
 pub mod Gone
 pub mod Growing
+pub mod Halts
+pub mod HaltsRightly
 pub mod Honest
 pub mod HonestSpends
 pub mod Keeping

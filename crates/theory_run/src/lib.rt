@@ -1,7 +1,7 @@
 //! What follows of runs: each theorem is the contract of a function that does nothing.
 #![tactic(auto)]
 
-ghost use Rattle.spec_run.specs.Statements.{SimulationTheorem, LicenceTheorem, HonestDepositsTheorem};
+ghost use Rattle.spec_run.specs.Statements.{SimulationTheorem, LicenceTheorem, HonestDepositsTheorem, HaltsTheorem};
 ghost use Rattle.theory_run.specs.WorldsOfRuns.{WorldsOfRuns, WorldsOfTurns};
 
 /// Every run of events is, step by step, a legal run of the calculus, and configuration and world
@@ -19,6 +19,12 @@ pub fn licence_theorem()
 /// witnesses, the compiled one of a contract that it endorsed or started.
 pub fn honest_deposits_theorem()
     ensures { HonestDepositsTheorem }
+{}
+
+/// Every event before a run's halt goes on where nothing halts it, and a halt is of two different strings
+/// with one digest, or of a secret that somebody else gave away; so is the collision of an opening.
+pub fn halts_theorem()
+    ensures { HaltsTheorem }
 {}
 
 /// Every world that a run comes to has the messages that its events hashed, in turn; under each

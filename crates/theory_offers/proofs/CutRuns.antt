@@ -1,0 +1,96 @@
+-- A run that is cut after an event: what its events left, and its configuration but for the lengths that are committed, are those of the whole run there.
+use Rattle.std.proofs.Common.{◌≡◌, ℕ, List, [], ◌∷◌, ◌++◌, map, Option, Some, None, refl, sym, ap, ◌∙◌, subst}
+use Rattle.spec_bitcoin.specs.declared.tx.Tx.{Tx}
+use Rattle.spec_calculus.specs.declared.parts.Committed.{Committed}
+use Rattle.spec_calculus.specs.Configuration.{Configuration}
+use Rattle.spec_run.specs.declared.event.Event.{Event}
+use Rattle.spec_run.specs.declared.event.Event.TheVariants as events
+use Rattle.spec_run.specs.declared.header.HeldSecret.{HeldSecret}
+use Rattle.spec_run.specs.declared.outcome.Outcome.{Outcome}
+use Rattle.spec_run.specs.declared.outcome.Outcome.TheVariants as outcomes
+use Rattle.spec_run.specs.Setup.{Setup}
+use Rattle.spec_run.specs.Messages.{collision}
+use Rattle.spec_run.specs.World.{World}
+use Rattle.spec_run.specs.Draft.{guess, settled, settle}
+use Rattle.spec_run.specs.Event.{Passed, draft, goes_on, played_from, onto_passed}
+use Rattle.spec_run.specs.Ledger.{Kind, Begins, Takes, Moves, kind_of}
+use Rattle.spec_run.specs.Steps.{reveals, kind_steps, accepted_steps, done_steps, outcome_steps, steps_of}
+use Rattle.spec_run.specs.Translation.{turn_of, turns_from, world_after, last_or}
+use Rattle.theory_offers.proofs.Blanked.{blank, fill, unmeasured, after-measured}
+
+-- ---- steps by other strings and other commitments
+
+module _ (s : Setup) (y z : List (List ℕ)) (g : Configuration) (cs : List Committed) (w next : World) where
+  abbrev there : Configuration
+  there = record g { committed = cs }
+
+  kind_same : (tx : Tx) (spent : List ℕ) (kind : Kind) → map unmeasured (reveals s w next ++ kind_steps s g w tx spent kind) ≡ map unmeasured (reveals s w next ++ kind_steps s there w tx spent kind)
+  kind_same tx spent (Begins contract) = refl
+  kind_same tx spent (Takes held output branch) = refl
+  kind_same tx spent Moves = refl
+
+  accepted_same : (spent : List ℕ) (tx : Option Tx) → map unmeasured (accepted_steps s g w next spent tx) ≡ map unmeasured (accepted_steps s there w next spent tx)
+  accepted_same spent None = refl
+  accepted_same spent (Some tx) = kind_same tx spent (kind_of s w tx spent)
+
+  done_same : (e : Event) → map unmeasured (done_steps s y w next e) ≡ map unmeasured (done_steps s z w next e)
+  done_same (events.Advertise contract bindings) = refl
+  done_same (events.Commit contract party digests) = refl
+  done_same (events.Endorse contract party) = refl
+  done_same (events.Init contract party) = refl
+  done_same (events.Authorise party output branch) = refl
+  done_same (events.Reveal contract party secret) = refl
+  done_same (events.Post bytes) = refl
+  done_same (events.Sign party label digest) = refl
+  done_same (events.Give party inputs outputs) = refl
+  done_same (events.Append bytes) = refl
+  done_same (events.FireInit contract) = refl
+  done_same (events.Fire output branch) = refl
+  done_same (events.Mine blocks) = refl
+
+  outcome_same : (e : Event) (tx : Option Tx) (o : Outcome) → map unmeasured (outcome_steps s y g w next e tx o) ≡ map unmeasured (outcome_steps s z there w next e tx o)
+  outcome_same e tx outcomes.Done = done_same e
+  outcome_same e tx (outcomes.Accepted spent made lock) = accepted_same spent tx
+  outcome_same e tx (outcomes.Refused reason) = refl
+
+-- the configuration after an event, but for what is committed, is the same whatever strings the run posts
+pub turn_same : (s : Setup) (y z : List (List ℕ)) (g h : Configuration) (w : World) (p : Passed) → blank g ≡ blank h → blank (turn_of s y g w p).configuration ≡ blank (turn_of s z h w p).configuration
+turn_same s y z g h w p e =
+    let same : map unmeasured (steps_of s y g w p.world p.event p.draft) ≡ map unmeasured (steps_of s z h w p.world p.event p.draft) =
+    outcome_same s y z g h.committed w p.world p.event p.draft.tx p.draft.outcome ∙ ap (λ c. map unmeasured (steps_of s z c w p.world p.event p.draft)) (fill g h e) in
+    after-measured (steps_of s y g w p.world p.event p.draft) (steps_of s z h w p.world p.event p.draft) g h same e
+
+-- ---- one more event
+
+-- the configuration after these events, from this one and this world on
+abbrev pub reached : Setup → List (List ℕ) → Configuration → World → List Passed → Configuration
+reached s z g w ps = last_or g (map (λ t. t.configuration) (turns_from s z g w ps))
+
+pub reached_more : (s : Setup) (z : List (List ℕ)) (ps : List Passed) (p : Passed) (g : Configuration) (w : World) → reached s z g w (ps ++ p ∷ []) ≡ (turn_of s z (reached s z g w ps) (world_after w ps) p).configuration
+reached_more s z [] p g w = refl
+reached_more s z (q ∷ ps) p g w = reached_more s z ps p (turn_of s z g w q).configuration q.world
+
+-- what an event comes to in a world
+abbrev pub passing : Setup → World → Event → Passed
+passing s w e = record { event = e; draft = draft s w e; world = settled w (draft s w e) }
+
+-- where all of these events went on, and so does one more
+pub played_more : (s : Setup) (es : List Event) (e : Event) (w : World) (last : World) → (played_from s w es).halt ≡ None → world_after w (played_from s w es).passed ≡ last
+    → collision s.hash last.hashed (draft s last e).hashes ≡ None → guess s last.posted (draft s last e).posts (draft s last e).allowed ≡ None
+    → played_from s w (es ++ e ∷ []) ≡ record { passed = (played_from s w es).passed ++ passing s last e ∷ []; halt = None }
+played_more s [] e w last on there calm unguessed =
+    subst (λ x. goes_on e (settle x (draft s x e) (collision s.hash x.hashed (draft s x e).hashes) (guess s x.posted (draft s x e).posts (draft s x e).allowed)) (λ next. played_from s next [])
+    ≡ record { passed = passing s last e ∷ []; halt = None }) (sym there) (rw (calm, unguessed) refl)
+played_more s (x ∷ es) e w last on there calm unguessed =
+    let d = draft s w x in
+    by_answer (collision s.hash w.hashed d.hashes) (guess s w.posted d.posts d.allowed) on there (λ next f t. played_more s es e next last f t calm unguessed)
+  where
+    by_answer : (c : Option (List ℕ × List ℕ)) (u : Option HeldSecret)
+        → (goes_on x (settle w (draft s w x) c u) (λ next. played_from s next es)).halt ≡ None
+        → world_after w (goes_on x (settle w (draft s w x) c u) (λ next. played_from s next es)).passed ≡ last
+        → ((next : World) → (played_from s next es).halt ≡ None → world_after next (played_from s next es).passed ≡ last → played_from s next (es ++ e ∷ []) ≡ record { passed = (played_from s next es).passed ++ passing s last e ∷ []; halt = None })
+        → goes_on x (settle w (draft s w x) c u) (λ next. played_from s next (es ++ e ∷ []))
+        ≡ record { passed = (goes_on x (settle w (draft s w x) c u) (λ next. played_from s next es)).passed ++ passing s last e ∷ []; halt = None }
+    by_answer (Some pair) u f t ih = cc
+    by_answer None (Some held) f t ih = cc
+    by_answer None None f t ih = ap (onto_passed (passing s w x)) (ih (settled w (draft s w x)) f t)

@@ -1,0 +1,5 @@
+use Rattle.theory_run.proofs.HaltsRightly.{halts}
+use Rattle.theory_run.proofs.halts_theorem.Goals as goal
+
+pub returns : goal.returns
+returns c = halts

@@ -1,4 +1,4 @@
--- What is claimed of contracts that have begun: each was endorsed before; of this project's profile of BitML.
+-- What is claimed of contracts that have begun: each was endorsed before.
 use Rattle.std.specs.Prelude.{◌≡◌, ℕ, List, Bool, true, false, ◌||◌, Option, Some, None}
 use Rattle.std.specs.List.{list_all}
 use Rattle.spec_data.specs.Lists.{has_number}

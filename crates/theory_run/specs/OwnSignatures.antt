@@ -1,4 +1,4 @@
--- What a party itself signs in a run, event by event; of this project's profile of BitML.
+-- What a party itself signs in a run, event by event.
 use Rattle.std.specs.Prelude.{ℕ, List, [], ◌∷◌, ◌++◌, Bool, false, if◌then◌else◌}
 use Rattle.std.specs.Str.{bytes_eq}
 use Rattle.spec_bitcoin.specs.Keys.{Pair, key_of}

@@ -1,4 +1,4 @@
--- What is claimed of every world that a run comes to: messages, signatures, places, commitments, money; of this project's profile of BitML.
+-- What is claimed of every world that a run comes to: messages, signatures, places, commitments, money.
 use Rattle.std.specs.Prelude.{◌≡◌, ℕ, ◌+◌, ◌≤◌, List, [], ◌++◌, Bool, true, false, ◌&&◌, ◌==◌}
 use Rattle.std.specs.Prelude.{Option, Some, None, option_map, slice_get, take}
 use Rattle.std.specs.List.{list_any, flat_map, AllByRecursion}

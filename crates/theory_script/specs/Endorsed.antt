@@ -1,4 +1,4 @@
--- What is claimed of the answer whether a contract is endorsed: none is missing, or the first that is; of this project's profile of BitML.
+-- What is claimed of the answer whether a contract is endorsed: none is missing, or the first that is.
 use Rattle.std.specs.Prelude.{◌≡◌, ℕ, List, ◌∷◌, ◌++◌, true, false, Some}
 use Rattle.std.specs.Option.{is_none}
 use Rattle.spec_bitcoin.specs.Keys.{Pair}

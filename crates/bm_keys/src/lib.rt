@@ -12,7 +12,7 @@ pub use reading::{LabelError, read_label};
 pub use spec_bitcoin::Label;
 pub use spec_data::Name;
 pub use spec_terms::{Path, PathStep};
-pub use texts::label_text;
+pub use texts::{label_text, put_path, put_step};
 
 #[cfg(test)]
 mod tests;

@@ -10,7 +10,8 @@ use spec_data::{Name, OutOfMemory};
 use spec_terms::PathStep;
 use std::alloc::Global;
 
-fn put_step(alloc: Global, out: &mut Vec<u8>, step: &PathStep) -> Result<(), OutOfMemory>
+/// Writes a step of a path.
+pub fn put_step(alloc: Global, out: &mut Vec<u8>, step: &PathStep) -> Result<(), OutOfMemory>
     ensures { OnOk result (out.new.items ≡ out.old.items ++ spec.step_text step.now) }
 {
     match step {
@@ -25,7 +26,8 @@ fn put_step(alloc: Global, out: &mut Vec<u8>, step: &PathStep) -> Result<(), Out
     }
 }
 
-fn put_path(alloc: Global, out: &mut Vec<u8>, steps: &[PathStep]) -> Result<(), OutOfMemory>
+/// Writes a path, from the root on.
+pub fn put_path(alloc: Global, out: &mut Vec<u8>, steps: &[PathStep]) -> Result<(), OutOfMemory>
     ensures { OnOk result (out.new.items ≡ out.old.items ++ spec.path_text steps.now) }
 {
     out.push(b'r')?;

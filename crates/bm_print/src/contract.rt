@@ -6,8 +6,9 @@ ghost use Rattle.bm_syntax.specs.View.{guarded, contract, parts_view, choice_vie
 ghost use Rattle.spec_text.specs.Canonical as spec;
 
 use crate::prefix::put_heading;
-use crate::text::{put, put_number};
+use crate::text::put_number;
 use bm_syntax::{Contract, Guarded, Part};
+use bm_text::put;
 use spec_data::OutOfMemory;
 
 /// A contract.

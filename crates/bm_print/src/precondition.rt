@@ -4,8 +4,9 @@ ghost use Rattle.std.specs.Prelude.{◌≡◌, ◌++◌, codes, OnOk};
 ghost use Rattle.std.specs.Fmt.{decimal};
 ghost use Rattle.spec_text.specs.Canonical as spec;
 
-use crate::text::{put, put_number};
+use crate::text::put_number;
 use bm_syntax::{Name, Pre};
+use bm_text::put;
 use spec_data::OutOfMemory;
 
 /// A deposit, whose mark is `!` or `?`.

@@ -4,8 +4,9 @@ ghost use Rattle.std.specs.Prelude.{◌≡◌, ◌++◌, OnOk};
 ghost use Rattle.bm_syntax.specs.View.{formula, test};
 ghost use Rattle.spec_text.specs.Canonical as spec;
 
-use crate::text::{put, put_number};
+use crate::text::put_number;
 use bm_syntax::{Expr, Pred};
+use bm_text::put;
 use spec_data::OutOfMemory;
 
 /// An expression.

@@ -5,8 +5,8 @@ ghost use Rattle.bm_syntax.specs.View.{test};
 ghost use Rattle.spec_text.specs.Canonical as spec;
 
 use crate::predicate::put_if;
-use crate::text::put;
 use bm_syntax::{Name, Pred};
+use bm_text::put;
 use spec_data::OutOfMemory;
 
 /// Names with commas between them.

@@ -5,8 +5,8 @@ ghost use Rattle.spec_text.specs.Canonical.{advert_text};
 
 use crate::contract::put_contract;
 use crate::precondition::{put_entries, put_fee};
-use crate::text::put;
 use bm_syntax::Advert;
+use bm_text::put;
 use spec_data::OutOfMemory;
 use std::alloc::Global;
 

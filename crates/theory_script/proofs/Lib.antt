@@ -29,3 +29,4 @@ pub mod Balances
 mod Money
 mod Items
 mod Once
+mod Unlimited

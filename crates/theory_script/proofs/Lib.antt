@@ -30,3 +30,4 @@ pub mod Balances
 mod Money
 mod Items
 mod Once
+mod Unlimited

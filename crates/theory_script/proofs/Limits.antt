@@ -1,5 +1,5 @@
 -- The limit on items is not met by short operations.
-use Rattle.std.proofs.Common.{◌≡◌, ℕ, ◌+◌, ◌≤◌, List, [], ◌∷◌, length, Bool, true, false, Option, Some, None, refl, sym, ap, ◌∙◌, subst, arith}
+use Rattle.std.proofs.Common.{◌≡◌, ℕ, ◌+◌, ◌≤◌, List, [], ◌∷◌, length, Bool, true, false, Option, Some, None, refl, sym, ap, ◌∙◌, arith}
 use Rattle.std.specs.Prelude.{if◌then◌else◌, nat_le, ℤ, reverse}
 use Rattle.std.specs.Option.{option_and_then, option_map}
 use Rattle.std.specs.Str.{bytes_eq}
@@ -100,12 +100,12 @@ module _ (hash : Item → Item) (valid : Item → Item → Bool) where
   effect_holds (Some CheckSigVerify) (y ∷ []) alt = tt
   effect_holds (Some CheckSigVerify) (y ∷ (x ∷ m)) alt = on_main_holds (length m + 1) _ (verify_of (item_of_bool (valid x y) ∷ m)) alt (omega arith) (if_has (length m + 1) (truth (item_of_bool (valid x y))) m (omega arith))
 
-  act_holds : (op : Op) (s : Stacks) → Holds (length s.main + length s.alt + 1) (free_act hash valid op s)
+  pub act_holds : (op : Op) (s : Stacks) → Holds (length s.main + length s.alt + 1) (free_act hash valid op s)
   act_holds (Push item) s = omega arith
   act_holds (Code c) s = effect_holds (opcode_of c) s.main s.alt
 
   -- an operation and then the limit
-  act_is : (op : Op) (s : Stacks) → act hash valid op s ≡ option_and_then within_limit (free_act hash valid op s)
+  pub act_is : (op : Op) (s : Stacks) → act hash valid op s ≡ option_and_then within_limit (free_act hash valid op s)
   act_is (Push item) s = refl
   act_is (Code c) s = refl
 
@@ -122,7 +122,7 @@ step_out : (o : Option Stacks) (f g : Stacks → Option Stacks) → ((t : Stacks
 step_out None f g k h = h
 step_out (Some t) f g k h = within_out t f g (nat_le (length t.main + length t.alt) 1000) (k t) h
 
-step_in : (o : Option Stacks) (f g : Stacks → Option Stacks) (n : ℕ) → n ≤ 1000 → Holds n o → ((t : Stacks) → length t.main + length t.alt ≤ n → f t ≡ g t) → option_and_then f (option_and_then within_limit o) ≡ option_and_then g o
+pub step_in : (o : Option Stacks) (f g : Stacks → Option Stacks) (n : ℕ) → n ≤ 1000 → Holds n o → ((t : Stacks) → length t.main + length t.alt ≤ n → f t ≡ g t) → option_and_then f (option_and_then within_limit o) ≡ option_and_then g o
 step_in None f g n le h k = refl
 step_in (Some t) f g n le h k = let e : nat_le (length t.main + length t.alt) 1000 ≡ true = grind (arith, h) in rw e (k t h)
 
@@ -156,18 +156,3 @@ unfolding script_meaning
 script_means hash valid script ops stack few reads kept =
     let bytes : nat_le (length script) 10000 ≡ true = grind (arith, few) in
     rw (bytes, reads, kept) refl
-
--- ---- an operation adds at most one item
-
-held : (o : Option Stacks) (n : ℕ) (t : Stacks) → Holds n o → option_and_then within_limit o ≡ Some t → length t.main + length t.alt ≤ n
-held None n t h e = cc
-held (Some s) n t h e = by_limit (nat_le (length s.main + length s.alt) 1000) e
-  where
-    by_limit : (b : Bool) → (if b then Some s else None) ≡ Some t → length t.main + length t.alt ≤ n
-    by_limit true k = let z : s ≡ t = cc in subst (λ (r : Stacks). length r.main + length r.alt ≤ n) z h
-    by_limit false k = cc
-
-pub adds_one : (hash : Item → Item) (valid : Item → Item → Bool) (op : Op) (s t : Stacks) → act hash valid op s ≡ Some t
-    → length t.main + length t.alt ≤ length s.main + length s.alt + 1
-adds_one hash valid op s t e =
-    held (free_act hash valid op s) _ t (act_holds hash valid op s) (sym (act_is hash valid op s) ∙ e)

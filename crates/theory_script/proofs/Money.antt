@@ -131,7 +131,8 @@ module _ (hash : List ℕ → List ℕ) (s : Setting) where
         core_pays here i b b refl
         (branch_fine hash s here choice i (by_path.at_branch here i b) (position_fine hash s well position here choice h) st)
 
-    pub positions_static : (position : List PathStep) (here : Standing) (choice : Choice) → position_at hash s position ≡ Some (here, choice)
+    pub positions_static : (position : List PathStep) (here : Standing) (choice : Choice)
+        → position_at hash s position ≡ Some (here, choice)
         → Contains (stands s.advert) (balance.stand position (pos here.output.value) (terms.position choice))
     positions_static position here choice h =
         subst (λ q. Contains (stands s.advert) (balance.stand q (pos here.output.value) (terms.position choice)))

@@ -10,16 +10,12 @@ use Rattle.spec_bitcoin.specs.Numbers.{item_of_number}
 use Rattle.spec_bitcoin.specs.Effects.{Item, Stacks, effect, result_of}
 use Rattle.spec_bitcoin.specs.Scripts.{push_number}
 use Rattle.theory_script.specs.Items.{size_of_number}
+pub use Rattle.theory_script.specs.Limits.{free_act}
 use Rattle.theory_script.proofs.NumberLemmas.{number_again}
 use Rattle.spec_bitcoin.specs.declared.opcode.Binary as binaries
 
 abbrev pub stacks : List Item → List Item → Stacks
 stacks main alt = record { main = main; alt = alt }
-
--- an operation, without the limit on items
-abbrev pub free_act : (Item → Item) → (Item → Item → Bool) → Op → Stacks → Option Stacks
-free_act hash valid (Push item) s = Some (stacks (item ∷ s.main) s.alt)
-free_act hash valid (Code c) s = effect hash valid (opcode_of c) s.main s.alt
 
 abbrev pub free_run : (Item → Item) → (Item → Item → Bool) → List Op → Stacks → Option Stacks
 free_run hash valid [] s = Some s

@@ -1,11 +1,15 @@
 -- What is claimed of the limits that Bitcoin's consensus sets to scripts: that of a position meets none of them, whether it opens or not.
-use Rattle.std.specs.Prelude.{◌≡◌, ℕ, ◌+◌, ◌≤◌, List, length, Bool, true, Some, reverse}
+use Rattle.std.specs.Prelude.{◌≡◌, ℕ, ◌+◌, ◌≤◌, List, [], ◌∷◌, length, Bool, true, not, if◌then◌else◌, Option, Some, None, reverse}
+use Rattle.std.specs.Option.{option_and_then}
 use Rattle.spec_terms.specs.Term.{Choice}
 use Rattle.spec_terms.specs.declared.path.PathStep.{PathStep}
 use Rattle.spec_bitcoin.specs.declared.script.Op.{Op}
-use Rattle.spec_bitcoin.specs.Effects.{Stacks}
+use Rattle.spec_bitcoin.specs.declared.script.Op.TheVariants.{Push, Code}
+use Rattle.spec_bitcoin.specs.Opcodes.{opcode_of}
+use Rattle.spec_bitcoin.specs.Effects.{Item, Stacks, truth, effect}
+use Rattle.spec_bitcoin.specs.Trees.{Items, End, Plain, Block, Sections, NoMore, Section, tree_of}
 use Rattle.spec_bitcoin.specs.Scripts.{script_ops}
-use Rattle.spec_bitcoin.specs.Meaning.{act, within_limits, meaning, script_meaning}
+use Rattle.spec_bitcoin.specs.Meaning.{within_limits, outcome, meaning, script_meaning}
 use Rattle.spec_compiler.specs.Scripts.{output_ops}
 use Rattle.spec_compiler.specs.Setting.{Setting, position_demands, position_script}
 use Rattle.spec_compiler.specs.Statements.{IsHash, IsCompiled}
@@ -30,7 +34,41 @@ abbrev pub NoLimitIsMet : Type 0
 NoLimitIsMet = (hash : List ℕ → List ℕ) (s : Setting) (position : List PathStep) (choice : Choice)
     → IsHash hash → IsCompiled s position choice → MeetsNoLimit hash s position choice
 
--- an operation adds at most one item to the stacks, so that 402 operations never make 1,000 items of fewer than 599
-abbrev pub OperationsAddOne : Type 0
-OperationsAddOne = (hash : List ℕ → List ℕ) (valid : List ℕ → List ℕ → Bool) (op : Op) (s t : Stacks)
-    → act hash valid op s ≡ Some t → length t.main + length t.alt ≤ length s.main + length s.alt + 1
+-- ---- the limit on items
+
+-- an operation that runs, with no limit on the items
+abbrev pub free_act : (Item → Item) → (Item → Item → Bool) → Op → Stacks → Option Stacks
+free_act hash valid (Push item) s = Some (record { main = item ∷ s.main; alt = s.alt })
+free_act hash valid (Code c) s = effect hash valid (opcode_of c) s.main s.alt
+
+-- the item that IF or NOTIF pops, as whether the sections at even places run
+abbrev pub free_choose : Bool → Stacks → Option (Bool × Stacks)
+free_choose negated s = elim s.main as (λ _. Option (Bool × Stacks)) [
+  | [] ↦ None
+  | x ∷ rest ↦ Some (if negated then not (truth x) else truth x, record { main = rest; alt = s.alt })
+]
+
+-- what the operations and blocks make of the stacks, with no limit on the items
+abbrev mutual
+  pub free_items : (Item → Item) → (Item → Item → Bool) → Items → Stacks → Option Stacks
+  free_items hash valid End s = Some s
+  free_items hash valid (Plain op rest) s = option_and_then (free_items hash valid rest) (free_act hash valid op s)
+  free_items hash valid (Block negated sections rest) s =
+      option_and_then (free_items hash valid rest)
+      (option_and_then (λ (p : Bool × Stacks). free_sections hash valid sections p.0 p.1) (free_choose negated s))
+
+  pub free_sections : (Item → Item) → (Item → Item → Bool) → Sections → Bool → Stacks → Option Stacks
+  free_sections hash valid NoMore even s = Some s
+  free_sections hash valid (Section items others) even s =
+      option_and_then (free_sections hash valid others (not even)) (if even then free_items hash valid items s else Some s)
+
+-- the stacks after the operations, on a stack from its top, with no limit on the items
+abbrev pub free_outcome : (Item → Item) → (Item → Item → Bool) → List Op → List Item → Option Stacks
+free_outcome hash valid ops stack =
+    option_and_then (λ (items : Items). free_items hash valid items (record { main = stack; alt = [] })) (tree_of ops)
+
+-- an operation adds at most one item: where items and operations together are at most 1,000, the limit changes nothing.
+-- So the 402 operations of a position never meet it on a stack of at most 598 items
+abbrev pub LimitOnItems : Type 0
+LimitOnItems = (hash : Item → Item) (valid : Item → Item → Bool) (ops : List Op) (stack : List Item)
+    → length stack + length ops ≤ 1000 → outcome hash valid ops stack ≡ free_outcome hash valid ops stack

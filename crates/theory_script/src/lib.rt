@@ -6,7 +6,7 @@ ghost use Rattle.spec_compiler.specs.Statements.{ScriptTheorem, OpenedIsChosen, 
 ghost use Rattle.theory_script.specs.Choices.{WitnessChooses, ChoosesByItems};
 ghost use Rattle.theory_script.specs.Endorsed.{MissingIsFirst};
 ghost use Rattle.theory_script.specs.Listed.{PathsAreListed, ScriptsAreListed, PositionsStand, PathsInOrder};
-ghost use Rattle.theory_script.specs.Limits.{NoLimitIsMet, OperationsAddOne};
+ghost use Rattle.theory_script.specs.Limits.{NoLimitIsMet, LimitOnItems};
 ghost use Rattle.theory_script.specs.Money.{MoneyIsKept};
 ghost use Rattle.theory_script.specs.Items.{NumbersAreReadBack, ItemsAreShortest};
 
@@ -96,7 +96,7 @@ pub fn no_limit_is_met()
     ensures { NoLimitIsMet }
 {}
 
-/// An operation adds at most one item to the stacks.
-pub fn operations_add_one()
-    ensures { OperationsAddOne }
+/// The limit on items changes nothing where items and operations together are at most 1,000.
+pub fn limit_on_items()
+    ensures { LimitOnItems }
 {}

@@ -10,8 +10,8 @@ ghost use Rattle.bm_reader.specs.Gives.{Gives};
 ghost use Rattle.bm_reader.specs.HeadingView.{heading};
 
 use crate::built::{
-    boxed_after, boxed_auth, boxed_put_reveal, branch_before, one_branch, one_part, part_before,
-    split_among,
+    boxed_after, boxed_auth, boxed_branch, boxed_put_reveal, branch_before, one_branch, one_part,
+    part_before, split_among, unboxed_branch,
 };
 use crate::error::ReadError;
 use crate::heading::{Heading, puts_of, reveals_of};
@@ -80,12 +80,13 @@ fn branches_of(
     ensures { Gives (λ x. ((choice_view x.0.items, x.1), x.2.now)) result (branches_at (branch_at depth) depth more budget lexemes.now) }
 {
     let (first, left, rest) = allowed_of(alloc, depth, budget, more, lexemes)?;
+    let first = boxed_branch(alloc, first)?;
     if more == 0 {
-        return Ok((one_branch(alloc, first)?, left, rest));
+        return Ok((unboxed_branch(alloc, first)?, left, rest));
     }
     let (goes_on, rest) = goes_on_of(rest)?;
     if !goes_on {
-        return Ok((one_branch(alloc, first)?, left, rest));
+        return Ok((unboxed_branch(alloc, first)?, left, rest));
     }
     let (others, left, rest) = branches_of(alloc, depth, more - 1, left, rest)?;
     Ok((branch_before(first, others)?, left, rest))

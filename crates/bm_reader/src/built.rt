@@ -58,12 +58,28 @@ pub fn one_branch(alloc: Global, only: Guarded) -> Result<Vec<Guarded>, OutOfMem
     Ok(branches)
 }
 
+/// A branch in a box of its own.
+pub fn boxed_branch(alloc: Global, only: Guarded) -> Result<Box<Guarded>, OutOfMemory>
+    ensures { IfOk result (λ b. guarded b.value ≡ guarded only) }
+{
+    Box::new(alloc, only).map_err(AllocError::from)
+}
+
+/// The branch of a box, as a list.
+pub fn unboxed_branch(alloc: Global, only: Box<Guarded>) -> Result<Vec<Guarded>, OutOfMemory>
+    ensures { IfOk result (λ list. choice_view list.items ≡ branch (guarded only.value) no_branch) }
+{
+    one_branch(alloc, Box::into_inner(only))
+}
+
 /// A branch before at most 31 others.
-pub fn branch_before(first: Guarded, others: Vec<Guarded>) -> Result<Vec<Guarded>, OutOfMemory>
-    ensures { IfOk result (λ list. choice_view list.items ≡ branch (guarded first) (choice_view others.items)) }
+pub fn branch_before(first: Box<Guarded>, others: Vec<Guarded>) -> Result<Vec<Guarded>, OutOfMemory>
+    ensures { IfOk result (λ list. choice_view list.items ≡ branch (guarded first.value) (choice_view others.items)) }
 {
     let mut branches = others;
-    branches.insert(0, first).map_err(AllocError::from)?;
+    branches
+        .insert(0, Box::into_inner(first))
+        .map_err(AllocError::from)?;
     Ok(branches)
 }
 

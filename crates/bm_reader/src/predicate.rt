@@ -5,6 +5,7 @@ ghost use Rattle.bm_syntax.specs.View.{formula, test};
 ghost use Rattle.spec_terms.specs.Term.{both, negation};
 ghost use Rattle.spec_text.specs.Reading.{token_by, too_many};
 ghost use Rattle.spec_text.specs.ReadTest.{begins_formula, begins_test, a_sign, a_relation, signed, related, constant_at, length_at, formula_at, comparison_at, test_at};
+ghost use Rattle.bm_reader.specs.Brackets.{sum_at, negation_at, conjunction_at};
 ghost use Rattle.bm_reader.specs.Gives.{Gives};
 
 use crate::error::ReadError;
@@ -64,15 +65,20 @@ fn length_of(lexemes: &[Lexeme]) -> Result<(Expr, &[Lexeme]), ReadError>
     Ok((Expr::Length(*name), rest))
 }
 
+fn boxed_expr(alloc: Global, expr: Expr) -> Result<Box<Expr>, OutOfMemory>
+    ensures { IfOk result (λ b. b.value ≡ expr) }
+{
+    Box::new(alloc, expr).map_err(AllocError::from)
+}
+
 fn sum_or_difference(
     alloc: Global,
     plus: bool,
-    left: Expr,
+    left: Box<Expr>,
     right: Expr,
 ) -> Result<Expr, OutOfMemory>
-    ensures { IfOk result (λ e. formula e ≡ signed plus (formula left) (formula right)) }
+    ensures { IfOk result (λ e. formula e ≡ signed plus (formula left.value) (formula right)) }
 {
-    let left = Box::new(alloc, left).map_err(AllocError::from)?;
     let right = Box::new(alloc, right).map_err(AllocError::from)?;
     Ok(if plus {
         Expr::Plus(left, right)
@@ -81,8 +87,24 @@ fn sum_or_difference(
     })
 }
 
+/// Two expressions with their sign, behind the bracket that opens.
+#[cycle(summing)]
+#[tactic(auto, unfolding(crate::specs::Brackets::sum_at))]
+fn sum_of(alloc: Global, depth: u32, lexemes: &[Lexeme]) -> Result<(Expr, &[Lexeme]), ReadError>
+    ensures { Gives (λ x. (formula x.0, x.1.now)) result (sum_at (formula_at depth) lexemes.now) }
+{
+    let (left, rest) = formula_of(alloc, depth, lexemes)?;
+    let left = boxed_expr(alloc, left)?;
+    let (plus, rest) = sign_of(rest)?;
+    let (right, rest) = formula_of(alloc, depth, rest)?;
+    let sum = sum_or_difference(alloc, plus, left, right)?;
+    let rest = symbol_of(Symbol::RightParen, rest)?;
+    Ok((sum, rest))
+}
+
 /// An expression of at most so many nodes on one way.
-#[tactic(auto, unfolding(spec_text::specs::ReadTest::formula_at))]
+#[cycle(summing)]
+#[tactic(auto, unfolding(spec_text::specs::ReadTest::formula_at, crate::specs::Brackets::sum_at))]
 fn formula_of(alloc: Global, depth: u32, lexemes: &[Lexeme]) -> Result<(Expr, &[Lexeme]), ReadError>
     ensures { Gives (λ x. (formula x.0, x.1.now)) result (formula_at depth lexemes.now) }
 {
@@ -91,13 +113,7 @@ fn formula_of(alloc: Global, depth: u32, lexemes: &[Lexeme]) -> Result<(Expr, &[
         [..] if depth == 0 => Err(ReadError::Stop(too_deep_formula(lexemes))),
         [Lexeme::Number(_) | Lexeme::HugeNumber, ..] => constant_of(lexemes),
         [Lexeme::Symbol(Symbol::Bar), rest @ ..] => length_of(rest),
-        [Lexeme::Symbol(Symbol::LeftParen), rest @ ..] => {
-            let (left, rest) = formula_of(alloc, depth - 1, rest)?;
-            let (plus, rest) = sign_of(rest)?;
-            let (right, rest) = formula_of(alloc, depth - 1, rest)?;
-            let rest = symbol_of(Symbol::RightParen, rest)?;
-            Ok((sum_or_difference(alloc, plus, left, right)?, rest))
-        }
+        [Lexeme::Symbol(Symbol::LeftParen), rest @ ..] => sum_of(alloc, depth - 1, rest),
         _ => Err(wrong(lexemes)),
     }
 }
@@ -160,16 +176,55 @@ fn negated(alloc: Global, inner: Pred) -> Result<Pred, OutOfMemory>
     Ok(Pred::Not(inner))
 }
 
-fn conjunction(alloc: Global, left: Pred, right: Pred) -> Result<Pred, OutOfMemory>
-    ensures { IfOk result (λ p. test p ≡ both (test left) (test right)) }
+fn boxed_pred(alloc: Global, pred: Pred) -> Result<Box<Pred>, OutOfMemory>
+    ensures { IfOk result (λ b. b.value ≡ pred) }
 {
-    let left = Box::new(alloc, left).map_err(AllocError::from)?;
+    Box::new(alloc, pred).map_err(AllocError::from)
+}
+
+fn conjunction(alloc: Global, left: Box<Pred>, right: Pred) -> Result<Pred, OutOfMemory>
+    ensures { IfOk result (λ p. test p ≡ both (test left.value) (test right)) }
+{
     let right = Box::new(alloc, right).map_err(AllocError::from)?;
     Ok(Pred::And(left, right))
 }
 
+/// A predicate behind `not`.
+#[cycle(testing)]
+#[tactic(auto, unfolding(crate::specs::Brackets::negation_at))]
+fn negation_of(
+    alloc: Global,
+    depth: u32,
+    lexemes: &[Lexeme],
+) -> Result<(Pred, &[Lexeme]), ReadError>
+    ensures { Gives (λ x. (test x.0, x.1.now)) result (negation_at (test_at depth) lexemes.now) }
+{
+    let (inner, rest) = test_of(alloc, depth, lexemes)?;
+    Ok((negated(alloc, inner)?, rest))
+}
+
+/// Two predicates with `and`, behind the bracket that opens.
+#[cycle(testing)]
+#[tactic(auto, unfolding(crate::specs::Brackets::conjunction_at))]
+fn conjunction_of(
+    alloc: Global,
+    depth: u32,
+    lexemes: &[Lexeme],
+) -> Result<(Pred, &[Lexeme]), ReadError>
+    ensures { Gives (λ x. (test x.0, x.1.now)) result (conjunction_at (test_at depth) lexemes.now) }
+{
+    let (left, rest) = test_of(alloc, depth, lexemes)?;
+    let left = boxed_pred(alloc, left)?;
+    let rest = keyword_of(Keyword::And, rest)?;
+    let (right, rest) = test_of(alloc, depth, rest)?;
+    let both = conjunction(alloc, left, right)?;
+    let rest = symbol_of(Symbol::RightBracket, rest)?;
+    Ok((both, rest))
+}
+
 /// A predicate of at most so many nodes on one way, expressions counted.
-#[tactic(auto, unfolding(spec_text::specs::ReadTest::test_at))]
+#[cycle(testing)]
+#[tactic(auto, unfolding(spec_text::specs::ReadTest::test_at, crate::specs::Brackets::negation_at, crate::specs::Brackets::conjunction_at))]
 pub fn test_of(
     alloc: Global,
     depth: u32,
@@ -181,17 +236,8 @@ pub fn test_of(
         [] => Err(wrong(lexemes)),
         [..] if depth == 0 => Err(ReadError::Stop(too_deep_test(lexemes))),
         [Lexeme::Keyword(Keyword::True), rest @ ..] => Ok((Pred::True, rest)),
-        [Lexeme::Keyword(Keyword::Not), rest @ ..] => {
-            let (inner, rest) = test_of(alloc, depth - 1, rest)?;
-            Ok((negated(alloc, inner)?, rest))
-        }
-        [Lexeme::Symbol(Symbol::LeftBracket), rest @ ..] => {
-            let (left, rest) = test_of(alloc, depth - 1, rest)?;
-            let rest = keyword_of(Keyword::And, rest)?;
-            let (right, rest) = test_of(alloc, depth - 1, rest)?;
-            let rest = symbol_of(Symbol::RightBracket, rest)?;
-            Ok((conjunction(alloc, left, right)?, rest))
-        }
+        [Lexeme::Keyword(Keyword::Not), rest @ ..] => negation_of(alloc, depth - 1, rest),
+        [Lexeme::Symbol(Symbol::LeftBracket), rest @ ..] => conjunction_of(alloc, depth - 1, rest),
         _ => comparison_of(alloc, depth - 1, lexemes),
     }
 }

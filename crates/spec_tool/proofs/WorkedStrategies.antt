@@ -1,5 +1,5 @@
 -- Worked values of strategies: refused ones, one without rules, and one that goes on with a run.
-use Rattle.std.proofs.Common.{◌≡◌, ℕ, List, [], ◌∷◌, ◌++◌, refl}
+use Rattle.std.proofs.Common.{◌≡◌, ℕ, List, [], ◌∷◌, refl}
 use Rattle.std.specs.Prelude.{codes}
 use Rattle.std.specs.Fmt.{digits}
 use Rattle.spec_bitcoin.specs.Keys.{label_text}

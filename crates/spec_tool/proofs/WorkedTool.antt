@@ -1,5 +1,5 @@
 -- Worked values of which words are commands, which files they read, and the order of refusals.
-use Rattle.std.proofs.Common.{◌≡◌, ℕ, List, [], ◌∷◌, ◌++◌, true, false, refl, Some, None, replicate}
+use Rattle.std.proofs.Common.{◌≡◌, [], ◌∷◌, false, refl, Some, None, replicate}
 use Rattle.std.specs.Prelude.{codes}
 use Rattle.std.specs.Fmt.{digits}
 use Rattle.spec_bitcoin.specs.Reading.{string_at}
@@ -13,7 +13,7 @@ use Rattle.spec_text.specs.Reading.{names_from}
 use Rattle.spec_terms.specs.declared.path.PathStep.TheVariants.{Branch as To, Part as Into}
 use Rattle.spec_tool.specs.declared.which.Which.TheVariants as names
 use Rattle.spec_tool.specs.Reads.{got, too_long, failed, names_asked}
-use Rattle.spec_tool.specs.Commands.{command_of, play, psbt_of, psbt_shown, psbt_joined, weigh, audit, auto, files_of, prints}
+use Rattle.spec_tool.specs.Commands.{command_of, play, psbt_of, psbt_shown, psbt_joined, audit, auto, files_of, prints}
 use Rattle.spec_tool.specs.Base64.{base64_bytes}
 use Rattle.spec_tool.specs.PsbtBytes.{psbt_of as decode, records_at}
 use Rattle.spec_tool.specs.Answers.{answer, tool_answer, ended}

@@ -1,5 +1,5 @@
 -- A hash of 32 bytes for worked values, without collisions among them.
-use Rattle.std.specs.Prelude.{ℕ, ◌+◌, ◌*◌, ◌%◌, ◌^◌, List, [], ◌∷◌, ◌++◌, replicate, fold}
+use Rattle.std.specs.Prelude.{ℕ, ◌+◌, ◌*◌, ◌%◌, ◌^◌, List, ◌++◌, replicate, fold}
 use Rattle.std.specs.Int.{w64, to_le_bytes}
 
 abbrev pub stirred : ℕ → ℕ → ℕ

@@ -1,15 +1,7 @@
 -- Worked values of partially signed transactions: their text, what they say, and two of them combined.
-use Rattle.std.proofs.Common.{◌≡◌, ℕ, List, [], ◌∷◌, true, false, refl, Some, None, Ok, Err}
+use Rattle.std.proofs.Common.{◌≡◌, refl, Some, None}
 use Rattle.std.specs.Prelude.{codes}
-use Rattle.std.specs.Fmt.{digits}
-use Rattle.spec_bitcoin.specs.Spelling.{stripped, compact}
-use Rattle.spec_bitcoin.specs.Reading.{byte_where, many, wide_at, compact_at, string_at, input_at, inputs_at, output_at, outputs_at}
-use Rattle.spec_bitcoin.specs.Reading.{witness_at, witnesses_at, plain_at, marked_at, transaction_at, all_at}
-use Rattle.spec_data.specs.Digits.{read_hex}
 use Rattle.spec_tool.specs.Base64.{base64_text, base64_bytes}
-use Rattle.spec_tool.specs.Psbt.{Psbt, input_of}
-use Rattle.spec_tool.specs.PsbtBytes.{psbt_of, psbt_bytes, records_at, maps_at, combined, other_tx}
-use Rattle.spec_tool.specs.PsbtText.{shown_text}
 
 -- ---- base64: the examples of RFC 4648, section 10
 

@@ -1,13 +1,10 @@
 -- Worked values of weights.
-use Rattle.spec_terms.specs.Readable.{is_name}
-use Rattle.std.proofs.Common.{◌≡◌, ℕ, List, [], ◌∷◌, ◌++◌, length, refl}
+use Rattle.std.proofs.Common.{◌≡◌, ℕ, List, [], ◌∷◌, length, refl}
 use Rattle.std.specs.Prelude.{codes}
 use Rattle.std.specs.Fmt.{digits}
 use Rattle.spec_bitcoin.specs.Keys.{label_text}
 use Rattle.spec_bitcoin.specs.Digests.{places_list, sequences_list, outputs_list, preimage}
 use Rattle.spec_bitcoin.specs.Spelling.{stripped, marked, compact}
-use Rattle.spec_bitcoin.specs.Reading.{many, wide_at, compact_at, string_at, input_at, inputs_at, output_at, outputs_at, witness_at}
-use Rattle.spec_bitcoin.specs.Reading.{witnesses_at, plain_at, marked_at, transaction_at, all_at}
 use Rattle.spec_compiler.specs.Setting.{position_script}
 use Rattle.spec_text.specs.Lexis.{word_front, number_front, symbol_front}
 use Rattle.spec_text.specs.ReadAdvert.{read_answer as read_contract, advert_of_all, advert_at, entries_at, entry_at, head_at, deposit_at}
@@ -58,7 +55,7 @@ abbrev pub from_to : ℕ → ℕ → Weight
 from_to least most = record { least = least; most = most }
 
 pub weights_without_secrets : weights small_hash (compiled plain) ≡ (exactly 482, exactly 482) ∷ (exactly 482, exactly 964) ∷ []
-unfolding is_name word_front number_front symbol_front read_contract advert_of_all advert_at entries_at entry_at head_at deposit_at secret_at
+unfolding word_front number_front symbol_front read_contract advert_of_all advert_at entries_at entry_at head_at deposit_at secret_at
     fee_at choice_with branches_at branch_at parts_at auth_at after_at put_at reveal_at split_at reveals_at puts_at put_reveals_at
     headed_at one_branch_at condition_at names_from test_at comparison_at formula_at constant_at length_at withdraw_at digits label_text
     stripped marked compact places_list sequences_list outputs_list preimage position_script
@@ -66,7 +63,7 @@ weights_without_secrets = refl
 
 pub weights_with_a_secret : weights small_hash (compiled revealing) ≡ (exactly 482, exactly 482) ∷ (from_to 547 1053, from_to 1029 1535)
     ∷ (exactly 482, from_to 1511 2017) ∷ []
-unfolding is_name word_front number_front symbol_front read_contract advert_of_all advert_at entries_at entry_at head_at deposit_at secret_at
+unfolding word_front number_front symbol_front read_contract advert_of_all advert_at entries_at entry_at head_at deposit_at secret_at
     fee_at choice_with branches_at branch_at parts_at auth_at after_at put_at reveal_at split_at reveals_at puts_at put_reveals_at
     headed_at one_branch_at condition_at names_from test_at comparison_at formula_at constant_at length_at withdraw_at digits label_text
     stripped marked compact places_list sequences_list outputs_list preimage position_script
@@ -114,7 +111,7 @@ silent_run =
 
 pub weights_of_nothing : answer small_hash (weigh (codes "r") (codes "c")) (got silent_run ∷ got plain_text ∷ [])
     ≡ prints 0 (line (codes "{\"contract\":0,\"transactions\":[]}") [])
-unfolding is_name word_front number_front symbol_front read_contract advert_of_all advert_at entries_at entry_at head_at deposit_at secret_at
+unfolding word_front number_front symbol_front read_contract advert_of_all advert_at entries_at entry_at head_at deposit_at secret_at
     fee_at choice_with branches_at branch_at parts_at auth_at after_at put_at reveal_at split_at reveals_at puts_at put_reveals_at
     headed_at one_branch_at condition_at names_from test_at comparison_at formula_at constant_at length_at withdraw_at digits label_text
     stripped marked compact places_list sequences_list outputs_list preimage position_script weigh_text
@@ -125,14 +122,14 @@ abbrev pub size : Printed → ℕ
 size printed = length printed.text
 
 pub signed_size : size (answer small_hash (psbt_of (codes "r") (codes "c") names.Init) (got signed_run ∷ got plain_text ∷ [])) ≡ 401
-unfolding is_name word_front number_front symbol_front read_contract advert_of_all advert_at entries_at entry_at head_at deposit_at secret_at
+unfolding word_front number_front symbol_front read_contract advert_of_all advert_at entries_at entry_at head_at deposit_at secret_at
     fee_at choice_with branches_at branch_at parts_at auth_at after_at put_at reveal_at split_at reveals_at puts_at put_reveals_at
     headed_at one_branch_at condition_at names_from test_at comparison_at formula_at constant_at length_at withdraw_at digits label_text
     stripped marked compact places_list sequences_list outputs_list preimage position_script base64_text psbt_bytes psbt_text
 signed_size = refl
 
 pub unsigned_size : size (answer small_hash (psbt_of (codes "r") (codes "c") names.Init) (got unsigned_run ∷ got plain_text ∷ [])) ≡ 265
-unfolding is_name word_front number_front symbol_front read_contract advert_of_all advert_at entries_at entry_at head_at deposit_at secret_at
+unfolding word_front number_front symbol_front read_contract advert_of_all advert_at entries_at entry_at head_at deposit_at secret_at
     fee_at choice_with branches_at branch_at parts_at auth_at after_at put_at reveal_at split_at reveals_at puts_at put_reveals_at
     headed_at one_branch_at condition_at names_from test_at comparison_at formula_at constant_at length_at withdraw_at digits label_text
     stripped marked compact places_list sequences_list outputs_list preimage position_script base64_text psbt_bytes psbt_text

@@ -16,8 +16,8 @@
 --
 -- The first that applies is answered, in this order: the words; the reads, in the order of the words; the run file; the
 -- contract files in theirs; the further file; the events.
-use Rattle.std.specs.Prelude.{ℕ, ◌+◌, List, [], ◌∷◌, ◌++◌, length, drop, Bool, true, false, ◌==◌, if◌then◌else◌, Option, Some, None}
-use Rattle.std.specs.Prelude.{Result, Ok, Err, codes}
+use Rattle.std.specs.Prelude.{ℕ, ◌+◌, List, [], ◌∷◌, length, drop, Bool, true, false, ◌==◌, if◌then◌else◌, Option, Some, None}
+use Rattle.std.specs.Prelude.{Ok, Err, codes}
 use Rattle.spec_terms.specs.Advert.{Advert}
 use Rattle.spec_run.specs.declared.event.Event.{Event}
 use Rattle.spec_run.specs.declared.event.Run.{Run}
@@ -26,12 +26,11 @@ use Rattle.spec_text.specs.Refusals.{Judged, too_long_text, contract_of, run_of}
 use Rattle.spec_text.specs.PlayText.{Ending}
 use Rattle.spec_text.specs.Played.{ending, play_text}
 use Rattle.spec_text.specs.PlanText.{plan_text, unless_halted}
-use Rattle.spec_tool.specs.declared.which.Which.{Which}
 use Rattle.spec_tool.specs.declared.rule.Rule.{Rule}
 use Rattle.spec_tool.specs.Reads.{Read, Text, text_at, texts_read, are_made}
-use Rattle.spec_tool.specs.Commands.{Command, check, play, plan, make, psbt_of, psbt_shown, psbt_joined, weigh, audit, auto, command_of}
-use Rattle.spec_tool.specs.Commands.{files_of, Printed, prints, usage, run_refused, JudgedAll, onto_judged, check_judged, ending_status}
-use Rattle.spec_tool.specs.Commands.{run_answer, both_judged, contracts_judged, make_answer}
+use Rattle.spec_tool.specs.Commands.{Command, check, play, plan, make, psbt_of, psbt_shown, psbt_joined, weigh, audit, auto}
+use Rattle.spec_tool.specs.Commands.{files_of, Printed, prints, usage, JudgedAll, onto_judged, check_judged, ending_status}
+use Rattle.spec_tool.specs.Commands.{run_answer, both_judged, make_answer}
 use Rattle.spec_tool.specs.PsbtText.{psbt_text, shown_answer, joined_answer}
 use Rattle.spec_tool.specs.WeighText.{weigh_text}
 use Rattle.spec_tool.specs.AuditText.{audit_answer, audit_refused}

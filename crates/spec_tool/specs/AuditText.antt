@@ -2,7 +2,6 @@
 use Rattle.std.specs.Prelude.{ℕ, List, [], ◌∷◌, ◌++◌, Option, Some, None, codes}
 use Rattle.std.specs.Fmt.{decimal}
 use Rattle.std.specs.List.{flat_map}
-use Rattle.spec_terms.specs.declared.path.PathStep.{PathStep}
 use Rattle.spec_bitcoin.specs.Keys.{label_text}
 use Rattle.spec_compiler.specs.Setting.{Setting}
 use Rattle.spec_run.specs.Setup.{Setup}
@@ -23,7 +22,6 @@ use Rattle.spec_tool.specs.declared.finding.Kind.TheVariants as kinds
 use Rattle.spec_tool.specs.declared.finding.Finding.{Finding}
 use Rattle.spec_tool.specs.declared.finding.AuditReport.{AuditReport}
 use Rattle.spec_tool.specs.Commands.{Printed, prints}
-use Rattle.spec_tool.specs.Reads.{Text}
 use Rattle.spec_tool.specs.Listed.{which_text}
 use Rattle.spec_tool.specs.PsbtText.{not_compiled_line}
 use Rattle.spec_tool.specs.Audit.{Missing, audit_report, audit_collision}

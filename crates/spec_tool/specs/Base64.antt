@@ -1,5 +1,5 @@
 -- Base64 as text, by RFC 4648, section 4: with padding, with no bits left over and nothing between the symbols.
-use Rattle.std.specs.Prelude.{ℕ, ◌+◌, ◌*◌, ◌/◌, ◌%◌, List, [], ◌∷◌, ◌++◌, length, Bool, true, false, ◌==◌, if◌then◌else◌, Option, Some}
+use Rattle.std.specs.Prelude.{ℕ, ◌+◌, ◌*◌, ◌/◌, ◌%◌, List, [], ◌∷◌, ◌++◌, ◌==◌, if◌then◌else◌, Option, Some}
 use Rattle.std.specs.Prelude.{None, slice_index, position, codes}
 use Rattle.spec_text.specs.Words.{◌>>=◌, given}
 

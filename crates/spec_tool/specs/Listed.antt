@@ -1,6 +1,6 @@
 -- The transactions of a compiled contract, each with what it spends and the labels whose keys sign its inputs; of this project's profile
 -- of BitML.
-use Rattle.std.specs.Prelude.{ℕ, List, [], ◌∷◌, map, Bool, true, false, Option, Some, None}
+use Rattle.std.specs.Prelude.{ℕ, List, [], ◌∷◌, map, Bool, true, false, Option, Some}
 use Rattle.std.specs.Option.{option_map, option_map_or}
 use Rattle.spec_terms.specs.Term as term
 use Rattle.spec_terms.specs.Advert.{Advert}

@@ -1,8 +1,7 @@
 -- Partially signed transactions by BIP 174, in this project's subset: their data and their bytes.
-use Rattle.std.specs.Prelude.{◌≡◌, ℕ, zero, suc, ◌+◌, List, [], ◌∷◌, ◌++◌, length, map, replicate, reverse, Bool, true, false, not, ◌&&◌}
+use Rattle.std.specs.Prelude.{◌≡◌, ℕ, List, [], ◌∷◌, ◌++◌, length, Bool, true, false, not, ◌&&◌}
 use Rattle.std.specs.Prelude.{◌||◌, ◌==◌, nat_lt, if◌then◌else◌, Option, Some, None, is_some, Result, Ok, Err}
 use Rattle.std.specs.List.{flat_map, list_all, AllByRecursion}
-use Rattle.std.specs.Option.{option_map, option_map_or}
 use Rattle.std.specs.Str.{bytes_eq}
 use Rattle.spec_data.specs.Lists.{look_up, are_different}
 use Rattle.spec_data.specs.Digits.{onto}
@@ -10,9 +9,9 @@ use Rattle.spec_terms.specs.Precondition.{names_of}
 use Rattle.spec_bitcoin.specs.declared.tx.Tx.{Tx}
 use Rattle.spec_bitcoin.specs.declared.tx.TxIn.{TxIn}
 use Rattle.spec_bitcoin.specs.declared.tx.TxOut.{TxOut}
-use Rattle.spec_bitcoin.specs.Spelling.{IsString, sized, stripped, output_bytes, witness_bytes, is_filled}
-use Rattle.spec_bitcoin.specs.Reading.{any, string_at, output_at, witness_at, transaction_of}
-use Rattle.spec_text.specs.Words.{◌>>=◌, given, all_of}
+use Rattle.spec_bitcoin.specs.Spelling.{IsString, sized, is_filled}
+use Rattle.spec_bitcoin.specs.Reading.{any, output_at, witness_at, transaction_of}
+use Rattle.spec_text.specs.Words.{◌>>=◌, given}
 use Rattle.spec_tool.specs.declared.psbt.PsbtInput.{PsbtInput}
 
 -- ---- the data

@@ -1,9 +1,9 @@
 -- What the commands on partially signed transactions print; of this project's profile.
-use Rattle.std.specs.Prelude.{ℕ, ◌+◌, ◌-◌, List, [], ◌∷◌, ◌++◌, length, map, take, Bool, true, false, not, ◌&&◌, ◌==◌, if◌then◌else◌}
-use Rattle.std.specs.Prelude.{Option, Some, None, is_some, Result, Ok, Err, slice_index, codes}
+use Rattle.std.specs.Prelude.{ℕ, ◌+◌, List, [], ◌∷◌, ◌++◌, Bool, true, false, ◌==◌, if◌then◌else◌}
+use Rattle.std.specs.Prelude.{Option, Some, None, is_some, Result, Ok, Err, codes}
 use Rattle.std.specs.Fmt.{decimal}
 use Rattle.std.specs.List.{flat_map}
-use Rattle.std.specs.Option.{option_map, option_map_or}
+use Rattle.std.specs.Option.{option_map_or}
 use Rattle.spec_terms.specs.Advert.{Advert}
 use Rattle.spec_terms.specs.Paths.{at}
 use Rattle.spec_bitcoin.specs.declared.label.Label.{Label}
@@ -20,7 +20,6 @@ use Rattle.spec_run.specs.World.{World}
 use Rattle.spec_run.specs.Compiled.{compiled_at}
 use Rattle.spec_run.specs.Translation.{last_world}
 use Rattle.spec_data.specs.Digits.{hex_text}
-use Rattle.spec_text.specs.Words.{◌>>=◌, given}
 use Rattle.spec_text.specs.RunText.{newline}
 use Rattle.spec_text.specs.Refusals.{Judged}
 use Rattle.spec_tool.specs.declared.psbt.PsbtInput.{PsbtInput}

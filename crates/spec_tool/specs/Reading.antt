@@ -1,17 +1,15 @@
 -- What is claimed of commands whose files are there: they answer to the texts of these, and well-formed files without a halt give the
 -- status 0; of this project's profile.
-use Rattle.std.specs.Prelude.{◌≡◌, ℕ, List, [], ◌∷◌, length, Option, Some, None, Ok}
+use Rattle.std.specs.Prelude.{◌≡◌, ℕ, List, [], ◌∷◌, Option, Some, None, Ok}
 use Rattle.spec_data.specs.Digits.{onto}
 use Rattle.spec_data.specs.Lists.{look_up}
 use Rattle.spec_terms.specs.Advert.{Advert}
-use Rattle.spec_run.specs.declared.event.Event.{Event}
 use Rattle.spec_run.specs.declared.event.Run.{Run}
-use Rattle.spec_run.specs.Setup.{Setup}
 use Rattle.spec_text.specs.Played.{ending}
 use Rattle.spec_text.specs.Refusals.{contract_of, run_of}
 use Rattle.spec_tool.specs.declared.which.Which.{Which}
 use Rattle.spec_tool.specs.Reads.{reads_in}
-use Rattle.spec_tool.specs.Commands.{Command, check, play, plan, psbt_of, weigh, audit, auto, files_of, Printed, check_answer}
+use Rattle.spec_tool.specs.Commands.{Command, check, play, plan, psbt_of, weigh, files_of, Printed, check_answer}
 use Rattle.spec_tool.specs.Commands.{play_answer, plan_answer, contracts_from, both_judged, setup_of, ending_status}
 use Rattle.spec_tool.specs.PsbtText.{psbt_text}
 use Rattle.spec_tool.specs.WeighText.{weigh_text}

@@ -1,8 +1,7 @@
 -- Strategy files: the rules that the lines of a text spell, or the first line that is bad or one too many; of this project's profile.
-use Rattle.std.specs.Prelude.{ℕ, ◌+◌, List, [], ◌∷◌, length, Bool, true, false, if◌then◌else◌, nat_lt, Option, Some, None, Result, Ok}
+use Rattle.std.specs.Prelude.{ℕ, ◌+◌, List, [], ◌∷◌, if◌then◌else◌, nat_lt, Option, Some, None, Result, Ok}
 use Rattle.std.specs.Prelude.{Err, codes}
 use Rattle.std.specs.Str.{bytes_eq}
-use Rattle.spec_data.specs.Lists.{is_among}
 use Rattle.spec_run.specs.declared.header.Header.{Header}
 use Rattle.spec_text.specs.Lines.{lines_of, words_of}
 use Rattle.spec_text.specs.Words.{◌>>=◌, given, one_of, a_name, path}

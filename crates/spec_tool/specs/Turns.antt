@@ -1,15 +1,13 @@
 -- How the rules of a strategy go on with a run; of this project's profile.
-use Rattle.std.specs.Prelude.{ℕ, zero, suc, ◌+◌, List, [], ◌∷◌, ◌++◌, length, Bool, true, false, ◌&&◌, ◌==◌, if◌then◌else◌, Option, Some}
+use Rattle.std.specs.Prelude.{ℕ, zero, suc, ◌+◌, List, [], ◌∷◌, ◌++◌, length, Bool, false, ◌&&◌, ◌==◌, if◌then◌else◌, Option, Some}
 use Rattle.std.specs.Prelude.{None, Result, Ok, Err, is_some}
-use Rattle.std.specs.Option.{option_and_then, option_map_or}
-use Rattle.spec_terms.specs.Advert.{Advert}
 use Rattle.spec_terms.specs.Paths.{path_eq}
 use Rattle.spec_terms.specs.declared.path.PathStep.{PathStep}
 use Rattle.spec_run.specs.declared.event.Event.{Event}
 use Rattle.spec_run.specs.declared.event.Event.TheVariants as events
 use Rattle.spec_run.specs.Setup.{Setup, contract_at}
 use Rattle.spec_run.specs.World.{Held, Output, World, active_held}
-use Rattle.spec_run.specs.Draft.{Draft, Halt, Answer, Went, Halted}
+use Rattle.spec_run.specs.Draft.{Halt, Answer, Went, Halted}
 use Rattle.spec_run.specs.Event.{event}
 use Rattle.spec_run.specs.Ledger.{branch_in}
 use Rattle.spec_run.specs.Values.{is_refused}

@@ -1,9 +1,8 @@
 -- The weights of a contract's transactions, by BIP 141, with witnesses of ideal signatures; of this project's profile.
-use Rattle.std.specs.Prelude.{◌≡◌, ℕ, ◌+◌, ◌*◌, ◌≤◌, List, [], ◌∷◌, ◌++◌, length, map, take, replicate, reverse, sum_by, Bool, true}
-use Rattle.std.specs.Prelude.{false, Option, Some, None, if◌then◌else◌}
-use Rattle.std.specs.List.{flat_map, AllByRecursion}
+use Rattle.std.specs.Prelude.{◌≡◌, ℕ, ◌+◌, ◌*◌, ◌≤◌, List, [], ◌∷◌, length, map, take, replicate, Bool}
+use Rattle.std.specs.Prelude.{if◌then◌else◌}
+use Rattle.std.specs.List.{AllByRecursion}
 use Rattle.std.specs.Option.{option_map_or}
-use Rattle.spec_terms.specs.Term as term
 use Rattle.spec_terms.specs.Advert.{Advert}
 use Rattle.spec_terms.specs.Core.{core, reveals_of}
 use Rattle.spec_terms.specs.Parties.{participants}
@@ -21,8 +20,6 @@ use Rattle.spec_compiler.specs.Witness.{witness_of}
 use Rattle.spec_run.specs.Ledger.{count_of}
 use Rattle.spec_run.specs.Firing.{with_witnesses}
 use Rattle.spec_tool.specs.declared.weight.Weight.{Weight}
-use Rattle.spec_tool.specs.declared.which.Which.{Which}
-use Rattle.spec_tool.specs.declared.which.Which.TheVariants as names
 
 -- three times the size without marker and witnesses, and the whole size
 abbrev pub weight_of : Tx → ℕ

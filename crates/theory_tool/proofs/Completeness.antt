@@ -1,13 +1,12 @@
 -- Well-formed files without a halt give the status 0.
-use Rattle.std.proofs.Common.{◌≡◌, ℕ, List, [], ◌∷◌, Ok, refl, ap, ◌∙◌}
+use Rattle.std.proofs.Common.{◌≡◌, ℕ, List, [], ◌∷◌, Ok, ap, ◌∙◌}
 use Rattle.spec_terms.specs.Advert.{Advert}
 use Rattle.spec_run.specs.declared.event.Event.{Event}
 use Rattle.spec_run.specs.declared.event.Run.{Run}
 use Rattle.spec_run.specs.Setup.{Setup}
-use Rattle.spec_text.specs.PlayText.{Ending}
 use Rattle.spec_text.specs.Played.{ending, play_text}
 use Rattle.spec_text.specs.PlanText.{plan_text}
-use Rattle.spec_text.specs.Refusals.{Judged, contract_of, run_of}
+use Rattle.spec_text.specs.Refusals.{Judged, run_of}
 use Rattle.spec_tool.specs.Commands.{Printed, JudgedAll, check_judged, contracts_from, both_judged, contracts_judged, run_answer}
 use Rattle.spec_tool.specs.Commands.{setup_of, ending_status}
 use Rattle.spec_tool.specs.PsbtText.{psbt_text}

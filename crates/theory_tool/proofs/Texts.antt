@@ -1,6 +1,6 @@
 -- Commands answer to the texts of the files that are there.
-use Rattle.std.proofs.Common.{◌≡◌, ℕ, suc, ◌+◌, ◌<◌, ◌≤◌, Bool, true, false, List, [], ◌∷◌, length, map, Option, Some, None, Ok, Err}
-use Rattle.std.proofs.Common.{refl, ap, sym, subst, ◌∙◌, arith}
+use Rattle.std.proofs.Common.{◌≡◌, ℕ, ◌+◌, Bool, true, false, List, [], ◌∷◌, length, map, Option, Some, None, Err}
+use Rattle.std.proofs.Common.{refl, ap, sym, ◌∙◌, arith}
 use Rattle.std.specs.Prelude.{if◌then◌else◌, nat_le, nat_lt}
 use Rattle.std.proofs.lemmas.Bool.{leb-false, ltb-false, true_from_ne_false}
 use Rattle.spec_data.specs.Digits.{onto}
@@ -14,10 +14,10 @@ use Rattle.spec_text.specs.ReadAdvert.{read_answer as read_contract}
 use Rattle.spec_text.specs.RunFile.{read_run}
 use Rattle.spec_text.specs.Refusals.{Judged, contract_of, run_of, too_long_text, judged_answer, judged_run}
 use Rattle.theory_text.proofs.Options.{some, some_is, none_some, onto_is}
-use Rattle.spec_tool.specs.Reads.{Read, got, too_long, failed, Asked, Text, within, read_in, onto_reads, reads_in, text_read, texts_read}
+use Rattle.spec_tool.specs.Reads.{Read, got, too_long, failed, Text, within, onto_reads, reads_in, text_read, texts_read}
 use Rattle.spec_tool.specs.Commands.{Command, Printed, JudgedAll, onto_judged, check, play, plan, psbt_of, weigh, files_of, contract_file}
 use Rattle.spec_tool.specs.Commands.{check_judged, contracts_from, both_judged, run_answer}
-use Rattle.spec_tool.specs.Answers.{contract_in, run_in, contracts_in, too_long_run, with_contract, read_answer, answer, if_whole}
+use Rattle.spec_tool.specs.Answers.{contract_in, run_in, contracts_in, too_long_run, read_answer, answer, if_whole}
 use Rattle.spec_tool.specs.Answers.{printed_of}
 use Rattle.spec_text.specs.Played.{play_text}
 use Rattle.spec_text.specs.PlanText.{plan_text}

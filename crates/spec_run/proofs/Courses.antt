@@ -71,7 +71,8 @@ pub played_more : (s : Setup) (es : List Event) (e : Event) (w : World) (last : 
     → guess s last.posted (draft s last e).posts (draft s last e).allowed ≡ None
     → played_from s w (es ++ e ∷ []) ≡ with_one (played_from s w es).passed (passing s last e)
 played_more s [] e w last on there calm unguessed =
-    subst (λ x. goes_on e (event s x e) (λ next. played_from s next []) ≡ with_one [] (passing s last e)) (sym there) (rw (calm, unguessed) refl)
+    subst (λ x. goes_on e (event s x e) (λ next. played_from s next []) ≡ with_one [] (passing s last e)) (sym there)
+    (rw (calm, unguessed) refl)
 played_more s (x ∷ es) e w last on there calm unguessed =
     let d = draft s w x in
     by_answer (collision s.hash w.hashed d.hashes) (guess s w.posted d.posts d.allowed) on there

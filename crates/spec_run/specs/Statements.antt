@@ -126,7 +126,8 @@ abbrev pub offers_kept : Setup → Claim
 offers_kept s before g w t = OffersAreKept s before t
 
 pub record OffersThroughout (s : Setup) (es : List Event) : Type 0 where
-  pub opening : (offer : Offer) → Contains (offers (opening_configuration s)) offer → IsKept s (opening_configuration s) (opening_world s) offer
+  pub opening : (offer : Offer) → Contains (offers (opening_configuration s)) offer
+      → IsKept s (opening_configuration s) (opening_world s) offer
   pub events : HoldsThroughout s (offers_kept s) es
 
 -- every enabled and authorised contract step at the opening and after every event is kept

@@ -66,7 +66,8 @@ pub record IsFaithful (s : Setup) (es : List Event) : Type 0 where
   pub licensed : HoldsThroughout s (licensed s) es
   -- every enabled and authorised contract step at the end has a compiled transaction that the ledger accepts, and
   -- its event leads to the step
-  pub offers : (offer : Offer) → Contains (offers (last_configuration s es)) offer → IsKept s (last_configuration s es) (last_world s es) offer
+  pub offers : (offer : Offer) → Contains (offers (last_configuration s es)) offer
+      → IsKept s (last_configuration s es) (last_world s es) offer
   -- and so it is at the opening and after every event; what is offered there is what the run offers that ends there
   pub offers_throughout : OffersThroughout s es
   -- each event goes on where nothing halts it, and the run halts only where strings collide or a secret is given away
@@ -97,5 +98,7 @@ pub record Headline (hash : List ℕ → List ℕ) (run_file : List ℕ) (contra
 
 -- what `play` answers is its headline, for every hash of 32 bytes, run file and up to 16 contract files that aren't refused
 abbrev pub HeadlineTheorem : Type 0
-HeadlineTheorem = (hash : List ℕ → List ℕ) → HashesBytes hash → (run_file : List ℕ) (contract_files : List (List ℕ)) (run : Run) (contracts : List Advert)
-    → run_of run_file ≡ Ok run → contracts_from 0 contract_files ≡ Ok contracts → length contract_files ≤ 16 → Headline hash run_file contract_files (play_answer hash run_file contract_files)
+HeadlineTheorem = (hash : List ℕ → List ℕ) → HashesBytes hash
+    → (run_file : List ℕ) (contract_files : List (List ℕ)) (run : Run) (contracts : List Advert)
+    → run_of run_file ≡ Ok run → contracts_from 0 contract_files ≡ Ok contracts → length contract_files ≤ 16
+    → Headline hash run_file contract_files (play_answer hash run_file contract_files)

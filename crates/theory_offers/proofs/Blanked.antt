@@ -1,4 +1,4 @@
--- Configurations that differ only in what is committed: the same steps keep them so, and they offer the same where the revealed secrets have the same lengths.
+-- Configurations that differ only in the lengths that are committed: steps keep them so, and they offer the same.
 use Rattle.std.proofs.Common.{◌≡◌, ℕ, ◌+◌, List, [], ◌∷◌, ◌++◌, map, Bool, true, false, Option, Some, None, refl, sym, ap, ◌∙◌}
 use Rattle.std.specs.Prelude.{◌==◌, if◌then◌else◌, is_some, nat_le}
 use Rattle.std.specs.List.{filter, flat_map, list_all}
@@ -75,10 +75,12 @@ after-alike (x ∷ xs) g h e = after-alike xs (effect g x) (effect h x) (effect-
 
 after-unmeasured : (xs : List Step) (g : Configuration) → blank (after g xs) ≡ blank (after g (map unmeasured xs))
 after-unmeasured [] g = refl
-after-unmeasured (x ∷ xs) g = after-alike xs (effect g x) (effect g (unmeasured x)) (effect-unmeasured g x) ∙ after-unmeasured xs (effect g (unmeasured x))
+after-unmeasured (x ∷ xs) g =
+    after-alike xs (effect g x) (effect g (unmeasured x)) (effect-unmeasured g x) ∙ after-unmeasured xs (effect g (unmeasured x))
 
 -- steps that differ only in the lengths that they commit
-pub after-measured : (xs ys : List Step) (g h : Configuration) → map unmeasured xs ≡ map unmeasured ys → blank g ≡ blank h → blank (after g xs) ≡ blank (after h ys)
+pub after-measured : (xs ys : List Step) (g h : Configuration) → map unmeasured xs ≡ map unmeasured ys → blank g ≡ blank h
+    → blank (after g xs) ≡ blank (after h ys)
 after-measured xs ys g h same e =
     after-alike xs g h e ∙ after-unmeasured xs h ∙ ap (λ zs. blank (after h zs)) same ∙ sym (after-unmeasured ys h)
 
@@ -108,15 +110,18 @@ both_offered xs ys h k = all-append is_offered xs ys ∙ and_from _ _ h k
 
 takings_offered : (n i : ℕ) (bs : List term.Branch) → list_all is_offered (takings n i bs) ≡ true
 takings_offered n i [] = refl
-takings_offered n i (b ∷ bs) = both_offered (taking n i (core b)) (takings n (i + 1) bs) (taking_offered n i (core b)) (takings_offered n (i + 1) bs)
+takings_offered n i (b ∷ bs) =
+    both_offered (taking n i (core b)) (takings n (i + 1) bs) (taking_offered n i (core b)) (takings_offered n (i + 1) bs)
 
 all_offered : (cs : List Advert) (active : List ActiveContract) → list_all is_offered (all_takings cs active) ≡ true
 all_offered cs [] = refl
 all_offered cs (a ∷ rest) =
-    both_offered (takings a.number 0 (branches_of cs a)) (all_takings cs rest) (takings_offered a.number 0 (branches_of cs a)) (all_offered cs rest)
+    both_offered (takings a.number 0 (branches_of cs a)) (all_takings cs rest)
+    (takings_offered a.number 0 (branches_of cs a)) (all_offered cs rest)
 
 -- two tests that agree on what is offered
-filter_same : (p q : Step → Bool) (xs : List Step) → list_all is_offered xs ≡ true → ((x : Step) → is_offered x ≡ true → p x ≡ q x) → filter p xs ≡ filter q xs
+filter_same : (p q : Step → Bool) (xs : List Step) → list_all is_offered xs ≡ true → ((x : Step) → is_offered x ≡ true → p x ≡ q x)
+    → filter p xs ≡ filter q xs
 filter_same p q [] h k = refl
 filter_same p q (x ∷ xs) h k =
     let a = and_parts (is_offered x) (list_all is_offered xs) h in
@@ -131,15 +136,18 @@ fails_before n (x ∷ xs) ys zs = ap (λ m. if x then m else n) (fails_before (n
 
 module _ (g : Configuration) (cs : List Committed)
     (who : (k : ℕ) (party : List ℕ) → has_committed g.committed k party ≡ has_committed cs k party)
-    (long : (k : ℕ) (party secret : List ℕ) → is_revealed g.revealed k party secret ≡ true → length_at g.committed k party secret ≡ length_at cs k party secret) where
+    (long : (k : ℕ) (party secret : List ℕ) → is_revealed g.revealed k party secret ≡ true
+    → length_at g.committed k party secret ≡ length_at cs k party secret) where
   abbrev there : Configuration
   there = record g { committed = cs }
 
-  length_same : (k : ℕ) (o : Option (List ℕ)) (secret : List ℕ) → is_revealed_by g.revealed k o secret ≡ true → length_by g.committed k o secret ≡ length_by cs k o secret
+  length_same : (k : ℕ) (o : Option (List ℕ)) (secret : List ℕ) → is_revealed_by g.revealed k o secret ≡ true
+      → length_by g.committed k o secret ≡ length_by cs k o secret
   length_same k None secret h = refl
   length_same k (Some party) secret h = ap known_length (long k party secret h)
 
-  lengths_same : (k : ℕ) (pre : List Pre) (names : List (List ℕ)) → are_revealed g.revealed k pre names ≡ true → secret_lengths g.committed k pre names ≡ secret_lengths cs k pre names
+  lengths_same : (k : ℕ) (pre : List Pre) (names : List (List ℕ)) → are_revealed g.revealed k pre names ≡ true
+      → secret_lengths g.committed k pre names ≡ secret_lengths cs k pre names
   lengths_same k pre [] h = refl
   lengths_same k pre (x ∷ names) h =
       let a = and_parts (is_revealed_by g.revealed k (look_up x (secrets pre)) x) (are_revealed g.revealed k pre names) h in
@@ -154,9 +162,11 @@ module _ (g : Configuration) (cs : List Committed)
   put_same front k pre names test = by_test (are_revealed g.revealed k pre names) refl
     where
       by_test : (b : Bool) → are_revealed g.revealed k pre names ≡ b
-          → first_false 1 (front ++ b ∷ holds (secret_lengths g.committed k pre names) test ∷ []) ≡ first_false 1 (front ++ b ∷ holds (secret_lengths cs k pre names) test ∷ [])
+          → first_false 1 (front ++ b ∷ holds (secret_lengths g.committed k pre names) test ∷ [])
+          ≡ first_false 1 (front ++ b ∷ holds (secret_lengths cs k pre names) test ∷ [])
       by_test true h = ap (λ ls. first_false 1 (front ++ true ∷ holds ls test ∷ [])) (lengths_same k pre names h)
-      by_test false h = fails_before 1 front (holds (secret_lengths g.committed k pre names) test ∷ []) (holds (secret_lengths cs k pre names) test ∷ [])
+      by_test false h =
+          fails_before 1 front (holds (secret_lengths g.committed k pre names) test ∷ []) (holds (secret_lengths cs k pre names) test ∷ [])
 
   committed_same : (k : ℕ) (people : List (List ℕ)) → have_committed g.committed k people ≡ have_committed cs k people
   committed_same k people = all_alike (λ p. has_committed g.committed k p) (λ p. has_committed cs k p) people (who k)
@@ -192,10 +202,14 @@ module _ (g : Configuration) (cs : List Committed)
   offers_there =
       let xs = beginnings 0 g.contracts ++ all_takings g.contracts g.active in
       ap (flat_map offers_of) (filter_same (λ x. is_enabled g x) (λ x. is_enabled there x) xs
-      (both_offered (beginnings 0 g.contracts) (all_takings g.contracts g.active) (beginnings_offered 0 g.contracts) (all_offered g.contracts g.active)) enabled_same)
+      (both_offered (beginnings 0 g.contracts) (all_takings g.contracts g.active)
+      (beginnings_offered 0 g.contracts) (all_offered g.contracts g.active)) enabled_same)
 
--- configurations that differ only in what is committed offer the same, where the same parties have committed, and revealed secrets have the same lengths
-pub same_offers : (g h : Configuration) → blank g ≡ blank h → ((k : ℕ) (party : List ℕ) → has_committed g.committed k party ≡ has_committed h.committed k party)
-    → ((k : ℕ) (party secret : List ℕ) → is_revealed g.revealed k party secret ≡ true → length_at g.committed k party secret ≡ length_at h.committed k party secret)
+-- configurations that differ only in what is committed offer the same, where the same parties have committed, and revealed secrets have
+-- the same lengths
+pub same_offers : (g h : Configuration) → blank g ≡ blank h
+    → ((k : ℕ) (party : List ℕ) → has_committed g.committed k party ≡ has_committed h.committed k party)
+    → ((k : ℕ) (party secret : List ℕ) → is_revealed g.revealed k party secret ≡ true
+    → length_at g.committed k party secret ≡ length_at h.committed k party secret)
     → offers g ≡ offers h
 same_offers g h e who long = offers_there g h.committed who long ∙ ap offers (fill g h e)

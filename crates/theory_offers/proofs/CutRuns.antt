@@ -1,4 +1,4 @@
--- A run that is cut after an event: what its events left, and its configuration but for the lengths that are committed, are those of the whole run there.
+-- But for the lengths that are committed, the configurations of a run don't depend on the strings that are posted later.
 use Rattle.std.proofs.Common.{◌≡◌, ℕ, List, [], ◌∷◌, ◌++◌, map, Option, Some, None, refl, sym, ap, ◌∙◌, subst}
 use Rattle.spec_bitcoin.specs.declared.tx.Tx.{Tx}
 use Rattle.spec_calculus.specs.declared.parts.Committed.{Committed}
@@ -24,12 +24,15 @@ module _ (s : Setup) (y z : List (List ℕ)) (g : Configuration) (cs : List Comm
   abbrev there : Configuration
   there = record g { committed = cs }
 
-  kind_same : (tx : Tx) (spent : List ℕ) (kind : Kind) → map unmeasured (reveals s w next ++ kind_steps s g w tx spent kind) ≡ map unmeasured (reveals s w next ++ kind_steps s there w tx spent kind)
+  kind_same : (tx : Tx) (spent : List ℕ) (kind : Kind)
+      → map unmeasured (reveals s w next ++ kind_steps s g w tx spent kind)
+      ≡ map unmeasured (reveals s w next ++ kind_steps s there w tx spent kind)
   kind_same tx spent (Begins contract) = refl
   kind_same tx spent (Takes held output branch) = refl
   kind_same tx spent Moves = refl
 
-  accepted_same : (spent : List ℕ) (tx : Option Tx) → map unmeasured (accepted_steps s g w next spent tx) ≡ map unmeasured (accepted_steps s there w next spent tx)
+  accepted_same : (spent : List ℕ) (tx : Option Tx)
+      → map unmeasured (accepted_steps s g w next spent tx) ≡ map unmeasured (accepted_steps s there w next spent tx)
   accepted_same spent None = refl
   accepted_same spent (Some tx) = kind_same tx spent (kind_of s w tx spent)
 
@@ -48,14 +51,17 @@ module _ (s : Setup) (y z : List (List ℕ)) (g : Configuration) (cs : List Comm
   done_same (events.Fire output branch) = refl
   done_same (events.Mine blocks) = refl
 
-  outcome_same : (e : Event) (tx : Option Tx) (o : Outcome) → map unmeasured (outcome_steps s y g w next e tx o) ≡ map unmeasured (outcome_steps s z there w next e tx o)
+  outcome_same : (e : Event) (tx : Option Tx) (o : Outcome)
+      → map unmeasured (outcome_steps s y g w next e tx o) ≡ map unmeasured (outcome_steps s z there w next e tx o)
   outcome_same e tx outcomes.Done = done_same e
   outcome_same e tx (outcomes.Accepted spent made lock) = accepted_same spent tx
   outcome_same e tx (outcomes.Refused reason) = refl
 
 -- the configuration after an event, but for what is committed, is the same whatever strings the run posts
-pub turn_same : (s : Setup) (y z : List (List ℕ)) (g h : Configuration) (w : World) (p : Passed) → blank g ≡ blank h → blank (turn_of s y g w p).configuration ≡ blank (turn_of s z h w p).configuration
+pub turn_same : (s : Setup) (y z : List (List ℕ)) (g h : Configuration) (w : World) (p : Passed) → blank g ≡ blank h
+    → blank (turn_of s y g w p).configuration ≡ blank (turn_of s z h w p).configuration
 turn_same s y z g h w p e =
     let same : map unmeasured (steps_of s y g w p.world p.event p.draft) ≡ map unmeasured (steps_of s z h w p.world p.event p.draft) =
-    outcome_same s y z g h.committed w p.world p.event p.draft.tx p.draft.outcome ∙ ap (λ c. map unmeasured (steps_of s z c w p.world p.event p.draft)) (fill g h e) in
+    outcome_same s y z g h.committed w p.world p.event p.draft.tx p.draft.outcome
+    ∙ ap (λ c. map unmeasured (steps_of s z c w p.world p.event p.draft)) (fill g h e) in
     after-measured (steps_of s y g w p.world p.event p.draft) (steps_of s z h w p.world p.event p.draft) g h same e

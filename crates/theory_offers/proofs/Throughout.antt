@@ -36,7 +36,8 @@ use Rattle.spec_run.proofs.Courses.{left_more, last_left, reached, reached_more,
 
 -- ---- the run so far
 
--- these events make a run that doesn't halt, leaves the world, and reaches the configuration but for what is committed, whatever strings are posted later
+-- these events make a run that doesn't halt, leaves the world, and reaches the configuration but for what is committed, whatever strings
+-- are posted later
 record Cut (s : Setup) (es : List Event) (g : Configuration) (w : World) : Type 0 where
   events : AllByRecursion (IsEvent s) es
   on : (played s es).halt ≡ None
@@ -47,7 +48,8 @@ all_more : {X : Type 0} (P : X → Type 0) (xs : List X) (x : X) → AllByRecurs
 all_more P [] x h p = (p, tt)
 all_more P (y ∷ ys) x h p = (h.0, all_more P ys x h.1 p)
 
-events_more : (rs : List Record) (r : Record) → map (λ (x : Record). x.event) (rs ++ r ∷ []) ≡ map (λ (x : Record). x.event) rs ++ r.event ∷ []
+events_more : (rs : List Record) (r : Record)
+    → map (λ (x : Record). x.event) (rs ++ r ∷ []) ≡ map (λ (x : Record). x.event) rs ++ r.event ∷ []
 events_more [] r = refl
 events_more (x ∷ rs) r = λ i. x.event ∷ events_more rs r i
 
@@ -73,8 +75,10 @@ cut_after s z es g w e cut is calm unguessed =
 
 -- ---- what is committed and revealed
 
-module _ (s : Setup) (y z : List (List ℕ)) (g h : Configuration) (w : World) (one : KeptSecrets s y g w) (other : KeptSecrets s z h w) (first : Begins y w.posted) (second : Begins z w.posted) where
-  who_by : (x : List (List ℕ)) (ps : List Promise) (k : ℕ) (party : List ℕ) → has_committed (map (committed_by s x) ps) k party ≡ list_any (λ (p : Promise). (p.contract == k) && bytes_eq p.party party) ps
+module _ (s : Setup) (y z : List (List ℕ)) (g h : Configuration) (w : World) (one : KeptSecrets s y g w) (other : KeptSecrets s z h w)
+    (first : Begins y w.posted) (second : Begins z w.posted) where
+  who_by : (x : List (List ℕ)) (ps : List Promise) (k : ℕ) (party : List ℕ)
+      → has_committed (map (committed_by s x) ps) k party ≡ list_any (λ (p : Promise). (p.contract == k) && bytes_eq p.party party) ps
   who_by x ps k party = any_map (λ c. (c.contract == k) && bytes_eq c.party party) (committed_by s x) ps
 
   pub same_who : (k : ℕ) (party : List ℕ) → has_committed g.committed k party ≡ has_committed h.committed k party
@@ -83,20 +87,23 @@ module _ (s : Setup) (y z : List (List ℕ)) (g h : Configuration) (w : World) (
       ∙ sym (ap (λ cs. has_committed cs k party) other.lengths ∙ who_by z w.promises k party)
 
   -- the length of a secret that is shown is that of the first string that fits, which stands among those posted so far
-  measured : (party secret digest : List ℕ) → is_some (fitting s w.posted digest) ≡ true → length_in_run s y party secret digest ≡ length_in_run s z party secret digest
+  measured : (party secret digest : List ℕ) → is_some (fitting s w.posted digest) ≡ true
+      → length_in_run s y party secret digest ≡ length_in_run s z party secret digest
   measured party secret digest shown =
       let any = any_found (fits s digest) w.posted shown in
       let same : fitting s y digest ≡ fitting s z digest = first.first (fits s digest) any ∙ sym (second.first (fits s digest) any) in
       ap (λ o. if is_honest s party then option_map secret_size (held_secret s party secret) else option_map secret_size o) same
 
-  pub same_long : (k : ℕ) (party secret : List ℕ) → is_revealed g.revealed k party secret ≡ true → length_at g.committed k party secret ≡ length_at h.committed k party secret
+  pub same_long : (k : ℕ) (party secret : List ℕ) → is_revealed g.revealed k party secret ≡ true
+      → length_at g.committed k party secret ≡ length_at h.committed k party secret
   same_long k party secret revealed =
       let x : Revealed = record { contract = k; party = party; secret = secret } in
       ap (λ cs. length_at cs k party secret) one.lengths ∙ length_at-by s y x w.promises
       ∙ by_digest (digest_at w.promises x) (sym (one.revealed x) ∙ revealed)
       ∙ sym (ap (λ cs. length_at cs k party secret) other.lengths ∙ length_at-by s z x w.promises)
     where
-      by_digest : (o : Option (List ℕ)) → is_shown s w.posted o ≡ true → option_map (length_in_run s y party secret) o ≡ option_map (length_in_run s z party secret) o
+      by_digest : (o : Option (List ℕ)) → is_shown s w.posted o ≡ true
+          → option_map (length_in_run s y party secret) o ≡ option_map (length_in_run s z party secret) o
       by_digest None shown = refl
       by_digest (Some digest) shown = ap Some (measured party secret digest shown)
 
@@ -118,7 +125,8 @@ module _ (s : Setup) (setup : IsSetup s) (opens : opening_collision s ≡ None) 
         offers_kept s setup z g w agree books.book (checks s setup g w books) tracks.secrets begins kept.more offer there
 
   -- what the run offers that ends here
-  module _ (es : List Event) (g : Configuration) (w : World) (cut : Cut s es g w) (secrets : KeptSecrets s z g w) (begins : Begins z w.posted) where
+  module _ (es : List Event) (g : Configuration) (w : World) (cut : Cut s es g w) (secrets : KeptSecrets s z g w)
+      (begins : Begins z w.posted) where
     ends_here : w ≡ last_world s es
     ends_here = sym (last_left s (run_posts s es) (played s es).passed (opening_configuration s) (opening_world s) ∙ cut.left)
 
@@ -130,7 +138,8 @@ module _ (s : Setup) (setup : IsSetup s) (opens : opening_collision s ≡ None) 
         let last = (kept_at_end s (spends_with_leave s) (KeptAll s y) es (keeps_all s setup y) cut.events (opening_all s es run y)).holds in
         let there : KeptSecrets s y h w = subst (λ x. KeptSecrets s y h x) (sym ends_here) last.honest.run.tracks.secrets in
         let posted : Begins y w.posted = subst (λ x. Begins y x) (ap (λ (x : World). x.posted) cut.left) (record { first = λ p q. refl }) in
-        same_offers g h (sym (cut.alike y)) (same_who s z y g h w secrets there begins posted) (same_long s z y g h w secrets there begins posted)
+        same_offers g h (sym (cut.alike y)) (same_who s z y g h w secrets there begins posted)
+        (same_long s z y g h w secrets there begins posted)
 
   keeps_offers : Keeps s (kept_offers s) (KeptCut s z) z
   keeps_offers = record {
@@ -139,7 +148,8 @@ module _ (s : Setup) (setup : IsSetup s) (opens : opening_collision s ≡ None) 
         let r = record_of e (draft s w e) in
         let all = all_after s setup z before g w kept.all e is calm unguessed begins in
         let cut : Cut s (map (λ x. x.event) (before ++ r ∷ [])) t.configuration t.world =
-        subst (λ es. Cut s es t.configuration t.world) (sym (events_more before r)) (cut_after s z (map (λ x. x.event) before) g w e kept.cut is calm unguessed) in
+        subst (λ es. Cut s es t.configuration t.world) (sym (events_more before r))
+        (cut_after s z (map (λ x. x.event) before) g w e kept.cut is calm unguessed) in
         let es = map (λ (x : Record). x.event) (before ++ r ∷ []) in
         let secrets = all.honest.run.tracks.secrets in (
           record {

@@ -56,13 +56,15 @@ not_none (Some p) x h k = cc
 
 -- where the reveal is refused nothing may be posted
 revealed_own : (s : Setup) (w : World) (contract : ℕ) (party name : List ℕ) (x : HeldSecret) (r : Option Reason)
-    → is_allowed (unless r w [] (posting w (own_secret s party name) (Some (party, name)))).allowed x ≡ true → (party ≡ x.party) × (name ≡ x.name)
+    → is_allowed (unless r w [] (posting w (own_secret s party name) (Some (party, name)))).allowed x ≡ true
+    → (party ≡ x.party) × (name ≡ x.name)
 revealed_own s w contract party name x None h =
     let a = and_parts (bytes_eq party x.party) (bytes_eq name x.name) h in
     (bytes-true party x.party a.0, bytes-true name x.name a.1)
 revealed_own s w contract party name x (Some r) h = cc
 
-own_revealed : (s : Setup) (w : World) (contract : ℕ) (party name : List ℕ) (x : HeldSecret) (r : Option Reason) → party ≡ x.party → name ≡ x.name
+own_revealed : (s : Setup) (w : World) (contract : ℕ) (party name : List ℕ) (x : HeldSecret) (r : Option Reason) → party ≡ x.party
+    → name ≡ x.name
     → is_among x.bytes (unless r w [] (posting w (own_secret s party name) (Some (party, name)))).posts ≡ true
     → is_allowed (unless r w [] (posting w (own_secret s party name) (Some (party, name)))).allowed x ≡ true
 own_revealed s w contract party name x None p n h =
@@ -72,8 +74,10 @@ own_revealed s w contract party name x (Some r) p n h = cc
 module _ (s : Setup) (w : World) where
   -- what may be posted is the owner's own reveal
   pub own_allowed : (e : Event) (x : HeldSecret) → is_allowed (draft s w e).allowed x ≡ true → IsOwnReveal e x
-  own_allowed (events.Reveal contract party name) x h = revealed_own s w contract party name x (first_reason (reveal_row s w contract party name)) h
-  own_allowed (events.Advertise contract bindings) x h = not_none _ x (unless_none (first_reason (advertise_row s w contract bindings)) w [] _ refl) h
+  own_allowed (events.Reveal contract party name) x h =
+      revealed_own s w contract party name x (first_reason (reveal_row s w contract party name)) h
+  own_allowed (events.Advertise contract bindings) x h =
+      not_none _ x (unless_none (first_reason (advertise_row s w contract bindings)) w [] _ refl) h
   own_allowed (events.Commit contract party digests) x h =
       let strings = committed_strings s contract party in
       let last = committed_draft s (with_promise s w contract party digests) contract party strings in
@@ -81,22 +85,28 @@ module _ (s : Setup) (w : World) where
       (unless_none (first_reason (digest_row s w contract party digests)) w strings last refl)) h
   own_allowed (events.Endorse contract party) x h = not_none _ x (unless_none (first_reason (endorse_row s w contract party)) w [] _ refl) h
   own_allowed (events.Init contract party) x h = not_none _ x (unless_none (first_reason (init_row s w contract party)) w [] _ refl) h
-  own_allowed (events.Authorise party output branch) x h = not_none _ x (unless_none (first_reason (authorise_row s w party output branch)) w [] _ refl) h
+  own_allowed (events.Authorise party output branch) x h =
+      not_none _ x (unless_none (first_reason (authorise_row s w party output branch)) w [] _ refl) h
   own_allowed (events.Post bytes) x h = cc
   own_allowed (events.Sign party label digest) x h = not_none _ x (unless_none (first_reason (sign_row s party label)) w [] _ refl) h
   own_allowed (events.Give party inputs outputs) x h =
       let signed = with_pairs w (given_pairs s w party inputs outputs) in
-      not_none _ x (unless_none (first_reason (give_row s w party inputs outputs)) w [] _ (reaches_none s w signed (gift s w party inputs outputs))) h
+      not_none _ x (unless_none (first_reason (give_row s w party inputs outputs)) w [] _
+      (reaches_none s w signed (gift s w party inputs outputs))) h
   own_allowed (events.Append bytes) x h = not_none _ x (read_none s w (transaction_of bytes)) h
   own_allowed (events.FireInit contract) x h =
-      not_none _ x (unless_none (first_reason (fire_init_row s w contract)) w [] _ (reaches_if_none s w (initial_by s (compiled_at s w contract)))) h
+      not_none _ x (unless_none (first_reason (fire_init_row s w contract)) w [] _
+      (reaches_if_none s w (initial_by s (compiled_at s w contract)))) h
   own_allowed (events.Fire output branch) x h =
-      not_none _ x (unless_none (first_reason (fire_row s w output branch)) w [] _ (reaches_if_none s w (taking_by s w (held_at w output) branch))) h
+      not_none _ x (unless_none (first_reason (fire_row s w output branch)) w [] _
+      (reaches_if_none s w (taking_by s w (held_at w output) branch))) h
   own_allowed (events.Mine blocks) x h = not_none _ x (unless_none (first_reason (mine_row w blocks)) w [] _ refl) h
 
   -- and what the owner's own reveal posts may be posted
-  pub allowed_own : (e : Event) (x : HeldSecret) → IsOwnReveal e x → is_among x.bytes (draft s w e).posts ≡ true → is_allowed (draft s w e).allowed x ≡ true
-  allowed_own (events.Reveal contract party name) x own h = own_revealed s w contract party name x (first_reason (reveal_row s w contract party name)) own.0 own.1 h
+  pub allowed_own : (e : Event) (x : HeldSecret) → IsOwnReveal e x → is_among x.bytes (draft s w e).posts ≡ true
+      → is_allowed (draft s w e).allowed x ≡ true
+  allowed_own (events.Reveal contract party name) x own h =
+      own_revealed s w contract party name x (first_reason (reveal_row s w contract party name)) own.0 own.1 h
   allowed_own (events.Advertise contract bindings) x own h = absurd own
   allowed_own (events.Commit contract party digests) x own h = absurd own
   allowed_own (events.Endorse contract party) x own h = absurd own

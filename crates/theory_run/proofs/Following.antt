@@ -25,12 +25,14 @@ find_front : (p : List ℕ → Bool) (xs ys : List (List ℕ)) → list_any p xs
 find_front p [] ys h = cc
 find_front p (x ∷ xs) ys h = by_test (p x) h (find_front p xs ys)
   where
-    by_test : (b : Bool) → (b || list_any p xs) ≡ true → (list_any p xs ≡ true → find p (xs ++ ys) ≡ find p xs) → cond b (Some x) (find p (xs ++ ys)) ≡ cond b (Some x) (find p xs)
+    by_test : (b : Bool) → (b || list_any p xs) ≡ true → (list_any p xs ≡ true → find p (xs ++ ys) ≡ find p xs)
+        → cond b (Some x) (find p (xs ++ ys)) ≡ cond b (Some x) (find p xs)
     by_test true e ih = refl
     by_test false e ih = ih e
 
 begins_front : (z xs ys : List (List ℕ)) → Begins z (xs ++ ys) → Begins z xs
-begins_front z xs ys b = record { first = λ p h. b.first p (any-append p xs ys ∙ or_left (list_any p xs) (list_any p ys) h) ∙ find_front p xs ys h }
+begins_front z xs ys b =
+    record { first = λ p h. b.first p (any-append p xs ys ∙ or_left (list_any p xs) (list_any p ys) h) ∙ find_front p xs ys h }
 
 -- the strings posted so far begin those of the run
 pub posted_begins : (s : Setup) (es : List Event) (w : World) → Begins (world_after w (played_from s w es).passed).posted w.posted
@@ -39,11 +41,13 @@ posted_begins s (e ∷ es) w =
     let d = draft s w e in
     by_answer d (collision s.hash w.hashed d.hashes) (guess s w.posted d.posts d.allowed) (posted_begins s es)
   where
-    by_answer : (d : Draft) (c : Option (List ℕ × List ℕ)) (g : Option HeldSecret) → ((next : World) → Begins (world_after next (played_from s next es).passed).posted next.posted)
+    by_answer : (d : Draft) (c : Option (List ℕ × List ℕ)) (g : Option HeldSecret)
+        → ((next : World) → Begins (world_after next (played_from s next es).passed).posted next.posted)
         → Begins (world_after w (goes_on e (settle w d c g) (λ next. played_from s next es)).passed).posted w.posted
     by_answer d (Some pair) g ih = record { first = λ p h. refl }
     by_answer d None (Some held) ih = record { first = λ p h. refl }
-    by_answer d None None ih = begins_front (world_after (settled w d) (played_from s (settled w d) es).passed).posted w.posted d.posts (ih (settled w d))
+    by_answer d None None ih =
+        begins_front (world_after (settled w d) (played_from s (settled w d) es).passed).posted w.posted d.posts (ih (settled w d))
 
 -- ---- the run
 
@@ -51,11 +55,14 @@ posted_begins s (e ∷ es) w =
 abbrev pub turn_at : Setup → List (List ℕ) → Configuration → World → Event → Turn
 turn_at s z g w e = turn_of s z g w (passing s w e)
 
--- what is kept before the event is kept after it, and the claim holds of it; where nothing collides and nothing is guessed, in a run that posts these strings
+-- what is kept before the event is kept after it, and the claim holds of it; where nothing collides and nothing is guessed, in a run that
+-- posts these strings
 pub record Keeps (s : Setup) (claim : Claim) (kept : List Record → Configuration → World → Type 0) (z : List (List ℕ)) : Type 0 where
   pub step : (before : List Record) (g : Configuration) (w : World) (e : Event) → kept before g w → IsEvent s e
-      → collision s.hash w.hashed (draft s w e).hashes ≡ None → guess s w.posted (draft s w e).posts (draft s w e).allowed ≡ None → Begins z (settled w (draft s w e)).posted
-      → claim before g w (turn_at s z g w e) × kept (before ++ record_in (turn_at s z g w e) ∷ []) (turn_at s z g w e).configuration (turn_at s z g w e).world
+      → collision s.hash w.hashed (draft s w e).hashes ≡ None → guess s w.posted (draft s w e).posts (draft s w e).allowed ≡ None
+      → Begins z (settled w (draft s w e)).posted
+      → claim before g w (turn_at s z g w e)
+      × kept (before ++ record_in (turn_at s z g w e) ∷ []) (turn_at s z g w e).configuration (turn_at s z g w e).world
 
 -- something is kept of some records
 pub record KeptAfter (kept : List Record → Configuration → World → Type 0) (g : Configuration) (w : World) : Type 0 where
@@ -66,18 +73,24 @@ pub record KeptAfter (kept : List Record → Configuration → World → Type 0)
 abbrev pub claims_and_keeps : Claim → (List Record → Configuration → World → Type 0) → Claim
 claims_and_keeps claim kept before g w t = claim before g w t × kept (before ++ record_in t ∷ []) t.configuration t.world
 
-module _ (s : Setup) (claim : Claim) (kept : List Record → Configuration → World → Type 0) (z : List (List ℕ)) (keeps : Keeps s claim kept z) where
-  pub follows : (es : List Event) (before : List Record) (g : Configuration) (w : World) → AllByRecursion (IsEvent s) es → kept before g w → (world_after w (played_from s w es).passed).posted ≡ z
+module _ (s : Setup) (claim : Claim) (kept : List Record → Configuration → World → Type 0) (z : List (List ℕ))
+    (keeps : Keeps s claim kept z) where
+  pub follows : (es : List Event) (before : List Record) (g : Configuration) (w : World) → AllByRecursion (IsEvent s) es → kept before g w
+      → (world_after w (played_from s w es).passed).posted ≡ z
       → HoldsFrom (claims_and_keeps claim kept) before g w (turns_from s z g w (played_from s w es).passed)
   follows [] before g w is k end = tt
   follows (e ∷ es) before g w is k end =
       let d = draft s w e in
-      by_answer (collision s.hash w.hashed d.hashes) (guess s w.posted d.posts d.allowed) refl refl end (λ b' g' w'. follows es b' g' w' is.1)
+      by_answer (collision s.hash w.hashed d.hashes) (guess s w.posted d.posts d.allowed) refl refl end
+      (λ b' g' w'. follows es b' g' w' is.1)
     where
-      by_answer : (c : Option (List ℕ × List ℕ)) (u : Option HeldSecret) → collision s.hash w.hashed (draft s w e).hashes ≡ c → guess s w.posted (draft s w e).posts (draft s w e).allowed ≡ u
+      by_answer : (c : Option (List ℕ × List ℕ)) (u : Option HeldSecret) → collision s.hash w.hashed (draft s w e).hashes ≡ c
+          → guess s w.posted (draft s w e).posts (draft s w e).allowed ≡ u
           → (world_after w (goes_on e (settle w (draft s w e) c u) (λ next. played_from s next es)).passed).posted ≡ z
-          → ((b' : List Record) (g' : Configuration) (w' : World) → kept b' g' w' → (world_after w' (played_from s w' es).passed).posted ≡ z → HoldsFrom (claims_and_keeps claim kept) b' g' w' (turns_from s z g' w' (played_from s w' es).passed))
-          → HoldsFrom (claims_and_keeps claim kept) before g w (turns_from s z g w (goes_on e (settle w (draft s w e) c u) (λ next. played_from s next es)).passed)
+          → ((b' : List Record) (g' : Configuration) (w' : World) → kept b' g' w' → (world_after w' (played_from s w' es).passed).posted ≡ z
+          → HoldsFrom (claims_and_keeps claim kept) b' g' w' (turns_from s z g' w' (played_from s w' es).passed))
+          → HoldsFrom (claims_and_keeps claim kept) before g w
+          (turns_from s z g w (goes_on e (settle w (draft s w e) c u) (λ next. played_from s next es)).passed)
       by_answer (Some pair) u ec eu en go = tt
       by_answer None (Some held) ec eu en go = tt
       by_answer None None ec eu en go =
@@ -90,14 +103,19 @@ module _ (s : Setup) (claim : Claim) (kept : List Record → Configuration → W
 -- ---- what is read off the turns
 
 -- what one claim says of a turn, another may
-pub holds-map : (claim other : Claim) → ((before : List Record) (g : Configuration) (w : World) (t : Turn) → claim before g w t → other before g w t)
-    → (ts : List Turn) (before : List Record) (g : Configuration) (w : World) → HoldsFrom claim before g w ts → HoldsFrom other before g w ts
+pub holds-map : (claim other : Claim)
+    → ((before : List Record) (g : Configuration) (w : World) (t : Turn) → claim before g w t → other before g w t)
+    → (ts : List Turn) (before : List Record) (g : Configuration) (w : World) → HoldsFrom claim before g w ts
+    → HoldsFrom other before g w ts
 holds-map claim other f [] before g w h = tt
-holds-map claim other f (t ∷ ts) before g w h = (f before g w t h.0, holds-map claim other f ts (before ++ record_in t ∷ []) t.configuration t.world h.1)
+holds-map claim other f (t ∷ ts) before g w h =
+    (f before g w t h.0, holds-map claim other f ts (before ++ record_in t ∷ []) t.configuration t.world h.1)
 
 -- what is kept is kept after the last turn
-kept_last : (claim : Claim) (kept : List Record → Configuration → World → Type 0) (ts : List Turn) (before : List Record) (g : Configuration) (w : World) → kept before g w
-    → HoldsFrom (claims_and_keeps claim kept) before g w ts → KeptAfter kept (last_or g (map (λ t. t.configuration) ts)) (last_or w (map (λ t. t.world) ts))
+kept_last : (claim : Claim) (kept : List Record → Configuration → World → Type 0) (ts : List Turn)
+    → (before : List Record) (g : Configuration) (w : World) → kept before g w
+    → HoldsFrom (claims_and_keeps claim kept) before g w ts
+    → KeptAfter kept (last_or g (map (λ t. t.configuration) ts)) (last_or w (map (λ t. t.world) ts))
 kept_last claim kept [] before g w k h = record { before = before; holds = k }
 kept_last claim kept (t ∷ ts) before g w k h = kept_last claim kept ts (before ++ record_in t ∷ []) t.configuration t.world h.0.1 h.1
 
@@ -106,20 +124,27 @@ abbrev pub run_posts : Setup → List Event → List (List ℕ)
 run_posts s es = (world_after (opening_world s) (played s es).passed).posted
 
 pub run_posts_last : (s : Setup) (es : List Event) → (last_world s es).posted ≡ run_posts s es
-run_posts_last s es = ap (λ (w : World). w.posted) (last_left s (run_posts s es) (played s es).passed (opening_configuration s) (opening_world s))
+run_posts_last s es =
+    ap (λ (w : World). w.posted) (last_left s (run_posts s es) (played s es).passed (opening_configuration s) (opening_world s))
 
 -- what is kept event by event is kept throughout a run, beside the claim
-pub kept_throughout : (s : Setup) (claim : Claim) (kept : List Record → Configuration → World → Type 0) (es : List Event) → Keeps s claim kept (run_posts s es) → AllByRecursion (IsEvent s) es
+pub kept_throughout : (s : Setup) (claim : Claim) (kept : List Record → Configuration → World → Type 0) (es : List Event)
+    → Keeps s claim kept (run_posts s es) → AllByRecursion (IsEvent s) es
     → kept [] (opening_configuration s) (opening_world s) → HoldsThroughout s (claims_and_keeps claim kept) es
-kept_throughout s claim kept es keeps is k = follows s claim kept (run_posts s es) keeps es [] (opening_configuration s) (opening_world s) is k refl
+kept_throughout s claim kept es keeps is k =
+    follows s claim kept (run_posts s es) keeps es [] (opening_configuration s) (opening_world s) is k refl
 
 -- the claim holds throughout a run where it is kept event by event
-pub holds_throughout : (s : Setup) (claim : Claim) (kept : List Record → Configuration → World → Type 0) (es : List Event) → Keeps s claim kept (run_posts s es) → AllByRecursion (IsEvent s) es
+pub holds_throughout : (s : Setup) (claim : Claim) (kept : List Record → Configuration → World → Type 0) (es : List Event)
+    → Keeps s claim kept (run_posts s es) → AllByRecursion (IsEvent s) es
     → kept [] (opening_configuration s) (opening_world s) → HoldsThroughout s claim es
 holds_throughout s claim kept es keeps is k =
-    holds-map (claims_and_keeps claim kept) claim (λ before g w t h. h.0) (course s es).turns [] (opening_configuration s) (opening_world s) (kept_throughout s claim kept es keeps is k)
+    holds-map (claims_and_keeps claim kept) claim (λ before g w t h. h.0) (course s es).turns [] (opening_configuration s)
+    (opening_world s) (kept_throughout s claim kept es keeps is k)
 
 -- and what is kept holds at its end
-pub kept_at_end : (s : Setup) (claim : Claim) (kept : List Record → Configuration → World → Type 0) (es : List Event) → Keeps s claim kept (run_posts s es) → AllByRecursion (IsEvent s) es
+pub kept_at_end : (s : Setup) (claim : Claim) (kept : List Record → Configuration → World → Type 0) (es : List Event)
+    → Keeps s claim kept (run_posts s es) → AllByRecursion (IsEvent s) es
     → kept [] (opening_configuration s) (opening_world s) → KeptAfter kept (last_configuration s es) (last_world s es)
-kept_at_end s claim kept es keeps is k = kept_last claim kept (course s es).turns [] (opening_configuration s) (opening_world s) k (kept_throughout s claim kept es keeps is k)
+kept_at_end s claim kept es keeps is k =
+    kept_last claim kept (course s es).turns [] (opening_configuration s) (opening_world s) k (kept_throughout s claim kept es keeps is k)

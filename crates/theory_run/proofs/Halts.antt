@@ -58,7 +58,8 @@ found : (p : List ℕ → Bool) (xs : List (List ℕ)) (x : List ℕ) → find p
 found p [] x h = cc
 found p (y ∷ ys) x h = by_test (p y) refl h (found p ys x)
   where
-    by_test : (b : Bool) → p y ≡ b → (if b then Some y else find p ys) ≡ Some x → (find p ys ≡ Some x → (p x ≡ true) × (is_among x ys ≡ true)) → (p x ≡ true) × (is_among x (y ∷ ys) ≡ true)
+    by_test : (b : Bool) → p y ≡ b → (if b then Some y else find p ys) ≡ Some x
+        → (find p ys ≡ Some x → (p x ≡ true) × (is_among x ys ≡ true)) → (p x ≡ true) × (is_among x (y ∷ ys) ≡ true)
     by_test true e h ih =
         let q : y ≡ x = cc in
         (subst (λ z. p z ≡ true) q e, subst (λ z. is_among z (y ∷ ys) ≡ true) q (among_head y ys))
@@ -69,7 +70,8 @@ module _ (hash : List ℕ → List ℕ) where
   pair a b = Some (a, b)
 
   pair_parts : (a b c d : List ℕ) → pair a b ≡ pair c d → (a ≡ c) × (b ≡ d)
-  pair_parts a b c d h = (ap (λ (o : Option (List ℕ × List ℕ)). first_of_pair o) h, ap (λ (o : Option (List ℕ × List ℕ)). second_of_pair o) h)
+  pair_parts a b c d h =
+      (ap (λ (o : Option (List ℕ × List ℕ)). first_of_pair o) h, ap (λ (o : Option (List ℕ × List ℕ)). second_of_pair o) h)
     where
       first_of_pair : Option (List ℕ × List ℕ) → List ℕ
       first_of_pair None = []
@@ -80,7 +82,8 @@ module _ (hash : List ℕ → List ℕ) where
       second_of_pair (Some p) = p.1
 
   -- a message clashes with one that was noted
-  clashed : (ms ts : List (List ℕ)) (m a b : List ℕ) (o : Option (List ℕ)) → NoClash hash ms → find (is_twin hash m) ms ≡ o → option_map (λ earlier. (earlier, m)) o ≡ pair a b → Collides hash ms (m ∷ ts) a b
+  clashed : (ms ts : List (List ℕ)) (m a b : List ℕ) (o : Option (List ℕ)) → NoClash hash ms → find (is_twin hash m) ms ≡ o
+      → option_map (λ earlier. (earlier, m)) o ≡ pair a b → Collides hash ms (m ∷ ts) a b
   clashed ms ts m a b None clear e h = cc
   clashed ms ts m a b (Some x) clear e h =
       let p = pair_parts x m a b h in
@@ -102,8 +105,10 @@ module _ (hash : List ℕ → List ℕ) where
   collides ms [] a b clear h = cc
   collides ms (m ∷ ts) a b clear h = by_clash (find (is_twin hash m) ms) refl h (collides (noted ms m) ts a b)
     where
-      by_clash : (o : Option (List ℕ)) → find (is_twin hash m) ms ≡ o → option_or (option_map (λ earlier. (earlier, m)) o) (collision hash (noted ms m) ts) ≡ pair a b
-          → (NoClash hash (noted ms m) → collision hash (noted ms m) ts ≡ pair a b → Collides hash (noted ms m) ts a b) → Collides hash ms (m ∷ ts) a b
+      by_clash : (o : Option (List ℕ)) → find (is_twin hash m) ms ≡ o
+          → option_or (option_map (λ earlier. (earlier, m)) o) (collision hash (noted ms m) ts) ≡ pair a b
+          → (NoClash hash (noted ms m) → collision hash (noted ms m) ts ≡ pair a b → Collides hash (noted ms m) ts a b)
+          → Collides hash ms (m ∷ ts) a b
       by_clash (Some x) e k ih = clashed ms ts m a b (Some x) clear e k
       by_clash None e k ih =
           let none : clash hash ms m ≡ None = ap (option_map (λ earlier. (earlier, m))) e in
@@ -116,7 +121,8 @@ module _ (hash : List ℕ → List ℕ) where
             in_order = ap (λ xs. m ∷ xs) later.in_order;
             earlier_first = sym (noted_front ms later.sooner m a) ∙ later.earlier_first;
             none_sooner = record {
-              apart = λ t u i j e'. later.none_sooner.apart t u (noted_front ms later.sooner m t ∙ i) (noted_front ms later.sooner m u ∙ j) e';
+              apart =
+                  λ t u i j e'. later.none_sooner.apart t u (noted_front ms later.sooner m t ∙ i) (noted_front ms later.sooner m u ∙ j) e';
             };
           }
 
@@ -149,22 +155,28 @@ module _ (s : Setup) (w : World) (e : Event) where
           both_ways (is_given x) h t
 
   -- where nothing is guessed, no secret is given away
-  pub none_away : (xs : List HeldSecret) → find (is_guessed w.posted (draft s w e).posts (draft s w e).allowed) xs ≡ None → GivesNoneAway s w e xs
+  pub none_away : (xs : List HeldSecret) → find (is_guessed w.posted (draft s w e).posts (draft s w e).allowed) xs ≡ None
+      → GivesNoneAway s w e xs
   none_away [] h = tt
   none_away (x ∷ xs) h = by_test (is_given x) refl h (none_away xs)
     where
-      by_test : (b : Bool) → is_given x ≡ b → (if b then Some x else find (is_guessed w.posted (draft s w e).posts (draft s w e).allowed) xs) ≡ None
-          → (find (is_guessed w.posted (draft s w e).posts (draft s w e).allowed) xs ≡ None → GivesNoneAway s w e xs) → GivesNoneAway s w e (x ∷ xs)
+      by_test : (b : Bool) → is_given x ≡ b
+          → (if b then Some x else find (is_guessed w.posted (draft s w e).posts (draft s w e).allowed) xs) ≡ None
+          → (find (is_guessed w.posted (draft s w e).posts (draft s w e).allowed) xs ≡ None → GivesNoneAway s w e xs)
+          → GivesNoneAway s w e (x ∷ xs)
       by_test true q k ih = cc
       by_test false q k ih = (gives_not x q, ih k)
 
   -- what is guessed is the first secret that is given away
-  pub guesses : (xs : List HeldSecret) (held : HeldSecret) → find (is_guessed w.posted (draft s w e).posts (draft s w e).allowed) xs ≡ Some held → Guesses s w e xs held.party held.name
+  pub guesses : (xs : List HeldSecret) (held : HeldSecret)
+      → find (is_guessed w.posted (draft s w e).posts (draft s w e).allowed) xs ≡ Some held → Guesses s w e xs held.party held.name
   guesses [] held h = cc
   guesses (x ∷ xs) held h = by_test (is_given x) refl h (guesses xs held)
     where
-      by_test : (b : Bool) → is_given x ≡ b → (if b then Some x else find (is_guessed w.posted (draft s w e).posts (draft s w e).allowed) xs) ≡ Some held
-          → (find (is_guessed w.posted (draft s w e).posts (draft s w e).allowed) xs ≡ Some held → Guesses s w e xs held.party held.name) → Guesses s w e (x ∷ xs) held.party held.name
+      by_test : (b : Bool) → is_given x ≡ b
+          → (if b then Some x else find (is_guessed w.posted (draft s w e).posts (draft s w e).allowed) xs) ≡ Some held
+          → (find (is_guessed w.posted (draft s w e).posts (draft s w e).allowed) xs ≡ Some held → Guesses s w e xs held.party held.name)
+          → Guesses s w e (x ∷ xs) held.party held.name
       by_test true q k ih =
           let same : x ≡ held = cc in
           record {

@@ -29,7 +29,8 @@ keeps_clear s z = record {
       outcome = refl;
       tx = refl;
       world = refl;
-      halts = record { calm = calm_is s.hash w.hashed (draft s w e).hashes fresh calm; unguessed = none_away s w e s.header.secrets unguessed };
+      halts =
+          record { calm = calm_is s.hash w.hashed (draft s w e).hashes fresh calm; unguessed = none_away s w e s.header.secrets unguessed };
       hashed = all_noted w.hashed (draft s w e).hashes;
     },
     no_clash s.hash w.hashed (draft s w e).hashes fresh calm,
@@ -38,7 +39,8 @@ keeps_clear s z = record {
 
 -- ---- the end
 
-ends_later : (s : Setup) (es : List Event) (w : World) (x : Passed) (ps : List Passed) (h : Option (Event × Halt)) → EndsAs s es (map (λ p. p.event) ps) (world_after x.world ps) h
+ends_later : (s : Setup) (es : List Event) (w : World) (x : Passed) (ps : List Passed) (h : Option (Event × Halt))
+    → EndsAs s es (map (λ p. p.event) ps) (world_after x.world ps) h
     → EndsAs s (x.event ∷ es) (map (λ p. p.event) (x ∷ ps)) (world_after w (x ∷ ps)) h
 ends_later s es w x ps None end = ap (λ ys. x.event ∷ ys) end
 ends_later s es w x ps (Some h) end = ((end.0.0, ap (λ ys. x.event ∷ ys) end.0.1), end.1)
@@ -53,18 +55,21 @@ ends s (e ∷ es) w fresh =
     let d = draft s w e in
     by_answer (collision s.hash w.hashed d.hashes) (guess s w.posted d.posts d.allowed) refl refl (ends s es)
   where
-    by_answer : (c : Option (List ℕ × List ℕ)) (u : Option HeldSecret) → collision s.hash w.hashed (draft s w e).hashes ≡ c → guess s w.posted (draft s w e).posts (draft s w e).allowed ≡ u
+    by_answer : (c : Option (List ℕ × List ℕ)) (u : Option HeldSecret) → collision s.hash w.hashed (draft s w e).hashes ≡ c
+        → guess s w.posted (draft s w e).posts (draft s w e).allowed ≡ u
         → ((next : World) → NoClash s.hash next.hashed → EndsAfter s es next (played_from s next es))
         → EndsAfter s (e ∷ es) w (goes_on e (settle w (draft s w e) c u) (λ next. played_from s next es))
     by_answer (Some pair) u ec eu ih = ((es, refl), collides s.hash w.hashed (draft s w e).hashes pair.0 pair.1 fresh ec)
-    by_answer None (Some held) ec eu ih = ((es, refl), (calm_is s.hash w.hashed (draft s w e).hashes fresh ec, guesses s w e s.header.secrets held eu))
+    by_answer None (Some held) ec eu ih =
+        ((es, refl), (calm_is s.hash w.hashed (draft s w e).hashes fresh ec, guesses s w e s.header.secrets held eu))
     by_answer None None ec eu ih =
         let next = settled w (draft s w e) in
         let later = played_from s next es in
         ends_later s es w (passing s w e) later.passed later.halt (ih next (no_clash s.hash w.hashed (draft s w e).hashes fresh ec))
 
 -- the turns have the events that went on
-events_left : (s : Setup) (z : List (List ℕ)) (ps : List Passed) (g : Configuration) (w : World) → map (λ t. t.event) (turns_from s z g w ps) ≡ map (λ p. p.event) ps
+events_left : (s : Setup) (z : List (List ℕ)) (ps : List Passed) (g : Configuration) (w : World)
+    → map (λ t. t.event) (turns_from s z g w ps) ≡ map (λ p. p.event) ps
 events_left s z [] g w = refl
 events_left s z (p ∷ ps) g w = λ i. p.event ∷ events_left s z ps (turn_of s z g w p).configuration p.world i
 

@@ -35,7 +35,9 @@ module _ (s : Setup) (setup : IsSetup s) (z : List (List ℕ)) (g : Configuratio
   apart : different_secrets (all_secrets s) ≡ true
   apart = all_different s setup.contracts
 
-  module _ (e : Event) (is : IsEvent s e) (calm : collision s.hash w.hashed (draft s w e).hashes ≡ None) (unguessed : guess s w.posted (draft s w e).posts (draft s w e).allowed ≡ None) (begins : Begins z (settled w (draft s w e)).posted) where
+  module _ (e : Event) (is : IsEvent s e) (calm : collision s.hash w.hashed (draft s w e).hashes ≡ None)
+      (unguessed : guess s w.posted (draft s w e).posts (draft s w e).allowed ≡ None)
+      (begins : Begins z (settled w (draft s w e)).posted) where
     abbrev next : World
     next = settled w (draft s w e)
 
@@ -43,7 +45,9 @@ module _ (s : Setup) (setup : IsSetup s) (z : List (List ℕ)) (g : Configuratio
     there = after g (steps_of s z g w (settled w (draft s w e)) e (draft s w e))
 
     pub followed : IsTracked s z g w e (draft s w e)
-    followed = tracked_after s setup z apart g w kept.tracks kept.books.book (fits s setup g w kept.books) (checks s setup g w kept.books) kept.books.promises.named e is calm unguessed begins
+    followed =
+        tracked_after s setup z apart g w kept.tracks kept.books.book (fits s setup g w kept.books)
+        (checks s setup g w kept.books) kept.books.promises.named e is calm unguessed begins
 
     pub run_after : KeptRun s z (after g (steps_of s z g w (settled w (draft s w e)) e (draft s w e))) (settled w (draft s w e))
     run_after = record { tracks = followed.tracks; books = keeps_after s setup z g w kept.books e is calm }
@@ -85,7 +89,8 @@ pub record InOrder (g : Configuration) (ts : List Turn) : Type 0 where
   pub legal : Legal g (in_order (map (λ t. t.steps) ts))
   pub leads : after g (in_order (map (λ t. t.steps) ts)) ≡ last_or g (map (λ t. t.configuration) ts)
 
-joined : (s : Setup) (ts : List Turn) (before : List Record) (g : Configuration) (w : World) → HoldsFrom (simulated s) before g w ts → InOrder g ts
+joined : (s : Setup) (ts : List Turn) (before : List Record) (g : Configuration) (w : World) → HoldsFrom (simulated s) before g w ts
+    → InOrder g ts
 joined s [] before g w h = record { legal = tt; leads = refl }
 joined s (t ∷ ts) before g w h =
     let later = joined s ts (before ++ record_in t ∷ []) t.configuration t.world h.1 in
@@ -97,7 +102,8 @@ joined s (t ∷ ts) before g w h =
     }
 
 -- configuration and world agree after the last turn
-ends_agreed : (s : Setup) (ts : List Turn) (before : List Record) (g : Configuration) (w : World) → Agree s g w → HoldsFrom (simulated s) before g w ts
+ends_agreed : (s : Setup) (ts : List Turn) (before : List Record) (g : Configuration) (w : World) → Agree s g w
+    → HoldsFrom (simulated s) before g w ts
     → Agree s (last_or g (map (λ t. t.configuration) ts)) (last_or w (map (λ t. t.world) ts))
 ends_agreed s [] before g w agree h = agree
 ends_agreed s (t ∷ ts) before g w agree h = ends_agreed s ts (before ++ record_in t ∷ []) t.configuration t.world h.0.agrees h.1
@@ -106,7 +112,9 @@ pub simulation : SimulationTheorem
 simulation s es run =
     let z = run_posts s es in
     let keeps : Keeps s (simulated s) (kept_by s z) z = record {
-      step = λ before g w e k is calm unguessed begins. (simulates s run.setup z g w k e is calm unguessed begins, run_after s run.setup z g w k e is calm unguessed begins);
+      step =
+          λ before g w e k is calm unguessed begins.
+          (simulates s run.setup z g w k e is calm unguessed begins, run_after s run.setup z g w k e is calm unguessed begins);
     } in
     let agree = opening_agrees s run.setup run.opens in
     let all = holds_throughout s (simulated s) (kept_by s z) es keeps run.events (opening_run s es run z) in

@@ -89,6 +89,9 @@ pub record Headline (hash : List ℕ → List ℕ) (run_file : List ℕ) (contra
   pub status : printed.status ≡ ending_status (ending (setup_of hash run contracts) run.events)
   -- where the opening is said to collide it does
   pub opening : OpeningIs (setup_of hash run contracts) (opening_collision (setup_of hash run contracts))
+  -- and then that is what is shown
+  pub unopened : (pair : List ℕ × List ℕ) → opening_collision (setup_of hash run contracts) ≡ Some pair
+      → ending (setup_of hash run contracts) run.events ≡ collided None (pair.0) (pair.1)
   -- what it shows is a faithful run, unless the opening collides
   pub faithful : opening_collision (setup_of hash run contracts) ≡ None → IsFaithful (setup_of hash run contracts) run.events
 

@@ -182,6 +182,8 @@ headline hash bytes run_file contract_files run contracts r c few =
       text = ap (λ (p : Printed). p.text) answer ∙ text_is s run.events;
       status = ap (λ (p : Printed). p.status) answer;
       opening = halts.opening s;
+      unopened = λ pair collides.
+          ap (λ (o : Option (List ℕ × List ℕ)). ending_from (last_world s run.events) (last_configuration s run.events) o (first_halt s run.events)) collides;
       faithful = λ opens.
           let is = valid_runs_are hash bytes run_file contract_files run contracts r c few opens in
           let simulates = simulation s run.events is in

@@ -59,38 +59,3 @@ turn_same s y z g h w p e =
     let same : map unmeasured (steps_of s y g w p.world p.event p.draft) ≡ map unmeasured (steps_of s z h w p.world p.event p.draft) =
     outcome_same s y z g h.committed w p.world p.event p.draft.tx p.draft.outcome ∙ ap (λ c. map unmeasured (steps_of s z c w p.world p.event p.draft)) (fill g h e) in
     after-measured (steps_of s y g w p.world p.event p.draft) (steps_of s z h w p.world p.event p.draft) g h same e
-
--- ---- one more event
-
--- the configuration after these events, from this one and this world on
-abbrev pub reached : Setup → List (List ℕ) → Configuration → World → List Passed → Configuration
-reached s z g w ps = last_or g (map (λ t. t.configuration) (turns_from s z g w ps))
-
-pub reached_more : (s : Setup) (z : List (List ℕ)) (ps : List Passed) (p : Passed) (g : Configuration) (w : World) → reached s z g w (ps ++ p ∷ []) ≡ (turn_of s z (reached s z g w ps) (world_after w ps) p).configuration
-reached_more s z [] p g w = refl
-reached_more s z (q ∷ ps) p g w = reached_more s z ps p (turn_of s z g w q).configuration q.world
-
--- what an event comes to in a world
-abbrev pub passing : Setup → World → Event → Passed
-passing s w e = record { event = e; draft = draft s w e; world = settled w (draft s w e) }
-
--- where all of these events went on, and so does one more
-pub played_more : (s : Setup) (es : List Event) (e : Event) (w : World) (last : World) → (played_from s w es).halt ≡ None → world_after w (played_from s w es).passed ≡ last
-    → collision s.hash last.hashed (draft s last e).hashes ≡ None → guess s last.posted (draft s last e).posts (draft s last e).allowed ≡ None
-    → played_from s w (es ++ e ∷ []) ≡ record { passed = (played_from s w es).passed ++ passing s last e ∷ []; halt = None }
-played_more s [] e w last on there calm unguessed =
-    subst (λ x. goes_on e (settle x (draft s x e) (collision s.hash x.hashed (draft s x e).hashes) (guess s x.posted (draft s x e).posts (draft s x e).allowed)) (λ next. played_from s next [])
-    ≡ record { passed = passing s last e ∷ []; halt = None }) (sym there) (rw (calm, unguessed) refl)
-played_more s (x ∷ es) e w last on there calm unguessed =
-    let d = draft s w x in
-    by_answer (collision s.hash w.hashed d.hashes) (guess s w.posted d.posts d.allowed) on there (λ next f t. played_more s es e next last f t calm unguessed)
-  where
-    by_answer : (c : Option (List ℕ × List ℕ)) (u : Option HeldSecret)
-        → (goes_on x (settle w (draft s w x) c u) (λ next. played_from s next es)).halt ≡ None
-        → world_after w (goes_on x (settle w (draft s w x) c u) (λ next. played_from s next es)).passed ≡ last
-        → ((next : World) → (played_from s next es).halt ≡ None → world_after next (played_from s next es).passed ≡ last → played_from s next (es ++ e ∷ []) ≡ record { passed = (played_from s next es).passed ++ passing s last e ∷ []; halt = None })
-        → goes_on x (settle w (draft s w x) c u) (λ next. played_from s next (es ++ e ∷ []))
-        ≡ record { passed = (goes_on x (settle w (draft s w x) c u) (λ next. played_from s next es)).passed ++ passing s last e ∷ []; halt = None }
-    by_answer (Some pair) u f t ih = cc
-    by_answer None (Some held) f t ih = cc
-    by_answer None None f t ih = ap (onto_passed (passing s w x)) (ih (settled w (draft s w x)) f t)

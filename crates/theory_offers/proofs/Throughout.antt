@@ -26,12 +26,13 @@ use Rattle.theory_world.proofs.Tests.{any_map}
 use Rattle.theory_world.proofs.Hashed.{any_found}
 use Rattle.theory_run.proofs.Keeping.{Begins, KeptSecrets, committed_by, length_at-by}
 use Rattle.theory_run.proofs.Followed.{agree_all}
-use Rattle.theory_run.proofs.Following.{Keeps, turn_at, posted_begins, run_posts, last_left, kept_at_end, holds_throughout}
+use Rattle.theory_run.proofs.Following.{Keeps, turn_at, posted_begins, run_posts, kept_at_end, holds_throughout}
 use Rattle.theory_run.proofs.Bookkeeping.{checks}
 use Rattle.theory_offers.proofs.OffersKept.{offers_kept}
 use Rattle.theory_offers.proofs.Whole.{KeptAll, all_after, opening_all, keeps_all}
 use Rattle.theory_offers.proofs.Blanked.{blank, same_offers}
-use Rattle.theory_offers.proofs.CutRuns.{turn_same, reached, reached_more, passing, played_more}
+use Rattle.theory_offers.proofs.CutRuns.{turn_same}
+use Rattle.spec_run.proofs.Courses.{left_more, last_left, reached, reached_more, passing, played_more}
 
 -- ---- the run so far
 
@@ -45,10 +46,6 @@ record Cut (s : Setup) (es : List Event) (g : Configuration) (w : World) : Type 
 all_more : {X : Type 0} (P : X → Type 0) (xs : List X) (x : X) → AllByRecursion P xs → P x → AllByRecursion P (xs ++ x ∷ [])
 all_more P [] x h p = (p, tt)
 all_more P (y ∷ ys) x h p = (h.0, all_more P ys x h.1 p)
-
-left_more : (ps : List Passed) (p : Passed) (w : World) → world_after w (ps ++ p ∷ []) ≡ p.world
-left_more [] p w = refl
-left_more (q ∷ ps) p w = left_more ps p q.world
 
 events_more : (rs : List Record) (r : Record) → map (λ (x : Record). x.event) (rs ++ r ∷ []) ≡ map (λ (x : Record). x.event) rs ++ r.event ∷ []
 events_more [] r = refl

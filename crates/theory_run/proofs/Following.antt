@@ -15,6 +15,7 @@ use Rattle.spec_run.specs.Event.{Passed, draft, goes_on, opening_world, played_f
 use Rattle.spec_run.specs.Translation.{Turn, turn_of, turns_from, world_after, record_in, opening_configuration, course, last_or, last_configuration, last_world}
 use Rattle.spec_run.specs.Conditions.{IsEvent}
 use Rattle.spec_run.specs.Statements.{Claim, HoldsFrom, HoldsThroughout}
+use Rattle.spec_run.proofs.Courses.{passing, last_left}
 use Rattle.theory_world.proofs.Tests.{any-append}
 use Rattle.theory_run.proofs.Keeping.{Begins}
 
@@ -48,7 +49,7 @@ posted_begins s (e ∷ es) w =
 
 -- the turn of an event that goes on, in a run that posts these strings
 abbrev pub turn_at : Setup → List (List ℕ) → Configuration → World → Event → Turn
-turn_at s z g w e = turn_of s z g w (record { event = e; draft = draft s w e; world = settled w (draft s w e) })
+turn_at s z g w e = turn_of s z g w (passing s w e)
 
 -- what is kept before the event is kept after it, and the claim holds of it; where nothing collides and nothing is guessed, in a run that posts these strings
 pub record Keeps (s : Setup) (claim : Claim) (kept : List Record → Configuration → World → Type 0) (z : List (List ℕ)) : Type 0 where
@@ -99,11 +100,6 @@ kept_last : (claim : Claim) (kept : List Record → Configuration → World → 
     → HoldsFrom (claims_and_keeps claim kept) before g w ts → KeptAfter kept (last_or g (map (λ t. t.configuration) ts)) (last_or w (map (λ t. t.world) ts))
 kept_last claim kept [] before g w k h = record { before = before; holds = k }
 kept_last claim kept (t ∷ ts) before g w k h = kept_last claim kept ts (before ++ record_in t ∷ []) t.configuration t.world h.0.1 h.1
-
--- the turns leave the world that the events left
-pub last_left : (s : Setup) (z : List (List ℕ)) (ps : List Passed) (g : Configuration) (w : World) → last_or w (map (λ t. t.world) (turns_from s z g w ps)) ≡ world_after w ps
-last_left s z [] g w = refl
-last_left s z (p ∷ ps) g w = last_left s z ps (turn_of s z g w p).configuration p.world
 
 -- the strings that are posted in a run
 abbrev pub run_posts : Setup → List Event → List (List ℕ)

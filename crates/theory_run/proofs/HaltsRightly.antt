@@ -12,9 +12,10 @@ use Rattle.spec_run.specs.Event.{Passed, Progress, draft, goes_on, opening_strin
 use Rattle.spec_run.specs.Translation.{turn_of, turns_from, world_after, course, opening_configuration, first_halt}
 use Rattle.spec_run.specs.Halting.{OpeningIs}
 use Rattle.spec_run.specs.Statements.{IsRun, EndsAs, went_on, HaltsRightly, HaltsTheorem}
+use Rattle.spec_run.proofs.Courses.{passing, last_left}
 use Rattle.theory_world.proofs.Hashed.{NoClash, no_clash_none, no_clash}
 use Rattle.theory_run.proofs.Opening.{clear}
-use Rattle.theory_run.proofs.Following.{Keeps, run_posts, last_left, holds_throughout}
+use Rattle.theory_run.proofs.Following.{Keeps, run_posts, holds_throughout}
 use Rattle.theory_run.proofs.Halts.{all_noted, calm_is, collides, none_away, guesses}
 
 -- no messages of the world clash
@@ -60,7 +61,7 @@ ends s (e ∷ es) w fresh =
     by_answer None None ec eu ih =
         let next = settled w (draft s w e) in
         let later = played_from s next es in
-        ends_later s es w (record { event = e; draft = draft s w e; world = next }) later.passed later.halt (ih next (no_clash s.hash w.hashed (draft s w e).hashes fresh ec))
+        ends_later s es w (passing s w e) later.passed later.halt (ih next (no_clash s.hash w.hashed (draft s w e).hashes fresh ec))
 
 -- the turns have the events that went on
 events_left : (s : Setup) (z : List (List ℕ)) (ps : List Passed) (g : Configuration) (w : World) → map (λ t. t.event) (turns_from s z g w ps) ≡ map (λ p. p.event) ps

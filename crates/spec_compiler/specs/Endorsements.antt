@@ -79,5 +79,5 @@ abbrev pub is_endorsed : (List ℕ → List ℕ) → Setting → List Pair → B
 is_endorsed hash s book = all_met book (needed hash s)
 
 -- the first endorsement that it misses
-abbrev pub first_missing : (List ℕ → List ℕ) → Setting → List Pair → Option Need
-first_missing hash s book = first_unmet book (needed hash s)
+abbrev pub missing_endorsement : (List ℕ → List ℕ) → Setting → List Pair → Option Need
+missing_endorsement hash s book = first_unmet book (needed hash s)

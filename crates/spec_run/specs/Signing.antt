@@ -13,7 +13,7 @@ use Rattle.spec_compiler.specs.declared.prepared.Prepared.{Prepared}
 use Rattle.spec_compiler.specs.Setting.{Setting, branch_label, deposit_key}
 use Rattle.spec_compiler.specs.Compilation.{compilation}
 use Rattle.spec_compiler.specs.ByPath.{prepared_at}
-use Rattle.spec_compiler.specs.Endorsements.{Need, needed, first_missing}
+use Rattle.spec_compiler.specs.Endorsements.{Need, needed, missing_endorsement}
 use Rattle.spec_run.specs.declared.outcome.Reason.{Reason}
 use Rattle.spec_run.specs.declared.outcome.Reason.TheVariants as reason
 use Rattle.spec_run.specs.Setup.{Setup, has_contract, takes_part, is_honest}
@@ -82,7 +82,7 @@ initial_pairs s party (Some setting) = pairs_of_deposits s party (persistent set
 -- the first endorsement that is missing, where the contract is compiled
 abbrev pub missing_need : Setup → World → Option Setting → Option Need
 missing_need s w None = None
-missing_need s w (Some setting) = first_missing s.hash setting w.book
+missing_need s w (Some setting) = missing_endorsement s.hash setting w.book
 
 -- the first endorsement that an honest party misses
 abbrev pub missed_need : Setup → World → ℕ → List ℕ → Option Need

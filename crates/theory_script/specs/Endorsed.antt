@@ -3,7 +3,7 @@ use Rattle.std.specs.Prelude.{◌≡◌, ℕ, List, ◌∷◌, ◌++◌, true, f
 use Rattle.std.specs.Option.{is_none}
 use Rattle.spec_bitcoin.specs.Keys.{Pair}
 use Rattle.spec_compiler.specs.Setting.{Setting}
-use Rattle.spec_compiler.specs.Endorsements.{Need, needed, is_met, all_met, is_endorsed, first_missing}
+use Rattle.spec_compiler.specs.Endorsements.{Need, needed, is_met, all_met, is_endorsed, missing_endorsement}
 
 -- the book misses this one of what is wanted, and has all that stands before it
 pub record IsFirstMissing (book : List Pair) (wanted : List Need) (need : Need) : Type 0 where
@@ -15,8 +15,8 @@ pub record IsFirstMissing (book : List Pair) (wanted : List Need) (need : Need) 
 
 -- no endorsement is missing exactly where the contract is endorsed, and the one that is answered is the first that is missing
 pub record TellsMissing (hash : List ℕ → List ℕ) (s : Setting) (book : List Pair) : Type 0 where
-  pub none : is_none (first_missing hash s book) ≡ is_endorsed hash s book
-  pub first : (need : Need) → first_missing hash s book ≡ Some need → IsFirstMissing book (needed hash s) need
+  pub none : is_none (missing_endorsement hash s book) ≡ is_endorsed hash s book
+  pub first : (need : Need) → missing_endorsement hash s book ≡ Some need → IsFirstMissing book (needed hash s) need
 
 abbrev pub MissingIsFirst : Type 0
 MissingIsFirst = (hash : List ℕ → List ℕ) (s : Setting) (book : List Pair) → TellsMissing hash s book

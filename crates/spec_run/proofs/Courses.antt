@@ -4,7 +4,7 @@ use Rattle.spec_calculus.specs.Configuration.{Configuration}
 use Rattle.spec_run.specs.declared.event.Event.{Event}
 use Rattle.spec_run.specs.declared.header.HeldSecret.{HeldSecret}
 use Rattle.spec_run.specs.Setup.{Setup}
-use Rattle.spec_run.specs.Messages.{collision}
+use Rattle.spec_data.specs.Messages.{collision}
 use Rattle.spec_run.specs.World.{World}
 use Rattle.spec_run.specs.Draft.{Draft, Answer, Went, Halted, Halt, guess, settled, settle}
 use Rattle.spec_run.specs.Event.{Passed, Progress, draft, event, goes_on, played_from, onto_passed}

@@ -1,4 +1,5 @@
 -- A worked value of an audit: lines that are no transactions, and what is absent and missing.
+use Rattle.spec_terms.specs.Readable.{is_name}
 use Rattle.std.proofs.Common.{◌≡◌, ℕ, List, [], ◌∷◌, refl}
 use Rattle.std.specs.Prelude.{codes}
 use Rattle.std.specs.Fmt.{digits}
@@ -67,7 +68,7 @@ findings =
 
 pub audit_of_no_transactions : answer small_hash (audit (codes "r") (codes "c") (codes "f"))
     (got endorsed_run ∷ got siblings ∷ got no_transactions ∷ []) ≡ prints 0 findings
-unfolding word_front number_front symbol_front read_contract advert_of_all advert_at entries_at entry_at head_at deposit_at secret_at
+unfolding is_name word_front number_front symbol_front read_contract advert_of_all advert_at entries_at entry_at head_at deposit_at secret_at
     fee_at choice_with branches_at branch_at parts_at auth_at after_at put_at reveal_at split_at reveals_at puts_at put_reveals_at
     headed_at one_branch_at condition_at names_from test_at comparison_at formula_at constant_at length_at withdraw_at digits label_text
     stripped marked compact places_list sequences_list outputs_list preimage position_script many wide_at compact_at string_at input_at

@@ -1,4 +1,5 @@
 -- Worked values of which words are commands, which files they read, and the order of refusals.
+use Rattle.spec_terms.specs.Readable.{is_name}
 use Rattle.std.proofs.Common.{◌≡◌, [], ◌∷◌, false, refl, Some, None, replicate}
 use Rattle.std.specs.Prelude.{codes}
 use Rattle.std.specs.Fmt.{digits}
@@ -85,7 +86,7 @@ run_too_long = refl
 pub second_contract_too_long : answer same (play (codes "r") (codes "c" ∷ codes "d" ∷ []))
     (got (codes "--") ∷ got (codes "{A:! 1 @ x} withdraw A") ∷ too_long ∷ [])
     ≡ prints 1 (line (codes "contract 1 refused limit Text 1048576") [])
-unfolding word_front number_front symbol_front read_contract advert_of_all advert_at entries_at entry_at head_at deposit_at secret_at
+unfolding is_name word_front number_front symbol_front read_contract advert_of_all advert_at entries_at entry_at head_at deposit_at secret_at
     fee_at choice_with branches_at branch_at parts_at auth_at after_at put_at reveal_at split_at reveals_at puts_at put_reveals_at
     headed_at one_branch_at condition_at names_from test_at comparison_at formula_at constant_at length_at withdraw_at digits
 second_contract_too_long = refl
@@ -98,7 +99,7 @@ contract_before_the_file = refl
 
 pub audit_too_long : answer same (audit (codes "r") (codes "c") (codes "f"))
     (got (codes "--") ∷ got (codes "{A:! 1 @ x} withdraw A") ∷ too_long ∷ []) ≡ prints 10 (line (codes "audit refused") [])
-unfolding word_front number_front symbol_front read_contract advert_of_all advert_at entries_at entry_at head_at deposit_at secret_at
+unfolding is_name word_front number_front symbol_front read_contract advert_of_all advert_at entries_at entry_at head_at deposit_at secret_at
     fee_at choice_with branches_at branch_at parts_at auth_at after_at put_at reveal_at split_at reveals_at puts_at put_reveals_at
     headed_at one_branch_at condition_at names_from test_at comparison_at formula_at constant_at length_at withdraw_at digits
 audit_too_long = refl

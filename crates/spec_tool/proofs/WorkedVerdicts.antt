@@ -1,4 +1,5 @@
 -- Worked values of audits: a compiled transaction of two branches, and one that the ledger accepts.
+use Rattle.spec_terms.specs.Readable.{is_name}
 use Rattle.std.proofs.Common.{◌≡◌, ℕ, List, [], ◌∷◌, Option, Some, None, Ok, Err, refl}
 use Rattle.std.specs.Prelude.{codes, take}
 use Rattle.std.specs.Option.{option_map_or, option_and_then}
@@ -33,12 +34,12 @@ use Rattle.spec_terms.specs.declared.path.PathStep.TheVariants.{Branch as To}
 use Rattle.spec_bitcoin.specs.declared.tx.Tx.{Tx}
 use Rattle.spec_bitcoin.specs.Spelling.{spelling}
 use Rattle.spec_compiler.specs.Transactions.{tx_of}
-use Rattle.spec_compiler.specs.ByPath.{draft_at}
+use Rattle.spec_compiler.specs.ByPath.{unsigned_at}
 use Rattle.spec_run.specs.declared.event.Run.{Run}
 use Rattle.spec_run.specs.Setup.{Setup}
 use Rattle.spec_run.specs.World.{World, held_at}
 use Rattle.spec_run.specs.Compiled.{compiled_at}
-use Rattle.spec_run.specs.Event.{last_world}
+use Rattle.spec_run.specs.Translation.{last_world}
 use Rattle.spec_run.specs.Firing.{taking_by}
 use Rattle.spec_data.specs.Digits.{hex_text}
 use Rattle.spec_text.specs.Refusals.{Judged, contract_of, run_of}
@@ -55,7 +56,7 @@ shown tx = option_map_or (λ t. hex_text (spelling t)) tx []
 -- the transaction of a path, without its witnesses
 abbrev pub path_shown : List PathStep → Setup → World → List ℕ
 path_shown path s w =
-    shown (option_and_then (λ setting. option_map_or (λ d. Some (tx_of d)) (draft_at s.hash setting path) None) (compiled_at s w 0))
+    shown (option_and_then (λ setting. option_map_or (λ d. Some (tx_of d)) (unsigned_at s.hash setting path) None) (compiled_at s w 0))
 
 -- the transaction that takes branch 0 of output 2, with its witness
 abbrev pub taking_shown : Setup → World → List ℕ
@@ -76,7 +77,7 @@ sibling_findings =
 pub two_paths : answer small_hash (audit (codes "r") (codes "c") (codes "f"))
     (got endorsed_run ∷ got siblings ∷ got (after_run (path_shown (To 0 ∷ [])) (run_of endorsed_run) (contract_of siblings)) ∷ [])
     ≡ prints 0 sibling_findings
-unfolding word_front number_front symbol_front read_contract advert_of_all advert_at entries_at entry_at head_at deposit_at secret_at
+unfolding is_name word_front number_front symbol_front read_contract advert_of_all advert_at entries_at entry_at head_at deposit_at secret_at
     fee_at choice_with branches_at branch_at parts_at auth_at after_at put_at reveal_at split_at reveals_at puts_at put_reveals_at
     headed_at one_branch_at condition_at names_from test_at comparison_at formula_at constant_at length_at withdraw_at digits label_text
     stripped marked compact places_list sequences_list outputs_list preimage position_script many wide_at compact_at string_at input_at
@@ -119,7 +120,7 @@ taking_file = after_run taking_shown (run_of revealed_run) (contract_of commitme
 pub accepted_now :
     beginning (answer small_hash (audit (codes "r") (codes "c") (codes "f")) (got revealed_run ∷ got commitment ∷ got taking_file ∷ []))
     ≡ accepted_line
-unfolding word_front number_front symbol_front read_contract advert_of_all advert_at entries_at entry_at head_at deposit_at secret_at
+unfolding is_name word_front number_front symbol_front read_contract advert_of_all advert_at entries_at entry_at head_at deposit_at secret_at
     fee_at choice_with branches_at branch_at parts_at auth_at after_at put_at reveal_at split_at reveals_at puts_at put_reveals_at
     headed_at one_branch_at condition_at names_from test_at comparison_at formula_at constant_at length_at withdraw_at digits label_text
     stripped marked compact places_list sequences_list outputs_list preimage position_script many wide_at compact_at string_at input_at

@@ -1,4 +1,5 @@
 -- Worked values of weights.
+use Rattle.spec_terms.specs.Readable.{is_name}
 use Rattle.std.proofs.Common.{◌≡◌, ℕ, List, [], ◌∷◌, length, refl}
 use Rattle.std.specs.Prelude.{codes}
 use Rattle.std.specs.Fmt.{digits}
@@ -55,7 +56,7 @@ abbrev pub from_to : ℕ → ℕ → Weight
 from_to least most = record { least = least; most = most }
 
 pub weights_without_secrets : weights small_hash (compiled plain) ≡ (exactly 482, exactly 482) ∷ (exactly 482, exactly 964) ∷ []
-unfolding word_front number_front symbol_front read_contract advert_of_all advert_at entries_at entry_at head_at deposit_at secret_at
+unfolding is_name word_front number_front symbol_front read_contract advert_of_all advert_at entries_at entry_at head_at deposit_at secret_at
     fee_at choice_with branches_at branch_at parts_at auth_at after_at put_at reveal_at split_at reveals_at puts_at put_reveals_at
     headed_at one_branch_at condition_at names_from test_at comparison_at formula_at constant_at length_at withdraw_at digits label_text
     stripped marked compact places_list sequences_list outputs_list preimage position_script
@@ -63,7 +64,7 @@ weights_without_secrets = refl
 
 pub weights_with_a_secret : weights small_hash (compiled revealing) ≡ (exactly 482, exactly 482) ∷ (from_to 547 1053, from_to 1029 1535)
     ∷ (exactly 482, from_to 1511 2017) ∷ []
-unfolding word_front number_front symbol_front read_contract advert_of_all advert_at entries_at entry_at head_at deposit_at secret_at
+unfolding is_name word_front number_front symbol_front read_contract advert_of_all advert_at entries_at entry_at head_at deposit_at secret_at
     fee_at choice_with branches_at branch_at parts_at auth_at after_at put_at reveal_at split_at reveals_at puts_at put_reveals_at
     headed_at one_branch_at condition_at names_from test_at comparison_at formula_at constant_at length_at withdraw_at digits label_text
     stripped marked compact places_list sequences_list outputs_list preimage position_script
@@ -111,7 +112,7 @@ silent_run =
 
 pub weights_of_nothing : answer small_hash (weigh (codes "r") (codes "c")) (got silent_run ∷ got plain_text ∷ [])
     ≡ prints 0 (line (codes "{\"contract\":0,\"transactions\":[]}") [])
-unfolding word_front number_front symbol_front read_contract advert_of_all advert_at entries_at entry_at head_at deposit_at secret_at
+unfolding is_name word_front number_front symbol_front read_contract advert_of_all advert_at entries_at entry_at head_at deposit_at secret_at
     fee_at choice_with branches_at branch_at parts_at auth_at after_at put_at reveal_at split_at reveals_at puts_at put_reveals_at
     headed_at one_branch_at condition_at names_from test_at comparison_at formula_at constant_at length_at withdraw_at digits label_text
     stripped marked compact places_list sequences_list outputs_list preimage position_script weigh_text
@@ -122,14 +123,14 @@ abbrev pub size : Printed → ℕ
 size printed = length printed.text
 
 pub signed_size : size (answer small_hash (psbt_of (codes "r") (codes "c") names.Init) (got signed_run ∷ got plain_text ∷ [])) ≡ 401
-unfolding word_front number_front symbol_front read_contract advert_of_all advert_at entries_at entry_at head_at deposit_at secret_at
+unfolding is_name word_front number_front symbol_front read_contract advert_of_all advert_at entries_at entry_at head_at deposit_at secret_at
     fee_at choice_with branches_at branch_at parts_at auth_at after_at put_at reveal_at split_at reveals_at puts_at put_reveals_at
     headed_at one_branch_at condition_at names_from test_at comparison_at formula_at constant_at length_at withdraw_at digits label_text
     stripped marked compact places_list sequences_list outputs_list preimage position_script base64_text psbt_bytes psbt_text
 signed_size = refl
 
 pub unsigned_size : size (answer small_hash (psbt_of (codes "r") (codes "c") names.Init) (got unsigned_run ∷ got plain_text ∷ [])) ≡ 265
-unfolding word_front number_front symbol_front read_contract advert_of_all advert_at entries_at entry_at head_at deposit_at secret_at
+unfolding is_name word_front number_front symbol_front read_contract advert_of_all advert_at entries_at entry_at head_at deposit_at secret_at
     fee_at choice_with branches_at branch_at parts_at auth_at after_at put_at reveal_at split_at reveals_at puts_at put_reveals_at
     headed_at one_branch_at condition_at names_from test_at comparison_at formula_at constant_at length_at withdraw_at digits label_text
     stripped marked compact places_list sequences_list outputs_list preimage position_script base64_text psbt_bytes psbt_text

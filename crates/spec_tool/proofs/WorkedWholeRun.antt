@@ -1,4 +1,5 @@
 -- A worked value: a strategy plays a whole run.
+use Rattle.spec_terms.specs.Readable.{is_name}
 use Rattle.std.proofs.Common.{◌≡◌, ℕ, List, [], ◌∷◌, refl}
 use Rattle.std.specs.Prelude.{codes}
 use Rattle.std.specs.Fmt.{digits}
@@ -68,7 +69,7 @@ whole_run =
 
 pub rules_play_the_run : answer small_hash (auto (codes "r") (codes "c") (codes "s"))
     (got advertised_run ∷ got commitment ∷ got all_rules ∷ []) ≡ prints 0 whole_run
-unfolding word_front number_front symbol_front read_contract advert_of_all advert_at entries_at entry_at head_at deposit_at secret_at
+unfolding is_name word_front number_front symbol_front read_contract advert_of_all advert_at entries_at entry_at head_at deposit_at secret_at
     fee_at choice_with branches_at branch_at parts_at auth_at after_at put_at reveal_at split_at reveals_at puts_at put_reveals_at
     headed_at one_branch_at condition_at names_from test_at comparison_at formula_at constant_at length_at withdraw_at digits label_text
     stripped marked compact places_list sequences_list outputs_list preimage position_script many wide_at compact_at string_at input_at

@@ -10,7 +10,7 @@ use Rattle.std.proofs.lemmas.Slice.Eq.{bytes_eq-Decides}
 use Rattle.spec_data.specs.Lists.{are_distinct}
 use Rattle.spec_calculus.specs.Configuration.{Configuration}
 use Rattle.spec_data.specs.Ranges.{last_height}
-use Rattle.spec_calculus.specs.Steps.{after, Legal, owned}
+use Rattle.spec_calculus.specs.Steps.{after_steps, Legal, owned}
 use Rattle.spec_calculus.specs.Moves as calculus
 use Rattle.spec_calculus.specs.Same.{owner_eq, output_eq, move_eq}
 use Rattle.spec_calculus.specs.declared.parts.Deposit.{Deposit}
@@ -57,7 +57,7 @@ owner_of-live_of : (n : ℕ) (o : Option Output) (party : List ℕ) → is_live 
 owner_of-live_of n None party e f = absurd (cc)
 owner_of-live_of n (Some o) party e f = rw e (ap Party ((bytes_eq-Decides o.owner party).0 f))
 
-value_of-live_of : (n : ℕ) (o : Option Output) → is_live o ≡ true → calculus.value_of (live_of n o) ≡ world.value_of o
+value_of-live_of : (n : ℕ) (o : Option Output) → is_live o ≡ true → calculus.value_or_zero (live_of n o) ≡ world.value_of o
 value_of-live_of n None e = absurd (cc)
 value_of-live_of n (Some o) e = rw e refl
 
@@ -71,7 +71,7 @@ all_live os (n ∷ ns) e =
 -- each input belongs to the party
 pub record Owned (os : List Output) (party : List ℕ) (n : ℕ) : Type 0 where
   pub owner : calculus.owner_of (calculus.deposit_at (live_from 0 os) n) ≡ Party party
-  pub value : calculus.value_of (calculus.deposit_at (live_from 0 os) n) ≡ world.value_of (slice_get os n)
+  pub value : calculus.value_or_zero (calculus.deposit_at (live_from 0 os) n) ≡ world.value_of (slice_get os n)
 
 pub all_owned : (os : List Output) (party : List ℕ) (ns : List ℕ) → first_dead os ns ≡ None → first_foreign os party ns ≡ None → AllByRecursion (Owned os party) ns
 all_owned os party [] e f = tt
@@ -82,7 +82,7 @@ all_owned os party (n ∷ ns) e f =
     let mine : is_owned party (slice_get os n) ≡ true = not-false _ q.0 in (
       record {
         owner = ap calculus.owner_of (found os n) ∙ owner_of-live_of n (slice_get os n) party alive mine;
-        value = ap calculus.value_of (found os n) ∙ value_of-live_of n (slice_get os n) alive;
+        value = ap calculus.value_or_zero (found os n) ∙ value_of-live_of n (slice_get os n) alive;
       },
       all_owned os party ns p.1 q.1,
     )
@@ -117,7 +117,7 @@ agree os authorised party action (n ∷ ns) h a = and_from _ _ (ap (calculus.has
 pub same_value_in : (os : List Output) (party : List ℕ) (ns : List ℕ) → AllByRecursion (Owned os party) ns → calculus.value_in (live_from 0 os) ns ≡ world.value_in os ns
 same_value_in os party [] a = refl
 same_value_in os party (n ∷ ns) a =
-    let f : ℕ → ℕ = λ m. calculus.value_of (calculus.deposit_at (live_from 0 os) m) in
+    let f : ℕ → ℕ = λ m. calculus.value_or_zero (calculus.deposit_at (live_from 0 os) m) in
     let g : ℕ → ℕ = λ m. world.value_of (slice_get os m) in
     sum_by-cons f n ns ∙ ap (λ x. x + sum_by f ns) a.0.value ∙ ap (λ y. g n + y) (same_value_in os party ns a.1) ∙ sym (sum_by-cons g n ns)
 
@@ -129,8 +129,8 @@ same_value_out (p ∷ ps) =
 -- what an event's steps keep
 pub record Keeps (honest : List (List ℕ)) (g : Configuration) (e : Event) (ss : List Step) (v : World) : Type 0 where
   pub legal : Legal g ss
-  pub agrees : Agrees (after g ss) v
-  pub settled : (after g ss).move_authorised ≡ []
+  pub agrees : Agrees (after_steps g ss) v
+  pub settled : (after_steps g ss).move_authorised ≡ []
   pub licensed : AllByRecursion (IsLicensed honest e) ss
   pub few : names_all g ss ≤ paid_count e
 
@@ -296,7 +296,7 @@ followed honest g w [] a s b = tt
 followed honest g w (e ∷ es) a s b =
     let k : Keeps honest g e (steps_of w e) (world.next w e) = event_keeps honest g w e a s b.0 in (
       record { legal = k.legal; agrees = k.agrees; licensed = k.licensed },
-      followed honest (after g (steps_of w e)) (world.next w e) es k.agrees k.settled b.1,
+      followed honest (after_steps g (steps_of w e)) (world.next w e) es k.agrees k.settled b.1,
     )
 
 length-accepted : (w : World) (e : Event) → length (world.accepted w e).outputs ≤ length w.outputs + paid_count e

@@ -3,7 +3,7 @@ use Rattle.std.specs.Prelude.{ℕ, List, [], ◌∷◌, ◌++◌, map, filter, n
 use Rattle.std.specs.List.{slice_get}
 use Rattle.std.specs.Str.{bytes_eq}
 use Rattle.spec_calculus.specs.Configuration.{Configuration}
-use Rattle.spec_calculus.specs.Steps.{owned, after}
+use Rattle.spec_calculus.specs.Steps.{owned, after_steps}
 use Rattle.spec_calculus.specs.declared.step.Move.{Move}
 use Rattle.spec_calculus.specs.declared.step.Step.{Step}
 use Rattle.spec_calculus.specs.declared.step.Step.TheVariants as steps
@@ -57,7 +57,7 @@ givers_steps (Mine blocks) = steps.Delay blocks ∷ []
 
 -- the configuration after an event
 abbrev pub configuration_after : Configuration → World → Event → Configuration
-configuration_after g w e = after g (steps_of w e)
+configuration_after g w e = after_steps g (steps_of w e)
 
 -- the configuration after events, one after another
 abbrev pub last_configuration : Configuration → World → List Event → Configuration

@@ -93,7 +93,7 @@ fn take_step(config: &mut Config, step: &Step) -> Result<(), AllocError>
 fn take_steps(config: &mut Config, steps: &[Step]) -> Result<(), AllocError>
     requires legal { calculus.Legal config.old steps.now }
     requires room { config.old.next + names_all config.old steps.now < 2 ^ 32 }
-    ensures { OnOk result (config.new ≡ calculus.after config.old steps.now) }
+    ensures { OnOk result (config.new ≡ calculus.after_steps config.old steps.now) }
 {
     for step in steps {
         take_step(config, step)?;

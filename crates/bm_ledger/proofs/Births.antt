@@ -7,12 +7,12 @@ use Rattle.std.specs.Str.{bytes_eq}
 use Rattle.std.proofs.lemmas.List.{take_more, length-take, length-take-le}
 use Rattle.spec_bitcoin.specs.declared.tx.OutPoint.{OutPoint}
 use Rattle.spec_bitcoin.specs.declared.tx.TxOut.{TxOut}
-use Rattle.spec_bitcoin.specs.Live.{Entry, same_place, at_place, born, IsNewTxid}
+use Rattle.spec_bitcoin.specs.Live.{Entry, same_outpoint, at_place, born, IsNewTxid}
 
 none_in_both : (p : OutPoint) (xs ys : List Entry) → at_place xs p ≡ None → at_place ys p ≡ None → at_place (xs ++ ys) p ≡ None
 none_in_both p [] ys h g = g
 none_in_both p (x ∷ xs) ys h g =
-    elim (same_place p x.0) as (λ b. cond b (Some x.1) (at_place xs p) ≡ None → cond b (Some x.1) (at_place (xs ++ ys) p) ≡ None) [
+    elim (same_outpoint p x.0) as (λ b. cond b (Some x.1) (at_place xs p) ≡ None → cond b (Some x.1) (at_place (xs ++ ys) p) ≡ None) [
       | true ↦ λ s. cc
       | false ↦ λ s. none_in_both p xs ys s g
     ] h

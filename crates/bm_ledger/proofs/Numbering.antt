@@ -7,7 +7,7 @@ use Rattle.std.specs.Option.{option_and_then}
 use Rattle.std.specs.List.Sorted.{IsPartitionedBy, IsPartitionPoint}
 use Rattle.spec_bitcoin.specs.declared.tx.OutPoint.{OutPoint}
 use Rattle.spec_bitcoin.specs.declared.tx.TxOut.{TxOut}
-use Rattle.spec_bitcoin.specs.Live.{Entry, same_place, born, without}
+use Rattle.spec_bitcoin.specs.Live.{Entry, same_outpoint, born, without}
 use Rattle.bm_ledger.specs.Ordered.{numbered, if_numbered, AreInOrder}
 
 -- ---- lists in order
@@ -42,10 +42,10 @@ in_order-more births txid es os h =
 pub in_order-first : (txid : List ℕ) (os : List TxOut) → AreInOrder 0 (length os) (born 0 txid 0 os)
 in_order-first txid os = in_order-born 0 txid 0 (length os) os (omega arith)
 
-in_order-remove_entry : (low high : ℕ) (place : OutPoint) (es : List Entry) → AreInOrder low high es → AreInOrder low high (remove_entry (same_place place) es)
+in_order-remove_entry : (low high : ℕ) (place : OutPoint) (es : List Entry) → AreInOrder low high es → AreInOrder low high (remove_entry (same_outpoint place) es)
 in_order-remove_entry low high place [] h = tt
 in_order-remove_entry low high place (e ∷ es) h =
-    elim (same_place place e.0) as (λ b. AreInOrder low high (cond b es (e ∷ remove_entry (same_place place) es))) [
+    elim (same_outpoint place e.0) as (λ b. AreInOrder low high (cond b es (e ∷ remove_entry (same_outpoint place) es))) [
       | true ↦ from_lower low (e.1.0 + 1) high es (let a = h.0 in omega arith) h.2
       | false ↦ (h.0, h.1, in_order-remove_entry (e.1.0 + 1) high place es h.2)
     ]
@@ -53,7 +53,7 @@ in_order-remove_entry low high place (e ∷ es) h =
 -- those that are left when some are spent
 pub in_order-without : (low high : ℕ) (places : List OutPoint) (es : List Entry) → AreInOrder low high es → AreInOrder low high (without es places)
 in_order-without low high [] es h = h
-in_order-without low high (place ∷ places) es h = in_order-without low high places (remove_entry (same_place place) es) (in_order-remove_entry low high place es h)
+in_order-without low high (place ∷ places) es h = in_order-without low high places (remove_entry (same_outpoint place) es) (in_order-remove_entry low high place es h)
 
 -- ---- the output of a number
 

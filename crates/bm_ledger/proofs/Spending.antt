@@ -7,7 +7,7 @@ use Rattle.std.specs.Str.{bytes_eq}
 use Rattle.std.proofs.lemmas.Slice.Eq.{bytes_eq-Decides}
 use Rattle.spec_bitcoin.specs.declared.tx.OutPoint.{OutPoint}
 use Rattle.spec_bitcoin.specs.declared.tx.TxIn.{TxIn}
-use Rattle.spec_bitcoin.specs.Live.{Entry, Chain, after_transaction, same_place, at_place, without, born}
+use Rattle.spec_bitcoin.specs.Live.{Entry, Chain, after_transaction, same_outpoint, at_place, without, born}
 use Rattle.spec_bitcoin.specs.Verdict.{has_repeat, first_missing}
 use Rattle.spec_bitcoin.specs.declared.tx.Tx.{Tx}
 
@@ -23,25 +23,25 @@ same_numbers : (a b : ℕ) → a == b ≡ true → a ≡ b
 same_numbers a b h = grind arith
 
 -- places that the test takes for the same are the same
-pub same_place-is : (a b : OutPoint) → same_place a b ≡ true → a ≡ b
-same_place-is a b h =
+pub same_outpoint-is : (a b : OutPoint) → same_outpoint a b ≡ true → a ≡ b
+same_outpoint-is a b h =
     let p = both (bytes_eq a.txid b.txid) (a.vout == b.vout) h in
     ap (λ t. record a { txid = t }) ((bytes_eq-Decides a.txid b.txid).0 p.0) ∙ ap (λ (v : ℕ). record b { vout = v }) (same_numbers a.vout b.vout p.1)
 
 -- removing one place leaves what stands at another
-pub at_place-remove_entry : (es : List Entry) (p q : OutPoint) → same_place q p ≡ false → at_place (remove_entry (same_place p) es) q ≡ at_place es q
+pub at_place-remove_entry : (es : List Entry) (p q : OutPoint) → same_outpoint q p ≡ false → at_place (remove_entry (same_outpoint p) es) q ≡ at_place es q
 at_place-remove_entry [] p q h = refl
 at_place-remove_entry (e ∷ es) p q h =
-    elim (same_place p e.0) as (λ b. same_place p e.0 ≡ b → at_place (cond b es (e ∷ remove_entry (same_place p) es)) q ≡ cond (same_place q e.0) (Some e.1) (at_place es q)) [
-      | true ↦ λ t. let other : same_place q e.0 ≡ false = ap (same_place q) (sym (same_place-is p e.0 t)) ∙ h in rw other refl
-      | false ↦ λ t. ap (cond (same_place q e.0) (Some e.1)) (at_place-remove_entry es p q h)
+    elim (same_outpoint p e.0) as (λ b. same_outpoint p e.0 ≡ b → at_place (cond b es (e ∷ remove_entry (same_outpoint p) es)) q ≡ cond (same_outpoint q e.0) (Some e.1) (at_place es q)) [
+      | true ↦ λ t. let other : same_outpoint q e.0 ≡ false = ap (same_outpoint q) (sym (same_outpoint-is p e.0 t)) ∙ h in rw other refl
+      | false ↦ λ t. ap (cond (same_outpoint q e.0) (Some e.1)) (at_place-remove_entry es p q h)
     ] refl
 
 -- a place that is live in front is removed there
-pub remove_entry-append : (es bs : List Entry) (p : OutPoint) → is_some (at_place es p) ≡ true → remove_entry (same_place p) (es ++ bs) ≡ remove_entry (same_place p) es ++ bs
+pub remove_entry-append : (es bs : List Entry) (p : OutPoint) → is_some (at_place es p) ≡ true → remove_entry (same_outpoint p) (es ++ bs) ≡ remove_entry (same_outpoint p) es ++ bs
 remove_entry-append [] bs p h = cc
 remove_entry-append (e ∷ es) bs p h =
-    elim (same_place p e.0) as (λ b. is_some (cond b (Some e.1) (at_place es p)) ≡ true → cond b (es ++ bs) (e ∷ remove_entry (same_place p) (es ++ bs)) ≡ cond b es (e ∷ remove_entry (same_place p) es) ++ bs) [
+    elim (same_outpoint p e.0) as (λ b. is_some (cond b (Some e.1) (at_place es p)) ≡ true → cond b (es ++ bs) (e ∷ remove_entry (same_outpoint p) (es ++ bs)) ≡ cond b es (e ∷ remove_entry (same_outpoint p) es) ++ bs) [
       | true ↦ λ s. refl
       | false ↦ λ s. ap (λ l. e ∷ l) (remove_entry-append es bs p s)
     ] h
@@ -58,18 +58,18 @@ all_live es k (i ∷ is) h =
       | false ↦ λ t s. cc
     ] refl h
 
-stay_live : (es : List Entry) (p : OutPoint) (is : List TxIn) → list_any (λ j. same_place j.prev p) is ≡ false → AllLive es is → AllLive (remove_entry (same_place p) es) is
+stay_live : (es : List Entry) (p : OutPoint) (is : List TxIn) → list_any (λ j. same_outpoint j.prev p) is ≡ false → AllLive es is → AllLive (remove_entry (same_outpoint p) es) is
 stay_live es p [] h l = tt
 stay_live es p (i ∷ is) h l =
-    let n = neither (same_place i.prev p) (list_any (λ j. same_place j.prev p) is) h in
+    let n = neither (same_outpoint i.prev p) (list_any (λ j. same_outpoint j.prev p) is) h in
     (ap is_some (at_place-remove_entry es p i.prev n.0) ∙ l.0, stay_live es p is n.1 l.1)
 
 without_append : (es bs : List Entry) (is : List TxIn) → AllLive es is → has_repeat is ≡ false → without (es ++ bs) (map (λ i. i.prev) is) ≡ without es (map (λ i. i.prev) is) ++ bs
 without_append es bs [] l h = refl
 without_append es bs (i ∷ is) l h =
-    let n = neither (list_any (λ j. same_place j.prev i.prev) is) (has_repeat is) h in
+    let n = neither (list_any (λ j. same_outpoint j.prev i.prev) is) (has_repeat is) h in
     ap (λ x. without x (map (λ i. i.prev) is)) (remove_entry-append es bs i.prev l.0)
-    ∙ without_append (remove_entry (same_place i.prev) es) bs is (stay_live es i.prev is n.0 l.1) n.1
+    ∙ without_append (remove_entry (same_outpoint i.prev) es) bs is (stay_live es i.prev is n.0 l.1) n.1
 
 pub without-append : (es bs : List Entry) (is : List TxIn) → first_missing es is ≡ None → has_repeat is ≡ false → without (es ++ bs) (map (λ i. i.prev) is) ≡ without es (map (λ i. i.prev) is) ++ bs
 without-append es bs is m h = without_append es bs is (all_live es 0 is m) h

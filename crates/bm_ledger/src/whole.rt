@@ -4,7 +4,7 @@ ghost use Rattle.std.specs.Prelude.{◌≡◌, ◌<◌, ◌^◌, length, nat_lt,
 ghost use Rattle.std.specs.List.{list_any};
 ghost use Rattle.spec_data.specs.Lists.{first_reason};
 ghost use Rattle.spec_data.specs.Ranges.{max_money};
-ghost use Rattle.spec_bitcoin.specs.Live.{same_place};
+ghost use Rattle.spec_bitcoin.specs.Live.{same_outpoint};
 ghost use Rattle.spec_bitcoin.specs.Verdict as spec;
 
 use crate::outputs::{Live, find, value_of};
@@ -13,7 +13,7 @@ use spec_data::{LAST_HEIGHT, MAX_MONEY};
 
 // One of the inputs spends the output at a place.
 fn spends(inputs: &[TxIn], place: &OutPoint) -> bool
-    ensures { result ≡ list_any (λ i. same_place i.prev place.now) inputs.now }
+    ensures { result ≡ list_any (λ i. same_outpoint i.prev place.now) inputs.now }
 {
     inputs.iter().any(|input| input.prev == *place)
 }

@@ -5,7 +5,7 @@ use Rattle.std.specs.Str.{bytes_eq}
 use Rattle.std.proofs.lemmas.Int.{ints}
 use Rattle.spec_data.specs.Lists.{look_up}
 use Rattle.spec_data.specs.Ranges.{most_item_bytes}
-use Rattle.spec_terms.specs.Term.{Formula, constant, length_of, plus, minus}
+use Rattle.spec_terms.specs.Term.{Expr, constant, length_of, plus, minus}
 use Rattle.spec_terms.specs.Bound.{held, bound}
 use Rattle.spec_terms.specs.Value.{length_or_zero, length_in, value}
 use Rattle.bm_pred.specs.Within.{BoundsEveryValue}
@@ -38,7 +38,7 @@ sum_within a b x y h k = record { low = omega (arith, ints, h.low, k.low); high 
 difference_within : (a b : ℕ) (x y : ℤ) → Within a x → Within b y → Within (a + b) (x -ℤ y)
 difference_within a b x y h k = record { low = omega (arith, ints, h.low, k.high); high = omega (arith, ints, h.high, k.low) }
 
-value_within : (lengths : List (List ℕ × ℕ)) → AreShort lengths → (f : Formula) → Within (bound f) (value lengths f)
+value_within : (lengths : List (List ℕ × ℕ)) → AreShort lengths → (f : Expr) → Within (bound f) (value lengths f)
 value_within lengths short (constant n) = small_value n n (omega arith)
 value_within lengths short (length_of name) = small_value (length_in lengths name) most_item_bytes (length_short name lengths short)
 value_within lengths short (plus e f) = sum_within _ _ _ _ (value_within lengths short e) (value_within lengths short f)
@@ -51,5 +51,5 @@ size_within n (negsuc m) h = omega (arith, ints, h.low)
 not_held : (n b : ℕ) → n ≡ held b → n < 2 ^ 63 → n ≡ b
 not_held n b e h = omega (arith, e, h)
 
-pub bounds_values : (n : ℕ) (f : Formula) → n ≡ held (bound f) → n < 2 ^ 63 → BoundsEveryValue n f
+pub bounds_values : (n : ℕ) (f : Expr) → n ≡ held (bound f) → n < 2 ^ 63 → BoundsEveryValue n f
 bounds_values n f e h lengths short = rw (not_held n (bound f) e h) (size_within (bound f) (value lengths f) (value_within lengths short f))

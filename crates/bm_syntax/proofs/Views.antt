@@ -2,7 +2,7 @@
 use Rattle.std.proofs.Common.{◌≡◌, ℕ, List, [], ◌∷◌, refl, ap, Option, Some, None, option_map, slice_get, Bor, Vec, Box, Global, map, rules}
 use Rattle.std.specs.Option.{option_copied}
 use Rattle.std.proofs.lemmas.Option.{slice_get-map}
-use Rattle.spec_terms.specs.Term.{plus, minus, both, negation, equal, less, Branch, auth, after, put_reveal, withdraw, split, Choice, branches, parts_list}
+use Rattle.spec_terms.specs.Term.{plus, minus, both, negation, equal, less, Guarded as TermGuarded, auth, after, put_reveal, withdraw, split, Contract as TermContract, branches, parts_list}
 use Rattle.bm_syntax.specs.View.{formula, test, guarded, contract, part_view, choice_of, parts_of}
 use Rattle.spec_data.specs.declared.name.Name.{Name}
 use Rattle.bm_syntax.specs.declared.term.Pred.{Pred, And, Not, Equal, Less, the_lemmas as pred_lemmas}
@@ -44,11 +44,11 @@ guarded-Withdraw party = search (rules, the_lemmas)
 pub guarded-Split : (parts : Vec Part Global) → guarded (Split parts) ≡ split (parts_of (map part_view parts.items))
 guarded-Split parts = search (rules, the_lemmas)
 
-pub branches-choice_of : (bs : List Branch) → branches (choice_of bs) ≡ bs
+pub branches-choice_of : (bs : List TermGuarded) → branches (choice_of bs) ≡ bs
 branches-choice_of [] = refl
 branches-choice_of (b ∷ bs) = ap (λ x. b ∷ x) (branches-choice_of bs)
 
-pub parts_list-parts_of : (ps : List (ℕ × Choice)) → parts_list (parts_of ps) ≡ ps
+pub parts_list-parts_of : (ps : List (ℕ × TermContract)) → parts_list (parts_of ps) ≡ ps
 parts_list-parts_of [] = refl
 parts_list-parts_of (p ∷ ps) = ap (λ x. p ∷ x) (parts_list-parts_of ps)
 

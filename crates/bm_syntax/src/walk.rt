@@ -6,7 +6,7 @@ ghost use Rattle.spec_terms.specs.Term.{branches, parts_list};
 ghost use Rattle.spec_terms.specs.Core.{continuation as continuation_of};
 ghost use Rattle.spec_terms.specs.Paths as spec;
 ghost use Rattle.bm_syntax.specs.View.{guarded, contract, part_view, parts_view};
-ghost use Rattle.bm_syntax.specs.SpotView.{spot};
+ghost use Rattle.bm_syntax.specs.SubtermView.{subterm};
 
 use crate::head::core;
 use crate::term::{Contract, Guarded, Part};
@@ -36,13 +36,13 @@ pub fn branch_at<'a>(root: &'a Contract, position: &Path, i: u32) -> Option<&'a 
 
 /// The choice at this position, if there is one.
 pub fn choice_at<'a>(root: &'a Contract, position: &Path) -> Option<&'a Contract>
-    ensures { option_map (λ c. contract c.now) result ≡ spec.choice_at (contract root.now) position.now }
+    ensures { option_map (λ c. contract c.now) result ≡ spec.contract_under (contract root.now) position.now }
 {
     as_choice(follow(root, position)?)
 }
 
 fn as_branch<'a>(place: Standing<'a>) -> Option<&'a Guarded>
-    ensures { option_map (λ b. guarded b.now) result ≡ spec.as_branch (spot place.entry) }
+    ensures { option_map (λ b. guarded b.now) result ≡ spec.as_branch (subterm place.entry) }
 {
     match place {
         Standing::Position(_) => None,
@@ -51,7 +51,7 @@ fn as_branch<'a>(place: Standing<'a>) -> Option<&'a Guarded>
 }
 
 fn as_choice<'a>(place: Standing<'a>) -> Option<&'a Contract>
-    ensures { option_map (λ c. contract c.now) result ≡ spec.as_choice (spot place.entry) }
+    ensures { option_map (λ c. contract c.now) result ≡ spec.as_contract (subterm place.entry) }
 {
     match place {
         Standing::Position(choice) => Some(choice),
@@ -69,7 +69,7 @@ fn continuation(branch: &Guarded) -> Option<&Contract>
 }
 
 fn follow<'a>(root: &'a Contract, path: &Path) -> Option<Standing<'a>>
-    ensures { option_map spot result ≡ spec.spot_from (spec.position (contract root.now)) path.now }
+    ensures { option_map subterm result ≡ spec.subterm_from (spec.position (contract root.now)) path.now }
 {
     let mut place = Standing::Position(root);
     for step in path.steps() {
@@ -79,7 +79,7 @@ fn follow<'a>(root: &'a Contract, path: &Path) -> Option<Standing<'a>>
 }
 
 fn next<'a>(place: Standing<'a>, step: PathStep) -> Option<Standing<'a>>
-    ensures { option_map spot result ≡ spec.next_spot (spot place.entry) step }
+    ensures { option_map subterm result ≡ spec.next_subterm (subterm place.entry) step }
 {
     match (place, step) {
         (Standing::Position(contract), PathStep::Branch(i)) => branch_of(contract, i).map(
@@ -91,7 +91,7 @@ fn next<'a>(place: Standing<'a>, step: PathStep) -> Option<Standing<'a>>
 }
 
 fn below<'a>(branch: &'a Guarded, step: PathStep) -> Option<Standing<'a>>
-    ensures { option_map spot result ≡ spec.below (guarded branch.now) step }
+    ensures { option_map subterm result ≡ spec.below (guarded branch.now) step }
 {
     match (branch, step) {
         (Guarded::PutReveal { next, .. }, PathStep::Branch(i)) => branch_of(next, i).map(

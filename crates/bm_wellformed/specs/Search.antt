@@ -1,11 +1,11 @@
 -- Where an advert shows a flaw first, as the code looks for it; of this project, from no standard.
 use Rattle.std.specs.Prelude.{ℕ, ℤ, pos, ◌+◌, int_lt, Bool, false, ◌&&◌, List, [], ◌∷◌, ◌++◌, Option, Some, None, if◌then◌else◌}
 use Rattle.spec_data.specs.Lists.{or_else}
-use Rattle.spec_terms.specs.Term.{Branch, auth, after, put_reveal, withdraw, split, Choice, no_branch, branch, Parts, no_part, part}
+use Rattle.spec_terms.specs.Term.{Guarded, auth, after, put_reveal, withdraw, split, Contract, no_branch, branch, Parts, no_part, part}
 use Rattle.spec_terms.specs.Advert.{Advert}
-use Rattle.spec_terms.specs.Paths.{Spot, position, at_branch}
+use Rattle.spec_terms.specs.Paths.{Subterm, position, at_branch}
 use Rattle.spec_terms.specs.Precondition.{volatile}
-use Rattle.spec_terms.specs.Balance.{Stand, after_put, stands}
+use Rattle.spec_terms.specs.Balance.{Funded, after_put, all_funded}
 use Rattle.spec_terms.specs.Faults.{first_place, at_core, at_position, puts_unknown, reveals_unknown, repeats, tests_hidden, is_uneven, is_short, is_withdraw, is_too_much, is_unbounded, is_too_large}
 use Rattle.spec_terms.specs.declared.path.PathStep.{PathStep}
 use Rattle.spec_terms.specs.declared.path.PathStep.TheVariants.{Branch as To, Part as Into}
@@ -15,19 +15,19 @@ use Rattle.bm_wellformed.specs.declared.flaw.Flaw.{Flaw}
 use Rattle.bm_wellformed.specs.declared.flaw.Flaw.TheVariants.{UnknownDeposit, UnknownSecret, PrefixRepeated, PredicateSecret, SplitSum, FeeShort, Balance, Expression, Script}
 
 -- whether a position or branch with this balance shows the flaw
-abbrev pub passes : Flaw → Advert → ℤ → Spot → Bool
-passes UnknownDeposit a balance spot = at_core (puts_unknown a.pre) spot
-passes UnknownSecret a balance spot = at_core (reveals_unknown a.pre) spot
-passes PrefixRepeated a balance spot = at_core repeats spot
-passes PredicateSecret a balance spot = at_core tests_hidden spot
-passes SplitSum a balance spot = at_core (is_uneven a.fee balance) spot
-passes FeeShort a balance spot = is_short a.fee balance spot
-passes Balance a balance spot = at_position (λ c. is_too_much balance) spot
-passes Expression a balance spot = at_core is_unbounded spot
-passes (Script parties) a balance spot = at_position (is_too_large parties) spot
+abbrev pub passes : Flaw → Advert → ℤ → Subterm → Bool
+passes UnknownDeposit a balance subterm = at_core (puts_unknown a.pre) subterm
+passes UnknownSecret a balance subterm = at_core (reveals_unknown a.pre) subterm
+passes PrefixRepeated a balance subterm = at_core repeats subterm
+passes PredicateSecret a balance subterm = at_core tests_hidden subterm
+passes SplitSum a balance subterm = at_core (is_uneven a.fee balance) subterm
+passes FeeShort a balance subterm = is_short a.fee balance subterm
+passes Balance a balance subterm = at_position (λ c. is_too_much balance) subterm
+passes Expression a balance subterm = at_core is_unbounded subterm
+passes (Script parties) a balance subterm = at_position (is_too_large parties) subterm
 
 -- whether a branch of this core, at a position with this balance, shows the flaw
-abbrev pub core_passes : Flaw → Advert → ℤ → Branch → Bool
+abbrev pub core_passes : Flaw → Advert → ℤ → Guarded → Bool
 core_passes UnknownDeposit a balance b = puts_unknown a.pre b
 core_passes UnknownSecret a balance b = reveals_unknown a.pre b
 core_passes PrefixRepeated a balance b = repeats b
@@ -39,8 +39,8 @@ core_passes Expression a balance b = is_unbounded b
 core_passes (Script parties) a balance b = false
 
 -- where these positions and branches show it first
-abbrev pub found_in : Flaw → Advert → List Stand → Option Place
-found_in flaw a ss = first_place (λ s. passes flaw a s.balance s.spot) ss
+abbrev pub found_in : Flaw → Advert → List Funded → Option Place
+found_in flaw a ss = first_place (λ s. passes flaw a s.balance s.subterm) ss
 
 -- the place, where the test is true
 abbrev pub place_when : Bool → Place → Option Place
@@ -49,14 +49,14 @@ place_when shown place = if shown then Some place else None
 module _ (flaw : Flaw) (a : Advert) where
   abbrev mutual
     -- the branches at position q, the first of which has the number i, each with all that stands under it
-    pub found_in_branches : List PathStep → ℤ → ℕ → Choice → Option Place
+    pub found_in_branches : List PathStep → ℤ → ℕ → Contract → Option Place
     found_in_branches q balance i no_branch = None
     found_in_branches q balance i (branch b bs) =
         or_else (place_when (passes flaw a balance (at_branch b)) (places.Branch (q ++ To i ∷ [])))
         (or_else (found_under (q ++ To i ∷ []) balance b) (found_in_branches q balance (i + 1) bs))
 
     -- what stands under the branch at path p
-    pub found_under : List PathStep → ℤ → Branch → Option Place
+    pub found_under : List PathStep → ℤ → Guarded → Option Place
     found_under p balance (auth party body) = found_under p balance body
     found_under p balance (after height body) = found_under p balance body
     found_under p balance (put_reveal puts reveals test next) =
@@ -74,9 +74,9 @@ module _ (flaw : Flaw) (a : Advert) where
         (found_in_parts p (k + 1) ps)
 
   -- the position q itself, and then its branches
-  abbrev pub found_in_choice : List PathStep → ℤ → Choice → Option Place
+  abbrev pub found_in_choice : List PathStep → ℤ → Contract → Option Place
   found_in_choice q balance c = or_else (place_when (passes flaw a balance (position c)) (places.Position q)) (found_in_branches q balance 0 c)
 
 -- where the advert shows it first
 abbrev pub found : Flaw → Advert → Option Place
-found flaw a = found_in flaw a (stands a)
+found flaw a = found_in flaw a (all_funded a)

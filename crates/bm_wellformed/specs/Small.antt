@@ -1,6 +1,6 @@
 -- What keeps the search through an advert within the numbers of the machine; of this project, from no standard.
 use Rattle.std.specs.Prelude.{ℕ, ℤ, pos, neg_ℤ, ◌≤ℤ◌, ◌≤◌, ◌<◌, ◌*◌, ◌^◌, length, All}
-use Rattle.spec_terms.specs.Term.{Branch, auth, after, put_reveal, withdraw, split, Choice, no_branch, branch, branches, Parts, no_part, part, parts_list}
+use Rattle.spec_terms.specs.Term.{Guarded, auth, after, put_reveal, withdraw, split, Contract, no_branch, branch, branches, Parts, no_part, part, parts_list}
 use Rattle.spec_terms.specs.Advert.{Advert}
 use Rattle.spec_terms.specs.Readable.{depth_of_choice}
 use Rattle.spec_terms.specs.declared.pre.Pre.{Pre}
@@ -14,11 +14,11 @@ value_in (Secret party name) = 0
 
 abbrev mutual
   -- below these branches no choice has more than 32 branches and no split more than 64 parts
-  pub AreSmall : Choice → Type 0
+  pub AreSmall : Contract → Type 0
   AreSmall no_branch = Unit {0}
   AreSmall (branch b bs) = IsSmall b × AreSmall bs
 
-  pub IsSmall : Branch → Type 0
+  pub IsSmall : Guarded → Type 0
   IsSmall (auth party body) = IsSmall body
   IsSmall (after height body) = IsSmall body
   IsSmall (put_reveal puts reveals test next) = (length (branches next) ≤ 32) × AreSmall next

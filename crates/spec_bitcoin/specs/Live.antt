@@ -11,12 +11,12 @@ abbrev pub Entry : Type 0
 Entry = OutPoint × (ℕ × TxOut)
 
 -- whether two places are the same
-abbrev pub same_place : OutPoint → OutPoint → Bool
-same_place a b = bytes_eq a.txid b.txid && a.vout == b.vout
+abbrev pub same_outpoint : OutPoint → OutPoint → Bool
+same_outpoint a b = bytes_eq a.txid b.txid && a.vout == b.vout
 
 -- the live output at a place, with its birth number
 abbrev pub at_place : List Entry → OutPoint → Option (ℕ × TxOut)
-at_place live place = lookup (same_place place) live
+at_place live place = lookup (same_outpoint place) live
 
 -- a ledger: its height, how many outputs were born so far, and which are live
 pub record Chain : Type 0 where
@@ -32,7 +32,7 @@ born births txid k (o ∷ os) = (record { txid = txid; vout = k }, (births + k, 
 -- the live outputs without those at these places
 abbrev pub without : List Entry → List OutPoint → List Entry
 without live [] = live
-without live (place ∷ places) = without (remove_entry (same_place place) live) places
+without live (place ∷ places) = without (remove_entry (same_outpoint place) live) places
 
 -- the ledger after a transaction of this txid
 abbrev pub after_transaction : Chain → List ℕ → Tx → Chain

@@ -21,8 +21,8 @@ act hash valid (Push item) s = within_limit (record { main = item ∷ s.main; al
 act hash valid (Code c) s = option_and_then within_limit (effect hash valid (opcode_of c) s.main s.alt)
 
 -- the item that IF or NOTIF pops, as whether the sections at even places run
-abbrev pub choose : Bool → Stacks → Option (Bool × Stacks)
-choose negated s = elim s.main as (λ _. Option (Bool × Stacks)) [
+abbrev pub pop_condition : Bool → Stacks → Option (Bool × Stacks)
+pop_condition negated s = elim s.main as (λ _. Option (Bool × Stacks)) [
   | [] ↦ None
   | x ∷ rest ↦ option_and_then (λ (t : Stacks). Some (if negated then not (truth x) else truth x, t)) (within_limit (record { main = rest; alt = s.alt }))
 ]
@@ -32,7 +32,7 @@ abbrev mutual
   pub run : (Item → Item) → (Item → Item → Bool) → Items → Stacks → Option Stacks
   run hash valid End s = Some s
   run hash valid (Plain op rest) s = option_and_then (run hash valid rest) (act hash valid op s)
-  run hash valid (Block negated sections rest) s = option_and_then (run hash valid rest) (option_and_then (λ (p : Bool × Stacks). run_sections hash valid sections p.0 p.1) (choose negated s))
+  run hash valid (Block negated sections rest) s = option_and_then (run hash valid rest) (option_and_then (λ (p : Bool × Stacks). run_sections hash valid sections p.0 p.1) (pop_condition negated s))
 
   -- the sections at even places run where the flag says so, and else those at odd places
   pub run_sections : (Item → Item) → (Item → Item → Bool) → Sections → Bool → Stacks → Option Stacks

@@ -15,7 +15,7 @@ use Rattle.spec_bitcoin.specs.declared.verdict.Verdict.TheVariants.{Accepted, Re
 use Rattle.spec_bitcoin.specs.Spelling.{is_filled}
 use Rattle.spec_bitcoin.specs.Digests.{txid_strings, shared_strings, digest, digest_strings}
 use Rattle.spec_bitcoin.specs.Keys.{Pair, is_valid}
-use Rattle.spec_bitcoin.specs.Live.{Entry, Chain, same_place, at_place}
+use Rattle.spec_bitcoin.specs.Live.{Entry, Chain, same_outpoint, at_place}
 use Rattle.spec_bitcoin.specs.Meaning.{script_meaning}
 
 -- ---- the whole transaction
@@ -23,7 +23,7 @@ use Rattle.spec_bitcoin.specs.Meaning.{script_meaning}
 -- two inputs spend one output
 abbrev pub has_repeat : List TxIn → Bool
 has_repeat [] = false
-has_repeat (i ∷ is) = list_any (λ j. same_place j.prev i.prev) is || has_repeat is
+has_repeat (i ∷ is) = list_any (λ j. same_outpoint j.prev i.prev) is || has_repeat is
 
 -- the first input whose output isn't live
 abbrev pub first_missing : List Entry → List TxIn → Option ℕ

@@ -10,7 +10,7 @@ use Rattle.spec_calculus.specs.declared.step.Step.{Step}
 use Rattle.spec_calculus.specs.declared.step.Step.TheVariants as steps
 use Rattle.spec_calculus.specs.declared.parts.Deposit.{Deposit}
 use Rattle.spec_calculus.specs.Configuration.{Configuration}
-use Rattle.spec_calculus.specs.Steps.{fails, after as after_all, Legal, opening}
+use Rattle.spec_calculus.specs.Steps.{fails, after_steps as after_all, Legal, opening}
 use Rattle.spec_calculus.specs.Offers.{offers}
 
 -- ---- names

@@ -4,7 +4,7 @@ use Rattle.std.specs.List.{list_any, list_all}
 use Rattle.std.specs.Str.{bytes_eq}
 use Rattle.spec_data.specs.Lists.{has_number, look_up}
 use Rattle.spec_terms.specs.Advert.{Advert}
-use Rattle.spec_terms.specs.Term.{Branch, auth, after, put_reveal, withdraw, split, Parts, no_part, part, Test, always}
+use Rattle.spec_terms.specs.Term.{Guarded, auth, after, put_reveal, withdraw, split, Parts, no_part, part, Pred, always}
 use Rattle.spec_terms.specs.Core.{core, asks, lock, puts_of as core_puts, reveals_of as core_reveals, test_of as core_test}
 use Rattle.spec_terms.specs.Paths.{at}
 use Rattle.spec_terms.specs.Precondition.{secrets}
@@ -71,9 +71,9 @@ abbrev pub active_at : List ActiveContract → ℕ → Option ActiveContract
 active_at active number = find (λ a. a.number == number) active
 
 -- the contract's place of an active contract, 0 without one
-abbrev pub place_of : Option ActiveContract → ℕ
-place_of None = 0
-place_of (Some a) = a.contract
+abbrev pub contract_number : Option ActiveContract → ℕ
+contract_number None = 0
+contract_number (Some a) = a.contract
 
 -- the position of an active contract, the root without one
 abbrev pub position_of : Option ActiveContract → List PathStep
@@ -91,21 +91,21 @@ advert_of contracts None = None
 advert_of contracts (Some a) = contract_at contracts a.contract
 
 -- the branch of this number at a position of a contract
-abbrev pub branch_in : Option Advert → List PathStep → ℕ → Option Branch
+abbrev pub branch_in : Option Advert → List PathStep → ℕ → Option Guarded
 branch_in None position branch = None
 branch_in (Some advert) position branch = at advert.root (position ++ To branch ∷ [])
 
 -- the branch of this number of an active contract
-abbrev pub branch_of : List Advert → Option ActiveContract → ℕ → Option Branch
+abbrev pub branch_of : List Advert → Option ActiveContract → ℕ → Option Guarded
 branch_of contracts active branch = branch_in (advert_of contracts active) (position_of active) branch
 
 -- the parties whom a branch asks, nobody without one
-abbrev pub asks_of : Option Branch → List (List ℕ)
+abbrev pub asks_of : Option Guarded → List (List ℕ)
 asks_of None = []
 asks_of (Some b) = asks b
 
 -- the height from which on a branch may be taken, 0 without one
-abbrev pub lock_of : Option Branch → ℕ
+abbrev pub lock_of : Option Guarded → ℕ
 lock_of None = 0
 lock_of (Some b) = lock b
 
@@ -121,7 +121,7 @@ have_branch_authorised authorised output branch parties = list_all (λ p. has_br
 -- ---- what a branch does
 
 -- whether a core puts deposits in or reveals secrets
-abbrev pub is_put_core : Branch → Bool
+abbrev pub is_put_core : Guarded → Bool
 is_put_core (put_reveal puts reveals test next) = true
 is_put_core (auth party body) = false
 is_put_core (after height body) = false
@@ -129,7 +129,7 @@ is_put_core (withdraw party) = false
 is_put_core (split parts) = false
 
 -- whether a core pays a party
-abbrev pub is_withdraw_core : Branch → Bool
+abbrev pub is_withdraw_core : Guarded → Bool
 is_withdraw_core (withdraw party) = true
 is_withdraw_core (auth party body) = false
 is_withdraw_core (after height body) = false
@@ -137,7 +137,7 @@ is_withdraw_core (put_reveal puts reveals test next) = false
 is_withdraw_core (split parts) = false
 
 -- whether a core divides the balance
-abbrev pub is_split_core : Branch → Bool
+abbrev pub is_split_core : Guarded → Bool
 is_split_core (split parts) = true
 is_split_core (auth party body) = false
 is_split_core (after height body) = false
@@ -145,7 +145,7 @@ is_split_core (put_reveal puts reveals test next) = false
 is_split_core (withdraw party) = false
 
 -- the party that a core pays, nobody's name where it pays none
-abbrev pub payee_in : Branch → List ℕ
+abbrev pub payee_in : Guarded → List ℕ
 payee_in (withdraw party) = party
 payee_in (auth party body) = []
 payee_in (after height body) = []
@@ -158,7 +158,7 @@ part_values no_part = []
 part_values (part value contract parts) = value ∷ part_values parts
 
 -- the values of the parts that a core divides the balance into
-abbrev pub values_in : Branch → List ℕ
+abbrev pub values_in : Guarded → List ℕ
 values_in (split parts) = part_values parts
 values_in (auth party body) = []
 values_in (after height body) = []
@@ -166,42 +166,42 @@ values_in (put_reveal puts reveals test next) = []
 values_in (withdraw party) = []
 
 -- whether there is a branch that puts deposits in or reveals secrets
-abbrev pub is_put : Option Branch → Bool
+abbrev pub is_put : Option Guarded → Bool
 is_put None = false
 is_put (Some b) = is_put_core (core b)
 
 -- whether there is a branch that pays a party
-abbrev pub is_withdraw : Option Branch → Bool
+abbrev pub is_withdraw : Option Guarded → Bool
 is_withdraw None = false
 is_withdraw (Some b) = is_withdraw_core (core b)
 
 -- whether there is a branch that divides the balance
-abbrev pub is_split : Option Branch → Bool
+abbrev pub is_split : Option Guarded → Bool
 is_split None = false
 is_split (Some b) = is_split_core (core b)
 
 -- the names of the deposits that a branch puts in
-abbrev pub puts_of : Option Branch → List (List ℕ)
-puts_of None = []
-puts_of (Some b) = core_puts (core b)
+abbrev pub puts_of_taken : Option Guarded → List (List ℕ)
+puts_of_taken None = []
+puts_of_taken (Some b) = core_puts (core b)
 
 -- the names of the secrets that a branch reveals
-abbrev pub reveals_of : Option Branch → List (List ℕ)
-reveals_of None = []
-reveals_of (Some b) = core_reveals (core b)
+abbrev pub reveals_of_taken : Option Guarded → List (List ℕ)
+reveals_of_taken None = []
+reveals_of_taken (Some b) = core_reveals (core b)
 
 -- the predicate of a branch, one that is true where there is none
-abbrev pub test_of : Option Branch → Test
-test_of None = always
-test_of (Some b) = core_test (core b)
+abbrev pub test_of_taken : Option Guarded → Pred
+test_of_taken None = always
+test_of_taken (Some b) = core_test (core b)
 
 -- the party that a branch pays, nobody's name where it pays none
-abbrev pub payee_of : Option Branch → List ℕ
+abbrev pub payee_of : Option Guarded → List ℕ
 payee_of None = []
 payee_of (Some b) = payee_in (core b)
 
 -- the values of the parts that a branch divides the balance into
-abbrev pub values_of : Option Branch → List ℕ
+abbrev pub values_of : Option Guarded → List ℕ
 values_of None = []
 values_of (Some b) = values_in (core b)
 

@@ -21,9 +21,9 @@ abbrev pub is_live : List Deposit → ℕ → Bool
 is_live deposits number = is_some (deposit_at deposits number)
 
 -- the value of a deposit, 0 without one
-abbrev pub value_of : Option Deposit → ℕ
-value_of None = 0
-value_of (Some d) = d.value
+abbrev pub value_or_zero : Option Deposit → ℕ
+value_or_zero None = 0
+value_or_zero (Some d) = d.value
 
 -- the owner of a deposit, someone outside without one
 abbrev pub owner_of : Option Deposit → Owner
@@ -32,7 +32,7 @@ owner_of (Some d) = d.owner
 
 -- the value of the deposit of this number, 0 without one
 abbrev pub value_at : List Deposit → ℕ → ℕ
-value_at deposits number = value_of (deposit_at deposits number)
+value_at deposits number = value_or_zero (deposit_at deposits number)
 
 -- the owner of the deposit of this number, someone outside without one
 abbrev pub owner_at : List Deposit → ℕ → Owner

@@ -2,8 +2,8 @@
 use Rattle.std.specs.Prelude.{ℕ, ◌+◌, ◌==◌, Bool, List, [], ◌∷◌, ◌++◌, Option, Some, None, filter}
 use Rattle.spec_terms.specs.Advert.{Advert}
 use Rattle.spec_terms.specs.Core.{core}
-use Rattle.spec_terms.specs.Paths.{choice_at}
-use Rattle.spec_terms.specs.Term.{Branch, auth, after, put_reveal, withdraw, split, Choice, branches}
+use Rattle.spec_terms.specs.Paths.{contract_under}
+use Rattle.spec_terms.specs.Term.{Guarded, auth, after, put_reveal, withdraw, split, Contract, branches}
 use Rattle.spec_terms.specs.declared.path.PathStep.{PathStep}
 use Rattle.spec_calculus.specs.declared.step.Step.{Step}
 use Rattle.spec_calculus.specs.declared.step.Step.TheVariants.{Init, PutReveal, Withdraw, Split}
@@ -22,7 +22,7 @@ beginnings k [] = []
 beginnings k (c ∷ cs) = Init k ∷ beginnings (k + 1) cs
 
 -- the step that takes the branch with this core
-abbrev pub taking : ℕ → ℕ → Branch → List Step
+abbrev pub taking : ℕ → ℕ → Guarded → List Step
 taking output branch (put_reveal puts reveals test next) = PutReveal output branch ∷ []
 taking output branch (withdraw party) = Withdraw output branch ∷ []
 taking output branch (split parts) = Split output branch ∷ []
@@ -30,22 +30,22 @@ taking output branch (auth party body) = []
 taking output branch (after height body) = []
 
 -- the steps that take these branches, numbered from i on
-abbrev pub takings : ℕ → ℕ → List Branch → List Step
+abbrev pub takings : ℕ → ℕ → List Guarded → List Step
 takings output i [] = []
 takings output i (b ∷ bs) = taking output i (core b) ++ takings output (i + 1) bs
 
 -- the branches of a choice, none without one
-abbrev pub branches_at : Option Choice → List Branch
+abbrev pub branches_at : Option Contract → List Guarded
 branches_at None = []
 branches_at (Some choice) = branches choice
 
 -- the branches at a position of a contract
-abbrev pub branches_in : Option Advert → List PathStep → List Branch
+abbrev pub branches_in : Option Advert → List PathStep → List Guarded
 branches_in None position = []
-branches_in (Some advert) position = branches_at (choice_at advert.root position)
+branches_in (Some advert) position = branches_at (contract_under advert.root position)
 
 -- the branches of an active contract
-abbrev pub branches_of : List Advert → ActiveContract → List Branch
+abbrev pub branches_of : List Advert → ActiveContract → List Guarded
 branches_of contracts a = branches_in (advert_of contracts (Some a)) a.position
 
 -- the steps that take branches of these active contracts

@@ -3,7 +3,7 @@ use Rattle.std.specs.Prelude.{◌≡◌, ℕ, ◌+◌, ◌-◌, Bool, ◌&&◌, 
 use Rattle.spec_data.specs.Lists.{first_false, is_among, look_up}
 use Rattle.spec_data.specs.Ranges.{last_height}
 use Rattle.spec_terms.specs.Advert.{Advert}
-use Rattle.spec_terms.specs.Term.{Branch}
+use Rattle.spec_terms.specs.Term.{Guarded}
 use Rattle.spec_terms.specs.Value.{holds}
 use Rattle.spec_terms.specs.declared.path.PathStep.TheVariants.{Branch as To}
 use Rattle.spec_calculus.specs.declared.step.Owner.{Owner}
@@ -19,7 +19,7 @@ use Rattle.spec_calculus.specs.declared.parts.BranchAuthorisation.{BranchAuthori
 use Rattle.spec_calculus.specs.Configuration.{Configuration}
 use Rattle.spec_calculus.specs.Moves.{spends_live, owns_one, pays, all_agree, kept, made, with_authorisation, without_move}
 use Rattle.spec_calculus.specs.Beginning.{contract_at, pre_of, participants_of, fee_of, is_advertised, binds, is_any_honest, has_committed, have_committed, lists_secrets, is_told, bindings_of, is_there, are_there, numbers_of, persistent_names, has_persistent, is_init_authorised, are_init_authorised}
-use Rattle.spec_calculus.specs.Branches.{length_at, is_known, is_revealed, are_revealed, secret_lengths, active_at, place_of, position_of, balance_of, advert_of, branch_of, asks_of, lock_of, has_branch_authorised, have_branch_authorised, is_put, is_withdraw, is_split, puts_of, reveals_of, test_of, payee_of, values_of, gone, total_value, others, parts_made}
+use Rattle.spec_calculus.specs.Branches.{length_at, is_known, is_revealed, are_revealed, secret_lengths, active_at, contract_number, position_of, balance_of, advert_of, branch_of, asks_of, lock_of, has_branch_authorised, have_branch_authorised, is_put, is_withdraw, is_split, puts_of_taken, reveals_of_taken, test_of_taken, payee_of, values_of, gone, total_value, others, parts_made}
 
 -- ---- premises, for each kind of step in their order
 
@@ -114,7 +114,7 @@ reveal_premises g contract party secret =
     ∷ []
 
 -- AuthBranch: a party agrees to a branch
-abbrev pub auth_branch_premises : List ℕ → Option ActiveContract → Option Branch → List Bool
+abbrev pub auth_branch_premises : List ℕ → Option ActiveContract → Option Guarded → List Bool
 auth_branch_premises party active taken =
     -- 1 the contract is active
     is_some active
@@ -125,7 +125,7 @@ auth_branch_premises party active taken =
     ∷ []
 
 -- PutReveal: a branch that puts deposits in or reveals secrets is taken
-abbrev pub put_reveal_premises : Configuration → ℕ → ℕ → Option ActiveContract → Option Branch → List Bool
+abbrev pub put_reveal_premises : Configuration → ℕ → ℕ → Option ActiveContract → Option Guarded → List Bool
 put_reveal_premises g output branch active taken =
     -- 1 the contract is active
     is_some active
@@ -136,15 +136,15 @@ put_reveal_premises g output branch active taken =
     -- 4 all whom it asks have authorised it
     ∷ have_branch_authorised g.branch_authorised output branch (asks_of taken)
     -- 5 the bound deposits of its puts are live
-    ∷ are_there g.deposits (bindings_of g.advertised (place_of active)) (puts_of taken)
+    ∷ are_there g.deposits (bindings_of g.advertised (contract_number active)) (puts_of_taken taken)
     -- 6 its secrets are revealed
-    ∷ are_revealed g.revealed (place_of active) (pre_of (advert_of g.contracts active)) (reveals_of taken)
+    ∷ are_revealed g.revealed (contract_number active) (pre_of (advert_of g.contracts active)) (reveals_of_taken taken)
     -- 7 its predicate is true of their lengths
-    ∷ holds (secret_lengths g.committed (place_of active) (pre_of (advert_of g.contracts active)) (reveals_of taken)) (test_of taken)
+    ∷ holds (secret_lengths g.committed (contract_number active) (pre_of (advert_of g.contracts active)) (reveals_of_taken taken)) (test_of_taken taken)
     ∷ []
 
 -- Withdraw: a branch that pays a party is taken
-abbrev pub withdraw_premises : Configuration → ℕ → ℕ → Option ActiveContract → Option Branch → List Bool
+abbrev pub withdraw_premises : Configuration → ℕ → ℕ → Option ActiveContract → Option Guarded → List Bool
 withdraw_premises g output branch active taken =
     -- 1 the contract is active
     is_some active
@@ -157,7 +157,7 @@ withdraw_premises g output branch active taken =
     ∷ []
 
 -- Split: a branch that divides the balance is taken
-abbrev pub split_premises : Configuration → ℕ → ℕ → Option ActiveContract → Option Branch → List Bool
+abbrev pub split_premises : Configuration → ℕ → ℕ → Option ActiveContract → Option Guarded → List Bool
 split_premises g output branch active taken =
     -- 1 the contract is active
     is_some active
@@ -170,7 +170,7 @@ split_premises g output branch active taken =
     ∷ []
 
 -- the branch of this number of the active contract of this number
-abbrev pub branch_at : Configuration → ℕ → ℕ → Option Branch
+abbrev pub branch_at : Configuration → ℕ → ℕ → Option Guarded
 branch_at g output branch = branch_of g.contracts (active_at g.active output) branch
 
 -- the premises of a step
@@ -214,7 +214,7 @@ continued g output branch active numbers = record g {
   deposits = kept g.deposits numbers;
   active = others g.active output ++ record {
     number = g.next;
-    contract = place_of active;
+    contract = contract_number active;
     position = position_of active ++ To branch ∷ [];
     balance = balance_of active + total_value (gone g.deposits numbers) - fee_of (advert_of g.contracts active);
   } ∷ [];
@@ -236,7 +236,7 @@ withdrawn g output active party = record g {
 abbrev pub divided : Configuration → ℕ → ℕ → Option ActiveContract → List ℕ → Configuration
 divided g output branch active values = record g {
   next = g.next + length values;
-  active = others g.active output ++ parts_made g.next (place_of active) (position_of active ++ To branch ∷ []) 0 values;
+  active = others g.active output ++ parts_made g.next (contract_number active) (position_of active ++ To branch ∷ []) 0 values;
 }
 
 -- inputs go, a deposit for each output comes, and the authorisations of the move go
@@ -276,7 +276,7 @@ effect g (steps.Reveal contract party secret) =
 effect g (steps.AuthBranch party output branch) = record g { branch_authorised = with_branch g.branch_authorised party output branch }
 effect g (steps.PutReveal output branch) =
     continued g output branch (active_at g.active output)
-    (numbers_of (bindings_of g.advertised (place_of (active_at g.active output))) (puts_of (branch_at g output branch)))
+    (numbers_of (bindings_of g.advertised (contract_number (active_at g.active output))) (puts_of_taken (branch_at g output branch)))
 effect g (steps.Withdraw output branch) = withdrawn g output (active_at g.active output) (payee_of (branch_at g output branch))
 effect g (steps.Split output branch) = divided g output branch (active_at g.active output) (values_of (branch_at g output branch))
 
@@ -298,9 +298,9 @@ names_made g (steps.Split output branch) = length (values_of (branch_at g output
 -- ---- runs
 
 -- what the steps make of a configuration, one after another
-abbrev pub after : Configuration → List Step → Configuration
-after g [] = g
-after g (step ∷ rest) = after (effect g step) rest
+abbrev pub after_steps : Configuration → List Step → Configuration
+after_steps g [] = g
+after_steps g (step ∷ rest) = after_steps (effect g step) rest
 
 -- one step from g to h: none of its premises fails, and h is its effect
 pub record IsStep (g : Configuration) (step : Step) (h : Configuration) : Type 0 where

@@ -1,7 +1,7 @@
 -- Worked values of the definitions, each by computation alone.
 use Rattle.std.proofs.Common.{◌≡◌, ℕ, ◌+◌, ◌*◌, ◌%◌, List, [], ◌∷◌, ◌++◌, length, map, refl}
 use Rattle.std.specs.Prelude.{codes, fold, replicate, drop, Option, None, Some, pos, false}
-use Rattle.spec_terms.specs.Term.{always, auth, after, put_reveal, withdraw, split, Choice, no_branch, branch, no_part, part}
+use Rattle.spec_terms.specs.Term.{always, auth, after, put_reveal, withdraw, split, Contract, no_branch, branch, no_part, part}
 use Rattle.spec_terms.specs.declared.path.PathStep.{PathStep}
 use Rattle.spec_terms.specs.declared.path.PathStep.TheVariants.{Branch as To, Part as Into}
 use Rattle.spec_terms.specs.declared.pre.Pre.{Pre}
@@ -15,7 +15,7 @@ use Rattle.spec_bitcoin.specs.Meaning.{outcome}
 use Rattle.spec_bitcoin.specs.Opcodes.{op_1, op_16, op_if, op_else, op_endif, op_drop}
 use Rattle.spec_bitcoin.specs.declared.script.Op.TheVariants.{Push, Code}
 use Rattle.spec_compiler.specs.Scripts.{branch_ops, choice_ops, reveal_ops, push_521, demands, output_ops}
-use Rattle.spec_compiler.specs.Setting.{Setting, branch_label, branch_keys, position_demands, position_script}
+use Rattle.spec_compiler.specs.Instance.{Instance, branch_label, branch_keys, position_demands, position_script}
 use Rattle.spec_compiler.specs.Witness.{witness_of, chosen_by}
 use Rattle.spec_compiler.specs.declared.unsigned.Unsigned.{Unsigned}
 use Rattle.spec_compiler.specs.Transactions.{tx_of, initial_unsigned}
@@ -35,7 +35,7 @@ abbrev B : List ℕ
 B = codes "B"
 
 -- the deposits lie in the outputs of a transaction of zeros
-abbrev setting : List Pre → Choice → Setting
+abbrev setting : List Pre → Contract → Instance
 setting pre root = record {
   contract = 0;
   advert = record { pre = pre; fee = 0; root = root };
@@ -45,10 +45,10 @@ setting pre root = record {
 
 -- ---- a contract that reveals one secret
 
-abbrev told : Choice
+abbrev told : Contract
 told = branch (put_reveal [] (codes "a" ∷ []) always (branch (withdraw A) no_branch)) no_branch
 
-abbrev tells : Setting
+abbrev tells : Instance
 tells = setting (Persistent A 1 (codes "x") ∷ Secret A (codes "a") ∷ []) told
 
 tells_bytes : length (position_script weigh tells [] told) ≡ 83
@@ -61,10 +61,10 @@ tells_operations = refl
 
 -- ---- the same with a second party and a way out
 
-abbrev timed : Choice
+abbrev timed : Contract
 timed = branch (put_reveal [] (codes "a" ∷ []) always (branch (withdraw A) no_branch)) (branch (after 1000 (withdraw B)) no_branch)
 
-abbrev times : Setting
+abbrev times : Instance
 times = setting (Persistent A 100000000 (codes "x") ∷ Persistent B 0 (codes "y") ∷ Secret A (codes "a") ∷ []) timed
 
 timed_bytes : length (position_script weigh times [] timed) ≡ 191
@@ -77,10 +77,10 @@ timed_operations = refl
 
 -- ---- two branches that do the same on the word of one party each
 
-abbrev either : Choice
+abbrev either : Contract
 either = branch (auth A (withdraw B)) (branch (auth B (withdraw B)) no_branch)
 
-abbrev eithers : Setting
+abbrev eithers : Instance
 eithers = setting (Persistent A 10 (codes "x") ∷ Persistent B 0 (codes "y") ∷ []) either
 
 -- whether all transactions are the same
@@ -164,10 +164,10 @@ three_branches = refl
 -- ---- fees
 
 -- {A:! 10 @ x} fee 1 split [5 -> withdraw A, 3 -> withdraw A]
-abbrev divided : Choice
+abbrev divided : Contract
 divided = branch (split (part 5 (branch (withdraw A) no_branch) (part 3 (branch (withdraw A) no_branch) no_part))) no_branch
 
-abbrev divides : Setting
+abbrev divides : Instance
 divides = record (setting (Persistent A 10 (codes "x") ∷ []) divided) { advert = record { pre = Persistent A 10 (codes "x") ∷ []; fee = 1; root = divided } }
 
 abbrev values : Unsigned → List ℕ

@@ -1,11 +1,11 @@
 -- All transactions and scripts of a BitML contract, in the order of its text.
 use Rattle.std.specs.Prelude.{ℕ, ◌+◌, List, [], ◌∷◌, ◌++◌, map}
 use Rattle.spec_terms.specs.Term as term
-use Rattle.spec_terms.specs.Term.{Choice, no_branch, branch, auth, after, put_reveal, withdraw, split, Parts, no_part, part}
+use Rattle.spec_terms.specs.Term.{Contract, no_branch, branch, auth, after, put_reveal, withdraw, split, Parts, no_part, part}
 use Rattle.spec_terms.specs.Core.{lock}
 use Rattle.spec_terms.specs.declared.path.PathStep.{PathStep}
 use Rattle.spec_compiler.specs.declared.prepared.Prepared.{Prepared}
-use Rattle.spec_compiler.specs.Setting.{Setting, branch_path, position_script}
+use Rattle.spec_compiler.specs.Instance.{Instance, branch_path, position_script}
 use Rattle.spec_compiler.specs.declared.unsigned.Unsigned.{Unsigned}
 use Rattle.spec_compiler.specs.Transactions.{Standing, prepared, continued_value, part_position, core_unsigned, continued, part_standing}
 use Rattle.spec_compiler.specs.Transactions.{initial_unsigned, root_standing}
@@ -14,13 +14,13 @@ use Rattle.spec_compiler.specs.Transactions.{initial_unsigned, root_standing}
 
 abbrev mutual
   -- of the branches of a position from number i on, with all that stands under them
-  pub choice_transactions : (List ℕ → List ℕ) → Setting → Standing → ℕ → Choice → List (List PathStep × Unsigned)
+  pub choice_transactions : (List ℕ → List ℕ) → Instance → Standing → ℕ → Contract → List (List PathStep × Unsigned)
   choice_transactions hash s here i no_branch = []
   choice_transactions hash s here i (branch b bs) =
       branch_transactions hash s here i (lock b) b ++ choice_transactions hash s here (i + 1) bs
 
   -- of branch i of a position, which has this lock
-  pub branch_transactions : (List ℕ → List ℕ) → Setting → Standing → ℕ → ℕ → term.Branch → List (List PathStep × Unsigned)
+  pub branch_transactions : (List ℕ → List ℕ) → Instance → Standing → ℕ → ℕ → term.Guarded → List (List PathStep × Unsigned)
   branch_transactions hash s here i l (auth party body) = branch_transactions hash s here i l body
   branch_transactions hash s here i l (after height body) = branch_transactions hash s here i l body
   branch_transactions hash s here i l (put_reveal puts reveals test next) =
@@ -35,26 +35,26 @@ abbrev mutual
       ∷ parts_transactions hash s (branch_path here.position i) (core_unsigned hash s here i l (split parts)) 0 parts
 
   -- of the parts from number k on of the split at a path, which this transaction makes
-  pub parts_transactions : (List ℕ → List ℕ) → Setting → List PathStep → Unsigned → ℕ → Parts → List (List PathStep × Unsigned)
+  pub parts_transactions : (List ℕ → List ℕ) → Instance → List PathStep → Unsigned → ℕ → Parts → List (List PathStep × Unsigned)
   parts_transactions hash s path made k no_part = []
   parts_transactions hash s path made k (part v c ps) =
       choice_transactions hash s (part_standing hash s path made k v c) 0 c ++ parts_transactions hash s path made (k + 1) ps
 
 -- the transaction of each path
-abbrev pub path_transactions : (List ℕ → List ℕ) → Setting → List (List PathStep × Unsigned)
+abbrev pub path_transactions : (List ℕ → List ℕ) → Instance → List (List PathStep × Unsigned)
 path_transactions hash s = choice_transactions hash s (root_standing hash s) 0 s.advert.root
 
 -- ---- the scripts by position
 
 abbrev mutual
   -- of the positions under the branches of a position from number i on
-  pub choice_scripts : (List ℕ → List ℕ) → Setting → List PathStep → ℕ → Choice → List (List PathStep × List ℕ)
+  pub choice_scripts : (List ℕ → List ℕ) → Instance → List PathStep → ℕ → Contract → List (List PathStep × List ℕ)
   choice_scripts hash s position i no_branch = []
   choice_scripts hash s position i (branch b bs) =
       branch_scripts hash s (branch_path position i) b ++ choice_scripts hash s position (i + 1) bs
 
   -- of the positions under the branch at a path
-  pub branch_scripts : (List ℕ → List ℕ) → Setting → List PathStep → term.Branch → List (List PathStep × List ℕ)
+  pub branch_scripts : (List ℕ → List ℕ) → Instance → List PathStep → term.Guarded → List (List PathStep × List ℕ)
   branch_scripts hash s path (auth party body) = branch_scripts hash s path body
   branch_scripts hash s path (after height body) = branch_scripts hash s path body
   branch_scripts hash s path (put_reveal puts reveals test next) =
@@ -63,14 +63,14 @@ abbrev mutual
   branch_scripts hash s path (split parts) = parts_scripts hash s path 0 parts
 
   -- of the parts from number k on of the split at a path
-  pub parts_scripts : (List ℕ → List ℕ) → Setting → List PathStep → ℕ → Parts → List (List PathStep × List ℕ)
+  pub parts_scripts : (List ℕ → List ℕ) → Instance → List PathStep → ℕ → Parts → List (List PathStep × List ℕ)
   parts_scripts hash s path k no_part = []
   parts_scripts hash s path k (part v c ps) =
       ((part_position path k, position_script hash s (part_position path k) c) ∷ choice_scripts hash s (part_position path k) 0 c)
       ++ parts_scripts hash s path (k + 1) ps
 
 -- the script of each position
-abbrev pub scripts : (List ℕ → List ℕ) → Setting → List (List PathStep × List ℕ)
+abbrev pub scripts : (List ℕ → List ℕ) → Instance → List (List PathStep × List ℕ)
 scripts hash s = ([], position_script hash s [] s.advert.root) ∷ choice_scripts hash s [] 0 s.advert.root
 
 -- ---- all of it
@@ -81,7 +81,7 @@ pub record Compilation : Type 0 where
   pub paths : List (List PathStep × Prepared)
   pub scripts : List (List PathStep × List ℕ)
 
-abbrev pub compilation : (List ℕ → List ℕ) → Setting → Compilation
+abbrev pub compilation : (List ℕ → List ℕ) → Instance → Compilation
 compilation hash s = record {
   init = prepared hash (initial_unsigned hash s);
   paths = map (λ p. (p.0, prepared hash p.1)) (path_transactions hash s);

@@ -12,7 +12,7 @@ use Rattle.spec_terms.specs.Precondition.{volatile}
 use Rattle.spec_terms.specs.declared.path.PathStep.{PathStep}
 use Rattle.spec_bitcoin.specs.Keys.{Pair, has_signed, key_of}
 use Rattle.spec_compiler.specs.declared.prepared.Prepared.{Prepared}
-use Rattle.spec_compiler.specs.Setting.{Setting, branch_label, deposit_key}
+use Rattle.spec_compiler.specs.Instance.{Instance, branch_label, deposit_key}
 use Rattle.spec_compiler.specs.Transactions.{holding_or_none}
 use Rattle.spec_compiler.specs.Compilation.{compilation}
 
@@ -24,7 +24,7 @@ pub record Need : Type 0 where
   pub digest : List ℕ
 
 -- what the participants whom the branch doesn't ask sign, each by its key of the branch
-abbrev pub branch_needs : (List ℕ → List ℕ) → ℕ → Advert → List PathStep → term.Branch → List ℕ → List Need
+abbrev pub branch_needs : (List ℕ → List ℕ) → ℕ → Advert → List PathStep → term.Guarded → List ℕ → List Need
 branch_needs hash contract advert path b digest =
     map (λ party. record { path = path; party = party; key = key_of hash (branch_label contract path party); digest = digest })
     (filter (λ party. not (is_asked b party)) (participants advert))
@@ -42,7 +42,7 @@ put_needs hash advert path (name ∷ names) (digest ∷ digests) =
     ∷ put_needs hash advert path names digests
 
 -- what is needed for a branch, by the digests of its transaction's inputs: the position's output first, then the deposits that are put
-abbrev pub needs_of : (List ℕ → List ℕ) → ℕ → Advert → List PathStep → term.Branch → List (List ℕ) → List Need
+abbrev pub needs_of : (List ℕ → List ℕ) → ℕ → Advert → List PathStep → term.Guarded → List (List ℕ) → List Need
 needs_of hash contract advert path b [] = []
 needs_of hash contract advert path b (digest ∷ digests) =
     branch_needs hash contract advert path b digest ++ put_needs hash advert path (puts_of (core b)) digests
@@ -71,13 +71,13 @@ all_met book wanted = list_all (is_met book) wanted
 -- ---- a contract
 
 -- all that it needs: path by path in the order of the text, for each the participants whom the branch doesn't ask, then the owners of its puts
-abbrev pub needed : (List ℕ → List ℕ) → Setting → List Need
+abbrev pub needed : (List ℕ → List ℕ) → Instance → List Need
 needed hash s = needs hash s.contract s.advert (compilation hash s).paths
 
 -- whether it is endorsed
-abbrev pub is_endorsed : (List ℕ → List ℕ) → Setting → List Pair → Bool
+abbrev pub is_endorsed : (List ℕ → List ℕ) → Instance → List Pair → Bool
 is_endorsed hash s book = all_met book (needed hash s)
 
 -- the first endorsement that it misses
-abbrev pub missing_endorsement : (List ℕ → List ℕ) → Setting → List Pair → Option Need
+abbrev pub missing_endorsement : (List ℕ → List ℕ) → Instance → List Pair → Option Need
 missing_endorsement hash s book = first_unmet book (needed hash s)

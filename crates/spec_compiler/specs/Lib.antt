@@ -1,5 +1,5 @@
 pub mod Scripts
-pub mod Setting
+pub mod Instance
 pub mod Witness
 pub mod Transactions
 pub mod Compilation

@@ -5,11 +5,11 @@ use Rattle.std.specs.List.{list_all}
 use Rattle.std.specs.Str.{bytes_eq}
 pub use Rattle.spec_data.specs.Hashes.{IsHash}
 use Rattle.spec_terms.specs.Term as term
-use Rattle.spec_terms.specs.Term.{Choice, branches}
+use Rattle.spec_terms.specs.Term.{Contract, branches}
 use Rattle.spec_terms.specs.Core.{core, reveals_of, test_of}
 use Rattle.spec_terms.specs.Value.{holds}
 use Rattle.spec_terms.specs.Cost.{cost}
-use Rattle.spec_terms.specs.Paths.{choice_at}
+use Rattle.spec_terms.specs.Paths.{contract_under}
 use Rattle.spec_terms.specs.Precondition.{secrets, names_of}
 use Rattle.spec_terms.specs.Faults.{IsWellFormed}
 use Rattle.spec_terms.specs.declared.path.PathStep.{PathStep}
@@ -18,7 +18,7 @@ use Rattle.spec_bitcoin.specs.Scripts.{script_ops, counted}
 use Rattle.spec_bitcoin.specs.Meaning.{script_meaning}
 use Rattle.spec_bitcoin.specs.Keys.{deposit_script}
 use Rattle.spec_compiler.specs.Scripts.{digest_of, output_ops}
-use Rattle.spec_compiler.specs.Setting.{Setting, people, branch_path, branch_keys, position_demands, position_script}
+use Rattle.spec_compiler.specs.Instance.{Instance, people, branch_path, branch_keys, position_demands, position_script}
 use Rattle.spec_compiler.specs.Witness.{selection, witness_stack, chosen}
 
 -- ---- signatures and secrets
@@ -55,10 +55,10 @@ secret_lengths names strings = lengths_of names (map length strings)
 
 -- the stack, from its top, is selectors of a branch of the position, its secrets and its signatures
 pub record Opens (hash : List ℕ → List ℕ) (valid : List ℕ → List ℕ → Bool)
-    (s : Setting) (position : List PathStep) (choice : Choice) (stack : List (List ℕ)) : Type 0 where
+    (s : Instance) (position : List PathStep) (choice : Contract) (stack : List (List ℕ)) : Type 0 where
   -- the branch and its number
   pub i : ℕ
-  pub b : term.Branch
+  pub b : term.Guarded
   pub is_branch : slice_get (branches choice) i ≡ Some b
   -- the three groups
   pub selectors : List (List ℕ)
@@ -84,16 +84,16 @@ abbrev pub is_short : List ℕ → Bool
 is_short item = nat_le (length item) 520
 
 -- the contract passed the check, each of its secrets is committed to by a digest of 32 bytes, and the branches are those of the position
-pub record IsCompiled (s : Setting) (position : List PathStep) (choice : Choice) : Type 0 where
+pub record IsCompiled (s : Instance) (position : List PathStep) (choice : Contract) : Type 0 where
   pub checked : IsWellFormed s.advert
   pub committed : list_all (λ name. has_size 32 (digest_of s.hashes name)) (names_of (secrets s.advert.pre)) ≡ true
-  pub is_position : choice_at s.advert.root position ≡ Some choice
+  pub is_position : contract_under s.advert.root position ≡ Some choice
 
 -- ---- the theorems
 
 -- the script of a position is true on a stack, given from its bottom, exactly where the stack opens a branch of the position
 pub record OpensExactly (hash : List ℕ → List ℕ) (valid : List ℕ → List ℕ → Bool)
-    (s : Setting) (position : List PathStep) (choice : Choice) (stack : List (List ℕ)) : Type 0 where
+    (s : Instance) (position : List PathStep) (choice : Contract) (stack : List (List ℕ)) : Type 0 where
   pub true_opens : script_meaning hash valid (position_script hash s position choice) stack ≡ true
       → Opens hash valid s position choice (reverse stack)
   pub opens_true : Opens hash valid s position choice (reverse stack)
@@ -103,18 +103,18 @@ pub record OpensExactly (hash : List ℕ → List ℕ) (valid : List ℕ → Lis
 abbrev pub ScriptTheorem : Type 0
 ScriptTheorem =
     (hash : List ℕ → List ℕ) (valid : List ℕ → List ℕ → Bool)
-    (s : Setting) (position : List PathStep) (choice : Choice) (stack : List (List ℕ))
+    (s : Instance) (position : List PathStep) (choice : Contract) (stack : List (List ℕ))
     → IsHash hash → IsCompiled s position choice → list_all is_short stack ≡ true → OpensExactly hash valid s position choice stack
 
 -- the branch that a stack chooses is the branch that it opens
 abbrev pub OpenedIsChosen : Type 0
 OpenedIsChosen =
     (hash : List ℕ → List ℕ) (valid : List ℕ → List ℕ → Bool)
-    (s : Setting) (position : List PathStep) (choice : Choice) (stack : List (List ℕ))
+    (s : Instance) (position : List PathStep) (choice : Contract) (stack : List (List ℕ))
     → (opened : Opens hash valid s position choice stack) → chosen (length (branches choice)) stack ≡ opened.i
 
 -- a script has the bytes and counted operations of its cost, meets no limit of scripts, and its bytes spell its operations
-pub record HasCost (hash : List ℕ → List ℕ) (s : Setting) (position : List PathStep) (choice : Choice) : Type 0 where
+pub record HasCost (hash : List ℕ → List ℕ) (s : Instance) (position : List PathStep) (choice : Contract) : Type 0 where
   pub bytes : length (position_script hash s position choice) ≡ (cost (length (people s)) choice).bytes
   pub operations : counted (output_ops (position_demands hash s position choice)) ≡ (cost (length (people s)) choice).operations
   pub few_bytes : length (position_script hash s position choice) ≤ 10000
@@ -123,13 +123,13 @@ pub record HasCost (hash : List ℕ → List ℕ) (s : Setting) (position : List
 
 abbrev pub SizeTheorem : Type 0
 SizeTheorem =
-    (hash : List ℕ → List ℕ) (s : Setting) (position : List PathStep) (choice : Choice) → IsHash hash → IsCompiled s position choice
+    (hash : List ℕ → List ℕ) (s : Instance) (position : List PathStep) (choice : Contract) → IsHash hash → IsCompiled s position choice
     → HasCost hash s position choice
 
 -- what is handed to a witness of branch i: its signatures by participant, and its secrets by reveal
 pub record Fills (hash : List ℕ → List ℕ) (valid : List ℕ → List ℕ → Bool)
-    (s : Setting) (position : List PathStep) (choice : Choice) (i : ℕ) (signatures strings : List (List ℕ)) : Type 0 where
-  pub b : term.Branch
+    (s : Instance) (position : List PathStep) (choice : Contract) (i : ℕ) (signatures strings : List (List ℕ)) : Type 0 where
+  pub b : term.Guarded
   pub is_branch : slice_get (branches choice) i ≡ Some b
   pub fits : are_secrets hash strings (map (digest_of s.hashes) (reveals_of (core b))) ≡ true
   pub predicate : holds (secret_lengths (reveals_of (core b)) strings) (test_of (core b)) ≡ true
@@ -140,7 +140,7 @@ pub record Fills (hash : List ℕ → List ℕ) (valid : List ℕ → List ℕ �
 abbrev pub WitnessOpens : Type 0
 WitnessOpens =
     (hash : List ℕ → List ℕ) (valid : List ℕ → List ℕ → Bool)
-    (s : Setting) (position : List PathStep) (choice : Choice) (i : ℕ) (signatures strings : List (List ℕ))
+    (s : Instance) (position : List PathStep) (choice : Contract) (i : ℕ) (signatures strings : List (List ℕ))
     → IsHash hash → IsCompiled s position choice → Fills hash valid s position choice i signatures strings
     → script_meaning hash valid (position_script hash s position choice)
     (witness_stack signatures strings i (length (branches choice))) ≡ true

@@ -2,7 +2,7 @@
 use Rattle.std.specs.Prelude.{ℕ, ◌+◌, ◌-◌, List, [], ◌∷◌, ◌++◌, map, Option, Some, None}
 use Rattle.spec_data.specs.Lists.{look_up}
 use Rattle.spec_terms.specs.Term as term
-use Rattle.spec_terms.specs.Term.{Choice, auth, after, put_reveal, withdraw, split, Parts, no_part, part}
+use Rattle.spec_terms.specs.Term.{Contract, auth, after, put_reveal, withdraw, split, Parts, no_part, part}
 use Rattle.spec_terms.specs.Core.{core, lock, puts_of}
 use Rattle.spec_terms.specs.Precondition.{Holding, holding, persistent, volatile, total_of, value_of_puts}
 use Rattle.spec_terms.specs.declared.path.PathStep.{PathStep}
@@ -16,13 +16,13 @@ use Rattle.spec_bitcoin.specs.Keys.{pay_to, deposit_script}
 use Rattle.spec_compiler.specs.declared.prepared.Prepared.{Prepared}
 use Rattle.spec_compiler.specs.declared.unsigned.Spent.{Spent}
 use Rattle.spec_compiler.specs.declared.unsigned.Unsigned.{Unsigned}
-use Rattle.spec_compiler.specs.Setting.{Setting, branch_path, deposit_key, position_script}
+use Rattle.spec_compiler.specs.Instance.{Instance, branch_path, deposit_key, position_script}
 
 -- ---- transactions and what they spend
 
 -- an input with a sequence under which the lock binds
 abbrev pub input_of : Spent → TxIn
-input_of spent = record { prev = spent.place; script_sig = []; sequence = 0xfffffffe; witness = [] }
+input_of spent = record { prev = spent.outpoint; script_sig = []; sequence = 0xfffffffe; witness = [] }
 
 abbrev pub tx_of : Unsigned → Tx
 tx_of d = record { version = 2; inputs = map input_of d.spends; outputs = d.outputs; lock = d.lock }
@@ -36,8 +36,8 @@ abbrev pub prepared : (List ℕ → List ℕ) → Unsigned → Prepared
 prepared hash d = record { tx = tx_of d; txid = txid hash (tx_of d); digests = map (digest_of_spent hash (tx_of d)) d.spends }
 
 -- where output k of the transaction lies
-abbrev pub output_place : (List ℕ → List ℕ) → Unsigned → ℕ → OutPoint
-output_place hash d k = record { txid = txid hash (tx_of d); vout = k }
+abbrev pub output_outpoint : (List ℕ → List ℕ) → Unsigned → ℕ → OutPoint
+output_outpoint hash d k = record { txid = txid hash (tx_of d); vout = k }
 
 -- an output for whoever shows this script and what it asks for
 abbrev pub pays : (List ℕ → List ℕ) → List ℕ → ℕ → TxOut
@@ -50,13 +50,13 @@ abbrev pub party_script : (List ℕ → List ℕ) → List ℕ → List ℕ
 party_script hash party = deposit_script (deposit_key hash party)
 
 -- where a deposit that was looked up lies
-abbrev pub place_or_none : Option OutPoint → OutPoint
-place_or_none None = record { txid = []; vout = 0 }
-place_or_none (Some place) = place
+abbrev pub outpoint_or_none : Option OutPoint → OutPoint
+outpoint_or_none None = record { txid = []; vout = 0 }
+outpoint_or_none (Some outpoint) = outpoint
 
 -- the output of a bound deposit
-abbrev pub deposit : (List ℕ → List ℕ) → Setting → List ℕ → Holding → Spent
-deposit hash s name h = record { place = place_or_none (look_up name s.bound); script = party_script hash h.owner; value = h.value }
+abbrev pub deposit : (List ℕ → List ℕ) → Instance → List ℕ → Holding → Spent
+deposit hash s name h = record { outpoint = outpoint_or_none (look_up name s.bound); script = party_script hash h.owner; value = h.value }
 
 -- a deposit that was looked up
 abbrev pub holding_or_none : Option Holding → Holding
@@ -64,11 +64,11 @@ holding_or_none None = holding [] 0
 holding_or_none (Some h) = h
 
 -- the outputs of the volatile deposits of these names
-abbrev pub put_deposits : (List ℕ → List ℕ) → Setting → List (List ℕ) → List Spent
+abbrev pub put_deposits : (List ℕ → List ℕ) → Instance → List (List ℕ) → List Spent
 put_deposits hash s puts = map (λ name. deposit hash s name (holding_or_none (look_up name (volatile s.advert.pre)))) puts
 
 -- the outputs of the persistent deposits
-abbrev pub persistent_deposits : (List ℕ → List ℕ) → Setting → List Spent
+abbrev pub persistent_deposits : (List ℕ → List ℕ) → Instance → List Spent
 persistent_deposits hash s = map (λ d. deposit hash s d.0 d.1) (persistent s.advert.pre)
 
 -- ---- positions, and what the transaction of a branch does
@@ -79,7 +79,7 @@ pub record Standing : Type 0 where
   pub output : Spent
 
 -- what a put's continuation is worth
-abbrev pub continued_value : Setting → ℕ → List (List ℕ) → ℕ
+abbrev pub continued_value : Instance → ℕ → List (List ℕ) → ℕ
 continued_value s balance puts = balance + value_of_puts (volatile s.advert.pre) puts - s.advert.fee
 
 -- the position of part k of a split
@@ -87,13 +87,13 @@ abbrev pub part_position : List PathStep → ℕ → List PathStep
 part_position path k = path ++ Into k ∷ []
 
 -- the outputs of the parts from number k on of the split at a path
-abbrev pub part_outputs : (List ℕ → List ℕ) → Setting → List PathStep → ℕ → Parts → List TxOut
+abbrev pub part_outputs : (List ℕ → List ℕ) → Instance → List PathStep → ℕ → Parts → List TxOut
 part_outputs hash s path k no_part = []
 part_outputs hash s path k (part v c ps) =
     pays hash (position_script hash s (part_position path k) c) v ∷ part_outputs hash s path (k + 1) ps
 
 -- the outputs of a core's transaction, where the branch has this path and its position this balance
-abbrev pub core_outputs : (List ℕ → List ℕ) → Setting → List PathStep → ℕ → term.Branch → List TxOut
+abbrev pub core_outputs : (List ℕ → List ℕ) → Instance → List PathStep → ℕ → term.Guarded → List TxOut
 core_outputs hash s path balance (put_reveal puts reveals test next) =
     pays hash (position_script hash s path next) (continued_value s balance puts) ∷ []
 core_outputs hash s path balance (withdraw party) = pays hash (party_script hash party) (balance - s.advert.fee) ∷ []
@@ -102,7 +102,7 @@ core_outputs hash s path balance (auth party body) = []
 core_outputs hash s path balance (after height body) = []
 
 -- the transaction of branch i of a position, by its lock and its core: the output of the position, and then the deposits that are put
-abbrev pub core_unsigned : (List ℕ → List ℕ) → Setting → Standing → ℕ → ℕ → term.Branch → Unsigned
+abbrev pub core_unsigned : (List ℕ → List ℕ) → Instance → Standing → ℕ → ℕ → term.Guarded → Unsigned
 core_unsigned hash s here i height b = record {
   spends = here.output ∷ put_deposits hash s (puts_of b);
   outputs = core_outputs hash s (branch_path here.position i) here.output.value b;
@@ -110,30 +110,30 @@ core_unsigned hash s here i height b = record {
 }
 
 -- the transaction of branch i of a position
-abbrev pub branch_unsigned : (List ℕ → List ℕ) → Setting → Standing → ℕ → term.Branch → Unsigned
+abbrev pub branch_unsigned : (List ℕ → List ℕ) → Instance → Standing → ℕ → term.Guarded → Unsigned
 branch_unsigned hash s here i b = core_unsigned hash s here i (lock b) (core b)
 
 -- the position at which a put goes on, at the path of its branch
-abbrev pub continued : (List ℕ → List ℕ) → Setting → List PathStep → Unsigned → ℕ → Choice → Standing
+abbrev pub continued : (List ℕ → List ℕ) → Instance → List PathStep → Unsigned → ℕ → Contract → Standing
 continued hash s path made value next = record {
   position = path;
-  output = record { place = output_place hash made 0; script = position_script hash s path next; value = value };
+  output = record { outpoint = output_outpoint hash made 0; script = position_script hash s path next; value = value };
 }
 
 -- the position of part k of the split at a path
-abbrev pub part_standing : (List ℕ → List ℕ) → Setting → List PathStep → Unsigned → ℕ → ℕ → Choice → Standing
+abbrev pub part_standing : (List ℕ → List ℕ) → Instance → List PathStep → Unsigned → ℕ → ℕ → Contract → Standing
 part_standing hash s path made k value next = record {
   position = part_position path k;
-  output = record { place = output_place hash made k; script = position_script hash s (part_position path k) next; value = value };
+  output = record { outpoint = output_outpoint hash made k; script = position_script hash s (part_position path k) next; value = value };
 }
 
 -- ---- the initial transaction
 
 -- what the root is worth
-abbrev pub root_value : Setting → ℕ
+abbrev pub root_value : Instance → ℕ
 root_value s = total_of (persistent s.advert.pre) - s.advert.fee
 
-abbrev pub initial_unsigned : (List ℕ → List ℕ) → Setting → Unsigned
+abbrev pub initial_unsigned : (List ℕ → List ℕ) → Instance → Unsigned
 initial_unsigned hash s = record {
   spends = persistent_deposits hash s;
   outputs = pays hash (position_script hash s [] s.advert.root) (root_value s) ∷ [];
@@ -141,13 +141,13 @@ initial_unsigned hash s = record {
 }
 
 -- the root
-abbrev pub root_standing : (List ℕ → List ℕ) → Setting → Standing
+abbrev pub root_standing : (List ℕ → List ℕ) → Instance → Standing
 root_standing hash s = record {
   position = [];
   output =
       record {
-        place =
-            output_place hash (initial_unsigned hash s) 0;
+        outpoint =
+            output_outpoint hash (initial_unsigned hash s) 0;
         script = position_script hash s [] s.advert.root;
         value = root_value s;
       };

@@ -10,7 +10,7 @@ use std::alloc::Global;
 /// An output that a transaction spends: where it lies, the script that its spender shows, and its value in satoshi.
 #[derive(Drop)]
 pub struct Spent {
-    pub place: OutPoint,
+    pub outpoint: OutPoint,
     pub script: Bytes,
     pub value: u64,
 }
@@ -29,7 +29,7 @@ impl Spent {
         ensures { IfOk result (λ spent. spent ≡ self.now) }
     {
         Ok(Spent {
-            place: self.place,
+            outpoint: self.outpoint,
             script: self.script.copy(alloc)?,
             value: self.value,
         })

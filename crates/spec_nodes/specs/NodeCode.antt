@@ -2,13 +2,13 @@
 use Rattle.std.specs.Prelude.{◌≡◌, ◌⊎◌, ℕ, List, refl}
 use Rattle.std.proofs.Common.{inl, inr}
 use Rattle.std.specs.Coded.{Coded, code_by, coded×, coded⊎, coded_ℕ, coded_list}
-use Rattle.spec_terms.specs.Term.{Test}
+use Rattle.spec_terms.specs.Term.{Pred}
 use Rattle.spec_terms.specs.TermCode.{coded_name, coded_names, coded_test}
 use Rattle.spec_terms.specs.declared.path.PathStep.{PathStep}
 use Rattle.spec_nodes.specs.Nodes.{Deed, puts_reveals, withdraws, splits, Node, choice_node, branch_node}
 
 abbrev pub Deeds : Type 0
-Deeds = (List (List ℕ) × (List (List ℕ) × (Test × ℕ))) ⊎ (List ℕ ⊎ List (ℕ × ℕ))
+Deeds = (List (List ℕ) × (List (List ℕ) × (Pred × ℕ))) ⊎ (List ℕ ⊎ List (ℕ × ℕ))
 
 abbrev pub deed_cases : Deed → Deeds
 deed_cases (puts_reveals puts reveals test next) = inl (puts, (reveals, (test, next)))

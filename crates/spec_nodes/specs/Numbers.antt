@@ -1,6 +1,6 @@
 -- The number that a path leads to, by the numbered nodes of a contract alone.
 use Rattle.std.specs.Prelude.{◌≡◌, ℕ, ◌+◌, List, [], ◌∷◌, Option, Some, None, option_map, option_and_then, slice_get}
-use Rattle.spec_terms.specs.Term.{Branch, Choice}
+use Rattle.spec_terms.specs.Term.{Guarded, Contract}
 use Rattle.spec_terms.specs.declared.path.PathStep.{PathStep}
 use Rattle.spec_terms.specs.declared.path.PathStep.TheVariants.{Branch as To, Part as Into}
 use Rattle.spec_nodes.specs.Nodes.{Deed, puts_reveals, withdraws, splits, Node, choice_node, branch_node, choice_head, branch_head}
@@ -60,14 +60,14 @@ choice_number_at nodes path = option_and_then (λ n. option_and_then (if_choice 
 -- ---- numbers and terms
 
 -- a number and a branch agree: neither is there, or the number's node is that of the branch
-abbrev pub IsBranchOf : List Node → List PathStep → Option ℕ → Option Branch → Type 0
+abbrev pub IsBranchOf : List Node → List PathStep → Option ℕ → Option Guarded → Type 0
 IsBranchOf nodes path None None = Unit {0}
 IsBranchOf nodes path (Some n) (Some b) = slice_get nodes n ≡ Some (branch_head path n b)
 IsBranchOf nodes path None (Some b) = ⊥
 IsBranchOf nodes path (Some n) None = ⊥
 
 -- a number and a choice agree
-abbrev pub IsChoiceOf : List Node → List PathStep → Option ℕ → Option Choice → Type 0
+abbrev pub IsChoiceOf : List Node → List PathStep → Option ℕ → Option Contract → Type 0
 IsChoiceOf nodes position None None = Unit {0}
 IsChoiceOf nodes position (Some n) (Some c) = slice_get nodes n ≡ Some (choice_head position n c)
 IsChoiceOf nodes position None (Some c) = ⊥

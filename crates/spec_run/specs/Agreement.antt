@@ -3,9 +3,9 @@ use Rattle.std.specs.Prelude.{◌≡◌, ℕ, ◌+◌, List, [], ◌∷◌, map,
 use Rattle.std.specs.List.{list_all, cons_option}
 use Rattle.spec_terms.specs.declared.path.PathStep.{PathStep}
 use Rattle.spec_bitcoin.specs.declared.tx.OutPoint.{OutPoint}
-use Rattle.spec_bitcoin.specs.Live.{same_place}
-use Rattle.spec_compiler.specs.Setting.{Setting}
-use Rattle.spec_compiler.specs.ByPath.{place_at}
+use Rattle.spec_bitcoin.specs.Live.{same_outpoint}
+use Rattle.spec_compiler.specs.Instance.{Instance}
+use Rattle.spec_compiler.specs.ByPath.{outpoint_at}
 use Rattle.spec_calculus.specs.declared.parts.Deposit.{Deposit}
 use Rattle.spec_calculus.specs.declared.parts.ActiveContract.{ActiveContract}
 use Rattle.spec_calculus.specs.declared.parts.Committed.{Committed}
@@ -13,9 +13,9 @@ use Rattle.spec_calculus.specs.declared.parts.Revealed.{Revealed}
 use Rattle.spec_calculus.specs.Configuration.{Configuration}
 use Rattle.spec_calculus.specs.Branches.{is_revealed}
 use Rattle.spec_run.specs.Setup.{Setup}
-use Rattle.spec_run.specs.World.{Held, Output, Promise, World, is_deposit, active_held}
+use Rattle.spec_run.specs.World.{ContractPosition, Output, Promise, World, is_deposit, live_position}
 use Rattle.spec_run.specs.Owners.{owner_by}
-use Rattle.spec_run.specs.Compiled.{compiled_at}
+use Rattle.spec_run.specs.Compiled.{compiled_instance}
 use Rattle.spec_run.specs.Secrets.{shown}
 
 -- ---- what the calculus sees of the outputs
@@ -24,13 +24,13 @@ use Rattle.spec_run.specs.Secrets.{shown}
 abbrev pub deposit_in : Setup → ℕ → Output → Option Deposit
 deposit_in s k o = if is_deposit (Some o) then Some record { number = k; owner = owner_by s o.script; value = o.value } else None
 
-abbrev pub active_by : ℕ → ℕ → Option Held → Option ActiveContract
+abbrev pub active_by : ℕ → ℕ → Option ContractPosition → Option ActiveContract
 active_by k value None = None
 active_by k value (Some held) = Some record { number = k; contract = held.contract; position = held.position; balance = value }
 
 -- the output of this number as an active contract
 abbrev pub active_in : ℕ → Output → Option ActiveContract
-active_in k o = active_by k o.value (active_held (Some o))
+active_in k o = active_by k o.value (live_position (Some o))
 
 -- what is seen of the outputs from number k on
 abbrev pub seen_from : {X : Type 0} → (ℕ → Output → Option X) → ℕ → List Output → List X
@@ -46,22 +46,22 @@ actives_from k outputs = seen_from active_in k outputs
 -- ---- where contract outputs lie
 
 -- whether the place is this one
-abbrev pub is_place : OutPoint → Option OutPoint → Bool
-is_place place None = false
-is_place place (Some other) = same_place place other
+abbrev pub is_outpoint : OutPoint → Option OutPoint → Bool
+is_outpoint outpoint None = false
+is_outpoint outpoint (Some other) = same_outpoint outpoint other
 
 -- where the output of a position lies, where the contract is compiled
-abbrev pub compiled_place : Setup → Option Setting → List PathStep → Option OutPoint
-compiled_place s None position = None
-compiled_place s (Some setting) position = place_at s.hash setting position
+abbrev pub compiled_outpoint : Setup → Option Instance → List PathStep → Option OutPoint
+compiled_outpoint s None position = None
+compiled_outpoint s (Some setting) position = outpoint_at s.hash setting position
 
-abbrev pub is_placed_by : Setup → World → OutPoint → Option Held → Bool
-is_placed_by s w place None = true
-is_placed_by s w place (Some held) = is_place place (compiled_place s (compiled_at s w held.contract) held.position)
+abbrev pub is_placed_by : Setup → World → OutPoint → Option ContractPosition → Bool
+is_placed_by s w outpoint None = true
+is_placed_by s w outpoint (Some held) = is_outpoint outpoint (compiled_outpoint s (compiled_instance s w held.contract) held.position)
 
 -- whether a live contract output lies where its position was compiled to
 abbrev pub is_placed : Setup → World → Output → Bool
-is_placed s w o = is_placed_by s w o.place (active_held (Some o))
+is_placed s w o = is_placed_by s w o.outpoint (live_position (Some o))
 
 -- ---- agreement
 

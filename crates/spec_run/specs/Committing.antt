@@ -3,13 +3,13 @@ use Rattle.std.specs.Prelude.{ℕ, List, [], ◌∷◌, ◌++◌, map, length, B
 use Rattle.spec_data.specs.Ranges.{least_secret_bytes, most_item_bytes}
 use Rattle.spec_data.specs.Lists.{is_among, first_reason}
 use Rattle.spec_terms.specs.Precondition.{names_of, secrets_of}
-use Rattle.spec_compiler.specs.Setting.{Setting}
+use Rattle.spec_compiler.specs.Instance.{Instance}
 use Rattle.spec_compiler.specs.Hashed.{compiled_strings}
 use Rattle.spec_run.specs.declared.outcome.Reason.{Reason}
 use Rattle.spec_run.specs.declared.outcome.Reason.TheVariants as reason
 use Rattle.spec_run.specs.Setup.{Setup, has_contract, pre_at, takes_part, is_honest, held_secret, bytes_or_none}
 use Rattle.spec_run.specs.World.{Promise, World, is_advertised, has_promised}
-use Rattle.spec_run.specs.Compiled.{compiled_at}
+use Rattle.spec_run.specs.Compiled.{compiled_instance}
 use Rattle.spec_run.specs.Advertising.{are_rearranged, arranged}
 use Rattle.spec_run.specs.Draft.{Draft, done, unless}
 
@@ -110,12 +110,12 @@ with_promise s w contract party digests = record w {
 }
 
 -- the strings of a compiled contract, none where it isn't compiled
-abbrev pub strings_compiled : Setup → Option Setting → List (List ℕ)
+abbrev pub strings_compiled : Setup → Option Instance → List (List ℕ)
 strings_compiled s None = []
 strings_compiled s (Some setting) = compiled_strings s.hash setting
 
 abbrev pub committed_draft : Setup → World → ℕ → List ℕ → List (List ℕ) → Draft
-committed_draft s next contract party strings = done next (strings ++ strings_compiled s (compiled_at s next contract))
+committed_draft s next contract party strings = done next (strings ++ strings_compiled s (compiled_instance s next contract))
 
 abbrev pub commit_draft : Setup → World → ℕ → List ℕ → List (List ℕ × List ℕ) → Draft
 commit_draft s w contract party digests =

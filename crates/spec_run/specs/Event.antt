@@ -16,7 +16,7 @@ use Rattle.spec_run.specs.declared.outcome.Reason.TheVariants as reason
 use Rattle.spec_run.specs.declared.outcome.Record.{Record}
 use Rattle.spec_run.specs.Setup.{Setup}
 use Rattle.spec_data.specs.Messages.{noted_all, collision}
-use Rattle.spec_run.specs.World.{Held, World}
+use Rattle.spec_run.specs.World.{ContractPosition, World}
 use Rattle.spec_run.specs.Draft.{Draft, Answer, Went, Halted, Halt, done, posting, refused, unless, answer}
 use Rattle.spec_run.specs.Owners.{paid_to}
 use Rattle.spec_run.specs.Advertising.{advertise_draft}
@@ -41,7 +41,7 @@ opening_strings s =
     ++ txid_strings s.hash (opening_transaction (opening_outputs s)))
 
 -- no contract output is there at the opening
-abbrev pub holds_nothing : ℕ → Option Held
+abbrev pub holds_nothing : ℕ → Option ContractPosition
 holds_nothing k = None
 
 abbrev pub opening_world : Setup → World

@@ -9,7 +9,7 @@ use Rattle.spec_bitcoin.specs.declared.tx.TxIn.{TxIn}
 use Rattle.spec_bitcoin.specs.declared.tx.Tx.{Tx}
 use Rattle.spec_bitcoin.specs.Keys.{signature_of}
 use Rattle.spec_compiler.specs.declared.prepared.Prepared.{Prepared}
-use Rattle.spec_compiler.specs.Setting.{Setting, branch_keys, position_script}
+use Rattle.spec_compiler.specs.Instance.{Instance, branch_keys, position_script}
 use Rattle.spec_compiler.specs.Scripts.{digest_of}
 use Rattle.spec_compiler.specs.Transactions.{prepared, initial_unsigned}
 use Rattle.spec_compiler.specs.ByPath.{prepared_at}
@@ -18,11 +18,11 @@ use Rattle.spec_compiler.specs.Witness.{witness_of}
 use Rattle.spec_run.specs.declared.outcome.Reason.{Reason}
 use Rattle.spec_run.specs.declared.outcome.Reason.TheVariants as reason
 use Rattle.spec_run.specs.Setup.{Setup, has_contract, contract_at, bytes_or_none}
-use Rattle.spec_run.specs.World.{Held, World, held_at}
-use Rattle.spec_run.specs.Compiled.{compiled_at}
+use Rattle.spec_run.specs.World.{ContractPosition, World, live_position_at}
+use Rattle.spec_run.specs.Compiled.{compiled_instance}
 use Rattle.spec_run.specs.Revealing.{fitting}
-use Rattle.spec_run.specs.Ledger.{reaches, held_path, choice_in, count_of}
-use Rattle.spec_run.specs.Signing.{branch_held, first_digest}
+use Rattle.spec_run.specs.Ledger.{reaches, position_path, contract_in, count_of}
+use Rattle.spec_run.specs.Signing.{branch_if_live, first_digest}
 use Rattle.spec_run.specs.Giving.{deposit_witness}
 use Rattle.spec_run.specs.Draft.{Draft, refused, unless}
 
@@ -45,11 +45,11 @@ deposit_witnesses s (owner ∷ owners) (digest ∷ digests) = deposit_witness s 
 
 -- ---- the initial transaction
 
-abbrev pub initial_witnesses : Setup → Setting → Prepared → List (List (List ℕ))
+abbrev pub initial_witnesses : Setup → Instance → Prepared → List (List (List ℕ))
 initial_witnesses s setting made = deposit_witnesses s (map (λ d. (d.1).owner) (persistent setting.advert.pre)) made.digests
 
 -- the initial transaction with its witnesses
-abbrev pub initial_transaction : Setup → Setting → Tx
+abbrev pub initial_transaction : Setup → Instance → Tx
 initial_transaction s setting =
     with_witnesses (prepared s.hash (initial_unsigned s.hash setting)).tx (initial_witnesses s setting (prepared s.hash (initial_unsigned s.hash setting)))
 
@@ -57,7 +57,7 @@ initial_transaction s setting =
 abbrev pub fire_init_row : Setup → World → ℕ → List (Bool × Reason)
 fire_init_row s w contract =
     (not (has_contract s contract), reason.NoContract)
-    ∷ (not (is_some (compiled_at s w contract)), reason.NotCompiled)
+    ∷ (not (is_some (compiled_instance s w contract)), reason.NotCompiled)
     ∷ []
 
 -- the transaction, where there is one, reaches the ledger
@@ -65,68 +65,68 @@ abbrev pub reaches_if : Setup → World → Option Tx → Draft
 reaches_if s w None = refused w [] reason.NotCompiled
 reaches_if s w (Some tx) = reaches s w w tx
 
-abbrev pub initial_by : Setup → Option Setting → Option Tx
+abbrev pub initial_by : Setup → Option Instance → Option Tx
 initial_by s None = None
 initial_by s (Some setting) = Some (initial_transaction s setting)
 
 abbrev pub fire_init_draft : Setup → World → ℕ → Draft
 fire_init_draft s w contract =
-    unless (first_reason (fire_init_row s w contract)) w [] (reaches_if s w (initial_by s (compiled_at s w contract)))
+    unless (first_reason (fire_init_row s w contract)) w [] (reaches_if s w (initial_by s (compiled_instance s w contract)))
 
 -- ---- the transaction of a branch
 
 -- the names of the secrets that a branch reveals
-abbrev pub revealed_by : Option term.Branch → List (List ℕ)
+abbrev pub revealed_by : Option term.Guarded → List (List ℕ)
 revealed_by None = []
 revealed_by (Some b) = reveals_of (core b)
 
 -- the posted string that fits a committed secret
-abbrev pub shown_string : Setup → World → Setting → List ℕ → Option (List ℕ)
+abbrev pub shown_string : Setup → World → Instance → List ℕ → Option (List ℕ)
 shown_string s w setting name = fitting s w.posted (digest_of setting.hashes name)
 
 -- the first of the names for which no fitting string is posted
-abbrev pub first_unshown : Setup → World → Setting → List (List ℕ) → Option (List ℕ)
+abbrev pub first_unshown : Setup → World → Instance → List (List ℕ) → Option (List ℕ)
 first_unshown s w setting [] = None
 first_unshown s w setting (name ∷ names) = if is_some (shown_string s w setting name) then first_unshown s w setting names else Some name
 
 -- the first secret of a branch that isn't known, where its contract is compiled
-abbrev pub unknown_secret : Setup → World → Option Setting → Option term.Branch → Option (List ℕ)
+abbrev pub unknown_secret : Setup → World → Option Instance → Option term.Guarded → Option (List ℕ)
 unknown_secret s w None b = None
 unknown_secret s w (Some setting) b = first_unshown s w setting (revealed_by b)
 
 -- what the contract of a held position is compiled with
-abbrev pub held_setting : Setup → World → Option Held → Option Setting
-held_setting s w None = None
-held_setting s w (Some held) = compiled_at s w held.contract
+abbrev pub position_instance : Setup → World → Option ContractPosition → Option Instance
+position_instance s w None = None
+position_instance s w (Some held) = compiled_instance s w held.contract
 
 -- the first secret that isn't known of this branch of what is held
 abbrev pub unknown_at : Setup → World → ℕ → ℕ → Option (List ℕ)
-unknown_at s w output branch = unknown_secret s w (held_setting s w (held_at w output)) (branch_held s (held_at w output) branch)
+unknown_at s w output branch = unknown_secret s w (position_instance s w (live_position_at w output)) (branch_if_live s (live_position_at w output) branch)
 
 -- there is an active contract of this number, it has the branch, and the branch's secrets are known
 abbrev pub fire_row : Setup → World → ℕ → ℕ → List (Bool × Reason)
 fire_row s w output branch =
-    (not (is_some (held_at w output)), reason.NotActive)
-    ∷ (not (is_some (branch_held s (held_at w output) branch)), reason.NoBranch)
+    (not (is_some (live_position_at w output)), reason.NotActive)
+    ∷ (not (is_some (branch_if_live s (live_position_at w output) branch)), reason.NoBranch)
     ∷ (is_some (unknown_at s w output branch), reason.SecretUnknown (bytes_or_none (unknown_at s w output branch)))
     ∷ []
 
 -- the participants' signatures of a digest by their keys of a branch
-abbrev pub branch_signatures : Setup → Setting → List PathStep → List ℕ → List (List ℕ)
+abbrev pub branch_signatures : Setup → Instance → List PathStep → List ℕ → List (List ℕ)
 branch_signatures s setting path digest = map (λ key. signature_of key digest) (branch_keys s.hash setting path)
 
 -- the posted strings of these secrets
-abbrev pub shown_strings : Setup → World → Setting → List (List ℕ) → List (List ℕ)
+abbrev pub shown_strings : Setup → World → Instance → List (List ℕ) → List (List ℕ)
 shown_strings s w setting names = map (λ name. bytes_or_none (shown_string s w setting name)) names
 
 -- the script of the position that is held
-abbrev pub held_script : Setup → Setting → Held → term.Choice → List ℕ
-held_script s setting held choice = position_script s.hash setting held.position choice
+abbrev pub script_of_position : Setup → Instance → ContractPosition → term.Contract → List ℕ
+script_of_position s setting held choice = position_script s.hash setting held.position choice
 
 -- the witness that takes a branch of what is held
-abbrev pub branch_witness : Setup → World → Setting → Held → ℕ → term.Choice → term.Branch → List ℕ → List (List ℕ)
+abbrev pub branch_witness : Setup → World → Instance → ContractPosition → ℕ → term.Contract → term.Guarded → List ℕ → List (List ℕ)
 branch_witness s w setting held branch choice b digest =
-    witness_of (branch_signatures s setting (held_path held branch) digest) (shown_strings s w setting (reveals_of (core b))) branch (count_of (Some choice)) (held_script s setting held choice)
+    witness_of (branch_signatures s setting (position_path held branch) digest) (shown_strings s w setting (reveals_of (core b))) branch (count_of (Some choice)) (script_of_position s setting held choice)
 
 -- the digests but the first
 abbrev pub other_digests : List (List ℕ) → List (List ℕ)
@@ -134,34 +134,34 @@ other_digests [] = []
 other_digests (digest ∷ digests) = digests
 
 -- the witness of the position's output, and those of the deposits that are put
-abbrev pub taking_witnesses : Setup → World → Setting → Held → ℕ → term.Choice → term.Branch → Prepared → List (List (List ℕ))
+abbrev pub taking_witnesses : Setup → World → Instance → ContractPosition → ℕ → term.Contract → term.Guarded → Prepared → List (List (List ℕ))
 taking_witnesses s w setting held branch choice b made =
     branch_witness s w setting held branch choice b (first_digest made)
     ∷ deposit_witnesses s (map (put_owner setting.advert) (puts_of (core b))) (other_digests made.digests)
 
-abbrev pub taking_transaction : Setup → World → Setting → Held → ℕ → term.Choice → term.Branch → Prepared → Tx
+abbrev pub taking_transaction : Setup → World → Instance → ContractPosition → ℕ → term.Contract → term.Guarded → Prepared → Tx
 taking_transaction s w setting held branch choice b made = with_witnesses made.tx (taking_witnesses s w setting held branch choice b made)
 
 -- the transaction of a branch of what is held, where there is all that it needs
-abbrev pub taking_with : Setup → World → Held → ℕ → Option Setting → Option term.Choice → Option term.Branch → Option Prepared → Option Tx
-taking_with s w held branch (Some setting) (Some choice) (Some b) (Some made) = Some (taking_transaction s w setting held branch choice b made)
-taking_with s w held branch None choice b made = None
-taking_with s w held branch (Some setting) None b made = None
-taking_with s w held branch (Some setting) (Some choice) None made = None
-taking_with s w held branch (Some setting) (Some choice) (Some b) None = None
+abbrev pub taking_of_parts : Setup → World → ContractPosition → ℕ → Option Instance → Option term.Contract → Option term.Guarded → Option Prepared → Option Tx
+taking_of_parts s w held branch (Some setting) (Some choice) (Some b) (Some made) = Some (taking_transaction s w setting held branch choice b made)
+taking_of_parts s w held branch None choice b made = None
+taking_of_parts s w held branch (Some setting) None b made = None
+taking_of_parts s w held branch (Some setting) (Some choice) None made = None
+taking_of_parts s w held branch (Some setting) (Some choice) (Some b) None = None
 
 -- the transaction of a path, where the contract is compiled
-abbrev pub prepared_by : Setup → Option Setting → List PathStep → Option Prepared
-prepared_by s None path = None
-prepared_by s (Some setting) path = prepared_at s.hash setting path
+abbrev pub prepared_if_compiled : Setup → Option Instance → List PathStep → Option Prepared
+prepared_if_compiled s None path = None
+prepared_if_compiled s (Some setting) path = prepared_at s.hash setting path
 
 -- the transaction of this branch of what is held, with its witnesses
-abbrev pub taking_by : Setup → World → Option Held → ℕ → Option Tx
-taking_by s w None branch = None
-taking_by s w (Some held) branch =
-    taking_with s w held branch (compiled_at s w held.contract) (choice_in (contract_at s held.contract) held.position) (branch_held s (Some held) branch)
-    (prepared_by s (compiled_at s w held.contract) (held_path held branch))
+abbrev pub taking_of_position : Setup → World → Option ContractPosition → ℕ → Option Tx
+taking_of_position s w None branch = None
+taking_of_position s w (Some held) branch =
+    taking_of_parts s w held branch (compiled_instance s w held.contract) (contract_in (contract_at s held.contract) held.position) (branch_if_live s (Some held) branch)
+    (prepared_if_compiled s (compiled_instance s w held.contract) (position_path held branch))
 
 abbrev pub fire_draft : Setup → World → ℕ → ℕ → Draft
 fire_draft s w output branch =
-    unless (first_reason (fire_row s w output branch)) w [] (reaches_if s w (taking_by s w (held_at w output) branch))
+    unless (first_reason (fire_row s w output branch)) w [] (reaches_if s w (taking_of_position s w (live_position_at w output) branch))

@@ -9,14 +9,14 @@ use Rattle.spec_bitcoin.specs.Keys.{Pair, signature_of}
 use Rattle.spec_data.specs.Ranges.{max_money}
 use Rattle.spec_calculus.specs.declared.step.Owner.TheVariants.{Party}
 use Rattle.spec_calculus.specs.Same.{owner_eq}
-use Rattle.spec_compiler.specs.Setting.{deposit_key}
+use Rattle.spec_compiler.specs.Instance.{deposit_key}
 use Rattle.spec_compiler.specs.Transactions.{party_script}
 use Rattle.spec_run.specs.declared.outcome.Reason.{Reason}
 use Rattle.spec_run.specs.declared.outcome.Reason.TheVariants as reason
 use Rattle.spec_run.specs.Setup.{Setup}
 use Rattle.spec_run.specs.World.{World, output_at, is_deposit}
 use Rattle.spec_run.specs.Owners.{paid_to, owner_of, deposit_value}
-use Rattle.spec_run.specs.Compiled.{place_of}
+use Rattle.spec_run.specs.Compiled.{outpoint_of}
 use Rattle.spec_run.specs.Signing.{with_pairs}
 use Rattle.spec_run.specs.Ledger.{reaches}
 use Rattle.spec_run.specs.Draft.{Draft, unless}
@@ -59,7 +59,7 @@ give_row s w party inputs outputs =
 
 -- the input that spends the output of this number, without its witness; no lock binds it
 abbrev pub given_input : World → ℕ → TxIn
-given_input w n = record { prev = place_of (output_at w n); script_sig = []; sequence = 0xffffffff; witness = [] }
+given_input w n = record { prev = outpoint_of (output_at w n); script_sig = []; sequence = 0xffffffff; witness = [] }
 
 -- an output to a party
 abbrev pub given_output : Setup → List ℕ × ℕ → TxOut

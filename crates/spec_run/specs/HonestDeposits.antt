@@ -8,7 +8,7 @@ use Rattle.spec_terms.specs.Term as term
 use Rattle.spec_terms.specs.Precondition.{Holding, persistent, volatile}
 use Rattle.spec_terms.specs.declared.path.PathStep.{PathStep}
 use Rattle.spec_bitcoin.specs.declared.tx.Tx.{Tx}
-use Rattle.spec_compiler.specs.Setting.{Setting}
+use Rattle.spec_compiler.specs.Instance.{Instance}
 use Rattle.spec_compiler.specs.declared.unsigned.Unsigned.{Unsigned}
 use Rattle.spec_compiler.specs.Transactions.{tx_of}
 use Rattle.spec_compiler.specs.ByPath.{unsigned_at}
@@ -21,8 +21,8 @@ use Rattle.spec_run.specs.declared.outcome.Record.{Record}
 use Rattle.spec_run.specs.Setup.{Setup, pre_at, is_honest}
 use Rattle.spec_run.specs.World.{World, output_at, is_deposit, bindings_at}
 use Rattle.spec_run.specs.Owners.{owner_of}
-use Rattle.spec_run.specs.Ledger.{Kind, Begins, Takes, Moves, same_bare, is_initial, kind_of, held_path, held_branch}
-use Rattle.spec_run.specs.Compiled.{compiled_at}
+use Rattle.spec_run.specs.Ledger.{Kind, Begins, Takes, Moves, same_bare, is_initial, kind_of, position_path, position_branch}
+use Rattle.spec_run.specs.Compiled.{compiled_instance}
 use Rattle.spec_run.specs.Values.{is_done}
 
 -- ---- what was done before
@@ -62,12 +62,12 @@ is_put_of w contract party number name None = false
 is_put_of w contract party number name (Some d) = is_bound_to w contract party number (name, d)
 
 -- the names that a branch puts
-abbrev pub put_by : Option term.Branch → List (List ℕ)
+abbrev pub put_by : Option term.Guarded → List (List ℕ)
 put_by None = []
 put_by (Some b) = puts_of (core b)
 
 -- whether a branch puts a deposit of the party that is bound to this number
-abbrev pub takes_put : Setup → World → ℕ → Option term.Branch → List ℕ → ℕ → Bool
+abbrev pub takes_put : Setup → World → ℕ → Option term.Guarded → List ℕ → ℕ → Bool
 takes_put s w contract b party number = list_any (λ name. is_put_of w contract party number name (look_up name (volatile (pre_at s contract)))) (put_by b)
 
 -- ---- leave to spend
@@ -83,17 +83,17 @@ is_but_for_witnesses tx None = false
 is_but_for_witnesses tx (Some d) = same_bare tx (tx_of d)
 
 -- whether it is the transaction of this path, but for witnesses, of a contract that is compiled so
-abbrev pub is_of_path : Setup → Tx → List PathStep → Option Setting → Bool
+abbrev pub is_of_path : Setup → Tx → List PathStep → Option Instance → Bool
 is_of_path s tx path None = false
 is_of_path s tx path (Some setting) = is_but_for_witnesses tx (unsigned_at s.hash setting path)
 
 -- whether a transaction of this kind is the compiled one, and takes the party's deposit by what the party signed before
 abbrev pub by_contract : Setup → World → List Record → List ℕ → ℕ → Tx → Kind → Bool
 by_contract s w before party number tx (Begins contract) =
-    is_initial s tx (compiled_at s w contract) && takes_persistent s w contract party number && was_done (is_init contract party) before
+    is_initial s tx (compiled_instance s w contract) && takes_persistent s w contract party number && was_done (is_init contract party) before
 by_contract s w before party number tx (Takes held output branch) =
-    is_of_path s tx (held_path held branch) (compiled_at s w held.contract)
-    && takes_put s w held.contract (held_branch s held branch) party number
+    is_of_path s tx (position_path held branch) (compiled_instance s w held.contract)
+    && takes_put s w held.contract (position_branch s held branch) party number
     && was_done (is_endorse held.contract party) before
 by_contract s w before party number tx Moves = false
 

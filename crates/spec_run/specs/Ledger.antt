@@ -5,9 +5,9 @@ use Rattle.std.specs.Cmp.Lexicographic.{pointwise}
 use Rattle.std.specs.Str.{bytes_eq}
 use Rattle.spec_data.specs.Lists.{has_number}
 use Rattle.spec_terms.specs.Term as term
-use Rattle.spec_terms.specs.Term.{put_reveal, withdraw, split, auth, after, Choice, branches}
+use Rattle.spec_terms.specs.Term.{put_reveal, withdraw, split, auth, after, Contract, branches}
 use Rattle.spec_terms.specs.Core.{core}
-use Rattle.spec_terms.specs.Paths.{at, choice_at}
+use Rattle.spec_terms.specs.Paths.{at, contract_under}
 use Rattle.spec_terms.specs.Advert.{Advert}
 use Rattle.spec_terms.specs.declared.path.PathStep.{PathStep}
 use Rattle.spec_terms.specs.declared.path.PathStep.TheVariants.{Branch as To, Part as Into}
@@ -19,17 +19,17 @@ use Rattle.spec_bitcoin.specs.declared.verdict.Refusal.TheVariants as refusal
 use Rattle.spec_bitcoin.specs.declared.verdict.Verdict.{Verdict}
 use Rattle.spec_bitcoin.specs.declared.verdict.Verdict.TheVariants as verdicts
 use Rattle.spec_bitcoin.specs.Digests.{txid}
-use Rattle.spec_bitcoin.specs.Live.{Entry, Chain, same_place}
+use Rattle.spec_bitcoin.specs.Live.{Entry, Chain, same_outpoint}
 use Rattle.spec_bitcoin.specs.Verdict.{verdict, transaction_strings}
-use Rattle.spec_compiler.specs.Setting.{Setting}
+use Rattle.spec_compiler.specs.Instance.{Instance}
 use Rattle.spec_compiler.specs.Transactions.{tx_of, initial_unsigned}
 use Rattle.spec_compiler.specs.Witness.{chosen_by}
 use Rattle.spec_run.specs.declared.outcome.Outcome.TheVariants as outcomes
 use Rattle.spec_run.specs.declared.outcome.Reason.{Reason}
 use Rattle.spec_run.specs.declared.outcome.Reason.TheVariants as reason
 use Rattle.spec_run.specs.Setup.{Setup, contract_at}
-use Rattle.spec_run.specs.World.{Held, Output, World, held_at}
-use Rattle.spec_run.specs.Compiled.{compiled_at}
+use Rattle.spec_run.specs.World.{ContractPosition, Output, World, live_position_at}
+use Rattle.spec_run.specs.Compiled.{compiled_instance}
 use Rattle.spec_run.specs.Draft.{Draft, refused}
 
 -- ---- the ledger in the world
@@ -41,7 +41,7 @@ tx_out o = record { value = o.value; script = o.script }
 -- the live ones of the outputs from number k on
 abbrev pub live_from : ℕ → List Output → List Entry
 live_from k [] = []
-live_from k (o ∷ os) = if o.live then (o.place, (k, tx_out o)) ∷ live_from (k + 1) os else live_from (k + 1) os
+live_from k (o ∷ os) = if o.live then (o.outpoint, (k, tx_out o)) ∷ live_from (k + 1) os else live_from (k + 1) os
 
 -- the world's ledger
 abbrev pub chain_of : World → Chain
@@ -57,10 +57,10 @@ spend_from k numbers [] = []
 spend_from k numbers (o ∷ os) = (if has_number k numbers then record o { live = false } else o) ∷ spend_from (k + 1) numbers os
 
 -- the outputs of a transaction of this id from output k on, which hold what the function says
-abbrev pub made_from : (ℕ → Option Held) → List ℕ → ℕ → List TxOut → List Output
+abbrev pub made_from : (ℕ → Option ContractPosition) → List ℕ → ℕ → List TxOut → List Output
 made_from held txid k [] = []
 made_from held txid k (o ∷ os) =
-    record { place = record { txid = txid; vout = k }; value = o.value; script = o.script; live = true; holds = held k } ∷ made_from held txid (k + 1) os
+    record { outpoint = record { txid = txid; vout = k }; value = o.value; script = o.script; live = true; holds = held k } ∷ made_from held txid (k + 1) os
 
 -- ---- what a transaction is to the contracts
 
@@ -68,13 +68,13 @@ pub data Kind : Type 0 where
   -- the initial transaction of a contract
   Begins : (contract : ℕ) → Kind
   -- another one that spends a live contract output: what it holds, its number, and the branch that the witness chooses
-  Takes : (held : Held) → (output branch : ℕ) → Kind
+  Takes : (held : ContractPosition) → (output branch : ℕ) → Kind
   -- every other one
   Moves : Kind
 
 -- whether two inputs are the same but for their witnesses
 abbrev pub same_input : TxIn → TxIn → Bool
-same_input a b = same_place a.prev b.prev && bytes_eq a.script_sig b.script_sig && (a.sequence == b.sequence)
+same_input a b = same_outpoint a.prev b.prev && bytes_eq a.script_sig b.script_sig && (a.sequence == b.sequence)
 
 abbrev pub same_output : TxOut → TxOut → Bool
 same_output a b = (a.value == b.value) && bytes_eq a.script b.script
@@ -84,14 +84,14 @@ abbrev pub same_bare : Tx → Tx → Bool
 same_bare a b = (a.version == b.version) && pointwise same_input a.inputs b.inputs && pointwise same_output a.outputs b.outputs && (a.lock == b.lock)
 
 -- whether it is the initial transaction of a contract that is compiled so
-abbrev pub is_initial : Setup → Tx → Option Setting → Bool
+abbrev pub is_initial : Setup → Tx → Option Instance → Bool
 is_initial s tx None = false
 is_initial s tx (Some setting) = same_bare tx (tx_of (initial_unsigned s.hash setting))
 
 -- the first contract from number k on whose initial transaction it is
 abbrev pub initial_from : Setup → World → Tx → ℕ → List Advert → Option ℕ
 initial_from s w tx k [] = None
-initial_from s w tx k (advert ∷ adverts) = if is_initial s tx (compiled_at s w k) then Some k else initial_from s w tx (k + 1) adverts
+initial_from s w tx k (advert ∷ adverts) = if is_initial s tx (compiled_instance s w k) then Some k else initial_from s w tx (k + 1) adverts
 
 -- the contract whose initial transaction it is
 abbrev pub initial_of : Setup → World → Tx → Option ℕ
@@ -102,9 +102,9 @@ first_number [] = 0
 first_number (n ∷ ns) = n
 
 -- what the first of the outputs of these numbers holds
-abbrev pub first_held : World → List ℕ → Option Held
-first_held w [] = None
-first_held w (n ∷ ns) = held_at w n
+abbrev pub first_position : World → List ℕ → Option ContractPosition
+first_position w [] = None
+first_position w (n ∷ ns) = live_position_at w n
 
 -- the first input's witness
 abbrev pub first_witness : List TxIn → List (List ℕ)
@@ -112,58 +112,58 @@ first_witness [] = []
 first_witness (i ∷ is) = i.witness
 
 -- how many branches there are, none without a position
-abbrev pub count_of : Option Choice → ℕ
+abbrev pub count_of : Option Contract → ℕ
 count_of None = 0
 count_of (Some choice) = length (branches choice)
 
 -- the position's choice in a contract
-abbrev pub choice_in : Option Advert → List PathStep → Option Choice
-choice_in None position = None
-choice_in (Some advert) position = choice_at advert.root position
+abbrev pub contract_in : Option Advert → List PathStep → Option Contract
+contract_in None position = None
+contract_in (Some advert) position = contract_under advert.root position
 
 -- how many branches the position has
-abbrev pub branch_count : Setup → Held → ℕ
-branch_count s held = count_of (choice_in (contract_at s held.contract) held.position)
+abbrev pub branch_count : Setup → ContractPosition → ℕ
+branch_count s held = count_of (contract_in (contract_at s held.contract) held.position)
 
-abbrev pub kind_by : Setup → Tx → List ℕ → Option ℕ → Option Held → Kind
+abbrev pub kind_by : Setup → Tx → List ℕ → Option ℕ → Option ContractPosition → Kind
 kind_by s tx spent (Some contract) held = Begins contract
 kind_by s tx spent None (Some held) = Takes held (first_number spent) (chosen_by (branch_count s held) (first_witness tx.inputs))
 kind_by s tx spent None None = Moves
 
 -- what a transaction that spends the outputs of these numbers is
 abbrev pub kind_of : Setup → World → Tx → List ℕ → Kind
-kind_of s w tx spent = kind_by s tx spent (initial_of s w tx) (first_held w spent)
+kind_of s w tx spent = kind_by s tx spent (initial_of s w tx) (first_position w spent)
 
 -- the path of a branch of the position that is held
-abbrev pub held_path : Held → ℕ → List PathStep
-held_path held branch = held.position ++ To branch ∷ []
+abbrev pub position_path : ContractPosition → ℕ → List PathStep
+position_path held branch = held.position ++ To branch ∷ []
 
 -- the branch at a path of a contract
-abbrev pub branch_in : Option Advert → List PathStep → Option term.Branch
+abbrev pub branch_in : Option Advert → List PathStep → Option term.Guarded
 branch_in None path = None
 branch_in (Some advert) path = at advert.root path
 
 -- the branch of this number of the position that is held
-abbrev pub held_branch : Setup → Held → ℕ → Option term.Branch
-held_branch s held branch = branch_in (contract_at s held.contract) (held_path held branch)
+abbrev pub position_branch : Setup → ContractPosition → ℕ → Option term.Guarded
+position_branch s held branch = branch_in (contract_at s held.contract) (position_path held branch)
 
 -- what output k of the transaction of this core holds, where the branch has this path
-abbrev pub core_holds : ℕ → List PathStep → term.Branch → ℕ → Option Held
+abbrev pub core_holds : ℕ → List PathStep → term.Guarded → ℕ → Option ContractPosition
 core_holds contract path (put_reveal puts reveals test next) k = Some (record { contract = contract; position = path })
 core_holds contract path (split parts) k = Some (record { contract = contract; position = path ++ Into k ∷ [] })
 core_holds contract path (withdraw party) k = None
 core_holds contract path (auth party body) k = None
 core_holds contract path (after height body) k = None
 
-abbrev pub branch_holds : ℕ → List PathStep → Option term.Branch → ℕ → Option Held
+abbrev pub branch_holds : ℕ → List PathStep → Option term.Guarded → ℕ → Option ContractPosition
 branch_holds contract path None k = None
 branch_holds contract path (Some b) k = core_holds contract path (core b) k
 
 -- what output k of a transaction of this kind holds
-abbrev pub new_held : Setup → Kind → ℕ → Option Held
-new_held s (Begins contract) k = Some (record { contract = contract; position = [] })
-new_held s (Takes held output branch) k = branch_holds held.contract (held_path held branch) (held_branch s held branch) k
-new_held s Moves k = None
+abbrev pub new_position : Setup → Kind → ℕ → Option ContractPosition
+new_position s (Begins contract) k = Some (record { contract = contract; position = [] })
+new_position s (Takes held output branch) k = branch_holds held.contract (position_path held branch) (position_branch s held branch) k
+new_position s Moves k = None
 
 -- the contracts that have begun, after a transaction of this kind
 abbrev pub begun_after : Kind → List ℕ → List ℕ
@@ -185,7 +185,7 @@ made_with_values n (o ∷ os) = (n, o.value) ∷ made_with_values (n + 1) os
 -- the world after a transaction of this kind, which spends the outputs of these numbers
 abbrev pub appended : Setup → World → Tx → List ℕ → Kind → World
 appended s w tx spent kind = record w {
-  outputs = spend_from 0 spent w.outputs ++ made_from (new_held s kind) (txid s.hash tx) 0 tx.outputs;
+  outputs = spend_from 0 spent w.outputs ++ made_from (new_position s kind) (txid s.hash tx) 0 tx.outputs;
   begun = begun_after kind w.begun;
 }
 

@@ -10,16 +10,16 @@ use Rattle.spec_bitcoin.specs.declared.label.Label.{Label}
 use Rattle.spec_bitcoin.specs.declared.label.Label.TheVariants as labels
 use Rattle.spec_bitcoin.specs.Keys.{Pair, key_of, label_text, has_signed}
 use Rattle.spec_compiler.specs.declared.prepared.Prepared.{Prepared}
-use Rattle.spec_compiler.specs.Setting.{Setting, branch_label, deposit_key}
+use Rattle.spec_compiler.specs.Instance.{Instance, branch_label, deposit_key}
 use Rattle.spec_compiler.specs.Compilation.{compilation}
 use Rattle.spec_compiler.specs.ByPath.{prepared_at}
 use Rattle.spec_compiler.specs.Endorsements.{Need, needed, missing_endorsement}
 use Rattle.spec_run.specs.declared.outcome.Reason.{Reason}
 use Rattle.spec_run.specs.declared.outcome.Reason.TheVariants as reason
 use Rattle.spec_run.specs.Setup.{Setup, has_contract, takes_part, is_honest}
-use Rattle.spec_run.specs.World.{Held, World, held_at}
-use Rattle.spec_run.specs.Compiled.{compiled_at}
-use Rattle.spec_run.specs.Ledger.{held_path, held_branch}
+use Rattle.spec_run.specs.World.{ContractPosition, World, live_position_at}
+use Rattle.spec_run.specs.Compiled.{compiled_instance}
+use Rattle.spec_run.specs.Ledger.{position_path, position_branch}
 use Rattle.spec_run.specs.Draft.{Draft, done, unless}
 
 -- ---- the book
@@ -39,7 +39,7 @@ with_pairs w pairs = record w { book = signed_all w.book pairs }
 -- ---- endorsing
 
 -- the signatures that a compiled contract needs, by path in the order of the text
-abbrev pub needs_at : Setup → Setting → List Need
+abbrev pub needs_at : Setup → Instance → List Need
 needs_at s setting = needed s.hash setting
 
 -- the pairs of those of these needs that are the party's
@@ -48,7 +48,7 @@ pairs_of_party party [] = []
 pairs_of_party party (need ∷ rest) = if bytes_eq need.party party then (need.key, need.digest) ∷ pairs_of_party party rest else pairs_of_party party rest
 
 -- what a party signs to endorse a contract, where it is compiled
-abbrev pub endorsing_pairs : Setup → List ℕ → Option Setting → List Pair
+abbrev pub endorsing_pairs : Setup → List ℕ → Option Instance → List Pair
 endorsing_pairs s party None = []
 endorsing_pairs s party (Some setting) = pairs_of_party party (needs_at s setting)
 
@@ -57,13 +57,13 @@ abbrev pub endorse_row : Setup → World → ℕ → List ℕ → List (Bool × 
 endorse_row s w contract party =
     (not (has_contract s contract), reason.NoContract)
     ∷ (not (takes_part s contract party), reason.NotParticipant)
-    ∷ (not (is_some (compiled_at s w contract)), reason.NotAllCommitted)
+    ∷ (not (is_some (compiled_instance s w contract)), reason.NotAllCommitted)
     ∷ []
 
 abbrev pub endorse_draft : Setup → World → ℕ → List ℕ → Draft
 endorse_draft s w contract party =
     unless (first_reason (endorse_row s w contract party)) w []
-    (done (with_pairs w (endorsing_pairs s party (compiled_at s w contract))) [])
+    (done (with_pairs w (endorsing_pairs s party (compiled_instance s w contract))) [])
 
 -- ---- signing the initial transaction
 
@@ -75,18 +75,18 @@ pairs_of_deposits s party (d ∷ ds) (digest ∷ digests) =
     if bytes_eq (d.1).owner party then (deposit_key s.hash party, digest) ∷ pairs_of_deposits s party ds digests else pairs_of_deposits s party ds digests
 
 -- what a party signs of the initial transaction, where the contract is compiled
-abbrev pub initial_pairs : Setup → List ℕ → Option Setting → List Pair
+abbrev pub initial_pairs : Setup → List ℕ → Option Instance → List Pair
 initial_pairs s party None = []
 initial_pairs s party (Some setting) = pairs_of_deposits s party (persistent setting.advert.pre) (compilation s.hash setting).init.digests
 
 -- the first endorsement that is missing, where the contract is compiled
-abbrev pub missing_need : Setup → World → Option Setting → Option Need
+abbrev pub missing_need : Setup → World → Option Instance → Option Need
 missing_need s w None = None
 missing_need s w (Some setting) = missing_endorsement s.hash setting w.book
 
 -- the first endorsement that an honest party misses
 abbrev pub missed_need : Setup → World → ℕ → List ℕ → Option Need
-missed_need s w contract party = if is_honest s party then missing_need s w (compiled_at s w contract) else None
+missed_need s w contract party = if is_honest s party then missing_need s w (compiled_instance s w contract) else None
 
 -- a missing endorsement as a reason, by its path and its party
 abbrev pub not_endorsed : Option Need → Reason
@@ -98,33 +98,33 @@ abbrev pub init_row : Setup → World → ℕ → List ℕ → List (Bool × Rea
 init_row s w contract party =
     (not (has_contract s contract), reason.NoContract)
     ∷ (not (takes_part s contract party), reason.NotParticipant)
-    ∷ (not (is_some (compiled_at s w contract)), reason.NotAllCommitted)
+    ∷ (not (is_some (compiled_instance s w contract)), reason.NotAllCommitted)
     ∷ (is_some (missed_need s w contract party), not_endorsed (missed_need s w contract party))
     ∷ []
 
 abbrev pub init_draft : Setup → World → ℕ → List ℕ → Draft
 init_draft s w contract party =
     unless (first_reason (init_row s w contract party)) w []
-    (done (with_pairs w (initial_pairs s party (compiled_at s w contract))) [])
+    (done (with_pairs w (initial_pairs s party (compiled_instance s w contract))) [])
 
 -- ---- authorising a branch
 
 -- the parties whom a branch asks, nobody without one
-abbrev pub asked_by : Option term.Branch → List (List ℕ)
+abbrev pub asked_by : Option term.Guarded → List (List ℕ)
 asked_by None = []
 asked_by (Some b) = asks b
 
 -- the branch of this number of what is held
-abbrev pub branch_held : Setup → Option Held → ℕ → Option term.Branch
-branch_held s None branch = None
-branch_held s (Some held) branch = held_branch s held branch
+abbrev pub branch_if_live : Setup → Option ContractPosition → ℕ → Option term.Guarded
+branch_if_live s None branch = None
+branch_if_live s (Some held) branch = position_branch s held branch
 
 -- there is an active contract of this number, it has the branch, and the branch asks the party
 abbrev pub authorise_row : Setup → World → List ℕ → ℕ → ℕ → List (Bool × Reason)
 authorise_row s w party output branch =
-    (not (is_some (held_at w output)), reason.NotActive)
-    ∷ (not (is_some (branch_held s (held_at w output) branch)), reason.NoBranch)
-    ∷ (not (is_among party (asked_by (branch_held s (held_at w output) branch))), reason.NotAsked)
+    (not (is_some (live_position_at w output)), reason.NotActive)
+    ∷ (not (is_some (branch_if_live s (live_position_at w output) branch)), reason.NoBranch)
+    ∷ (not (is_among party (asked_by (branch_if_live s (live_position_at w output) branch))), reason.NotAsked)
     ∷ []
 
 -- the first of the digests, none without one
@@ -142,20 +142,20 @@ branch_pair s party contract path None = []
 branch_pair s party contract path (Some made) = (key_of s.hash (branch_label contract path party), first_digest made) ∷ []
 
 -- the transaction of a path, where the contract is compiled
-abbrev pub prepared_in : Setup → Option Setting → List PathStep → Option Prepared
-prepared_in s None path = None
-prepared_in s (Some setting) path = prepared_at s.hash setting path
+abbrev pub prepared_if_compiled : Setup → Option Instance → List PathStep → Option Prepared
+prepared_if_compiled s None path = None
+prepared_if_compiled s (Some setting) path = prepared_at s.hash setting path
 
 -- what a party signs to authorise a branch of what is held
-abbrev pub authorising_pairs : Setup → World → List ℕ → Option Held → ℕ → List Pair
+abbrev pub authorising_pairs : Setup → World → List ℕ → Option ContractPosition → ℕ → List Pair
 authorising_pairs s w party None branch = []
 authorising_pairs s w party (Some held) branch =
-    branch_pair s party held.contract (held_path held branch) (prepared_in s (compiled_at s w held.contract) (held_path held branch))
+    branch_pair s party held.contract (position_path held branch) (prepared_if_compiled s (compiled_instance s w held.contract) (position_path held branch))
 
 abbrev pub authorise_draft : Setup → World → List ℕ → ℕ → ℕ → Draft
 authorise_draft s w party output branch =
     unless (first_reason (authorise_row s w party output branch)) w []
-    (done (with_pairs w (authorising_pairs s w party (held_at w output) branch)) [])
+    (done (with_pairs w (authorising_pairs s w party (live_position_at w output) branch)) [])
 
 -- ---- signing at will
 

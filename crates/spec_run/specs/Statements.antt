@@ -5,16 +5,16 @@ use Rattle.spec_bitcoin.specs.declared.tx.Tx.{Tx}
 use Rattle.spec_bitcoin.specs.declared.verdict.Verdict.TheVariants as verdicts
 use Rattle.spec_calculus.specs.declared.step.Step.{Step}
 use Rattle.spec_calculus.specs.Configuration.{Configuration}
-use Rattle.spec_calculus.specs.Steps.{Legal, after}
+use Rattle.spec_calculus.specs.Steps.{Legal, after_steps}
 use Rattle.spec_run.specs.declared.event.Event.{Event}
 use Rattle.spec_run.specs.declared.event.Event.TheVariants as events
 use Rattle.spec_run.specs.declared.outcome.Record.{Record}
 use Rattle.spec_run.specs.Setup.{Setup}
-use Rattle.spec_run.specs.World.{World, held_at}
+use Rattle.spec_run.specs.World.{World, live_position_at}
 use Rattle.spec_run.specs.Draft.{Answer, Went, Halted, Halt, settled}
-use Rattle.spec_run.specs.Compiled.{compiled_at}
+use Rattle.spec_run.specs.Compiled.{compiled_instance}
 use Rattle.spec_run.specs.Ledger.{verdict_in}
-use Rattle.spec_run.specs.Firing.{initial_by, taking_by}
+use Rattle.spec_run.specs.Firing.{initial_by, taking_of_position}
 use Rattle.spec_run.specs.Event.{draft, event, opening_world, opening_collision}
 use Rattle.spec_run.specs.Halting.{HaltIsThere, NothingHalts, SameStrings, OpeningIs}
 use Rattle.spec_run.specs.Steps.{steps_of}
@@ -52,7 +52,7 @@ pub record IsRun (s : Setup) (es : List Event) : Type 0 where
 -- the steps of the event are a legal run of the calculus, they lead to the configuration after it, and that agrees with the world after it
 pub record IsSimulated (s : Setup) (g : Configuration) (t : Turn) : Type 0 where
   pub legal : Legal g t.steps
-  pub leads : after g t.steps ≡ t.configuration
+  pub leads : after_steps g t.steps ≡ t.configuration
   pub agrees : Agree s t.configuration t.world
 
 abbrev pub simulated : Setup → Claim
@@ -63,7 +63,7 @@ pub record Simulates (s : Setup) (es : List Event) : Type 0 where
   pub events : HoldsThroughout s (simulated s) es
   -- all steps in order are a legal run, which leads from the opening to the last configuration, and that agrees with the last world
   pub legal : Legal (opening_configuration s) (in_order (translated s es))
-  pub leads : after (opening_configuration s) (in_order (translated s es)) ≡ last_configuration s es
+  pub leads : after_steps (opening_configuration s) (in_order (translated s es)) ≡ last_configuration s es
   pub agrees : Agree s (last_configuration s es) (last_world s es)
 
 -- every run of events is, step by step, a legal run of the calculus, and both agree at the opening and after every event
@@ -83,8 +83,8 @@ LicenceTheorem = (s : Setup) (es : List Event) → IsRun s es → HoldsThroughou
 
 -- the transaction that an event of an offer hands to the ledger
 abbrev pub fired : Setup → World → Event → Option Tx
-fired s w (events.FireInit contract) = initial_by s (compiled_at s w contract)
-fired s w (events.Fire output branch) = taking_by s w (held_at w output) branch
+fired s w (events.FireInit contract) = initial_by s (compiled_instance s w contract)
+fired s w (events.Fire output branch) = taking_of_position s w (live_position_at w output) branch
 fired s w _ = None
 
 -- the step is the last of these

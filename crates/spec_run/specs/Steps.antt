@@ -28,7 +28,7 @@ use Rattle.spec_run.specs.Draft.{Draft}
 use Rattle.spec_run.specs.Owners.{owner_by, owner_of}
 use Rattle.spec_run.specs.Advertising.{arranged, deposit_names}
 use Rattle.spec_run.specs.Committing.{secrets_at, committed_digests}
-use Rattle.spec_run.specs.Ledger.{Kind, Begins, Takes, Moves, kind_of, held_branch}
+use Rattle.spec_run.specs.Ledger.{Kind, Begins, Takes, Moves, kind_of, position_branch}
 use Rattle.spec_run.specs.Secrets.{newly_shown, lengths_in_run}
 
 -- ---- secrets
@@ -86,11 +86,11 @@ abbrev pub auth_branch : ℕ → ℕ → List ℕ → Step
 auth_branch output branch party = steps.AuthBranch party output branch
 
 -- whether a branch asks the party, and the party hasn't authorised it
-abbrev pub is_awaited : Configuration → ℕ → ℕ → term.Branch → List ℕ → Bool
+abbrev pub is_awaited : Configuration → ℕ → ℕ → term.Guarded → List ℕ → Bool
 is_awaited g output branch b party = is_asked b party && not (has_branch_authorised g.branch_authorised output branch party)
 
 -- the step that a core is
-abbrev pub core_step : ℕ → ℕ → term.Branch → List Step
+abbrev pub core_step : ℕ → ℕ → term.Guarded → List Step
 core_step output branch (put_reveal puts reveals test next) = steps.PutReveal output branch ∷ []
 core_step output branch (withdraw party) = steps.Withdraw output branch ∷ []
 core_step output branch (split parts) = steps.Split output branch ∷ []
@@ -98,14 +98,14 @@ core_step output branch (auth party body) = []
 core_step output branch (after height body) = []
 
 -- the participants whom a branch asks authorise it where they haven't, and then it is taken
-abbrev pub branch_steps : Configuration → List (List ℕ) → ℕ → ℕ → Option term.Branch → List Step
+abbrev pub branch_steps : Configuration → List (List ℕ) → ℕ → ℕ → Option term.Guarded → List Step
 branch_steps g people output branch None = []
 branch_steps g people output branch (Some b) = map (auth_branch output branch) (filter (is_awaited g output branch b) people) ++ core_step output branch (core b)
 
 -- the steps of an accepted transaction, by what it is
 abbrev pub kind_steps : Setup → Configuration → World → Tx → List ℕ → Kind → List Step
 kind_steps s g w tx spent (Begins contract) = begin_steps s g contract
-kind_steps s g w tx spent (Takes held output branch) = branch_steps g (people_at s held.contract) output branch (held_branch s held branch)
+kind_steps s g w tx spent (Takes held output branch) = branch_steps g (people_at s held.contract) output branch (position_branch s held branch)
 kind_steps s g w tx spent Moves = move_steps s w tx spent
 
 abbrev pub accepted_steps : Setup → Configuration → World → World → List ℕ → Option Tx → List Step

@@ -3,7 +3,7 @@ use Rattle.std.specs.Prelude.{ℕ, List, [], ◌∷◌, ◌++◌, map, Option}
 use Rattle.spec_bitcoin.specs.declared.tx.Tx.{Tx}
 use Rattle.spec_calculus.specs.declared.step.Step.{Step}
 use Rattle.spec_calculus.specs.Configuration.{Configuration}
-use Rattle.spec_calculus.specs.Steps.{after, opening}
+use Rattle.spec_calculus.specs.Steps.{after_steps, opening}
 use Rattle.spec_run.specs.declared.event.Event.{Event}
 use Rattle.spec_run.specs.declared.outcome.Outcome.{Outcome}
 use Rattle.spec_run.specs.declared.outcome.Record.{Record}
@@ -40,7 +40,7 @@ turn_by g p steps = record {
   outcome = p.draft.outcome;
   tx = p.draft.tx;
   steps = steps;
-  configuration = after g steps;
+  configuration = after_steps g steps;
   world = p.world;
 }
 

@@ -8,18 +8,18 @@ use Rattle.spec_bitcoin.specs.declared.tx.OutPoint.{OutPoint}
 use Rattle.spec_calculus.specs.declared.parts.Advertised.{Advertised}
 
 -- what a contract output stands for: a contract by its number, and a position of it
-pub record Held : Type 0 where
+pub record ContractPosition : Type 0 where
   pub contract : ℕ
   pub position : List PathStep
 
 -- an output that was made; its birth number is its place in the world's list
 pub record Output : Type 0 where
-  pub place : OutPoint
+  pub outpoint : OutPoint
   pub value : ℕ
   pub script : List ℕ
   pub live : Bool
   -- what a contract output stands for
-  pub holds : Option Held
+  pub holds : Option ContractPosition
 
 -- the digests that a party has committed, each beside the name of its secret, in the precondition's order
 pub record Promise : Type 0 where
@@ -55,12 +55,12 @@ is_deposit None = false
 is_deposit (Some o) = o.live && is_none o.holds
 
 -- what a live contract output stands for
-abbrev pub active_held : Option Output → Option Held
-active_held None = None
-active_held (Some o) = if o.live then o.holds else None
+abbrev pub live_position : Option Output → Option ContractPosition
+live_position None = None
+live_position (Some o) = if o.live then o.holds else None
 
-abbrev pub held_at : World → ℕ → Option Held
-held_at w number = active_held (output_at w number)
+abbrev pub live_position_at : World → ℕ → Option ContractPosition
+live_position_at w number = live_position (output_at w number)
 
 -- ---- advertised contracts
 

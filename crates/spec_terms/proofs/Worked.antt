@@ -1,10 +1,10 @@
 -- Worked values of the definitions, each by computation alone.
 use Rattle.std.proofs.Common.{◌≡◌, ℕ, zero, suc, ◌+◌, List, [], ◌∷◌, refl, true, false}
 use Rattle.std.specs.Prelude.{codes, negsuc, Some, None}
-use Rattle.spec_terms.specs.Term.{constant, length_of, plus, minus, Test, always, negation, equal, less, Branch, auth, after, put_reveal, withdraw, split, Choice, no_branch, branch, no_part, part}
+use Rattle.spec_terms.specs.Term.{constant, length_of, plus, minus, Pred, always, negation, equal, less, Guarded, auth, after, put_reveal, withdraw, split, Contract, no_branch, branch, no_part, part}
 use Rattle.spec_terms.specs.Advert.{Advert}
 use Rattle.spec_terms.specs.Core.{core, asks, lock}
-use Rattle.spec_terms.specs.Paths.{at, choice_at}
+use Rattle.spec_terms.specs.Paths.{at, contract_under}
 use Rattle.spec_terms.specs.Order.{branch_paths, position_paths}
 use Rattle.spec_terms.specs.Parties.{participants}
 use Rattle.spec_terms.specs.Value.{value, holds}
@@ -43,22 +43,22 @@ y = codes "y"
 abbrev z : List ℕ
 z = codes "z"
 
-abbrev one : Branch → Choice
+abbrev one : Guarded → Contract
 one d = branch d no_branch
 
-abbrev two : Branch → Branch → Choice
+abbrev two : Guarded → Guarded → Contract
 two d e = branch d (branch e no_branch)
 
-abbrev reveal : List (List ℕ) → Choice → Branch
+abbrev reveal : List (List ℕ) → Contract → Guarded
 reveal names next = put_reveal [] names always next
 
-abbrev reveal_if : List (List ℕ) → Test → Choice → Branch
+abbrev reveal_if : List (List ℕ) → Pred → Contract → Guarded
 reveal_if names test next = put_reveal [] names test next
 
-abbrev put : List (List ℕ) → Choice → Branch
+abbrev put : List (List ℕ) → Contract → Guarded
 put names next = put_reveal names [] always next
 
-abbrev advert : List Pre → ℕ → Choice → Advert
+abbrev advert : List Pre → ℕ → Contract → Advert
 advert pre fee root = record { pre = pre; fee = fee; root = root }
 
 -- {A:! 100000000 @ x | B:! 0 @ y | A: secret a} (reveal a . withdraw A + after 1000 : withdraw B)
@@ -94,14 +94,14 @@ shifted n =
     (one (reveal_if (a ∷ []) (equal (plus (constant n) (length_of a)) (constant 0)) (one (withdraw A))))
 
 -- eight more branches in front, each `withdraw A`
-abbrev eight : Choice → Choice
+abbrev eight : Contract → Contract
 eight c =
     branch (withdraw A) (branch (withdraw A) (branch (withdraw A) (branch (withdraw A)
     (branch (withdraw A) (branch (withdraw A) (branch (withdraw A) (branch (withdraw A) c)))))))
 
 -- ---- core, asks and lock
 
-abbrev wrapped : Branch
+abbrev wrapped : Guarded
 wrapped = auth A (after 5 (auth B (after 3 (withdraw C))))
 
 wrapped_core : core wrapped ≡ withdraw C
@@ -127,7 +127,7 @@ timed_at = refl
 timed_not_at : at timed_commitment.root (To 2 ∷ []) ≡ None
 timed_not_at = refl
 
-timed_choice_at : choice_at timed_commitment.root (To 0 ∷ []) ≡ Some (one (withdraw A))
+timed_choice_at : contract_under timed_commitment.root (To 0 ∷ []) ≡ Some (one (withdraw A))
 timed_choice_at = refl
 
 lottery_positions : position_paths lottery.root ≡

@@ -1,10 +1,10 @@
 -- What a branch asks for before it goes, and what it then does.
 use Rattle.std.specs.Prelude.{ℕ, max, List, [], ◌∷◌, Bool, Option, Some, None}
 use Rattle.spec_data.specs.Lists.{is_among}
-use Rattle.spec_terms.specs.Term.{Test, always, Branch, auth, after, put_reveal, withdraw, split, Choice}
+use Rattle.spec_terms.specs.Term.{Pred, always, Guarded, auth, after, put_reveal, withdraw, split, Contract}
 
 -- the core of a branch: what stands under all `A :` and `after t :`
-abbrev pub core : Branch → Branch
+abbrev pub core : Guarded → Guarded
 core (auth party body) = core body
 core (after height body) = core body
 core (put_reveal puts reveals test next) = put_reveal puts reveals test next
@@ -12,7 +12,7 @@ core (withdraw party) = withdraw party
 core (split parts) = split parts
 
 -- the parties in an `A :` above the core, outermost first
-abbrev pub asks : Branch → List (List ℕ)
+abbrev pub asks : Guarded → List (List ℕ)
 asks (auth party body) = party ∷ asks body
 asks (after height body) = asks body
 asks (put_reveal puts reveals test next) = []
@@ -20,11 +20,11 @@ asks (withdraw party) = []
 asks (split parts) = []
 
 -- whether the party stands in an `A :` above the core
-abbrev pub is_asked : Branch → List ℕ → Bool
+abbrev pub is_asked : Guarded → List ℕ → Bool
 is_asked b party = is_among party (asks b)
 
 -- the lock of a branch: the greatest height above the core, 0 without one
-abbrev pub lock : Branch → ℕ
+abbrev pub lock : Guarded → ℕ
 lock (auth party body) = lock body
 lock (after height body) = max height (lock body)
 lock (put_reveal puts reveals test next) = 0
@@ -34,7 +34,7 @@ lock (split parts) = 0
 -- ---- what a core does
 
 -- the volatile deposits that it puts
-abbrev pub puts_of : Branch → List (List ℕ)
+abbrev pub puts_of : Guarded → List (List ℕ)
 puts_of (put_reveal puts reveals test next) = puts
 puts_of (auth party body) = []
 puts_of (after height body) = []
@@ -42,7 +42,7 @@ puts_of (withdraw party) = []
 puts_of (split parts) = []
 
 -- the secrets that it reveals
-abbrev pub reveals_of : Branch → List (List ℕ)
+abbrev pub reveals_of : Guarded → List (List ℕ)
 reveals_of (put_reveal puts reveals test next) = reveals
 reveals_of (auth party body) = []
 reveals_of (after height body) = []
@@ -50,7 +50,7 @@ reveals_of (withdraw party) = []
 reveals_of (split parts) = []
 
 -- the test of their lengths
-abbrev pub test_of : Branch → Test
+abbrev pub test_of : Guarded → Pred
 test_of (put_reveal puts reveals test next) = test
 test_of (auth party body) = always
 test_of (after height body) = always
@@ -58,7 +58,7 @@ test_of (withdraw party) = always
 test_of (split parts) = always
 
 -- the contract that a put or reveal goes on with
-abbrev pub continuation : Branch → Option Choice
+abbrev pub continuation : Guarded → Option Contract
 continuation (put_reveal puts reveals test next) = Some next
 continuation (auth party body) = None
 continuation (after height body) = None

@@ -3,15 +3,15 @@ use Rattle.std.specs.Prelude.{ℕ, ℤ, pos, ◌+◌, ◌≡◌, int_lt, nat_le,
 use Rattle.std.specs.Ordering.{int_eq}
 use Rattle.std.specs.List.{list_all}
 use Rattle.spec_data.specs.Lists.{is_among, are_different, first_answer, or_else}
-use Rattle.spec_terms.specs.Term.{Branch, auth, after, put_reveal, withdraw, split, Choice, Parts, no_part, part}
+use Rattle.spec_terms.specs.Term.{Guarded, auth, after, put_reveal, withdraw, split, Contract, Parts, no_part, part}
 use Rattle.spec_terms.specs.Advert.{Advert}
 use Rattle.spec_terms.specs.Core.{core, puts_of, reveals_of, test_of}
-use Rattle.spec_terms.specs.Paths.{Spot, position, at_branch}
+use Rattle.spec_terms.specs.Paths.{Subterm, position, at_branch}
 use Rattle.spec_terms.specs.Precondition.{persistent, volatile, secrets, names_of, name_in, owners_of}
 use Rattle.spec_terms.specs.Parties.{participants}
 use Rattle.spec_terms.specs.Bound.{is_bounded, lengths_of_test}
 use Rattle.spec_terms.specs.Cost.{cost}
-use Rattle.spec_terms.specs.Balance.{Stand, stands}
+use Rattle.spec_terms.specs.Balance.{Funded, all_funded}
 use Rattle.spec_data.specs.Ranges.{max_money, most_script_bytes, most_operations}
 use Rattle.spec_terms.specs.Readable.{is_readable}
 use Rattle.spec_terms.specs.declared.limit.Limit.{Limit}
@@ -24,25 +24,25 @@ use Rattle.spec_terms.specs.declared.script_size.ScriptSize.{ScriptSize}
 -- ---- places
 
 -- the place of a position or branch
-abbrev pub place_of : Spot → Stand → Place
+abbrev pub place_of : Subterm → Funded → Place
 place_of (position c) s = places.Position s.path
 place_of (at_branch b) s = places.Branch s.path
 
 -- the place of what passes the test
-abbrev pub place_if : (Stand → Bool) → Stand → Option Place
-place_if test s = if test s then Some (place_of s.spot s) else None
+abbrev pub place_if : (Funded → Bool) → Funded → Option Place
+place_if test s = if test s then Some (place_of s.subterm s) else None
 
 -- the place of the first that does
-abbrev pub first_place : (Stand → Bool) → List Stand → Option Place
+abbrev pub first_place : (Funded → Bool) → List Funded → Option Place
 first_place test ss = first_answer (place_if test) ss
 
 -- the test of the core, where a branch stands
-abbrev pub at_core : (Branch → Bool) → Spot → Bool
+abbrev pub at_core : (Guarded → Bool) → Subterm → Bool
 at_core test (position c) = false
 at_core test (at_branch b) = test (core b)
 
 -- the test of the choice, where a position stands
-abbrev pub at_position : (Choice → Bool) → Spot → Bool
+abbrev pub at_position : (Contract → Bool) → Subterm → Bool
 at_position test (position c) = test c
 at_position test (at_branch b) = false
 
@@ -63,36 +63,36 @@ abbrev pub are_among : List (List ℕ) → List (List ℕ) → Bool
 are_among names known = list_all (λ name. is_among name known) names
 
 -- whether the core puts what is no volatile deposit of the precondition
-abbrev pub puts_unknown : List Pre → Branch → Bool
+abbrev pub puts_unknown : List Pre → Guarded → Bool
 puts_unknown pre b = not (are_among (puts_of b) (names_of (volatile pre)))
 
 -- UnknownDeposit: a put names what is no volatile deposit; at the branch
 abbrev pub unknown_deposit : Advert → Option Place
-unknown_deposit a = first_place (λ s. at_core (puts_unknown a.pre) s.spot) (stands a)
+unknown_deposit a = first_place (λ s. at_core (puts_unknown a.pre) s.subterm) (all_funded a)
 
 -- whether the core reveals what is no secret of the precondition
-abbrev pub reveals_unknown : List Pre → Branch → Bool
+abbrev pub reveals_unknown : List Pre → Guarded → Bool
 reveals_unknown pre b = not (are_among (reveals_of b) (names_of (secrets pre)))
 
 -- UnknownSecret: a reveal names what is no secret; at the branch
 abbrev pub unknown_secret : Advert → Option Place
-unknown_secret a = first_place (λ s. at_core (reveals_unknown a.pre) s.spot) (stands a)
+unknown_secret a = first_place (λ s. at_core (reveals_unknown a.pre) s.subterm) (all_funded a)
 
 -- whether the core puts or reveals something twice
-abbrev pub repeats : Branch → Bool
+abbrev pub repeats : Guarded → Bool
 repeats b = not (are_different (puts_of b) && are_different (reveals_of b))
 
 -- PrefixRepeated: one put or one reveal names something twice; at the branch
 abbrev pub prefix_repeated : Advert → Option Place
-prefix_repeated a = first_place (λ s. at_core repeats s.spot) (stands a)
+prefix_repeated a = first_place (λ s. at_core repeats s.subterm) (all_funded a)
 
 -- whether the core tests the length of a name that it doesn't reveal
-abbrev pub tests_hidden : Branch → Bool
+abbrev pub tests_hidden : Guarded → Bool
 tests_hidden b = not (are_among (lengths_of_test (test_of b)) (reveals_of b))
 
 -- PredicateSecret: a predicate has the length of a name that its branch doesn't reveal; at the branch
 abbrev pub predicate_secret : Advert → Option Place
-predicate_secret a = first_place (λ s. at_core tests_hidden s.spot) (stands a)
+predicate_secret a = first_place (λ s. at_core tests_hidden s.subterm) (all_funded a)
 
 -- the place of the first party that has no persistent deposit
 abbrev pub first_without : List (List ℕ) → List (List ℕ) → Option Place
@@ -108,7 +108,7 @@ sum_of_parts no_part = 0
 sum_of_parts (part v c ps) = v + sum_of_parts ps
 
 -- whether the core is a split whose parts and the fee don't sum to the balance
-abbrev pub is_uneven : ℕ → ℤ → Branch → Bool
+abbrev pub is_uneven : ℕ → ℤ → Guarded → Bool
 is_uneven fee balance (split parts) = not (int_eq (pos (sum_of_parts parts + fee)) balance)
 is_uneven fee balance (auth party body) = false
 is_uneven fee balance (after height body) = false
@@ -117,10 +117,10 @@ is_uneven fee balance (withdraw party) = false
 
 -- SplitSum: a split's parts and the fee don't sum to the static balance of its position; at the branch
 abbrev pub split_sum : Advert → Option Place
-split_sum a = first_place (λ s. at_core (is_uneven a.fee s.balance) s.spot) (stands a)
+split_sum a = first_place (λ s. at_core (is_uneven a.fee s.balance) s.subterm) (all_funded a)
 
 -- whether the core is a withdraw
-abbrev pub is_withdraw : Branch → Bool
+abbrev pub is_withdraw : Guarded → Bool
 is_withdraw (withdraw party) = true
 is_withdraw (auth party body) = false
 is_withdraw (after height body) = false
@@ -128,13 +128,13 @@ is_withdraw (put_reveal puts reveals test next) = false
 is_withdraw (split parts) = false
 
 -- whether a position's balance is negative, or a withdraw's is below the fee
-abbrev pub is_short : ℕ → ℤ → Spot → Bool
+abbrev pub is_short : ℕ → ℤ → Subterm → Bool
 is_short fee balance (position c) = int_lt balance (pos 0)
 is_short fee balance (at_branch b) = is_withdraw (core b) && int_lt balance (pos fee)
 
 -- FeeShort: a static balance is negative, or a position with a withdraw branch has one below the fee; at the position or the withdraw branch
 abbrev pub fee_short : Advert → Option Place
-fee_short a = first_place (λ s. is_short a.fee s.balance s.spot) (stands a)
+fee_short a = first_place (λ s. is_short a.fee s.balance s.subterm) (all_funded a)
 
 -- ---- the limits
 
@@ -153,27 +153,27 @@ is_too_much balance = int_lt (pos max_money) balance
 
 -- Balance: a static balance exceeds all money; at the position
 abbrev pub balance_exceeded : Advert → Option Place
-balance_exceeded a = first_place (λ s. at_position (λ c. is_too_much s.balance) s.spot) (stands a)
+balance_exceeded a = first_place (λ s. at_position (λ c. is_too_much s.balance) s.subterm) (all_funded a)
 
 -- whether an expression of the core's test has too great a bound
-abbrev pub is_unbounded : Branch → Bool
+abbrev pub is_unbounded : Guarded → Bool
 is_unbounded b = not (is_bounded (test_of b))
 
 -- Expression: an expression's bound exceeds what an operand can hold; at the branch
 abbrev pub expression_exceeded : Advert → Option Place
-expression_exceeded a = first_place (λ s. at_core is_unbounded s.spot) (stands a)
+expression_exceeded a = first_place (λ s. at_core is_unbounded s.subterm) (all_funded a)
 
 -- the bytes and operations that Bitcoin's consensus allows a script
 abbrev pub fits_a_script : ScriptSize → Bool
 fits_a_script x = nat_le x.bytes most_script_bytes && nat_le x.operations most_operations
 
 -- whether the script of the position, among so many participants, is too large
-abbrev pub is_too_large : ℕ → Choice → Bool
+abbrev pub is_too_large : ℕ → Contract → Bool
 is_too_large parties c = not (fits_a_script (cost parties c))
 
 -- Script: the script of a position is too large; at the position
 abbrev pub script_exceeded : Advert → Option Place
-script_exceeded a = first_place (λ s. at_position (is_too_large (length (participants a))) s.spot) (stands a)
+script_exceeded a = first_place (λ s. at_position (is_too_large (length (participants a))) s.subterm) (all_funded a)
 
 -- ---- the first
 

@@ -1,20 +1,20 @@
 -- Who takes part in a contract.
 use Rattle.std.specs.Prelude.{ℕ, List, [], ◌∷◌, ◌++◌, map, fold, if◌then◌else◌}
 use Rattle.spec_data.specs.Lists.{is_among}
-use Rattle.spec_terms.specs.Term.{Branch, auth, after, put_reveal, withdraw, split, Choice, no_branch, branch, Parts, no_part, part}
+use Rattle.spec_terms.specs.Term.{Guarded, auth, after, put_reveal, withdraw, split, Contract, no_branch, branch, Parts, no_part, part}
 use Rattle.spec_terms.specs.Advert.{Advert}
 use Rattle.spec_terms.specs.Precondition.{party_of}
 
 abbrev mutual
   -- the parties that a branch mentions, in the order of the text
-  pub mentions : Branch → List (List ℕ)
+  pub mentions : Guarded → List (List ℕ)
   mentions (auth party body) = party ∷ mentions body
   mentions (after height body) = mentions body
   mentions (put_reveal puts reveals test next) = choice_mentions next
   mentions (withdraw party) = party ∷ []
   mentions (split parts) = parts_mentions parts
 
-  pub choice_mentions : Choice → List (List ℕ)
+  pub choice_mentions : Contract → List (List ℕ)
   choice_mentions no_branch = []
   choice_mentions (branch b bs) = mentions b ++ choice_mentions bs
 

@@ -3,7 +3,7 @@ use Rattle.std.specs.Prelude.{ℕ, ◌+◌, max, nat_le, Bool, true, false, ◌&
 use Rattle.std.specs.List.{list_all}
 use Rattle.spec_data.specs.Lists.{is_among}
 use Rattle.spec_data.specs.Ranges.{max_money, last_height, most_name_bytes}
-use Rattle.spec_terms.specs.Term.{Formula, constant, length_of, plus, minus, Test, always, both, negation, equal, less, Branch, auth, after, put_reveal, withdraw, split, Choice, no_branch, branch, branches, Parts, no_part, part, parts_list}
+use Rattle.spec_terms.specs.Term.{Expr, constant, length_of, plus, minus, Pred, always, both, negation, equal, less, Guarded, auth, after, put_reveal, withdraw, split, Contract, no_branch, branch, branches, Parts, no_part, part, parts_list}
 use Rattle.spec_terms.specs.Advert.{Advert}
 use Rattle.spec_terms.specs.Precondition.{deposits, secrets}
 use Rattle.spec_terms.specs.declared.pre.Pre.{Pre}
@@ -70,14 +70,14 @@ most_secrets = 32
 -- ---- predicates
 
 -- how many nodes lie one under another
-abbrev pub formula_depth : Formula → ℕ
+abbrev pub formula_depth : Expr → ℕ
 formula_depth (constant n) = 1
 formula_depth (length_of name) = 1
 formula_depth (plus e f) = max (formula_depth e) (formula_depth f) + 1
 formula_depth (minus e f) = max (formula_depth e) (formula_depth f) + 1
 
 -- the same; a comparison is one node and has its expressions under it
-abbrev pub test_depth : Test → ℕ
+abbrev pub test_depth : Pred → ℕ
 test_depth always = 1
 test_depth (both p q) = max (test_depth p) (test_depth q) + 1
 test_depth (negation p) = test_depth p + 1
@@ -85,13 +85,13 @@ test_depth (equal e f) = max (formula_depth e) (formula_depth f) + 1
 test_depth (less e f) = max (formula_depth e) (formula_depth f) + 1
 
 -- whether names and constants are as text may have them
-abbrev pub is_readable_formula : Formula → Bool
+abbrev pub is_readable_formula : Expr → Bool
 is_readable_formula (constant n) = nat_le n greatest_constant
 is_readable_formula (length_of name) = is_name name
 is_readable_formula (plus e f) = is_readable_formula e && is_readable_formula f
 is_readable_formula (minus e f) = is_readable_formula e && is_readable_formula f
 
-abbrev pub has_readable_formulas : Test → Bool
+abbrev pub has_readable_formulas : Pred → Bool
 has_readable_formulas always = true
 has_readable_formulas (both p q) = has_readable_formulas p && has_readable_formulas q
 has_readable_formulas (negation p) = has_readable_formulas p
@@ -99,10 +99,10 @@ has_readable_formulas (equal e f) = is_readable_formula e && is_readable_formula
 has_readable_formulas (less e f) = is_readable_formula e && is_readable_formula f
 
 -- and whether no more nodes are nested than may be
-abbrev pub is_readable_test : Test → Bool
+abbrev pub is_readable_test : Pred → Bool
 is_readable_test t = nat_le (test_depth t) most_depth && has_readable_formulas t
 
-abbrev pub is_always : Test → Bool
+abbrev pub is_always : Pred → Bool
 is_always always = true
 is_always (both p q) = false
 is_always (negation p) = false
@@ -114,13 +114,13 @@ is_some_list [] = false
 is_some_list (x ∷ xs) = true
 
 -- whether a put or a reveal is there, and where there is no reveal the test is always true
-abbrev pub is_whole_prefix : List (List ℕ) → List (List ℕ) → Test → Bool
+abbrev pub is_whole_prefix : List (List ℕ) → List (List ℕ) → Pred → Bool
 is_whole_prefix puts reveals test = (is_some_list puts && is_always test) || is_some_list reveals
 
 -- ---- contracts
 
 -- whether so many branches may stand in one choice
-abbrev pub is_readable_count : Choice → Bool
+abbrev pub is_readable_count : Contract → Bool
 is_readable_count c = is_some_list (branches c) && nat_le (length (branches c)) most_choices
 
 -- whether so many parts may stand in one split
@@ -129,11 +129,11 @@ is_readable_split ps = is_some_list (parts_list ps) && nat_le (length (parts_lis
 
 abbrev mutual
   -- whether each of these branches and all that stands under it is as text may have it, depth and number of all branches aside
-  pub are_readable : Choice → Bool
+  pub are_readable : Contract → Bool
   are_readable no_branch = true
   are_readable (branch b bs) = is_readable_branch b && are_readable bs
 
-  pub is_readable_branch : Branch → Bool
+  pub is_readable_branch : Guarded → Bool
   is_readable_branch (auth party body) = is_name party && is_readable_branch body
   is_readable_branch (after height body) = nat_le height last_height && is_readable_branch body
   is_readable_branch (put_reveal puts reveals test next) =
@@ -148,14 +148,14 @@ abbrev mutual
 
 abbrev mutual
   -- how many terms lie one under another, `A :` and `after t :` counted too
-  pub depth_of : Branch → ℕ
+  pub depth_of : Guarded → ℕ
   depth_of (auth party body) = depth_of body + 1
   depth_of (after height body) = depth_of body + 1
   depth_of (put_reveal puts reveals test next) = depth_of_choice next + 1
   depth_of (withdraw party) = 1
   depth_of (split parts) = depth_of_parts parts + 1
 
-  pub depth_of_choice : Choice → ℕ
+  pub depth_of_choice : Contract → ℕ
   depth_of_choice no_branch = 0
   depth_of_choice (branch b bs) = max (depth_of b) (depth_of_choice bs)
 
@@ -165,11 +165,11 @@ abbrev mutual
 
 abbrev mutual
   -- how many branches stand in a contract, those under others too
-  pub count_of : Choice → ℕ
+  pub count_of : Contract → ℕ
   count_of no_branch = 0
   count_of (branch b bs) = (count_under b + 1) + count_of bs
 
-  pub count_under : Branch → ℕ
+  pub count_under : Guarded → ℕ
   count_under (auth party body) = count_under body
   count_under (after height body) = count_under body
   count_under (put_reveal puts reveals test next) = count_of next
@@ -181,7 +181,7 @@ abbrev mutual
   count_of_parts (part v c ps) = count_of c + count_of_parts ps
 
 -- whether a contract is as text may have it
-abbrev pub is_readable_contract : Choice → Bool
+abbrev pub is_readable_contract : Contract → Bool
 is_readable_contract root =
     (is_readable_count root && are_readable root) && (nat_le (depth_of_choice root) most_depth && nat_le (count_of root) most_branches)
 

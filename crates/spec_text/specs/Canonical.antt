@@ -1,7 +1,7 @@
 -- The canonical text of an advert; of this project's profile.
 use Rattle.std.specs.Prelude.{ℕ, zero, suc, List, [], ◌∷◌, ◌++◌, codes}
 use Rattle.std.specs.Fmt.{decimal}
-use Rattle.spec_terms.specs.Term.{Formula, constant, length_of, plus, minus, Test, always, both, negation, equal, less, Branch, auth, after, put_reveal, withdraw, split, Choice, no_branch, branch, Parts, no_part, part}
+use Rattle.spec_terms.specs.Term.{Expr, constant, length_of, plus, minus, Pred, always, both, negation, equal, less, Guarded, auth, after, put_reveal, withdraw, split, Contract, no_branch, branch, Parts, no_part, part}
 use Rattle.spec_terms.specs.Advert.{Advert}
 use Rattle.spec_terms.specs.declared.pre.Pre.{Pre}
 use Rattle.spec_terms.specs.declared.pre.Pre.TheVariants.{Persistent, Volatile, Secret}
@@ -20,13 +20,13 @@ joined between (x ∷ xs) = x ++ each_after between xs
 
 -- ---- expressions and predicates
 
-abbrev pub formula_text : Formula → List ℕ
+abbrev pub formula_text : Expr → List ℕ
 formula_text (constant n) = decimal n
 formula_text (length_of secret) = codes "|" ++ (secret ++ codes "|")
 formula_text (plus e f) = codes "(" ++ (formula_text e ++ (codes " + " ++ (formula_text f ++ codes ")")))
 formula_text (minus e f) = codes "(" ++ (formula_text e ++ (codes " - " ++ (formula_text f ++ codes ")")))
 
-abbrev pub test_text : Test → List ℕ
+abbrev pub test_text : Pred → List ℕ
 test_text always = codes "true"
 test_text (both p q) = codes "[" ++ (test_text p ++ (codes " and " ++ (test_text q ++ codes "]")))
 test_text (negation p) = codes "not " ++ test_text p
@@ -34,7 +34,7 @@ test_text (equal e f) = formula_text e ++ (codes " = " ++ formula_text f)
 test_text (less e f) = formula_text e ++ (codes " < " ++ formula_text f)
 
 -- the part with the predicate, left out where it is `true`
-abbrev pub if_text : Test → List ℕ
+abbrev pub if_text : Pred → List ℕ
 if_text always = []
 if_text (both p q) = codes " if " ++ test_text (both p q)
 if_text (negation p) = codes " if " ++ test_text (negation p)
@@ -44,30 +44,30 @@ if_text (less e f) = codes " if " ++ test_text (less e f)
 -- ---- contracts
 
 -- what stands before the point
-abbrev pub heading_text : List (List ℕ) → List (List ℕ) → Test → List ℕ
+abbrev pub heading_text : List (List ℕ) → List (List ℕ) → Pred → List ℕ
 heading_text [] reveals test = codes "reveal " ++ (joined (codes ", ") reveals ++ if_text test)
 heading_text (x ∷ xs) [] test = codes "put " ++ joined (codes ", ") (x ∷ xs)
 heading_text (x ∷ xs) (a ∷ names) test = codes "put " ++ (joined (codes ", ") (x ∷ xs) ++ (codes " & reveal " ++ (joined (codes ", ") (a ∷ names) ++ if_text test)))
 
 -- the text of branches, in brackets where others follow the first
-abbrev pub bracketed : List ℕ → Choice → List ℕ
+abbrev pub bracketed : List ℕ → Contract → List ℕ
 bracketed text no_branch = text
 bracketed text (branch b bs) = codes "(" ++ (text ++ codes ")")
 
 abbrev mutual
-  pub branch_text : Branch → List ℕ
+  pub branch_text : Guarded → List ℕ
   branch_text (auth party body) = party ++ (codes " : " ++ branch_text body)
   branch_text (after height body) = codes "after " ++ (decimal height ++ (codes " : " ++ branch_text body))
   branch_text (put_reveal puts reveals test next) = heading_text puts reveals test ++ (codes " . " ++ choice_text next)
   branch_text (withdraw party) = codes "withdraw " ++ party
   branch_text (split parts) = codes "split [" ++ (parts_text parts ++ codes "]")
 
-  pub choice_text : Choice → List ℕ
+  pub choice_text : Contract → List ℕ
   choice_text no_branch = []
   choice_text (branch b bs) = bracketed (branch_text b ++ rest_text bs) bs
 
   -- each further branch
-  pub rest_text : Choice → List ℕ
+  pub rest_text : Contract → List ℕ
   rest_text no_branch = []
   rest_text (branch b bs) = codes " + " ++ (branch_text b ++ rest_text bs)
 

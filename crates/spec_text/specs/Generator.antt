@@ -1,7 +1,7 @@
 -- A contract and a run that are made from a number; of this project's profile.
 use Rattle.std.specs.Prelude.{ℕ, zero, suc, ◌+◌, ◌-◌, ◌*◌, ◌/◌, ◌%◌, ◌^◌, List, [], ◌∷◌, ◌++◌, codes}
 use Rattle.std.specs.Fmt.{decimal}
-use Rattle.spec_terms.specs.Term.{after, put_reveal, withdraw, Choice, no_branch, branch, equal, constant, length_of}
+use Rattle.spec_terms.specs.Term.{after, put_reveal, withdraw, Contract, no_branch, branch, equal, constant, length_of}
 use Rattle.spec_terms.specs.Advert.{Advert}
 use Rattle.spec_terms.specs.declared.pre.Pre.{Pre}
 use Rattle.spec_terms.specs.declared.pre.Pre.TheVariants.{Persistent, Secret}
@@ -69,13 +69,13 @@ secret_name j = codes "a" ++ decimal j
 -- ---- the contract
 
 -- secret j is revealed with its length and the contract goes on, or B withdraws from height 10 j on
-abbrev pub stage : ℕ → ℕ → Choice → Choice
+abbrev pub stage : ℕ → ℕ → Contract → Contract
 stage j length next =
     branch (put_reveal [] (secret_name j ∷ []) (equal (length_of (secret_name j)) (constant length)) next)
     (branch (after (10 * j) (withdraw party_b)) no_branch)
 
 -- the stages from number j on; at last A withdraws
-abbrev pub stages : ℕ → List Made → Choice
+abbrev pub stages : ℕ → List Made → Contract
 stages j [] = branch (withdraw party_a) no_branch
 stages j (m ∷ ms) = stage j (m.0) (stages (j + 1) ms)
 

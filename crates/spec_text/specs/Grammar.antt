@@ -1,6 +1,6 @@
 -- The grammar of contract text, on what whole lists of tokens say; of this project's profile.
 use Rattle.std.specs.Prelude.{◌≡◌, ℕ, List, [], ◌∷◌, ◌++◌, ◌⊎◌}
-use Rattle.spec_terms.specs.Term.{Formula, constant, length_of, plus, minus, Test, always, both, negation, equal, less, Branch, auth, after, put_reveal, withdraw, split, Choice, no_branch, branch, Parts, no_part, part}
+use Rattle.spec_terms.specs.Term.{Expr, constant, length_of, plus, minus, Pred, always, both, negation, equal, less, Guarded, auth, after, put_reveal, withdraw, split, Contract, no_branch, branch, Parts, no_part, part}
 use Rattle.spec_terms.specs.Advert.{Advert}
 use Rattle.spec_terms.specs.declared.pre.Pre.{Pre}
 use Rattle.spec_terms.specs.declared.pre.Pre.TheVariants.{Persistent, Volatile, Secret}
@@ -12,14 +12,14 @@ use Rattle.spec_text.specs.declared.token.Symbol.TheVariants as mark
 -- ---- expressions and predicates
 
 -- the tokens that spell an expression
-abbrev pub SpellsFormula : List Lexeme → Formula → Type 0
+abbrev pub SpellsFormula : List Lexeme → Expr → Type 0
 SpellsFormula t (constant n) = t ≡ number n ∷ []
 SpellsFormula t (length_of secret) = t ≡ symbol mark.Bar ∷ name secret ∷ symbol mark.Bar ∷ []
 SpellsFormula t (plus e f) = (te : List Lexeme) × (tf : List Lexeme) × (t ≡ symbol mark.LeftParen ∷ (te ++ symbol mark.Plus ∷ (tf ++ symbol mark.RightParen ∷ []))) × SpellsFormula te e × SpellsFormula tf f
 SpellsFormula t (minus e f) = (te : List Lexeme) × (tf : List Lexeme) × (t ≡ symbol mark.LeftParen ∷ (te ++ symbol mark.Minus ∷ (tf ++ symbol mark.RightParen ∷ []))) × SpellsFormula te e × SpellsFormula tf f
 
 -- the tokens that spell a predicate
-abbrev pub SpellsTest : List Lexeme → Test → Type 0
+abbrev pub SpellsTest : List Lexeme → Pred → Type 0
 SpellsTest t always = t ≡ keyword word.True ∷ []
 SpellsTest t (negation p) = (tp : List Lexeme) × (t ≡ keyword word.Not ∷ tp) × SpellsTest tp p
 SpellsTest t (both p q) = (tp : List Lexeme) × (tq : List Lexeme) × (t ≡ symbol mark.LeftBracket ∷ (tp ++ keyword word.And ∷ (tq ++ symbol mark.RightBracket ∷ []))) × SpellsTest tp p × SpellsTest tq q
@@ -38,15 +38,15 @@ abbrev pub names : List ℕ → List (List ℕ) → List Lexeme
 names x xs = name x ∷ more_names xs
 
 -- a condition; a missing one is the predicate `true`
-abbrev pub SpellsCondition : List Lexeme → Test → Type 0
+abbrev pub SpellsCondition : List Lexeme → Pred → Type 0
 SpellsCondition t p = ((t ≡ []) × (p ≡ always)) ⊎ ((tp : List Lexeme) × (t ≡ keyword word.If ∷ tp) × SpellsTest tp p)
 
 -- names that are revealed, and the condition
-abbrev pub SpellsReveals : List Lexeme → List ℕ → List (List ℕ) → Test → Type 0
+abbrev pub SpellsReveals : List Lexeme → List ℕ → List (List ℕ) → Pred → Type 0
 SpellsReveals t a as' p = (tp : List Lexeme) × (t ≡ keyword word.Reveal ∷ (names a as' ++ tp)) × SpellsCondition tp p
 
 -- a put, a reveal, or a put with a reveal; a put alone has the predicate `true`
-abbrev pub SpellsHeading : List Lexeme → List (List ℕ) → List (List ℕ) → Test → Type 0
+abbrev pub SpellsHeading : List Lexeme → List (List ℕ) → List (List ℕ) → Pred → Type 0
 SpellsHeading t [] [] p = ⊥
 SpellsHeading t (x ∷ xs) [] p = (t ≡ keyword word.Put ∷ names x xs) × (p ≡ always)
 SpellsHeading t [] (a ∷ as') p = SpellsReveals t a as' p
@@ -56,7 +56,7 @@ SpellsHeading t (x ∷ xs) (a ∷ as') p = (tr : List Lexeme) × (t ≡ keyword 
 
 abbrev mutual
   -- the tokens that spell a guarded term
-  pub SpellsBranch : List Lexeme → Branch → Type 0
+  pub SpellsBranch : List Lexeme → Guarded → Type 0
   SpellsBranch t (auth party body) = (tb : List Lexeme) × (t ≡ name party ∷ symbol mark.Colon ∷ tb) × SpellsBranch tb body
   SpellsBranch t (after height body) = (tb : List Lexeme) × (t ≡ keyword word.After ∷ number height ∷ symbol mark.Colon ∷ tb) × SpellsBranch tb body
   SpellsBranch t (put_reveal puts reveals test next) = (th : List Lexeme) × (tn : List Lexeme) × (t ≡ th ++ symbol mark.Dot ∷ tn) × SpellsHeading th puts reveals test × SpellsChoice tn next
@@ -64,12 +64,12 @@ abbrev mutual
   SpellsBranch t (split parts) = (tp : List Lexeme) × (t ≡ keyword word.Split ∷ symbol mark.LeftBracket ∷ (tp ++ symbol mark.RightBracket ∷ [])) × SpellsParts tp parts
 
   -- the tokens that spell a contract: one guarded term, or some in brackets
-  pub SpellsChoice : List Lexeme → Choice → Type 0
+  pub SpellsChoice : List Lexeme → Contract → Type 0
   SpellsChoice t no_branch = ⊥
   SpellsChoice t (branch b bs) = (SpellsBranch t b × (bs ≡ no_branch)) ⊎ ((tb : List Lexeme) × (tm : List Lexeme) × (t ≡ symbol mark.LeftParen ∷ (tb ++ (tm ++ symbol mark.RightParen ∷ []))) × SpellsBranch tb b × SpellsMore tm bs)
 
   -- further branches, each behind a plus
-  pub SpellsMore : List Lexeme → Choice → Type 0
+  pub SpellsMore : List Lexeme → Contract → Type 0
   SpellsMore t no_branch = t ≡ []
   SpellsMore t (branch b bs) = (tb : List Lexeme) × (tm : List Lexeme) × (t ≡ symbol mark.Plus ∷ (tb ++ tm)) × SpellsBranch tb b × SpellsMore tm bs
 

@@ -5,14 +5,14 @@ use Rattle.spec_terms.specs.declared.path.PathStep.{PathStep}
 use Rattle.spec_bitcoin.specs.Keys.{path_text}
 use Rattle.spec_bitcoin.specs.Spelling.{stripped}
 use Rattle.spec_compiler.specs.declared.prepared.Prepared.{Prepared}
-use Rattle.spec_compiler.specs.Setting.{Setting}
+use Rattle.spec_compiler.specs.Instance.{Instance}
 use Rattle.spec_compiler.specs.Compilation.{Compilation, compilation}
 use Rattle.spec_calculus.specs.declared.step.Step.{Step}
 use Rattle.spec_calculus.specs.Configuration.{Configuration}
 use Rattle.spec_run.specs.declared.event.Event.{Event}
 use Rattle.spec_run.specs.Setup.{Setup}
 use Rattle.spec_run.specs.World.{World}
-use Rattle.spec_run.specs.Compiled.{compiled_at}
+use Rattle.spec_run.specs.Compiled.{compiled_instance}
 use Rattle.spec_run.specs.Translation.{translated, last_configuration, last_world}
 use Rattle.spec_data.specs.Digits.{hex_text}
 use Rattle.spec_text.specs.RunText.{newline}
@@ -41,7 +41,7 @@ path_lines p = prepared_lines (path_text p.0) (p.1)
 abbrev pub compiled_text : Compilation → List ℕ
 compiled_text c = codes "contract 0 compiled" ++ (newline ++ (flat_map script_line c.scripts ++ (prepared_lines (codes "init") c.init ++ flat_map path_lines c.paths)))
 
-abbrev pub setting_text : (List ℕ → List ℕ) → Option Setting → List ℕ
+abbrev pub setting_text : (List ℕ → List ℕ) → Option Instance → List ℕ
 setting_text hash None = codes "contract 0 not compiled" ++ newline
 setting_text hash (Some setting) = compiled_text (compilation hash setting)
 
@@ -53,7 +53,7 @@ unless_halted (collided event earlier later) text = collided_line earlier later
 
 -- what `plan` prints of a run with one contract
 unfoldable pub plan_text : Setup → List Event → List ℕ
-plan_text s es = unless_halted (ending s es) (setting_text s.hash (compiled_at s (last_world s es) 0))
+plan_text s es = unless_halted (ending s es) (setting_text s.hash (compiled_instance s (last_world s es) 0))
 
 -- ---- counts
 

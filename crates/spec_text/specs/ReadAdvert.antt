@@ -1,6 +1,6 @@
 -- Reading of a whole contract text: its advert, or why it is none and where; of this project's profile.
 use Rattle.std.specs.Prelude.{ℕ, zero, suc, ◌+◌, ◌-◌, List, [], ◌∷◌, length, drop, Bool, true, false, ◌==◌, Result, Ok, Err}
-use Rattle.spec_terms.specs.Term.{Choice}
+use Rattle.spec_terms.specs.Term.{Contract}
 use Rattle.spec_terms.specs.Advert.{Advert}
 use Rattle.spec_terms.specs.declared.pre.Pre.{Pre}
 use Rattle.spec_terms.specs.declared.pre.Pre.TheVariants.{Persistent, Volatile, Secret}
@@ -127,7 +127,7 @@ unfoldable pub fee_at : List Lexeme → Reads ℕ
 fee_at (keyword word.Fee ∷ ts) = token_by (a_number max_money) ts
 fee_at ts = Ok (0, ts)
 
-abbrev pub advert_of : List Pre → ℕ → Choice → Advert
+abbrev pub advert_of : List Pre → ℕ → Contract → Advert
 advert_of pre fee root = record { pre = pre; fee = fee; root = root }
 
 -- an advert at the front

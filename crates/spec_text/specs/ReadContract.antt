@@ -1,6 +1,6 @@
 -- Reading of contracts, by cases on the next token; of this project's profile.
 use Rattle.std.specs.Prelude.{ℕ, zero, suc, ◌-◌, List, [], ◌∷◌, length, Bool, true, false, if◌then◌else◌, ◌==◌, Option, Some, None, Ok, Err}
-use Rattle.spec_terms.specs.Term.{Test, always, Branch, auth, after, put_reveal, withdraw, split, Choice, no_branch, branch, Parts, no_part, part}
+use Rattle.spec_terms.specs.Term.{Pred, always, Guarded, auth, after, put_reveal, withdraw, split, Contract, no_branch, branch, Parts, no_part, part}
 use Rattle.spec_terms.specs.declared.limit.Limit.{Limit}
 use Rattle.spec_terms.specs.declared.limit.Limit.TheVariants as limits
 use Rattle.spec_text.specs.declared.stop.Stop.TheVariants as stops
@@ -29,10 +29,10 @@ ends_reveal _ = wrong
 
 -- what stands before the point: the deposits that are put, the secrets that are revealed, and the condition
 abbrev pub Heading : Type 0
-Heading = List (List ℕ) × List (List ℕ) × Test
+Heading = List (List ℕ) × List (List ℕ) × Pred
 
 -- a condition and the point, or nothing behind the point
-unfoldable pub condition_at : Bool → List Lexeme → Reads Test
+unfoldable pub condition_at : Bool → List Lexeme → Reads Pred
 condition_at false ts = Ok (always, ts)
 condition_at true ts = do
   p ← test_at most_depth ts
@@ -85,11 +85,11 @@ branch_limit d b k =
 
 -- a reader of branches, by how many further ones the contract may have; it answers how many it may still have
 abbrev pub BranchReader : Type 0
-BranchReader = ℕ → List Lexeme → Reads (Branch × ℕ)
+BranchReader = ℕ → List Lexeme → Reads (Guarded × ℕ)
 
 -- the same of contracts and of parts
 abbrev pub ChoiceReader : Type 0
-ChoiceReader = ℕ → List Lexeme → Reads (Choice × ℕ)
+ChoiceReader = ℕ → List Lexeme → Reads (Contract × ℕ)
 
 -- a branch of a choice, where one may come
 abbrev pub allowed_branch : BranchReader → Option Limit → BranchReader

@@ -1,6 +1,6 @@
 -- Reading of expressions and predicates, by cases on the next token; of this project's profile.
 use Rattle.std.specs.Prelude.{ℕ, zero, suc, List, [], ◌∷◌, length, Bool, true, false, Ok, Err}
-use Rattle.spec_terms.specs.Term.{Formula, constant, length_of, plus, minus, Test, always, both, negation, equal, less}
+use Rattle.spec_terms.specs.Term.{Expr, constant, length_of, plus, minus, Pred, always, both, negation, equal, less}
 use Rattle.spec_terms.specs.declared.limit.Limit.TheVariants as limits
 use Rattle.spec_text.specs.declared.stop.Stop.TheVariants as stops
 use Rattle.spec_text.specs.declared.token.Keyword.TheVariants as word
@@ -35,25 +35,25 @@ a_sign (symbol mark.Plus) = taken true
 a_sign (symbol mark.Minus) = taken false
 a_sign _ = wrong
 
-abbrev pub signed : Bool → Formula → Formula → Formula
+abbrev pub signed : Bool → Expr → Expr → Expr
 signed true e f = plus e f
 signed false e f = minus e f
 
 -- a constant at the front
-unfoldable pub constant_at : List Lexeme → Reads Formula
+unfoldable pub constant_at : List Lexeme → Reads Expr
 constant_at ts = do
   v ← token_by a_constant ts
   Ok (constant (v.0), v.1)
 
 -- the length of a secret behind its first bar
-unfoldable pub length_at : List Lexeme → Reads Formula
+unfoldable pub length_at : List Lexeme → Reads Expr
 length_at ts = do
   x ← token_by a_name ts
   e ← token_by (a_symbol mark.Bar) (x.1)
   Ok (length_of (x.0), e.1)
 
 -- an expression of at most so many nodes on one way
-unfoldable pub formula_at : ℕ → List Lexeme → Reads Formula
+unfoldable pub formula_at : ℕ → List Lexeme → Reads Expr
 formula_at d [] = Err (stops.Syntax 0)
 formula_at zero (t ∷ ts) = Err (too_many limits.Depth begins_formula (t ∷ ts))
 formula_at (suc d) (number n ∷ ts) = constant_at (number n ∷ ts)
@@ -82,12 +82,12 @@ a_relation (symbol mark.Equal) = taken true
 a_relation (symbol mark.Less) = taken false
 a_relation _ = wrong
 
-abbrev pub related : Bool → Formula → Formula → Test
+abbrev pub related : Bool → Expr → Expr → Pred
 related true e f = equal e f
 related false e f = less e f
 
 -- a comparison, with so many nodes under it
-unfoldable pub comparison_at : ℕ → List Lexeme → Reads Test
+unfoldable pub comparison_at : ℕ → List Lexeme → Reads Pred
 comparison_at d ts = do
   e ← formula_at d ts
   o ← token_by a_relation (e.1)
@@ -95,7 +95,7 @@ comparison_at d ts = do
   Ok (related (o.0) (e.0) (f.0), f.1)
 
 -- a predicate of at most so many nodes on one way, expressions counted
-unfoldable pub test_at : ℕ → List Lexeme → Reads Test
+unfoldable pub test_at : ℕ → List Lexeme → Reads Pred
 test_at d [] = Err (stops.Syntax 0)
 test_at zero (t ∷ ts) = Err (too_many limits.Depth begins_test (t ∷ ts))
 test_at (suc d) (keyword word.True ∷ ts) = Ok (always, ts)

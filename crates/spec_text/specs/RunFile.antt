@@ -140,8 +140,8 @@ event_words parties count [] = empty
 event_words parties count (word ∷ words) = event_within count (event_of parties (word ∷ words))
 
 -- what a line says behind so many events
-abbrev pub event_line : List (List ℕ) → ℕ → List ℕ → Line Event
-event_line parties count line = if is_long line then over limits.Line else event_words parties count (words_of line)
+abbrev pub event_of_line : List (List ℕ) → ℕ → List ℕ → Line Event
+event_of_line parties count line = if is_long line then over limits.Line else event_words parties count (words_of line)
 
 abbrev pub with_event : Event → Result (List Event) RunFault → Result (List Event) RunFault
 with_event event (Ok list) = Ok (event ∷ list)
@@ -164,7 +164,7 @@ event_step n (says event) later = with_event event later
 -- the events of the lines from number n on, behind so many
 abbrev pub read_events : List (List ℕ) → ℕ → ℕ → List (List ℕ) → Result (List Event) RunFault
 read_events parties count n [] = Ok []
-read_events parties count n (line ∷ lines) = event_step n (event_line parties count line) (read_events parties (counted count (event_line parties count line)) (n + 1) lines)
+read_events parties count n (line ∷ lines) = event_step n (event_of_line parties count line) (read_events parties (counted count (event_of_line parties count line)) (n + 1) lines)
 
 -- ---- the run
 

@@ -13,7 +13,7 @@ use Rattle.spec_text.specs.Lexeme.{lexemes}
 use Rattle.spec_text.specs.Grammar.{Spells, Begins}
 use Rattle.spec_text.specs.ReadAdvert.{advert_of_all, read_answer}
 use Rattle.spec_text.specs.Canonical.{advert_text}
-use Rattle.spec_text.specs.RunFile.{says, event_line, read_run}
+use Rattle.spec_text.specs.RunFile.{says, event_of_line, read_run}
 use Rattle.spec_text.specs.RunText.{event_text, header_text}
 
 -- ---- contract text
@@ -56,7 +56,7 @@ PrintedAdvertTheorem = (advert : Advert) → is_readable advert ≡ true → rea
 -- the canonical line of an event that some line spells is read as that event, after the same parties
 abbrev pub PrintedEventTheorem : Type 0
 PrintedEventTheorem = (parties : List (List ℕ)) (count : ℕ) (line : List ℕ) (event : Event)
-    → event_line parties count line ≡ says event → event_line parties count (event_text event) ≡ says event
+    → event_of_line parties count line ≡ says event → event_of_line parties count (event_text event) ≡ says event
 
 -- the canonical lines of a header that some file has are read as that header
 abbrev pub PrintedHeaderTheorem : Type 0

@@ -12,7 +12,7 @@ use Rattle.spec_bitcoin.specs.Reading.{witnesses_at, plain_at, marked_at, transa
 use Rattle.spec_bitcoin.specs.Meaning.{script_meaning}
 use Rattle.spec_bitcoin.specs.Numbers.{number_of_item, signed_bytes, item_of_number}
 use Rattle.spec_bitcoin.specs.Scripts.{ops_of}
-use Rattle.spec_compiler.specs.Setting.{position_script}
+use Rattle.spec_compiler.specs.Instance.{position_script}
 use Rattle.spec_text.specs.Lexis.{word_front, number_front, symbol_front}
 use Rattle.spec_text.specs.ReadAdvert.{read_answer as read_contract, advert_of_all, advert_at, entries_at, entry_at, head_at, deposit_at}
 use Rattle.spec_text.specs.ReadAdvert.{secret_at, fee_at}
@@ -37,10 +37,10 @@ use Rattle.spec_compiler.specs.Transactions.{tx_of}
 use Rattle.spec_compiler.specs.ByPath.{unsigned_at}
 use Rattle.spec_run.specs.declared.event.Run.{Run}
 use Rattle.spec_run.specs.Setup.{Setup}
-use Rattle.spec_run.specs.World.{World, held_at}
-use Rattle.spec_run.specs.Compiled.{compiled_at}
+use Rattle.spec_run.specs.World.{World, live_position_at}
+use Rattle.spec_run.specs.Compiled.{compiled_instance}
 use Rattle.spec_run.specs.Translation.{last_world}
-use Rattle.spec_run.specs.Firing.{taking_by}
+use Rattle.spec_run.specs.Firing.{taking_of_position}
 use Rattle.spec_data.specs.Digits.{hex_text}
 use Rattle.spec_text.specs.Refusals.{Judged, contract_of, run_of}
 
@@ -56,11 +56,11 @@ shown tx = option_map_or (λ t. hex_text (spelling t)) tx []
 -- the transaction of a path, without its witnesses
 abbrev pub path_shown : List PathStep → Setup → World → List ℕ
 path_shown path s w =
-    shown (option_and_then (λ setting. option_map_or (λ d. Some (tx_of d)) (unsigned_at s.hash setting path) None) (compiled_at s w 0))
+    shown (option_and_then (λ setting. option_map_or (λ d. Some (tx_of d)) (unsigned_at s.hash setting path) None) (compiled_instance s w 0))
 
 -- the transaction that takes branch 0 of output 2, with its witness
 abbrev pub taking_shown : Setup → World → List ℕ
-taking_shown s w = shown (taking_by s w (held_at w 2) 0)
+taking_shown s w = shown (taking_of_position s w (live_position_at w 2) 0)
 
 -- what is found of the transaction of the first of two branches that pay alike
 abbrev pub sibling_findings : List ℕ

@@ -6,7 +6,7 @@ use Rattle.std.specs.Fmt.{digits}
 use Rattle.spec_bitcoin.specs.Keys.{label_text}
 use Rattle.spec_bitcoin.specs.Digests.{places_list, sequences_list, outputs_list, preimage}
 use Rattle.spec_bitcoin.specs.Spelling.{stripped, marked, compact}
-use Rattle.spec_compiler.specs.Setting.{position_script}
+use Rattle.spec_compiler.specs.Instance.{position_script}
 use Rattle.spec_text.specs.Lexis.{word_front, number_front, symbol_front}
 use Rattle.spec_text.specs.ReadAdvert.{read_answer as read_contract, advert_of_all, advert_at, entries_at, entry_at, head_at, deposit_at}
 use Rattle.spec_text.specs.ReadAdvert.{secret_at, fee_at}
@@ -20,7 +20,7 @@ use Rattle.std.specs.Prelude.{replicate}
 use Rattle.spec_terms.specs.Advert.{Advert}
 use Rattle.spec_terms.specs.Term.{branch, no_branch, withdraw, put_reveal, always}
 use Rattle.spec_terms.specs.declared.pre.Pre.TheVariants.{Persistent, Secret}
-use Rattle.spec_compiler.specs.Setting.{Setting}
+use Rattle.spec_compiler.specs.Instance.{Instance}
 use Rattle.spec_tool.specs.declared.weight.Weight.{Weight}
 use Rattle.spec_tool.specs.Weights.{weights, exactly}
 use Rattle.spec_tool.specs.WeighText.{weigh_text}
@@ -32,7 +32,7 @@ use Rattle.spec_tool.specs.PsbtText.{psbt_text}
 use Rattle.spec_tool.proofs.WorkedCommands.{line}
 use Rattle.spec_tool.proofs.WorkedHash.{small_hash}
 
-abbrev pub compiled : Advert → Setting
+abbrev pub compiled : Advert → Instance
 compiled advert = record {
   contract = 0;
   advert = advert;

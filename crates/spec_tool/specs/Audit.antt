@@ -9,12 +9,12 @@ use Rattle.spec_bitcoin.specs.declared.verdict.Verdict.{Verdict}
 use Rattle.spec_bitcoin.specs.declared.verdict.Verdict.TheVariants as verdicts
 use Rattle.spec_bitcoin.specs.Keys.{Pair, key_of, has_signed}
 use Rattle.spec_bitcoin.specs.Reading.{transaction_of}
-use Rattle.spec_compiler.specs.Setting.{Setting}
+use Rattle.spec_compiler.specs.Instance.{Instance}
 use Rattle.spec_compiler.specs.declared.unsigned.Spent.{Spent}
 use Rattle.spec_compiler.specs.Transactions.{tx_of, digest_of_spent}
 use Rattle.spec_run.specs.Setup.{Setup}
 use Rattle.spec_run.specs.World.{World}
-use Rattle.spec_run.specs.Compiled.{compiled_at}
+use Rattle.spec_run.specs.Compiled.{compiled_instance}
 use Rattle.spec_data.specs.Messages.{collision}
 use Rattle.spec_run.specs.Ledger.{same_bare, verdict_in, strings_of, Kind, Begins, Takes, Moves, kind_of}
 use Rattle.spec_data.specs.Digits.{read_hex}
@@ -69,13 +69,13 @@ given_transactions (line ∷ lines) = onto_given (given_line line) (given_transa
 -- ---- what a transaction is
 
 -- the compiled transactions of a contract, none where it isn't compiled
-abbrev pub listed_by : Setup → Option Setting → List Listed
+abbrev pub listed_by : Setup → Option Instance → List Listed
 listed_by s None = []
 listed_by s (Some setting) = listed s.hash setting
 
 -- those of contract k in this world
 abbrev pub listed_in : Setup → World → ℕ → List Listed
-listed_in s w k = listed_by s (compiled_at s w k)
+listed_in s w k = listed_by s (compiled_instance s w k)
 
 -- the names of all of these that the transaction is without its witnesses, in their order
 abbrev pub names_among : List Listed → Tx → List Which

@@ -3,11 +3,11 @@ use Rattle.std.specs.Prelude.{ℕ, List, [], ◌∷◌, ◌++◌, Option, Some, 
 use Rattle.std.specs.Fmt.{decimal}
 use Rattle.std.specs.List.{flat_map}
 use Rattle.spec_bitcoin.specs.Keys.{label_text}
-use Rattle.spec_compiler.specs.Setting.{Setting}
+use Rattle.spec_compiler.specs.Instance.{Instance}
 use Rattle.spec_run.specs.Setup.{Setup}
 use Rattle.spec_run.specs.World.{World}
 use Rattle.spec_run.specs.Ledger.{reason_of}
-use Rattle.spec_run.specs.Compiled.{compiled_at}
+use Rattle.spec_run.specs.Compiled.{compiled_instance}
 use Rattle.spec_run.specs.declared.event.Event.{Event}
 use Rattle.spec_run.specs.Translation.{last_world}
 use Rattle.spec_text.specs.RunText.{newline, output_text}
@@ -60,14 +60,14 @@ abbrev pub report_text : AuditReport → List ℕ
 report_text r = flat_map finding_line r.findings ++ (flat_map absent_line r.absent ++ flat_map missing_line r.missing)
 
 -- the last line, where the contract isn't compiled
-abbrev pub uncompiled_text : Option Setting → List ℕ
+abbrev pub uncompiled_text : Option Instance → List ℕ
 uncompiled_text None = not_compiled_line
 uncompiled_text (Some setting) = []
 
 -- ---- the answer
 
 abbrev pub audit_text : Setup → World → List ℕ → List ℕ
-audit_text s w text = report_text (audit_report s w 0 text) ++ uncompiled_text (compiled_at s w 0)
+audit_text s w text = report_text (audit_report s w 0 text) ++ uncompiled_text (compiled_instance s w 0)
 
 abbrev pub audited : Option (List ℕ × List ℕ) → List ℕ → Printed
 audited (Some pair) text = prints 8 (collided_line (pair.0) (pair.1))

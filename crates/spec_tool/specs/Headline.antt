@@ -4,7 +4,7 @@ use Rattle.std.specs.List.{Contains}
 use Rattle.spec_terms.specs.Advert.{Advert}
 use Rattle.spec_calculus.specs.declared.step.Step.{Step}
 use Rattle.spec_calculus.specs.Configuration.{Configuration}
-use Rattle.spec_calculus.specs.Steps.{Legal, after}
+use Rattle.spec_calculus.specs.Steps.{Legal, after_steps}
 use Rattle.spec_run.specs.declared.event.Event.{Event}
 use Rattle.spec_run.specs.declared.event.Run.{Run}
 use Rattle.spec_run.specs.Setup.{Setup}
@@ -37,7 +37,7 @@ AreEntriesOf _ _ = ⊥
 
 -- the printed tip, live outputs and configuration are those of the last world, to which the steps lead
 pub record IsLastShown (s : Setup) (w : World) (steps : List Step) (tip : ℕ) (live : List (ℕ × ℕ)) (g : Configuration) : Type 0 where
-  pub leads : after (opening_configuration s) steps ≡ g
+  pub leads : after_steps (opening_configuration s) steps ≡ g
   pub agrees : Agree s g w
   pub height : tip ≡ w.tip
   pub outputs : live ≡ live_outputs w

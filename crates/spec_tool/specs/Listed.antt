@@ -12,7 +12,7 @@ use Rattle.spec_terms.specs.declared.path.PathStep.{PathStep}
 use Rattle.spec_bitcoin.specs.declared.label.Label.{Label}
 use Rattle.spec_bitcoin.specs.declared.label.Label.TheVariants as labels
 use Rattle.spec_bitcoin.specs.Keys.{path_text}
-use Rattle.spec_compiler.specs.Setting.{Setting, branch_label}
+use Rattle.spec_compiler.specs.Instance.{Instance, branch_label}
 use Rattle.spec_compiler.specs.declared.unsigned.Unsigned.{Unsigned}
 use Rattle.spec_compiler.specs.Transactions.{initial_unsigned}
 use Rattle.spec_compiler.specs.Compilation.{path_transactions}
@@ -39,28 +39,28 @@ abbrev pub initial_signers : Advert → List (List Label)
 initial_signers advert = map (λ d. deposit_signer (d.1).owner) (persistent advert.pre)
 
 -- of a branch, all participants for the position's output, and then the owners of the deposits that are put
-abbrev pub branch_signers : ℕ → Advert → List PathStep → term.Branch → List (List Label)
+abbrev pub branch_signers : ℕ → Advert → List PathStep → term.Guarded → List (List Label)
 branch_signers contract advert path b =
     map (branch_label contract path) (participants advert) ∷ map (λ name. deposit_signer (put_owner advert name)) (puts_of (core b))
 
 -- of the branch at a path, nobody where there is none
-abbrev pub path_signers : Setting → List PathStep → List (List Label)
+abbrev pub path_signers : Instance → List PathStep → List (List Label)
 path_signers setting path = option_map_or (branch_signers setting.contract setting.advert path) (at setting.advert.root path) []
 
 -- ---- the transactions
 
-abbrev pub initial_listed : (List ℕ → List ℕ) → Setting → Listed
+abbrev pub initial_listed : (List ℕ → List ℕ) → Instance → Listed
 initial_listed hash setting = record { which = names.Init; draft = initial_unsigned hash setting; signers = initial_signers setting.advert }
 
-abbrev pub path_listed : Setting → List PathStep → Unsigned → Listed
+abbrev pub path_listed : Instance → List PathStep → Unsigned → Listed
 path_listed setting path draft = record { which = names.At path; draft = draft; signers = path_signers setting path }
 
 -- all of them: the initial one, and then those of the paths in the order of the text
-abbrev pub listed : (List ℕ → List ℕ) → Setting → List Listed
+abbrev pub listed : (List ℕ → List ℕ) → Instance → List Listed
 listed hash setting = initial_listed hash setting ∷ map (λ p. path_listed setting (p.0) (p.1)) (path_transactions hash setting)
 
 -- the one of this name
-abbrev pub listed_at : (List ℕ → List ℕ) → Setting → Which → Option Listed
+abbrev pub listed_at : (List ℕ → List ℕ) → Instance → Which → Option Listed
 listed_at hash setting names.Init = Some (initial_listed hash setting)
 listed_at hash setting (names.At path) = option_map (path_listed setting path) (unsigned_at hash setting path)
 

@@ -10,14 +10,14 @@ use Rattle.spec_bitcoin.specs.declared.label.Label.{Label}
 use Rattle.spec_bitcoin.specs.declared.tx.TxOut.{TxOut}
 use Rattle.spec_bitcoin.specs.Keys.{Pair, key_of, signature_of, has_signed}
 use Rattle.spec_bitcoin.specs.Spelling.{stripped}
-use Rattle.spec_compiler.specs.Setting.{Setting}
+use Rattle.spec_compiler.specs.Instance.{Instance}
 use Rattle.spec_compiler.specs.declared.unsigned.Spent.{Spent}
 use Rattle.spec_compiler.specs.declared.unsigned.Unsigned.{Unsigned}
 use Rattle.spec_compiler.specs.Transactions.{tx_of, digest_of_spent, pays}
 use Rattle.spec_run.specs.declared.event.Event.{Event}
 use Rattle.spec_run.specs.Setup.{Setup, contract_at}
 use Rattle.spec_run.specs.World.{World}
-use Rattle.spec_run.specs.Compiled.{compiled_at}
+use Rattle.spec_run.specs.Compiled.{compiled_instance}
 use Rattle.spec_run.specs.Translation.{last_world}
 use Rattle.spec_data.specs.Digits.{hex_text}
 use Rattle.spec_text.specs.RunText.{newline}
@@ -82,7 +82,7 @@ no_path_line which = codes "contract 0 no path " ++ (which_text which ++ newline
 abbrev pub not_compiled_line : List ℕ
 not_compiled_line = codes "contract 0 not compiled" ++ newline
 
-abbrev pub setting_psbt : (List ℕ → List ℕ) → List Pair → Which → Option Setting → List ℕ
+abbrev pub setting_psbt : (List ℕ → List ℕ) → List Pair → Which → Option Instance → List ℕ
 setting_psbt hash book which None = not_compiled_line
 setting_psbt hash book which (Some setting) =
     option_map_or (λ l. psbt_line (listed_psbt hash book l)) (listed_at hash setting which) (no_path_line which)
@@ -90,7 +90,7 @@ setting_psbt hash book which (Some setting) =
 -- a path that the contract doesn't have comes before a contract that isn't compiled
 abbrev pub which_psbt : Setup → World → Which → List ℕ
 which_psbt s w which =
-    if has_transaction (contract_at s 0) which then setting_psbt s.hash w.book which (compiled_at s w 0) else no_path_line which
+    if has_transaction (contract_at s 0) which then setting_psbt s.hash w.book which (compiled_instance s w 0) else no_path_line which
 
 -- what `psbt RUN CONTRACT WHICH` prints of a run that isn't halted
 unfoldable pub psbt_text : Which → Setup → List Event → List ℕ

@@ -6,7 +6,7 @@ use Rattle.spec_terms.specs.declared.path.PathStep.{PathStep}
 use Rattle.spec_run.specs.declared.event.Event.{Event}
 use Rattle.spec_run.specs.declared.event.Event.TheVariants as events
 use Rattle.spec_run.specs.Setup.{Setup, contract_at}
-use Rattle.spec_run.specs.World.{Held, Output, World, active_held}
+use Rattle.spec_run.specs.World.{ContractPosition, Output, World, live_position}
 use Rattle.spec_run.specs.Draft.{Halt, Answer, Went, Halted}
 use Rattle.spec_run.specs.Event.{event}
 use Rattle.spec_run.specs.Ledger.{branch_in}
@@ -20,14 +20,14 @@ use Rattle.spec_tool.specs.Weights.{last_branch, position_of}
 -- ---- the event of a rule
 
 -- whether a live contract output stands at this position of contract k
-abbrev pub stands_at : ℕ → List PathStep → Option Held → Bool
+abbrev pub stands_at : ℕ → List PathStep → Option ContractPosition → Bool
 stands_at k position None = false
 stands_at k position (Some held) = (held.contract == k) && path_eq held.position position
 
 -- the number of the first of these outputs that does, the first of which has the number n
 abbrev pub standing_from : ℕ → ℕ → List PathStep → List Output → Option ℕ
 standing_from n k position [] = None
-standing_from n k position (o ∷ os) = if stands_at k position (active_held (Some o)) then Some n else standing_from (n + 1) k position os
+standing_from n k position (o ∷ os) = if stands_at k position (live_position (Some o)) then Some n else standing_from (n + 1) k position os
 
 -- the live contract output at a position of contract k
 abbrev pub standing_at : World → ℕ → List PathStep → Option ℕ

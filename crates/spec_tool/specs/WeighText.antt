@@ -7,11 +7,11 @@ use Rattle.spec_compiler.specs.declared.prepared.Prepared.{Prepared}
 use Rattle.spec_terms.specs.declared.path.PathStep.{PathStep}
 use Rattle.spec_bitcoin.specs.Keys.{path_text}
 use Rattle.spec_bitcoin.specs.Spelling.{stripped}
-use Rattle.spec_compiler.specs.Setting.{Setting}
+use Rattle.spec_compiler.specs.Instance.{Instance}
 use Rattle.spec_compiler.specs.Compilation.{Compilation, compilation}
 use Rattle.spec_run.specs.declared.event.Event.{Event}
 use Rattle.spec_run.specs.Setup.{Setup}
-use Rattle.spec_run.specs.Compiled.{compiled_at}
+use Rattle.spec_run.specs.Compiled.{compiled_instance}
 use Rattle.spec_run.specs.Translation.{last_world}
 use Rattle.spec_data.specs.Digits.{hex_text}
 use Rattle.spec_text.specs.RunText.{newline}
@@ -66,14 +66,14 @@ abbrev pub named_all : Compilation → List (List ℕ × Prepared)
 named_all c = (codes "init", c.init) ∷ map named_path c.paths
 
 -- none where the contract isn't compiled
-abbrev pub setting_values : (List ℕ → List ℕ) → Option Setting → List (List ℕ)
+abbrev pub setting_values : (List ℕ → List ℕ) → Option Instance → List (List ℕ)
 setting_values hash None = []
 setting_values hash (Some setting) = transaction_values (named_all (compilation hash setting)) (weights hash setting)
 
-abbrev pub plan_value : (List ℕ → List ℕ) → ℕ → Option Setting → List ℕ
+abbrev pub plan_value : (List ℕ → List ℕ) → ℕ → Option Instance → List ℕ
 plan_value hash contract setting =
     object ((codes "contract", decimal contract) ∷ ((codes "transactions", bracketed (setting_values hash setting)) ∷ []))
 
 -- what `weigh` prints of a run that isn't halted
 unfoldable pub weigh_text : Setup → List Event → List ℕ
-weigh_text s es = plan_value s.hash 0 (compiled_at s (last_world s es) 0) ++ newline
+weigh_text s es = plan_value s.hash 0 (compiled_instance s (last_world s es) 0) ++ newline

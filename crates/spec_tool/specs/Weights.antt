@@ -6,12 +6,12 @@ use Rattle.std.specs.Option.{option_map_or}
 use Rattle.spec_terms.specs.Advert.{Advert}
 use Rattle.spec_terms.specs.Core.{core, reveals_of}
 use Rattle.spec_terms.specs.Parties.{participants}
-use Rattle.spec_terms.specs.Paths.{at, choice_at, path_eq}
+use Rattle.spec_terms.specs.Paths.{at, contract_under, path_eq}
 use Rattle.spec_terms.specs.declared.path.PathStep.{PathStep}
 use Rattle.spec_terms.specs.declared.path.PathStep.TheVariants.{Branch as To, Part as Into}
 use Rattle.spec_bitcoin.specs.declared.tx.Tx.{Tx}
 use Rattle.spec_bitcoin.specs.Spelling.{stripped, spelling}
-use Rattle.spec_compiler.specs.Setting.{Setting}
+use Rattle.spec_compiler.specs.Instance.{Instance}
 use Rattle.spec_compiler.specs.declared.unsigned.Spent.{Spent}
 use Rattle.spec_compiler.specs.declared.unsigned.Unsigned.{Unsigned}
 use Rattle.spec_compiler.specs.Transactions.{tx_of, initial_unsigned}
@@ -63,7 +63,7 @@ position_of (s ∷ (t ∷ steps)) = s ∷ position_of (t ∷ steps)
 
 -- how many branches the path's position has
 abbrev pub choices_at : Advert → List PathStep → ℕ
-choices_at advert path = count_of (choice_at advert.root (position_of path))
+choices_at advert path = count_of (contract_under advert.root (position_of path))
 
 -- the witnesses of a branch's transaction, by the participants' signatures in order, the secrets in the order of the
 -- reveals, and the signatures of the deposits that are put
@@ -129,7 +129,7 @@ abbrev pub with_totals : Weight → List (List PathStep × Weight) → List (Lis
 with_totals init all [] = []
 with_totals init all (p ∷ ps) = (p.1, total_to (p.0) init all) ∷ with_totals init all ps
 
-abbrev pub path_weights : (List ℕ → List ℕ) → Setting → List (List PathStep × Weight)
+abbrev pub path_weights : (List ℕ → List ℕ) → Instance → List (List PathStep × Weight)
 path_weights hash setting = map (λ p. (p.0, path_weight setting.advert (p.0) (p.1))) (path_transactions hash setting)
 
 abbrev pub all_weights : Weight → List (List PathStep × Weight) → List (Weight × Weight)
@@ -137,7 +137,7 @@ all_weights init paths = (init, init) ∷ with_totals init paths paths
 
 -- Of the initial transaction and then of each path its weight and its total: the weights of all transactions that lead
 -- there, the initial one's included.
-abbrev pub weights : (List ℕ → List ℕ) → Setting → List (Weight × Weight)
+abbrev pub weights : (List ℕ → List ℕ) → Instance → List (Weight × Weight)
 weights hash setting = all_weights (exactly (initial_weight (initial_unsigned hash setting))) (path_weights hash setting)
 
 -- ---- what is full

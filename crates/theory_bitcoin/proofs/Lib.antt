@@ -1,9 +1,9 @@
-pub mod Exact
-pub mod Whole
-pub mod Formats
-pub mod Parts
-pub mod Witnesses
-pub mod Transactions
-pub mod Top
-pub mod Labels
+pub mod AllBytes
 pub mod Apart
+pub mod Exact
+pub mod Formats
+pub mod Labels
+pub mod Parts
+pub mod Top
+pub mod Transactions
+pub mod Witnesses

@@ -6,7 +6,7 @@ use Rattle.spec_bitcoin.specs.declared.tx.Tx.{Tx}
 use Rattle.spec_bitcoin.specs.Spelling.{IsBytes, Spells}
 use Rattle.spec_bitcoin.specs.Reading.{◌>>=◌, transaction_at, all_at, with_place, transaction_of, IsBadAt}
 use Rattle.theory_bitcoin.proofs.Exact.{ok_is, err_is, chosen, ok_err}
-use Rattle.theory_bitcoin.proofs.Whole.{BadAt, bad_stopped, bad_trailing, nothing_after}
+use Rattle.theory_bitcoin.proofs.AllBytes.{BadAt, bad_stopped, bad_trailing, nothing_after}
 use Rattle.theory_bitcoin.proofs.Transactions.{the_transaction}
 
 abbrev Spelled : List ℕ → Tx → Type 0

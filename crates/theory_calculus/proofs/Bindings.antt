@@ -181,7 +181,7 @@ bound_now ds next es bs low fit d =
       below = λ x n h. live_below n (binds_live ds es bs x n p.0 h);
       apart = λ x y n h k. bound_once bs x y n p.1 h k;
       values = λ x n h c k i f. (let v = binds_value ds es bs x n h p.0 d i k in let w : value_at ds n
-          ≡ c.value = ap moves.value_of f in sym w ∙ v);
+          ≡ c.value = ap moves.value_or_zero f in sym w ∙ v);
     }
   where
     live_below : (n : ℕ) → is_live ds n ≡ true → n < next
@@ -254,7 +254,7 @@ module _ (ds : List Deposit) (bs : List (List ℕ × ℕ)) where
       by_bound None e h ih = cc
       by_bound (Some n) e h ih =
           let c = some_there (deposit_at ds n) h in
-          let v : value_at ds n ≡ worth x = ap moves.value_of c.1 ∙ each x n c.0 (or_left _ _ (bytes_same x)) e c.1 in
+          let v : value_at ds n ≡ worth x = ap moves.value_or_zero c.1 ∙ each x n c.0 (or_left _ _ (bytes_same x)) e c.1 in
           sum_by-cons (λ m. value_at ds m) n (numbers_of bs xs) ∙ (λ i. v i + ih i) ∙ sym (sum_by-cons worth x xs)
 
   -- the same, of deposits with their values
@@ -272,5 +272,5 @@ module _ (ds : List Deposit) (bs : List (List ℕ × ℕ)) where
       by_bound None f h ih = cc
       by_bound (Some n) f h ih =
           let c = some_there (deposit_at ds n) h in
-          let v : value_at ds n ≡ e.1.value = ap moves.value_of c.1 ∙ each (e.0) n (e.1) c.0 (inl refl) f c.1 in
+          let v : value_at ds n ≡ e.1.value = ap moves.value_or_zero c.1 ∙ each (e.0) n (e.1) c.0 (inl refl) f c.1 in
           sum_by-cons (λ m. value_at ds m) n (numbers_of bs (names_of es)) ∙ (λ i. v i + ih i)

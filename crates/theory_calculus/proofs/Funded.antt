@@ -6,11 +6,11 @@ use Rattle.std.specs.List.{AllByRecursion}
 use Rattle.std.proofs.lemmas.Bool.{and_parts, eqb-true, not-true}
 use Rattle.spec_data.specs.Lists.{has_number, are_different}
 use Rattle.spec_terms.specs.Advert.{Advert}
-use Rattle.spec_terms.specs.Balance.{stand, stands}
+use Rattle.spec_terms.specs.Balance.{funded, all_funded}
 use Rattle.spec_terms.specs.Faults.{IsWellFormed}
-use Rattle.spec_terms.specs.Paths.{position, choice_at}
+use Rattle.spec_terms.specs.Paths.{position, contract_under}
 use Rattle.spec_terms.specs.Precondition.{deposits, names_of}
-use Rattle.spec_terms.specs.Term.{Choice}
+use Rattle.spec_terms.specs.Term.{Contract}
 use Rattle.spec_calculus.specs.declared.step.Owner.{Owner}
 use Rattle.spec_calculus.specs.declared.step.Step.TheVariants as steps
 use Rattle.spec_calculus.specs.declared.parts.Deposit.{Deposit}
@@ -30,9 +30,9 @@ use Rattle.theory_calculus.proofs.Checked.{deposit_names_differ}
 pub record StandsAt (contracts : List Advert) (a : ActiveContract) : Type 0 where
   pub advert : Advert
   pub there : contract_at contracts a.contract ≡ Some advert
-  pub choice : Choice
-  pub chosen : choice_at advert.root a.position ≡ Some choice
-  pub static : Is_in (stand a.position (pos a.balance) (position choice)) (stands advert)
+  pub choice : Contract
+  pub chosen : contract_under advert.root a.position ≡ Some choice
+  pub static : Is_in (funded a.position (pos a.balance) (position choice)) (all_funded advert)
 
 pub record IsFine (g : Configuration) : Type 0 where
   pub checked : AllByRecursion IsWellFormed g.contracts

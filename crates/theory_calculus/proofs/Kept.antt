@@ -6,11 +6,11 @@ use Rattle.std.proofs.lemmas.Bool.{and_parts, leb-true}
 use Rattle.spec_data.specs.Lists.{are_distinct}
 use Rattle.spec_data.specs.Ranges.{max_money}
 use Rattle.spec_terms.specs.Advert.{Advert}
-use Rattle.spec_terms.specs.Balance.{stand, stands}
+use Rattle.spec_terms.specs.Balance.{funded, all_funded}
 use Rattle.spec_terms.specs.Core.{core}
 use Rattle.spec_terms.specs.Faults.{IsWellFormed, sum_of_parts}
 use Rattle.spec_terms.specs.Paths.{position}
-use Rattle.spec_terms.specs.Term.{Branch, auth, after, put_reveal, withdraw, split, Choice, Parts, no_part, part, Test}
+use Rattle.spec_terms.specs.Term.{Guarded, auth, after, put_reveal, withdraw, split, Contract, Parts, no_part, part, Pred}
 use Rattle.spec_terms.specs.declared.path.PathStep.TheVariants.{Branch as To}
 use Rattle.spec_calculus.specs.declared.step.Step.{Step}
 use Rattle.spec_calculus.specs.declared.step.Step.TheVariants as steps
@@ -19,7 +19,7 @@ use Rattle.spec_calculus.specs.declared.parts.ActiveContract.{ActiveContract}
 use Rattle.spec_calculus.specs.Configuration.{Configuration}
 use Rattle.spec_calculus.specs.Beginning.{contract_at, pre_of, fee_of, bindings_of, are_there, numbers_of, persistent_names}
 use Rattle.spec_calculus.specs.Moves.{are_live, value_in, value_out}
-use Rattle.spec_calculus.specs.Branches.{active_at, place_of, position_of, balance_of, advert_of, is_put, is_withdraw, is_split, is_put_core, is_withdraw_core, is_split_core, puts_of, payee_of, values_of, values_in, part_values, gone, total_value, others, parts_made}
+use Rattle.spec_calculus.specs.Branches.{active_at, contract_number, position_of, balance_of, advert_of, is_put, is_withdraw, is_split, is_put_core, is_withdraw_core, is_split_core, puts_of_taken, payee_of, values_of, values_in, part_values, gone, total_value, others, parts_made}
 use Rattle.spec_calculus.specs.Steps.{premises, fails, effect, branch_at, opening}
 use Rattle.theory_calculus.specs.Numbered.{IsNumbered}
 use Rattle.theory_calculus.specs.Money.{Pays, IsBalanced, total_money, fee_at, IsMoneyKept, IsFunded, MoneyIsKept, IsWithinAllMoney, MoneyStaysWithin}
@@ -36,34 +36,34 @@ use Rattle.theory_calculus.proofs.Totals.{begun_total, continued_total, withdraw
 
 -- ---- kinds of branches
 
-put_some : (o : Option Branch) → is_put o ≡ true → is_some o ≡ true
+put_some : (o : Option Guarded) → is_put o ≡ true → is_some o ≡ true
 put_some None h = h
 put_some (Some b) h = refl
 
-withdraw_some : (o : Option Branch) → is_withdraw o ≡ true → is_some o ≡ true
+withdraw_some : (o : Option Guarded) → is_withdraw o ≡ true → is_some o ≡ true
 withdraw_some None h = h
 withdraw_some (Some b) h = refl
 
-split_some : (o : Option Branch) → is_split o ≡ true → is_some o ≡ true
+split_some : (o : Option Guarded) → is_split o ≡ true → is_some o ≡ true
 split_some None h = h
 split_some (Some b) h = refl
 
-put_core : (c : Branch) → is_put_core c ≡ true
-    → (puts : List (List ℕ)) × (reveals : List (List ℕ)) × (test : Test) × (next : Choice) × (c ≡ put_reveal puts reveals test next)
+put_core : (c : Guarded) → is_put_core c ≡ true
+    → (puts : List (List ℕ)) × (reveals : List (List ℕ)) × (test : Pred) × (next : Contract) × (c ≡ put_reveal puts reveals test next)
 put_core (put_reveal puts reveals test next) h = (puts, reveals, test, next, refl)
 put_core (auth party body) h = cc
 put_core (after height body) h = cc
 put_core (withdraw party) h = cc
 put_core (split parts) h = cc
 
-withdraw_core : (c : Branch) → is_withdraw_core c ≡ true → (party : List ℕ) × (c ≡ withdraw party)
+withdraw_core : (c : Guarded) → is_withdraw_core c ≡ true → (party : List ℕ) × (c ≡ withdraw party)
 withdraw_core (withdraw party) h = (party, refl)
 withdraw_core (auth party body) h = cc
 withdraw_core (after height body) h = cc
 withdraw_core (put_reveal puts reveals test next) h = cc
 withdraw_core (split parts) h = cc
 
-split_core : (c : Branch) → is_split_core c ≡ true → (parts : Parts) × (c ≡ split parts)
+split_core : (c : Guarded) → is_split_core c ≡ true → (parts : Parts) × (c ≡ split parts)
 split_core (split parts) h = (parts, refl)
 split_core (auth party body) h = cc
 split_core (after height body) h = cc
@@ -147,12 +147,12 @@ module _ (g : Configuration) (fine : IsFine g) where
 
   module _ (output i : ℕ) (e : fails g (steps.PutReveal output i) ≡ 0) where
     abbrev puts_in : List ℕ
-    puts_in = numbers_of (bindings_of g.advertised (place_of (active_at g.active output))) (puts_of (branch_at g output i))
+    puts_in = numbers_of (bindings_of g.advertised (contract_number (active_at g.active output))) (puts_of_taken (branch_at g output i))
 
     abbrev put_new : ActiveContract
     put_new = record {
       number = g.next;
-      contract = place_of (active_at g.active output);
+      contract = contract_number (active_at g.active output);
       position = position_of (active_at g.active output) ++ To i ∷ [];
       balance = balance_of (active_at g.active output) + total_value (gone g.deposits puts_in) - fee_of
           (advert_of g.contracts (active_at g.active output));
@@ -189,7 +189,7 @@ module _ (g : Configuration) (fine : IsFine g) where
   module _ (output i : ℕ) (e : fails g (steps.Split output i) ≡ 0) where
     abbrev split_new : List ActiveContract
     split_new =
-        parts_made g.next (place_of (active_at g.active output)) (position_of (active_at g.active output) ++ To i ∷ []) 0
+        parts_made g.next (contract_number (active_at g.active output)) (position_of (active_at g.active output) ++ To i ∷ []) 0
         (values_of (branch_at g output i))
 
     split_both : ((a : ActiveContract) → Is_in a split_new → StandsAt g.contracts a) ×
@@ -341,7 +341,7 @@ module _ (g : Configuration) (fine : IsFine g) where
         there = st.there;
         choice = st.choice;
         chosen = st.chosen;
-        static = contains_from_in (stands st.advert) (stand a.position (pos a.balance) (position st.choice)) st.static;
+        static = contains_from_in (all_funded st.advert) (funded a.position (pos a.balance) (position st.choice)) st.static;
         pays = λ j b h. branch_pays st.advert well (a.position ++ To j ∷ []) a.balance b
             (stands_branch st.advert a.position (pos a.balance) st.choice j b st.static h);
       }

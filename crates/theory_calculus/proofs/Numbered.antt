@@ -19,7 +19,7 @@ use Rattle.spec_calculus.specs.declared.parts.ActiveContract.{ActiveContract}
 use Rattle.spec_calculus.specs.Configuration.{Configuration}
 use Rattle.spec_calculus.specs.Beginning.{contract_at, pre_of, fee_of, bindings_of, numbers_of, persistent_names}
 use Rattle.spec_calculus.specs.Moves.{kept, made}
-use Rattle.spec_calculus.specs.Branches.{active_at, place_of, position_of, balance_of, advert_of, puts_of, payee_of, values_of, gone, total_value, others, parts_made}
+use Rattle.spec_calculus.specs.Branches.{active_at, contract_number, position_of, balance_of, advert_of, puts_of_taken, payee_of, values_of, gone, total_value, others, parts_made}
 use Rattle.spec_calculus.specs.Steps.{branch_at, begun, continued, withdrawn, divided, moved, effect, opening, owned}
 use Rattle.theory_calculus.specs.InOrder.{are_ascending}
 use Rattle.theory_calculus.specs.Numbered.{IsNumbered, NumbersStandApart, deposit_numbers, contract_numbers}
@@ -235,7 +235,7 @@ continued_row : (g : Configuration) (output branch : ℕ) (active : Option Activ
 continued_row g output branch active numbers r =
     let new : ActiveContract = record {
       number = g.next;
-      contract = place_of active;
+      contract = contract_number active;
       position = position_of active ++ To branch ∷ [];
       balance = balance_of active + total_value (gone g.deposits numbers) - fee_of (advert_of g.contracts active);
     } in
@@ -255,8 +255,8 @@ divided_row : (g : Configuration) (output branch : ℕ) (active : Option ActiveC
     → RowOf (divided g output branch active values)
 divided_row g output branch active values r =
     add_contracts g.next (length values) (d_names g.deposits) (others g.active output)
-    (parts_made g.next (place_of active) (position_of active ++ To branch ∷ []) 0 values)
-    (parts_numbers g.next (place_of active) (position_of active ++ To branch ∷ []) 0 values)
+    (parts_made g.next (contract_number active) (position_of active ++ To branch ∷ []) 0 values)
+    (parts_numbers g.next (contract_number active) (position_of active ++ To branch ∷ []) 0 values)
     (fewer_contracts g.next (d_names g.deposits) g.active (λ x. not (x.number == output)) r)
 
 moved_row : (g : Configuration) (action : Move) → RowOf g → RowOf (moved g action)
@@ -279,7 +279,7 @@ row_after g (steps.Reveal contract party secret) r = r
 row_after g (steps.AuthBranch party output branch) r = r
 row_after g (steps.PutReveal output branch) r =
     continued_row g output branch (active_at g.active output)
-    (numbers_of (bindings_of g.advertised (place_of (active_at g.active output))) (puts_of (branch_at g output branch))) r
+    (numbers_of (bindings_of g.advertised (contract_number (active_at g.active output))) (puts_of_taken (branch_at g output branch))) r
 row_after g (steps.Withdraw output branch) r = withdrawn_row g output (active_at g.active output) (payee_of (branch_at g output branch)) r
 row_after g (steps.Split output branch) r =
     divided_row g output branch (active_at g.active output) (values_of (branch_at g output branch)) r

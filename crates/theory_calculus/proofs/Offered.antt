@@ -6,9 +6,9 @@ use Rattle.std.proofs.lemmas.Bool.{and_parts, and_from, eqb-true, eq-eqb}
 use Rattle.std.proofs.lemmas.Bool.Decides.{nat_tests}
 use Rattle.spec_terms.specs.Advert.{Advert}
 use Rattle.spec_terms.specs.Term as term
-use Rattle.spec_terms.specs.Term.{branches, auth, after, put_reveal, withdraw, split, Choice}
+use Rattle.spec_terms.specs.Term.{branches, auth, after, put_reveal, withdraw, split, Contract}
 use Rattle.spec_terms.specs.Core.{core, continuation}
-use Rattle.spec_terms.specs.Paths.{Spot, position, at_branch, as_branch, as_choice, next_spot, below, spot_from}
+use Rattle.spec_terms.specs.Paths.{Subterm, position, at_branch, as_branch, as_contract, next_subterm, below, subterm_from}
 use Rattle.spec_terms.proofs.PathLemmas.{at_longer}
 use Rattle.spec_terms.specs.declared.path.PathStep.TheVariants.{Branch as To}
 use Rattle.spec_calculus.specs.declared.step.Step.{Step}
@@ -30,26 +30,26 @@ pub branch_is : (contracts : List Advert) (a : ActiveContract) (i : ℕ)
     → branch_of contracts (Some a) i ≡ slice_get (branches_of contracts a) i
 branch_is contracts a i = by_advert (contract_at contracts a.contract)
   where
-    by_slot : (o : Option term.Branch) → option_and_then as_branch (option_map at_branch o) ≡ o
+    by_slot : (o : Option term.Guarded) → option_and_then as_branch (option_map at_branch o) ≡ o
     by_slot None = refl
     by_slot (Some b) = refl
 
-    by_core : (c : term.Branch) → option_and_then as_branch (below c (To i)) ≡ slice_get (branches_at (continuation c)) i
+    by_core : (c : term.Guarded) → option_and_then as_branch (below c (To i)) ≡ slice_get (branches_at (continuation c)) i
     by_core (put_reveal puts reveals test next) = by_slot (slice_get (branches next) i)
     by_core (auth party body) = refl
     by_core (after height body) = refl
     by_core (withdraw party) = refl
     by_core (split parts) = refl
 
-    by_spot : (o : Option Spot)
-        → option_and_then as_branch (option_and_then (λ q. next_spot q (To i)) o) ≡ slice_get (branches_at (option_and_then as_choice o)) i
+    by_spot : (o : Option Subterm)
+        → option_and_then as_branch (option_and_then (λ q. next_subterm q (To i)) o) ≡ slice_get (branches_at (option_and_then as_contract o)) i
     by_spot None = refl
     by_spot (Some (position c)) = by_slot (slice_get (branches c) i)
     by_spot (Some (at_branch b)) = by_core (core b)
 
     by_advert : (o : Option Advert) → branch_in o a.position i ≡ slice_get (branches_in o a.position) i
     by_advert None = refl
-    by_advert (Some advert) = at_longer advert.root a.position i ∙ by_spot (spot_from (position advert.root) a.position)
+    by_advert (Some advert) = at_longer advert.root a.position i ∙ by_spot (subterm_from (position advert.root) a.position)
 
 -- ---- the steps that may be offered
 
@@ -61,7 +61,7 @@ beginning_there k (suc j) (c ∷ cs) h =
     let e : j + (k + 1) ≡ suc j + k = omega arith in
     inr (subst (λ n. Is_in (steps.Init n) (beginnings (k + 1) cs)) e (beginning_there (k + 1) j cs h))
 
-taking_there : (output i j : ℕ) (bs : List term.Branch) (b : term.Branch) (s : Step) → slice_get bs j ≡ Some b
+taking_there : (output i j : ℕ) (bs : List term.Guarded) (b : term.Guarded) (s : Step) → slice_get bs j ≡ Some b
     → Is_in s (taking output (j + i) (core b)) → Is_in s (takings output i bs)
 taking_there output i j [] b s e h = cc
 taking_there output i zero (d ∷ bs) b s e h =
@@ -85,8 +85,8 @@ contract_there contracts (x ∷ xs) a s (inr i) h =
 
 module _ (g : Configuration) where
   -- the step that takes a branch of an active contract
-  taken_there : (output i : ℕ) (s : Step) (good : Option term.Branch → Bool) → good None ≡ false
-      → ((b : term.Branch) → good (Some b) ≡ true → Is_in s (taking output i (core b)))
+  taken_there : (output i : ℕ) (s : Step) (good : Option term.Guarded → Bool) → good None ≡ false
+      → ((b : term.Guarded) → good (Some b) ≡ true → Is_in s (taking output i (core b)))
       → is_some (active_at g.active output) ≡ true → good (branch_at g output i) ≡ true → Is_in s (all_takings g.contracts g.active)
   taken_there output i s good none kind active taken =
       let a = some_there (active_at g.active output) active in
@@ -96,7 +96,7 @@ module _ (g : Configuration) where
       subst (λ o. good o ≡ true) (ap (λ o. branch_of g.contracts o i) a.1 ∙ branch_is g.contracts a.0 i) taken in
       by_branch a.0 f.0 n (slice_get (branches_of g.contracts a.0) i) refl t
     where
-      by_branch : (a : ActiveContract) → Is_in a g.active → a.number ≡ output → (o : Option term.Branch)
+      by_branch : (a : ActiveContract) → Is_in a g.active → a.number ≡ output → (o : Option term.Guarded)
           → slice_get (branches_of g.contracts a) i ≡ o → good o ≡ true → Is_in s (all_takings g.contracts g.active)
       by_branch a there n None e t = cc
       by_branch a there n (Some b) e t =
@@ -109,31 +109,31 @@ module _ (g : Configuration) where
       contains_from_in (offers g) s (filter_has (λ x. is_enabled g x) (beginnings 0 g.contracts ++ all_takings g.contracts g.active) s i
       (eq-eqb (fails g s) 0 e))
 
-  put_kind : (output i : ℕ) (b : term.Branch) → is_put (Some b) ≡ true → Is_in (steps.PutReveal output i) (taking output i (core b))
+  put_kind : (output i : ℕ) (b : term.Guarded) → is_put (Some b) ≡ true → Is_in (steps.PutReveal output i) (taking output i (core b))
   put_kind output i b h = by_core (core b) h
     where
-      by_core : (c : term.Branch) → is_put_core c ≡ true → Is_in (steps.PutReveal output i) (taking output i c)
+      by_core : (c : term.Guarded) → is_put_core c ≡ true → Is_in (steps.PutReveal output i) (taking output i c)
       by_core (put_reveal puts reveals test next) h = inl refl
       by_core (auth party body) h = cc
       by_core (after height body) h = cc
       by_core (withdraw party) h = cc
       by_core (split parts) h = cc
 
-  withdraw_kind : (output i : ℕ) (b : term.Branch) → is_withdraw (Some b) ≡ true
+  withdraw_kind : (output i : ℕ) (b : term.Guarded) → is_withdraw (Some b) ≡ true
       → Is_in (steps.Withdraw output i) (taking output i (core b))
   withdraw_kind output i b h = by_core (core b) h
     where
-      by_core : (c : term.Branch) → is_withdraw_core c ≡ true → Is_in (steps.Withdraw output i) (taking output i c)
+      by_core : (c : term.Guarded) → is_withdraw_core c ≡ true → Is_in (steps.Withdraw output i) (taking output i c)
       by_core (withdraw party) h = inl refl
       by_core (auth party body) h = cc
       by_core (after height body) h = cc
       by_core (put_reveal puts reveals test next) h = cc
       by_core (split parts) h = cc
 
-  split_kind : (output i : ℕ) (b : term.Branch) → is_split (Some b) ≡ true → Is_in (steps.Split output i) (taking output i (core b))
+  split_kind : (output i : ℕ) (b : term.Guarded) → is_split (Some b) ≡ true → Is_in (steps.Split output i) (taking output i (core b))
   split_kind output i b h = by_core (core b) h
     where
-      by_core : (c : term.Branch) → is_split_core c ≡ true → Is_in (steps.Split output i) (taking output i c)
+      by_core : (c : term.Guarded) → is_split_core c ≡ true → Is_in (steps.Split output i) (taking output i c)
       by_core (split parts) h = inl refl
       by_core (auth party body) h = cc
       by_core (after height body) h = cc
@@ -176,14 +176,14 @@ beginnings_kind : (k : ℕ) (contracts : List Advert) → list_all is_contract_s
 beginnings_kind k [] = refl
 beginnings_kind k (c ∷ cs) = beginnings_kind (k + 1) cs
 
-taking_kind : (output i : ℕ) (c : term.Branch) → list_all is_contract_step (taking output i c) ≡ true
+taking_kind : (output i : ℕ) (c : term.Guarded) → list_all is_contract_step (taking output i c) ≡ true
 taking_kind output i (put_reveal puts reveals test next) = refl
 taking_kind output i (withdraw party) = refl
 taking_kind output i (split parts) = refl
 taking_kind output i (auth party body) = refl
 taking_kind output i (after height body) = refl
 
-takings_kind : (output i : ℕ) (bs : List term.Branch) → list_all is_contract_step (takings output i bs) ≡ true
+takings_kind : (output i : ℕ) (bs : List term.Guarded) → list_all is_contract_step (takings output i bs) ≡ true
 takings_kind output i [] = refl
 takings_kind output i (b ∷ bs) =
     all_append is_contract_step (taking output i (core b)) (takings output (i + 1) bs) (taking_kind output i (core b))
@@ -236,7 +236,7 @@ beginnings_order : (k : ℕ) (contracts : List Advert) → stands_in_order is_of
 beginnings_order k [] = refl
 beginnings_order k (c ∷ cs) = and_from _ _ (beginnings_after k (k + 1) cs (omega arith)) (beginnings_order (k + 1) cs)
 
-taking_after : (key : ℕ × ℕ × ℕ) (output i : ℕ) (c : term.Branch) → is_key_less key (1, output, i) ≡ true → AllAfter key (taking output i c)
+taking_after : (key : ℕ × ℕ × ℕ) (output i : ℕ) (c : term.Guarded) → is_key_less key (1, output, i) ≡ true → AllAfter key (taking output i c)
 taking_after key output i (put_reveal puts reveals test next) h = and_from _ _ h refl
 taking_after key output i (withdraw party) h = and_from _ _ h refl
 taking_after key output i (split parts) h = and_from _ _ h refl
@@ -244,7 +244,7 @@ taking_after key output i (auth party body) h = refl
 taking_after key output i (after height body) h = refl
 
 -- the branches of a contract from one on
-takings_after : (key : ℕ × ℕ × ℕ) (output i : ℕ) (bs : List term.Branch) → ((j : ℕ) → i ≤ j → is_key_less key (1, output, j) ≡ true)
+takings_after : (key : ℕ × ℕ × ℕ) (output i : ℕ) (bs : List term.Guarded) → ((j : ℕ) → i ≤ j → is_key_less key (1, output, j) ≡ true)
     → AllAfter key (takings output i bs)
 takings_after key output i [] h = refl
 takings_after key output i (b ∷ bs) h =
@@ -262,7 +262,7 @@ contracts_after key contracts (x ∷ xs) m h l =
     (takings_after key x.number 0 (branches_of contracts x) (λ j q. h x.number j less)) (contracts_after key contracts xs m h p.1)
 
 -- what stands after each key of a contract's branches stands after their steps
-taking_before : (output i : ℕ) (c : term.Branch) (ys : List Step) → AllAfter (1, output, i) ys
+taking_before : (output i : ℕ) (c : term.Guarded) (ys : List Step) → AllAfter (1, output, i) ys
     → list_all (λ x. list_all (λ y. is_offered_before x y) ys) (taking output i c) ≡ true
 taking_before output i (put_reveal puts reveals test next) ys h = and_from _ _ h refl
 taking_before output i (withdraw party) ys h = and_from _ _ h refl
@@ -270,21 +270,21 @@ taking_before output i (split parts) ys h = and_from _ _ h refl
 taking_before output i (auth party body) ys h = refl
 taking_before output i (after height body) ys h = refl
 
-takings_before : (output i : ℕ) (bs : List term.Branch) (ys : List Step) → ((j : ℕ) → AllAfter (1, output, j) ys)
+takings_before : (output i : ℕ) (bs : List term.Guarded) (ys : List Step) → ((j : ℕ) → AllAfter (1, output, j) ys)
     → list_all (λ x. list_all (λ y. is_offered_before x y) ys) (takings output i bs) ≡ true
 takings_before output i [] ys h = refl
 takings_before output i (b ∷ bs) ys h =
     all_append (λ x. list_all (λ y. is_offered_before x y) ys) (taking output i (core b)) (takings output (i + 1) bs)
     (taking_before output i (core b) ys (h i)) (takings_before output (i + 1) bs ys h)
 
-taking_order : (output i : ℕ) (c : term.Branch) → stands_in_order is_offered_before (taking output i c) ≡ true
+taking_order : (output i : ℕ) (c : term.Guarded) → stands_in_order is_offered_before (taking output i c) ≡ true
 taking_order output i (put_reveal puts reveals test next) = refl
 taking_order output i (withdraw party) = refl
 taking_order output i (split parts) = refl
 taking_order output i (auth party body) = refl
 taking_order output i (after height body) = refl
 
-takings_order : (output i : ℕ) (bs : List term.Branch) → stands_in_order is_offered_before (takings output i bs) ≡ true
+takings_order : (output i : ℕ) (bs : List term.Guarded) → stands_in_order is_offered_before (takings output i bs) ≡ true
 takings_order output i [] = refl
 takings_order output i (b ∷ bs) =
     in_order-append is_offered_before (taking output i (core b)) (takings output (i + 1) bs) (taking_order output i (core b))
@@ -305,7 +305,7 @@ all_takings_order contracts (x ∷ xs) h =
     (takings_before x.number 0 (branches_of contracts x) (all_takings contracts xs)
     (λ j. contracts_after (1, x.number, j) contracts xs x.number (λ n i l. later_contract x.number j n i l) p.0))
 
-takings_begun : (k output i : ℕ) (bs : List term.Branch) → AllAfter (0, k, 0) (takings output i bs)
+takings_begun : (k output i : ℕ) (bs : List term.Guarded) → AllAfter (0, k, 0) (takings output i bs)
 takings_begun k output i bs = takings_after (0, k, 0) output i bs (λ j l. refl)
 
 all_begun : (k : ℕ) (contracts : List Advert) (xs : List ActiveContract) → AllAfter (0, k, 0) (all_takings contracts xs)

@@ -2,17 +2,17 @@
 use Rattle.std.proofs.Common.{◌≡◌, List, [], ◌∷◌, refl, sym, ap, ◌∙◌, subst}
 use Rattle.spec_calculus.specs.declared.step.Step.{Step}
 use Rattle.spec_calculus.specs.Configuration.{Configuration}
-use Rattle.spec_calculus.specs.Steps.{fails, effect, after, Legal, IsLegalRun}
+use Rattle.spec_calculus.specs.Steps.{fails, effect, after_steps, Legal, IsLegalRun}
 use Rattle.theory_calculus.specs.Numbered.{LegalRunsAreOne}
 
-run_legal : (g : Configuration) (ss : List Step) (h : Configuration) → IsLegalRun g ss h → Legal g ss × (h ≡ after g ss)
+run_legal : (g : Configuration) (ss : List Step) (h : Configuration) → IsLegalRun g ss h → Legal g ss × (h ≡ after_steps g ss)
 run_legal g [] h r = (tt, r)
 run_legal g (s ∷ ss) h r =
     let k = run_legal r.0 ss h r.2 in
     let e = r.1.leads in
-    ((r.1.enabled, subst (λ c. Legal c ss) e k.0), k.1 ∙ ap (λ c. after c ss) e)
+    ((r.1.enabled, subst (λ c. Legal c ss) e k.0), k.1 ∙ ap (λ c. after_steps c ss) e)
 
-legal_run : (g : Configuration) (ss : List Step) (h : Configuration) → Legal g ss → h ≡ after g ss → IsLegalRun g ss h
+legal_run : (g : Configuration) (ss : List Step) (h : Configuration) → Legal g ss → h ≡ after_steps g ss → IsLegalRun g ss h
 legal_run g [] h l e = e
 legal_run g (s ∷ ss) h l e = (effect g s, record { enabled = l.0; leads = refl }, legal_run (effect g s) ss h l.1 e)
 

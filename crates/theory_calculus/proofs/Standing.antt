@@ -6,13 +6,13 @@ use Rattle.std.specs.Str.{bytes_eq}
 use Rattle.std.proofs.lemmas.Bool.{and_parts, or_cases}
 use Rattle.spec_data.specs.Lists.{is_among, are_different, look_up}
 use Rattle.spec_terms.specs.Advert.{Advert}
-use Rattle.spec_terms.specs.Balance.{stand, stands}
+use Rattle.spec_terms.specs.Balance.{funded, all_funded}
 use Rattle.spec_terms.specs.Core.{core}
 use Rattle.spec_terms.specs.Core as cores
 use Rattle.spec_terms.specs.Faults.{IsWellFormed, are_among}
 use Rattle.spec_terms.specs.Paths.{position, at_branch}
 use Rattle.spec_terms.specs.Precondition.{persistent, volatile, deposits, names_of, total_of, value_of, value_of_puts}
-use Rattle.spec_terms.specs.Term.{Branch, put_reveal, split, Choice, branches, Parts, no_part, part, parts_list, Test}
+use Rattle.spec_terms.specs.Term.{Guarded, put_reveal, split, Contract, branches, Parts, no_part, part, parts_list, Pred}
 use Rattle.spec_terms.specs.declared.path.PathStep.{PathStep}
 use Rattle.spec_terms.specs.declared.path.PathStep.TheVariants.{Branch as To, Part as Into}
 use Rattle.spec_calculus.specs.declared.parts.Deposit.{Deposit}
@@ -20,7 +20,7 @@ use Rattle.spec_calculus.specs.declared.parts.ActiveContract.{ActiveContract}
 use Rattle.spec_calculus.specs.Configuration.{Configuration}
 use Rattle.spec_calculus.specs.Beginning.{contract_at, pre_of, fee_of, bindings_of, are_there, numbers_of, persistent_names}
 use Rattle.spec_calculus.specs.Moves.{deposit_at}
-use Rattle.spec_calculus.specs.Branches.{active_at, place_of, position_of, balance_of, advert_of, branch_of, puts_of, values_of, values_in, part_values, gone, total_value, parts_made}
+use Rattle.spec_calculus.specs.Branches.{active_at, contract_number, position_of, balance_of, advert_of, branch_of, puts_of_taken, values_of, values_in, part_values, gone, total_value, parts_made}
 use Rattle.spec_calculus.specs.Steps.{branch_at}
 use Rattle.spec_calculus.specs.Offers.{branches_at, branches_in}
 use Rattle.theory_calculus.specs.Money.{Pays}
@@ -99,7 +99,7 @@ module _ (g : Configuration) (fine : IsFine g) where
         there = e;
         choice = advert.root;
         chosen = refl;
-        static = inl (ap (λ m. stand [] m (position advert.root)) (sym (root_is advert well)));
+        static = inl (ap (λ m. funded [] m (position advert.root)) (sym (root_is advert well)));
       })
 
   -- ---- a branch of an active contract
@@ -111,10 +111,10 @@ module _ (g : Configuration) (fine : IsFine g) where
     pub held : StandsAt g.contracts active
     pub of_advert : advert_of g.contracts (active_at g.active output) ≡ Some held.advert
     pub well : IsWellFormed held.advert
-    pub branch : Branch
+    pub branch : Guarded
     pub taken : branch_at g output i ≡ Some branch
     pub among : slice_get (branches held.choice) i ≡ Some branch
-    pub static : Is_in (stand (active.position ++ To i ∷ []) (pos active.balance) (at_branch branch)) (stands held.advert)
+    pub static : Is_in (funded (active.position ++ To i ∷ []) (pos active.balance) (at_branch branch)) (all_funded held.advert)
 
   pub taken_by : (output i : ℕ) → is_some (active_at g.active output) ≡ true → is_some (branch_at g output i) ≡ true → IsTaken output i
   taken_by output i h k =
@@ -139,23 +139,23 @@ module _ (g : Configuration) (fine : IsFine g) where
       }
 
   module _ (output i : ℕ) (t : IsTaken output i) where
-    module _ (puts reveals : List (List ℕ)) (test : Test) (next : Choice) (e : core t.branch ≡ put_reveal puts reveals test next)
-        (there : are_there g.deposits (bindings_of g.advertised (place_of (active_at g.active output))) (puts_of (branch_at g output i))
+    module _ (puts reveals : List (List ℕ)) (test : Pred) (next : Contract) (e : core t.branch ≡ put_reveal puts reveals test next)
+        (there : are_there g.deposits (bindings_of g.advertised (contract_number (active_at g.active output))) (puts_of_taken (branch_at g output i))
         ≡ true) where
-      place_is : place_of (active_at g.active output) ≡ t.active.contract
-      place_is = ap place_of t.is
+      place_is : contract_number (active_at g.active output) ≡ t.active.contract
+      place_is = ap contract_number t.is
 
-      puts_is : puts_of (branch_at g output i) ≡ puts
-      puts_is = ap puts_of t.taken ∙ ap cores.puts_of e
+      puts_is : puts_of_taken (branch_at g output i) ≡ puts
+      puts_is = ap puts_of_taken t.taken ∙ ap cores.puts_of e
 
-      pub put_value : total_value (gone g.deposits (numbers_of (bindings_of g.advertised (place_of (active_at g.active output)))
-          (puts_of (branch_at g output i)))) ≡ value_of_puts (volatile t.held.advert.pre) puts
+      pub put_value : total_value (gone g.deposits (numbers_of (bindings_of g.advertised (contract_number (active_at g.active output)))
+          (puts_of_taken (branch_at g output i)))) ≡ value_of_puts (volatile t.held.advert.pre) puts
       put_value =
-          let same : are_there g.deposits (bindings_of g.advertised (place_of (active_at g.active output)))
-          (puts_of (branch_at g output i)) ≡ are_there g.deposits (bindings_of g.advertised t.active.contract) puts =
+          let same : are_there g.deposits (bindings_of g.advertised (contract_number (active_at g.active output)))
+          (puts_of_taken (branch_at g output i)) ≡ are_there g.deposits (bindings_of g.advertised t.active.contract) puts =
           (λ j. are_there g.deposits (bindings_of g.advertised (place_is j)) (puts_is j)) in
-          let moved : total_value (gone g.deposits (numbers_of (bindings_of g.advertised (place_of (active_at g.active output)))
-          (puts_of (branch_at g output i)))) ≡ total_value
+          let moved : total_value (gone g.deposits (numbers_of (bindings_of g.advertised (contract_number (active_at g.active output)))
+          (puts_of_taken (branch_at g output i)))) ≡ total_value
           (gone g.deposits (numbers_of (bindings_of g.advertised t.active.contract) puts)) =
           (λ j. total_value (gone g.deposits (numbers_of (bindings_of g.advertised (place_is j)) (puts_is j)))) in
           let q = t.active.position ++ To i ∷ [] in
@@ -174,11 +174,11 @@ module _ (g : Configuration) (fine : IsFine g) where
 
       pub continued_stands : StandsAt g.contracts (record {
         number = g.next;
-        contract = place_of (active_at g.active output);
+        contract = contract_number (active_at g.active output);
         position = position_of (active_at g.active output) ++ To i ∷ [];
         balance = balance_of (active_at g.active output) + total_value
-            (gone g.deposits (numbers_of (bindings_of g.advertised (place_of (active_at g.active output)))
-            (puts_of (branch_at g output i)))) - fee_of (advert_of g.contracts (active_at g.active output));
+            (gone g.deposits (numbers_of (bindings_of g.advertised (contract_number (active_at g.active output)))
+            (puts_of_taken (branch_at g output i)))) - fee_of (advert_of g.contracts (active_at g.active output));
       })
       continued_stands =
           let q = t.active.position ++ To i ∷ [] in
@@ -192,15 +192,15 @@ module _ (g : Configuration) (fine : IsFine g) where
           } in
           let there : ActiveContract = record {
             number = g.next;
-            contract = place_of (active_at g.active output);
+            contract = contract_number (active_at g.active output);
             position = position_of (active_at g.active output) ++ To i ∷ [];
             balance = balance_of (active_at g.active output) + total_value
-                (gone g.deposits (numbers_of (bindings_of g.advertised (place_of (active_at g.active output)))
-                (puts_of (branch_at g output i)))) - fee_of (advert_of g.contracts (active_at g.active output));
+                (gone g.deposits (numbers_of (bindings_of g.advertised (contract_number (active_at g.active output)))
+                (puts_of_taken (branch_at g output i)))) - fee_of (advert_of g.contracts (active_at g.active output));
           } in
           let same : there ≡ here = (λ j. record {
             number = g.next;
-            contract = place_of (t.is j);
+            contract = contract_number (t.is j);
             position = position_of (t.is j) ++ To i ∷ [];
             balance = balance_of (t.is j) + v j - fee_of (t.of_advert j);
           }) in
@@ -210,7 +210,7 @@ module _ (g : Configuration) (fine : IsFine g) where
             choice = next;
             chosen = choice_next t.held.advert.root t.active.position t.held.choice i t.branch puts reveals test next t.held.chosen t.among e;
             static =
-                subst (λ m. Is_in (stand q m (position next)) (stands t.held.advert))
+                subst (λ m. Is_in (funded q m (position next)) (all_funded t.held.advert))
                 (difference t.active.balance (value_of_puts (volatile t.held.advert.pre) puts) t.held.advert.fee put_enough)
                 (stands_next t.held.advert q (pos t.active.balance) t.branch puts reveals test next t.static e);
           })
@@ -218,7 +218,7 @@ module _ (g : Configuration) (fine : IsFine g) where
     -- ---- the parts of a split
 
     parts_stand : (n k contract : ℕ) (p : List PathStep) (ps : Parts)
-        → ((j m q : ℕ) (x : ℕ × Choice) → slice_get (parts_list ps) j ≡ Some x → q ≡ j + k
+        → ((j m q : ℕ) (x : ℕ × Contract) → slice_get (parts_list ps) j ≡ Some x → q ≡ j + k
         → StandsAt g.contracts (record { number = m; contract = contract; position = p ++ Into q ∷ []; balance = x.0 }))
         → (y : ActiveContract) → Is_in y (parts_made n contract p k (part_values ps)) → StandsAt g.contracts y
     parts_stand n k contract p no_part each y h = absurd h
@@ -227,18 +227,18 @@ module _ (g : Configuration) (fine : IsFine g) where
         parts_stand (n + 1) (k + 1) contract p ps (λ j m q x e f. each (suc j) m q x e (omega (arith, f))) y h
 
     pub divided_stands : (parts : Parts) → core t.branch ≡ split parts → (y : ActiveContract)
-        → Is_in y (parts_made g.next (place_of (active_at g.active output)) (position_of (active_at g.active output) ++ To i ∷ []) 0
+        → Is_in y (parts_made g.next (contract_number (active_at g.active output)) (position_of (active_at g.active output) ++ To i ∷ []) 0
         (values_of (branch_at g output i)))
         → StandsAt g.contracts y
     divided_stands parts e y h =
         let p = t.active.position ++ To i ∷ [] in
         let vs : values_of (branch_at g output i) ≡ part_values parts = ap values_of t.taken ∙ ap values_in e in
-        let same : parts_made g.next (place_of (active_at g.active output)) (position_of (active_at g.active output) ++ To i ∷ []) 0
+        let same : parts_made g.next (contract_number (active_at g.active output)) (position_of (active_at g.active output) ++ To i ∷ []) 0
         (values_of (branch_at g output i)) ≡ parts_made g.next t.active.contract p 0 (part_values parts) =
-        (λ j. parts_made g.next (place_of (t.is j)) (position_of (t.is j) ++ To i ∷ []) 0 (vs j)) in
+        (λ j. parts_made g.next (contract_number (t.is j)) (position_of (t.is j) ++ To i ∷ []) 0 (vs j)) in
         parts_stand g.next 0 t.active.contract p parts each y (subst (Is_in y) same h)
       where
-        each : (j m q : ℕ) (x : ℕ × Choice) → slice_get (parts_list parts) j ≡ Some x → q ≡ j + 0
+        each : (j m q : ℕ) (x : ℕ × Contract) → slice_get (parts_list parts) j ≡ Some x → q ≡ j + 0
             → StandsAt g.contracts (record {
               number = m;
               contract = t.active.contract;

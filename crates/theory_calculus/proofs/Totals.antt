@@ -15,7 +15,7 @@ use Rattle.spec_calculus.specs.declared.parts.ActiveContract.{ActiveContract}
 use Rattle.spec_calculus.specs.Configuration.{Configuration}
 use Rattle.spec_calculus.specs.Beginning.{fee_of}
 use Rattle.spec_calculus.specs.Moves.{value_in, value_out, kept, made}
-use Rattle.spec_calculus.specs.Branches.{active_at, place_of, position_of, balance_of, advert_of, gone, total_value, others, parts_made}
+use Rattle.spec_calculus.specs.Branches.{active_at, contract_number, position_of, balance_of, advert_of, gone, total_value, others, parts_made}
 use Rattle.spec_calculus.specs.Steps.{begun, continued, withdrawn, divided, moved}
 use Rattle.theory_calculus.specs.Numbered.{IsNumbered}
 use Rattle.theory_calculus.specs.Money.{total_money}
@@ -45,7 +45,7 @@ module _ (g : Configuration) (numbered : IsNumbered g) where
   continued_total output branch numbers l =
       let new : ActiveContract = record {
         number = g.next;
-        contract = place_of (active_at g.active output);
+        contract = contract_number (active_at g.active output);
         position = position_of (active_at g.active output) ++ To branch ∷ [];
         balance = balance_of (active_at g.active output) + total_value (gone g.deposits numbers) - fee_of
             (advert_of g.contracts (active_at g.active output));
@@ -75,9 +75,9 @@ module _ (g : Configuration) (numbered : IsNumbered g) where
       (advert_of g.contracts (active_at g.active output)) ≡ total_money g
   divided_total output branch values e =
       let new =
-      parts_made g.next (place_of (active_at g.active output)) (position_of (active_at g.active output) ++ To branch ∷ []) 0 values in
+      parts_made g.next (contract_number (active_at g.active output)) (position_of (active_at g.active output) ++ To branch ∷ []) 0 values in
       let v =
-      parts_value g.next (place_of (active_at g.active output)) (position_of (active_at g.active output) ++ To branch ∷ []) 0 values in
+      parts_value g.next (contract_number (active_at g.active output)) (position_of (active_at g.active output) ++ To branch ∷ []) 0 values in
       let o = others_balance output g.active numbered.active in
       rw (sum_by-append balance (others g.active output) new) (omega (arith, v, o, e))
 

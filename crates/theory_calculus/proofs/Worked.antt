@@ -5,7 +5,7 @@ use Rattle.spec_terms.specs.Term.{always, put_reveal, withdraw, split, no_branch
 use Rattle.spec_terms.specs.declared.pre.Pre.TheVariants.{Persistent, Volatile}
 use Rattle.spec_calculus.specs.declared.step.Step.TheVariants as steps
 use Rattle.spec_calculus.specs.Configuration.{Configuration}
-use Rattle.spec_calculus.specs.Steps.{after, opening}
+use Rattle.spec_calculus.specs.Steps.{after_steps, opening}
 use Rattle.spec_calculus.specs.Offers.{offers}
 use Rattle.theory_calculus.specs.Money.{total_money, IsMoneyKept}
 use Rattle.theory_calculus.specs.InOrder.{stands_in_order}
@@ -30,7 +30,7 @@ costly = record {
 }
 
 abbrev ready : Configuration
-ready = after (opening (A ∷ []) (A ∷ []) ((A, 20) ∷ (A, 5) ∷ []) (costly ∷ [])) (
+ready = after_steps (opening (A ∷ []) (A ∷ []) ((A, 20) ∷ (A, 5) ∷ []) (costly ∷ [])) (
     steps.Advertise 0 ((x, 0) ∷ (z, 1) ∷ [])
     ∷ steps.Commit 0 A []
     ∷ steps.AuthInit 0 A x
@@ -38,7 +38,7 @@ ready = after (opening (A ∷ []) (A ∷ []) ((A, 20) ∷ (A, 5) ∷ []) (costly
     )
 
 abbrev active : Configuration
-active = after ready (steps.Init 0 ∷ [])
+active = after_steps ready (steps.Init 0 ∷ [])
 
 -- a fee that is left out at one of these makes its line false
 fee_of_the_beginning : IsMoneyKept ready (steps.Init 0)
@@ -56,7 +56,7 @@ fee_of_the_withdrawal = refl
 first_money : total_money ready ≡ 25
 first_money = refl
 
-money_after_the_split : total_money (after active (steps.Split 2 1 ∷ [])) ≡ 21
+money_after_the_split : total_money (after_steps active (steps.Split 2 1 ∷ [])) ≡ 21
 money_after_the_split = refl
 
 in_order : stands_in_order is_offered_before (offers active) ≡ true

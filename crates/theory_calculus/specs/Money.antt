@@ -4,12 +4,12 @@ use Rattle.std.specs.List.{Contains, AllByRecursion, list_all}
 use Rattle.spec_data.specs.Lists.{are_distinct}
 use Rattle.spec_data.specs.Ranges.{max_money}
 use Rattle.spec_terms.specs.Advert.{Advert}
-use Rattle.spec_terms.specs.Balance.{stand, stands}
+use Rattle.spec_terms.specs.Balance.{funded, all_funded}
 use Rattle.spec_terms.specs.Core.{core}
 use Rattle.spec_terms.specs.Faults.{IsWellFormed, sum_of_parts}
-use Rattle.spec_terms.specs.Paths.{position, choice_at}
+use Rattle.spec_terms.specs.Paths.{position, contract_under}
 use Rattle.spec_terms.specs.Precondition.{volatile, value_of_puts}
-use Rattle.spec_terms.specs.Term.{Branch, auth, after, put_reveal, withdraw, split, Choice, branches}
+use Rattle.spec_terms.specs.Term.{Guarded, auth, after, put_reveal, withdraw, split, Contract, branches}
 use Rattle.spec_calculus.specs.declared.step.Step.{Step}
 use Rattle.spec_calculus.specs.declared.step.Step.TheVariants as steps
 use Rattle.spec_calculus.specs.declared.parts.ActiveContract.{ActiveContract}
@@ -22,7 +22,7 @@ use Rattle.spec_calculus.specs.Steps.{fails, effect, IsLegalRun, opening}
 -- ---- what active contracts hold
 
 -- a balance pays for what a core does: with the deposits that a put brings for the fee, and for a split's parts and the fee exactly
-abbrev pub Pays : Advert → ℕ → Branch → Type 0
+abbrev pub Pays : Advert → ℕ → Guarded → Type 0
 Pays advert balance (put_reveal puts reveals test next) = advert.fee ≤ balance + value_of_puts (volatile advert.pre) puts
 Pays advert balance (withdraw party) = advert.fee ≤ balance
 Pays advert balance (split parts) = sum_of_parts parts + advert.fee ≡ balance
@@ -33,10 +33,10 @@ Pays advert balance (after height body) = Unit {0}
 pub record IsBalanced (contracts : List Advert) (a : ActiveContract) : Type 0 where
   pub advert : Advert
   pub there : contract_at contracts a.contract ≡ Some advert
-  pub choice : Choice
-  pub chosen : choice_at advert.root a.position ≡ Some choice
-  pub static : Contains (stands advert) (stand a.position (pos a.balance) (position choice))
-  pub pays : (branch : ℕ) (b : Branch) → slice_get (branches choice) branch ≡ Some b → Pays advert a.balance (core b)
+  pub choice : Contract
+  pub chosen : contract_under advert.root a.position ≡ Some choice
+  pub static : Contains (all_funded advert) (funded a.position (pos a.balance) (position choice))
+  pub pays : (branch : ℕ) (b : Guarded) → slice_get (branches choice) branch ≡ Some b → Pays advert a.balance (core b)
 
 -- ---- what a step takes and gives
 

@@ -5,14 +5,14 @@ use Rattle.spec_data.specs.Lists.{has_number}
 use Rattle.spec_terms.specs.Advert.{Advert}
 use Rattle.spec_calculus.specs.declared.step.Step.{Step}
 use Rattle.spec_calculus.specs.Configuration.{Configuration}
-use Rattle.spec_calculus.specs.Steps.{Legal, IsLegalRun, after, opening}
+use Rattle.spec_calculus.specs.Steps.{Legal, IsLegalRun, after_steps, opening}
 use Rattle.theory_calculus.specs.InOrder.{are_ascending}
 
 -- ---- legal runs
 
 -- steps are a legal run from g to h exactly where each may be taken after those before it, and they make h of g
 abbrev pub LegalRunsAreOne : Type 0
-LegalRunsAreOne = (g : Configuration) (steps : List Step) (h : Configuration) → IsLegalRun g steps h ↔ (Legal g steps × (h ≡ after g steps))
+LegalRunsAreOne = (g : Configuration) (steps : List Step) (h : Configuration) → IsLegalRun g steps h ↔ (Legal g steps × (h ≡ after_steps g steps))
 
 -- ---- numbers
 

@@ -7,7 +7,7 @@ use Rattle.spec_terms.specs.Faults.{first_fault, first_limit, IsWellFormed}
 use Rattle.spec_terms.specs.declared.limit.Limit.{Limit}
 use Rattle.spec_terms.specs.declared.place.Place.{Place}
 use Rattle.spec_calculus.specs.declared.step.Step.{Step}
-use Rattle.spec_calculus.specs.Steps.{Legal, after}
+use Rattle.spec_calculus.specs.Steps.{Legal, after_steps}
 use Rattle.spec_run.specs.declared.event.Event.{Event}
 use Rattle.spec_run.specs.declared.event.Run.{Run}
 use Rattle.spec_run.specs.Draft.{Halt, Collided, Guessed}
@@ -24,14 +24,14 @@ use Rattle.spec_text.specs.declared.entry.Entry.{Entry}
 use Rattle.spec_text.specs.PlayText.{report_text}
 use Rattle.spec_tool.specs.Commands.{Printed, JudgedAll, onto_judged, contracts_from, setup_of, run_answer, with_contracts, with_run}
 use Rattle.spec_tool.specs.Statements.{ValidRunTheorem}
-use Rattle.theory_text.proofs.AdvertsWithin.{read_is_readable}
-use Rattle.theory_text.proofs.ValidRuns.{run_file_is}
+use Rattle.theory_text.proofs.Within.Adverts.{read_is_readable}
+use Rattle.theory_text.proofs.Lines.ValidRuns.{run_file_is}
 use Rattle.spec_tool.specs.Headline.{AreEntriesOf, EndsRun, IsShown, HeadlineTheorem}
 use Rattle.theory_run.proofs.Simulated.{simulation}
-use Rattle.theory_run.proofs.Honest.{licence}
-use Rattle.theory_run.proofs.HaltsRightly.{halts}
+use Rattle.theory_run.proofs.Honest.Throughout.{licence}
+use Rattle.theory_run.proofs.Halting.HaltsRightly.{halts}
 use Rattle.theory_offers.proofs.Throughout.{kept_throughout_offers}
-use Rattle.theory_offers.proofs.Whole.{kept_offers}
+use Rattle.theory_offers.proofs.WholeRun.{kept_offers}
 
 -- ---- one contract
 
@@ -150,15 +150,15 @@ shown_is : (s : Setup) (es : List Event) → opening_collision s ≡ None → Si
 shown_is s es opens simulates =
     let ts = (course s es).turns in
     let same = entries_steps ts in
-    let leads : after (opening_configuration s) (in_order (map (λ (e : Entry). e.steps) (entries s es))) ≡ last_configuration s es
-    = ap (λ xs. after (opening_configuration s) (in_order xs)) same ∙ simulates.leads in
+    let leads : after_steps (opening_configuration s) (in_order (map (λ (e : Entry). e.steps) (entries s es))) ≡ last_configuration s es
+    = ap (λ xs. after_steps (opening_configuration s) (in_order xs)) same ∙ simulates.leads in
     record {
       turns = entries_match ts;
       legal = subst (λ xs. Legal (opening_configuration s) (in_order xs)) (sym same) simulates.legal;
       ends = by_halt (in_order (map (λ (e : Entry). e.steps) (entries s es))) leads (opening_collision s) (first_halt s es) opens refl;
     }
   where
-    by_halt : (steps : List Step) → after (opening_configuration s) steps ≡ last_configuration s es → (o : Option (List ℕ × List ℕ)) (h : Option (Event × Halt)) → o ≡ None → first_halt s es ≡ h
+    by_halt : (steps : List Step) → after_steps (opening_configuration s) steps ≡ last_configuration s es → (o : Option (List ℕ × List ℕ)) (h : Option (Event × Halt)) → o ≡ None → first_halt s es ≡ h
         → EndsRun s es steps (ending_from (last_world s es) (last_configuration s es) o h)
     by_halt steps leads (Some p) h eo eh = cc
     by_halt steps leads None None eo eh = (eh, record { leads = leads; agrees = simulates.agrees; height = refl; outputs = refl }, refl)

@@ -3,7 +3,7 @@ use Rattle.std.proofs.Common.{◌≡◌, ℕ, ◌+◌, ◌*◌, ◌≤◌, List,
 use Rattle.std.specs.Prelude.{nat_le, ◌&&◌}
 use Rattle.std.specs.List.{list_all}
 use Rattle.std.proofs.lemmas.Bool.{and_parts}
-use Rattle.spec_terms.specs.Term.{Branch, auth, after, put_reveal, withdraw, split, Choice, no_branch, branch, branches, Parts, no_part, part}
+use Rattle.spec_terms.specs.Term.{Guarded, auth, after, put_reveal, withdraw, split, Contract, no_branch, branch, branches, Parts, no_part, part}
 use Rattle.spec_terms.specs.Readable.{is_name, is_readable_count, are_readable, is_readable_branch, are_readable_parts, is_readable_split, is_whole_prefix, is_readable_test, is_readable_contract, is_some_list, count_of, count_under, count_of_parts, most_branches, most_depth, most_choices, depth_of_choice, is_readable_pre}
 use Rattle.spec_terms.specs.Advert.{Advert}
 use Rattle.spec_terms.specs.Faults.{IsWellFormed}
@@ -11,17 +11,17 @@ use Rattle.spec_data.specs.Ranges.{max_money, last_height}
 use Rattle.spec_nodes.specs.Nodes.{branches_count, branch_count, parts_count, choice_count}
 
 -- 1 where there is a branch
-abbrev heads : Choice → ℕ
+abbrev heads : Contract → ℕ
 heads no_branch = 0
 heads (branch b bs) = 1
 
-one_head : (c : Choice) → is_readable_count c ≡ true → heads c ≡ 1
+one_head : (c : Contract) → is_readable_count c ≡ true → heads c ≡ 1
 one_head no_branch r = cc
 one_head (branch b bs) r = refl
 
 mutual
   -- at most two nodes for each branch and each one under it, the choice's own node among them where it is not empty
-  few_branches : (c : Choice) → are_readable c ≡ true → branches_count c + heads c ≤ 2 * count_of c
+  few_branches : (c : Contract) → are_readable c ≡ true → branches_count c + heads c ≤ 2 * count_of c
   few_branches no_branch r = omega arith
   few_branches (branch b bs) r =
       let p = and_parts (is_readable_branch b) (are_readable bs) r in
@@ -29,7 +29,7 @@ mutual
       let f = few_branches bs p.1 in
       omega (arith, e, f)
 
-  few_under : (b : Branch) → is_readable_branch b ≡ true → branch_count b ≤ 2 * count_under b + 1
+  few_under : (b : Guarded) → is_readable_branch b ≡ true → branch_count b ≤ 2 * count_under b + 1
   few_under (auth party body) r = few_under body (and_parts (is_name party) (is_readable_branch body) r).1
   few_under (after height body) r = few_under body (and_parts (nat_le height last_height) (is_readable_branch body) r).1
   few_under (withdraw party) r = omega arith
@@ -54,7 +54,7 @@ mutual
       omega (arith, e, h, f)
 
 -- a contract that a text can spell has at most 1,024 nodes
-few_readable : (root : Choice) → is_readable_contract root ≡ true → choice_count root ≤ 1024
+few_readable : (root : Contract) → is_readable_contract root ≡ true → choice_count root ≤ 1024
 few_readable root r =
     let p = and_parts (is_readable_count root && are_readable root) (nat_le (depth_of_choice root) most_depth && nat_le (count_of root) most_branches) r in
     let q = and_parts (is_readable_count root) (are_readable root) p.0 in

@@ -3,7 +3,7 @@ use Rattle.std.proofs.Common.{◌≡◌, ℕ, zero, suc, ◌+◌, List, [], ◌�
 use Rattle.std.proofs.lemmas.List.{map-append}
 use Rattle.std.specs.Prelude.{slice_get, replicate}
 use Rattle.spec_terms.specs.Term as term
-use Rattle.spec_terms.specs.Term.{auth, after, put_reveal, withdraw, split, Choice, no_branch, branch, branches, Parts, no_part, part}
+use Rattle.spec_terms.specs.Term.{auth, after, put_reveal, withdraw, split, Contract, no_branch, branch, branches, Parts, no_part, part}
 use Rattle.spec_terms.specs.Core.{core, lock}
 use Rattle.spec_terms.specs.declared.path.PathStep.{PathStep}
 use Rattle.spec_terms.specs.declared.path.PathStep.TheVariants.{Branch as To, Part as Into}
@@ -11,28 +11,28 @@ use Rattle.spec_bitcoin.specs.Scripts.{encode}
 use Rattle.spec_bitcoin.specs.declared.tx.TxOut.{TxOut}
 use Rattle.spec_compiler.specs.Scripts.{Demands, demands_of, demands_from, output_ops}
 use Rattle.spec_compiler.specs.declared.unsigned.Unsigned.{Unsigned}
-use Rattle.spec_compiler.specs.Setting.{Setting, branch_keys, branch_path, position_script}
-use Rattle.spec_compiler.specs.Transactions.{Standing, pays, part_position, part_outputs, core_unsigned, continued_value, continued, part_standing, put_deposits, output_place, initial_unsigned, root_value, root_standing}
+use Rattle.spec_compiler.specs.Instance.{Instance, branch_keys, branch_path, position_script}
+use Rattle.spec_compiler.specs.Transactions.{Standing, pays, part_position, part_outputs, core_unsigned, continued_value, continued, part_standing, put_deposits, output_outpoint, initial_unsigned, root_value, root_standing}
 use Rattle.spec_compiler.specs.Compilation.{choice_transactions, branch_transactions, parts_transactions, path_transactions, choice_scripts, branch_scripts, parts_scripts, scripts}
 use Rattle.spec_nodes.specs.Nodes.{Node, choice_node, branch_node, asks_once, branch_count, branches_count, parts_count, choice_count, nodes_of, branch_numbers, part_numbers, branches_nodes, branch_nodes, parts_nodes, choice_nodes, choice_head, deed_of}
 use Rattle.theory_nodes.proofs.Begins.{Begins, begins_left, begins_right, begins_get, length-branch_nodes, length-choice_nodes, below_nodes, branch_nodes-core}
 use Rattle.theory_nodes.specs.declared.waiting.Waiting.{Waiting}
 use Rattle.theory_nodes.specs.Walk.{spent_of, node_demands, deed_demands, node_script, script_of, node_unsigned, deed_outputs, deed_waits, parts_wait, walk, next_stack, made_by, root_waits, node_paths, listed_scripts, NodesGiveTransactions, NodesGivePaths, NodesGiveScripts}
 
-module _ (hash : List ℕ → List ℕ) (s : Setting) (ns : List Node) where
+module _ (hash : List ℕ → List ℕ) (s : Instance) (ns : List Node) where
   abbrev pub script : ℕ → List ℕ
   script = script_of hash s ns
 
   -- ---- the script of a choice by its number is that of its position
 
-  core_demands : (n : ℕ) (b : term.Branch) (keys : List (List ℕ)) → deed_demands (deed_of n b) keys s.hashes ≡ demands_of b keys s.hashes
+  core_demands : (n : ℕ) (b : term.Guarded) (keys : List (List ℕ)) → deed_demands (deed_of n b) keys s.hashes ≡ demands_of b keys s.hashes
   core_demands n (put_reveal puts reveals test next) keys = refl
   core_demands n (withdraw party) keys = refl
   core_demands n (split parts) keys = refl
   core_demands n (auth party body) keys = refl
   core_demands n (after h body) keys = refl
 
-  demands_right : (position : List PathStep) (i n : ℕ) (c : Choice) → Begins ns n (branches_nodes position i n c)
+  demands_right : (position : List PathStep) (i n : ℕ) (c : Contract) → Begins ns n (branches_nodes position i n c)
       → map (λ m. node_demands hash s (slice_get ns m)) (branch_numbers n c) ≡ demands_from (λ k. branch_keys hash s (branch_path position k)) s.hashes i (branches c)
   demands_right position i n no_branch b = refl
   demands_right position i n (branch x xs) b =
@@ -45,7 +45,7 @@ module _ (hash : List ℕ → List ℕ) (s : Setting) (ns : List Node) where
       let rest = demands_right position (i + 1) (n + branch_count x) xs (begins_right ns n (branch_count x) here others (length-branch_nodes path n (asks_once x) (lock x) x) b) in
       λ j. (ap (node_demands hash s) got ∙ core_demands (n + 1) (core x) (branch_keys hash s path)) j ∷ rest j
 
-  pub script_right : (position : List PathStep) (n : ℕ) (c : Choice) → Begins ns n (choice_nodes position n c) → script_of hash s ns n ≡ position_script hash s position c
+  pub script_right : (position : List PathStep) (n : ℕ) (c : Contract) → Begins ns n (choice_nodes position n c) → script_of hash s ns n ≡ position_script hash s position c
   unfolding script_of position_script
   script_right position n c b =
       let got = begins_get ns n (choice_head position n c) (branches_nodes position 0 (n + 1) c) b in
@@ -58,7 +58,7 @@ module _ (hash : List ℕ → List ℕ) (s : Setting) (ns : List Node) where
   abbrev pub standing : List PathStep → Waiting → Standing
   standing position w = record { position = position; output = spent_of script w }
 
-  pays_right : (path : List PathStep) (n v : ℕ) (c : Choice) → Begins ns n (choice_nodes path n c) → pays hash (script_of hash s ns n) v ≡ pays hash (position_script hash s path c) v
+  pays_right : (path : List PathStep) (n v : ℕ) (c : Contract) → Begins ns n (choice_nodes path n c) → pays hash (script_of hash s ns n) v ≡ pays hash (position_script hash s path c) v
   pays_right path n v c b = ap (λ x. pays hash x v) (script_right path n c b)
 
   outputs_right : (path : List PathStep) (k n : ℕ) (ps : Parts) → Begins ns n (parts_nodes path k n ps)
@@ -71,11 +71,11 @@ module _ (hash : List ℕ → List ℕ) (s : Setting) (ns : List Node) where
       let rest = outputs_right path (k + 1) (n + choice_count c) ps (begins_right ns n (choice_count c) here others (length-choice_nodes (part_position path k) n c) b) in
       λ j. first j ∷ rest j
 
-  choice_under : (position : List PathStep) (n : ℕ) (c : Choice) → Begins ns n (choice_nodes position n c) → Begins ns (n + 1) (branches_nodes position 0 (n + 1) c)
+  choice_under : (position : List PathStep) (n : ℕ) (c : Contract) → Begins ns n (choice_nodes position n c) → Begins ns (n + 1) (branches_nodes position 0 (n + 1) c)
   choice_under position n c b = begins_right ns n 1 (choice_head position n c ∷ []) (branches_nodes position 0 (n + 1) c) refl b
 
   mutual
-    branches_walk : (position : List PathStep) (i n : ℕ) (c : Choice) (w : Waiting) (stack : List Waiting) (ys : List Node) → Begins ns n (branches_nodes position i n c)
+    branches_walk : (position : List PathStep) (i n : ℕ) (c : Contract) (w : Waiting) (stack : List Waiting) (ys : List Node) → Begins ns n (branches_nodes position i n c)
         → walk hash s script (branches_nodes position i n c ++ ys) (replicate (length (branch_numbers n c)) w ++ stack) ≡ choice_transactions hash s (standing position w) i c ++ walk hash s script ys stack
     branches_walk position i n no_branch w stack ys b = refl
     branches_walk position i n (branch x xs) w stack ys b =
@@ -89,7 +89,7 @@ module _ (hash : List ℕ → List ℕ) (s : Setting) (ns : List Node) where
         ∙ ap (λ l. branch_transactions hash s (standing position w) i (lock x) x ++ l) (branches_walk position (i + 1) (n + branch_count x) xs w stack ys under)
         ∙ sym (append_assoc (branch_transactions hash s (standing position w) i (lock x) x) (choice_transactions hash s (standing position w) (i + 1) xs) (walk hash s script ys stack))
 
-    branch_walk : (position : List PathStep) (i n : ℕ) (asked : List (List ℕ)) (height : ℕ) (x : term.Branch) (w : Waiting) (stack : List Waiting) (ys : List Node)
+    branch_walk : (position : List PathStep) (i n : ℕ) (asked : List (List ℕ)) (height : ℕ) (x : term.Guarded) (w : Waiting) (stack : List Waiting) (ys : List Node)
         → Begins ns n (branch_nodes (branch_path position i) n asked height x)
         → walk hash s script (branch_nodes (branch_path position i) n asked height x ++ ys) (w ∷ stack) ≡ branch_transactions hash s (standing position w) i height x ++ walk hash s script ys stack
     branch_walk position i n asked height (auth party body) w stack ys b = branch_walk position i n asked height body w stack ys b
@@ -102,10 +102,10 @@ module _ (hash : List ℕ → List ℕ) (s : Setting) (ns : List Node) where
         let value = continued_value s w.value puts in
         let made : node_unsigned hash s script w height deed ≡ core_unsigned hash s (standing position w) i height (put_reveal puts reveals test next) =
         λ j. record { spends = spent_of script w ∷ put_deposits hash s puts; outputs = pays_right path (n + 1) value next below j ∷ []; lock = height } in
-        let here : standing path (record { place = output_place hash (node_unsigned hash s script w height deed) 0; choice = n + 1; value = value })
+        let here : standing path (record { place = output_outpoint hash (node_unsigned hash s script w height deed) 0; choice = n + 1; value = value })
         ≡ continued hash s path (core_unsigned hash s (standing position w) i height (put_reveal puts reveals test next)) value next =
-        λ j. record { position = path; output = record { place = output_place hash (made j) 0; script = script_right path (n + 1) next below j; value = value } } in
-        let rest = branches_walk path 0 (n + 1 + 1) next (record { place = output_place hash (node_unsigned hash s script w height deed) 0; choice = n + 1; value = value }) stack ys (choice_under path (n + 1) next below)
+        λ j. record { position = path; output = record { place = output_outpoint hash (made j) 0; script = script_right path (n + 1) next below j; value = value } } in
+        let rest = branches_walk path 0 (n + 1 + 1) next (record { place = output_outpoint hash (node_unsigned hash s script w height deed) 0; choice = n + 1; value = value }) stack ys (choice_under path (n + 1) next below)
         ∙ ap (λ x. choice_transactions hash s x 0 next ++ walk hash s script ys stack) here in
         λ j. (path, made j) ∷ rest j
     branch_walk position i n asked height (split parts) w stack ys b =
@@ -127,16 +127,16 @@ module _ (hash : List ℕ → List ℕ) (s : Setting) (ns : List Node) where
         let others = parts_nodes path (k + 1) (n + choice_count c) ps in
         let first = begins_left ns n nodes others b in
         let under = begins_right ns n (choice_count c) nodes others (length-choice_nodes position n c) b in
-        let w : Waiting = record { place = output_place hash d k; choice = n; value = v } in
+        let w : Waiting = record { place = output_outpoint hash d k; choice = n; value = v } in
         let more = parts_wait hash d (k + 1) (part_numbers (n + choice_count c) ps) ++ stack in
         let here : standing position w ≡ part_standing hash s path d k v c =
-        λ j. record { position = position; output = record { place = output_place hash d k; script = script_right position n c first j; value = v } } in
+        λ j. record { position = position; output = record { place = output_outpoint hash d k; script = script_right position n c first j; value = v } } in
         ap (λ l. walk hash s script l (w ∷ more)) (append_assoc nodes others ys)
         ∙ branches_walk position 0 (n + 1) c w more (others ++ ys) (choice_under position n c first)
         ∙ (λ j. choice_transactions hash s (here j) 0 c ++ parts_walk path d (k + 1) (n + choice_count c) ps stack ys under j)
         ∙ sym (append_assoc (choice_transactions hash s (part_standing hash s path d k v c) 0 c) (parts_transactions hash s path d (k + 1) ps) (walk hash s script ys stack))
 
-  pub choice_walk : (position : List PathStep) (n : ℕ) (c : Choice) (w : Waiting) (stack : List Waiting) (ys : List Node) → Begins ns n (choice_nodes position n c)
+  pub choice_walk : (position : List PathStep) (n : ℕ) (c : Contract) (w : Waiting) (stack : List Waiting) (ys : List Node) → Begins ns n (choice_nodes position n c)
       → walk hash s script (choice_nodes position n c ++ ys) (w ∷ stack) ≡ choice_transactions hash s (standing position w) 0 c ++ walk hash s script ys stack
   choice_walk position n c w stack ys b =
       branches_walk position 0 (n + 1) c w stack ys (choice_under position n c b)
@@ -144,7 +144,7 @@ module _ (hash : List ℕ → List ℕ) (s : Setting) (ns : List Node) where
   -- ---- lists over the nodes
 
   mutual
-    paths_of_branches : (here : Standing) (i n : ℕ) (c : Choice) (ys : List Node)
+    paths_of_branches : (here : Standing) (i n : ℕ) (c : Contract) (ys : List Node)
         → node_paths (branches_nodes here.position i n c ++ ys) ≡ map (λ p. p.0) (choice_transactions hash s here i c) ++ node_paths ys
     paths_of_branches here i n no_branch ys = refl
     paths_of_branches here i n (branch x xs) ys =
@@ -156,7 +156,7 @@ module _ (hash : List ℕ → List ℕ) (s : Setting) (ns : List Node) where
         ∙ sym (append_assoc (map (λ p. p.0) (branch_transactions hash s here i (lock x) x)) (map (λ p. p.0) (choice_transactions hash s here (i + 1) xs)) (node_paths ys))
         ∙ ap (λ l. l ++ node_paths ys) (sym (map-append (λ p. p.0) (branch_transactions hash s here i (lock x) x) (choice_transactions hash s here (i + 1) xs)))
 
-    paths_of_branch : (here : Standing) (i n : ℕ) (asked : List (List ℕ)) (height : ℕ) (x : term.Branch) (ys : List Node)
+    paths_of_branch : (here : Standing) (i n : ℕ) (asked : List (List ℕ)) (height : ℕ) (x : term.Guarded) (ys : List Node)
         → node_paths (branch_nodes (branch_path here.position i) n asked height x ++ ys) ≡ map (λ p. p.0) (branch_transactions hash s here i height x) ++ node_paths ys
     paths_of_branch here i n asked height (auth party body) ys = paths_of_branch here i n asked height body ys
     paths_of_branch here i n asked height (after h body) ys = paths_of_branch here i n asked height body ys
@@ -181,7 +181,7 @@ module _ (hash : List ℕ → List ℕ) (s : Setting) (ns : List Node) where
         ∙ ap (λ l. l ++ node_paths ys) (sym (map-append (λ p. p.0) (choice_transactions hash s here 0 c) (parts_transactions hash s path d (k + 1) ps)))
 
   mutual
-    scripts_of_branches : (position : List PathStep) (i n m : ℕ) (c : Choice) (ys : List Node) → m ≡ n + branches_count c → Begins ns n (branches_nodes position i n c)
+    scripts_of_branches : (position : List PathStep) (i n m : ℕ) (c : Contract) (ys : List Node) → m ≡ n + branches_count c → Begins ns n (branches_nodes position i n c)
         → listed_scripts script n (branches_nodes position i n c ++ ys) ≡ choice_scripts hash s position i c ++ listed_scripts script m ys
     scripts_of_branches position i n m no_branch ys e b = let z : n ≡ m = omega (arith, e) in ap (λ k. listed_scripts script k ys) z
     scripts_of_branches position i n m (branch x xs) ys e b =
@@ -194,7 +194,7 @@ module _ (hash : List ℕ → List ℕ) (s : Setting) (ns : List Node) where
         ∙ ap (λ l. branch_scripts hash s path x ++ l) (scripts_of_branches position (i + 1) (n + branch_count x) m xs ys (omega (arith, e)) under)
         ∙ sym (append_assoc (branch_scripts hash s path x) (choice_scripts hash s position (i + 1) xs) (listed_scripts script m ys))
 
-    scripts_of_branch : (path : List PathStep) (n m : ℕ) (asked : List (List ℕ)) (height : ℕ) (x : term.Branch) (ys : List Node) → m ≡ n + branch_count x → Begins ns n (branch_nodes path n asked height x)
+    scripts_of_branch : (path : List PathStep) (n m : ℕ) (asked : List (List ℕ)) (height : ℕ) (x : term.Guarded) (ys : List Node) → m ≡ n + branch_count x → Begins ns n (branch_nodes path n asked height x)
         → listed_scripts script n (branch_nodes path n asked height x ++ ys) ≡ branch_scripts hash s path x ++ listed_scripts script m ys
     scripts_of_branch path n m asked height (auth party body) ys e b = scripts_of_branch path n m asked height body ys e b
     scripts_of_branch path n m asked height (after h body) ys e b = scripts_of_branch path n m asked height body ys e b
@@ -224,7 +224,7 @@ module _ (hash : List ℕ → List ℕ) (s : Setting) (ns : List Node) where
 
 -- ---- the whole
 
-whole : (c : Choice) → Begins (nodes_of c) 0 (choice_nodes [] 0 c)
+whole : (c : Contract) → Begins (nodes_of c) 0 (choice_nodes [] 0 c)
 whole c = record { rest = []; is = sym (append-nil (nodes_of c)) }
 
 pub transactions_walked : NodesGiveTransactions
@@ -232,7 +232,7 @@ transactions_walked hash s =
     let root = s.advert.root in
     let ns = nodes_of root in
     let here : standing hash s ns [] (root_waits hash s) ≡ root_standing hash s =
-    λ j. record { position = []; output = record { place = output_place hash (initial_unsigned hash s) 0; script = script_right hash s ns [] 0 root (whole root) j; value = root_value s } } in
+    λ j. record { position = []; output = record { place = output_outpoint hash (initial_unsigned hash s) 0; script = script_right hash s ns [] 0 root (whole root) j; value = root_value s } } in
     ap (λ l. walk hash s (script_of hash s ns) l (root_waits hash s ∷ [])) (sym (append-nil ns))
     ∙ choice_walk hash s ns [] 0 root (root_waits hash s) [] [] (whole root)
     ∙ append-nil (choice_transactions hash s (standing hash s ns [] (root_waits hash s)) 0 root)
@@ -256,12 +256,12 @@ scripts_listed hash s =
 
 -- ---- one node, and then the others
 
-walk-empty : (hash : List ℕ → List ℕ) (s : Setting) (script : ℕ → List ℕ) (ns : List Node) → walk hash s script ns [] ≡ []
+walk-empty : (hash : List ℕ → List ℕ) (s : Instance) (script : ℕ → List ℕ) (ns : List Node) → walk hash s script ns [] ≡ []
 walk-empty hash s script [] = refl
 walk-empty hash s script (choice_node position branches ∷ ns) = refl
 walk-empty hash s script (branch_node path asked height deed ∷ ns) = refl
 
-pub walk-step : (hash : List ℕ → List ℕ) (s : Setting) (script : ℕ → List ℕ) (n : Node) (ns : List Node) (stack : List Waiting)
+pub walk-step : (hash : List ℕ → List ℕ) (s : Instance) (script : ℕ → List ℕ) (n : Node) (ns : List Node) (stack : List Waiting)
     → walk hash s script (n ∷ ns) stack ≡ made_by hash s script n stack ++ walk hash s script ns (next_stack hash s script n stack)
 walk-step hash s script n ns [] = sym (walk-empty hash s script ns)
 walk-step hash s script (choice_node position branches) ns (w ∷ stack) = refl

@@ -8,7 +8,7 @@ use Rattle.std.proofs.lemmas.Bool.{and_parts, or_cases, or_left, or_right, both_
 use Rattle.std.proofs.lemmas.List.Concat.{flat_map-cons}
 use Rattle.spec_data.specs.Lists.{is_among, look_up}
 use Rattle.spec_terms.specs.Term as term
-use Rattle.spec_terms.specs.Term.{Choice, branches}
+use Rattle.spec_terms.specs.Term.{Contract, branches}
 use Rattle.spec_terms.specs.Core.{core, lock, is_asked, puts_of}
 use Rattle.spec_terms.specs.Parties.{participants}
 use Rattle.spec_terms.specs.Paths.{at}
@@ -18,7 +18,7 @@ use Rattle.spec_terms.specs.declared.path.PathStep.TheVariants.{Branch as To}
 use Rattle.spec_bitcoin.specs.declared.tx.Tx.{Tx}
 use Rattle.spec_bitcoin.specs.Keys.{Pair, key_of, has_signed}
 use Rattle.spec_compiler.specs.declared.prepared.Prepared.{Prepared}
-use Rattle.spec_compiler.specs.Setting.{Setting, branch_path, branch_label, deposit_key, people}
+use Rattle.spec_compiler.specs.Instance.{Instance, branch_path, branch_label, deposit_key, people}
 use Rattle.spec_compiler.specs.declared.unsigned.Unsigned.{Unsigned}
 use Rattle.spec_compiler.specs.Transactions.{Standing, tx_of, digest_of_spent, prepared, deposit, holding_or_none, put_deposits, branch_unsigned}
 use Rattle.spec_compiler.specs.Compilation.{path_transactions}
@@ -27,8 +27,8 @@ use Rattle.spec_compiler.specs.ByPath.{position_at}
 use Rattle.spec_compiler.specs.Endorsements.{put_owner, branch_needs, put_needs, needs_of, path_needs, is_met, is_endorsed}
 use Rattle.theory_world.proofs.Same.{bytes-true}
 use Rattle.theory_world.proofs.Tests.{all-append, all_map, all_among}
-use Rattle.theory_world.proofs.Positions.{Is_in, branch_here, covered}
-use Rattle.theory_world.proofs.Standing.{stand_of_branch, position_named, term_branches}
+use Rattle.theory_world.proofs.Contracts.Positions.{Is_in, branch_here, covered}
+use Rattle.theory_world.proofs.Contracts.Standing.{stand_of_branch, position_named, term_branches}
 
 pub among_filter : (p : List ℕ → Bool) (a : List ℕ) (xs : List (List ℕ)) → is_among a xs ≡ true → p a ≡ true → is_among a (filter p xs) ≡ true
 among_filter p a [] h k = cc
@@ -40,7 +40,7 @@ among_filter p a (x ∷ xs) h k = by_test (p x) refl (or_cases (bytes_eq x a) (i
     by_test false e (inl q) ih = absurd (both_ways _ e (subst (λ y. p y ≡ true) (sym (bytes-true x a q)) k))
     by_test false e (inr q) ih = ih q
 
-module _ (hash : List ℕ → List ℕ) (st : Setting) (book : List Pair) (q : List PathStep) (here : Standing) (choice : Choice) (i : ℕ) (b : term.Branch) (stands : position_at hash st q ≡ Some (here, choice)) (there : slice_get (branches choice) i ≡ Some b) (endorsed : is_endorsed hash st book ≡ true) where
+module _ (hash : List ℕ → List ℕ) (st : Instance) (book : List Pair) (q : List PathStep) (here : Standing) (choice : Contract) (i : ℕ) (b : term.Guarded) (stands : position_at hash st q ≡ Some (here, choice)) (there : slice_get (branches choice) i ≡ Some b) (endorsed : is_endorsed hash st book ≡ true) where
   abbrev path : List PathStep
   path = branch_path here.position i
 

@@ -16,8 +16,8 @@ use Rattle.spec_run.specs.declared.outcome.Record.{Record}
 use Rattle.spec_run.specs.declared.outcome.Reason.{Reason}
 use Rattle.spec_run.specs.Setup.{Setup}
 use Rattle.spec_data.specs.Messages.{collision}
-use Rattle.spec_run.specs.World.{Held, World, held_at}
-use Rattle.spec_run.specs.Compiled.{compiled_at}
+use Rattle.spec_run.specs.World.{ContractPosition, World, live_position_at}
+use Rattle.spec_run.specs.Compiled.{compiled_instance}
 use Rattle.spec_run.specs.Conditions.{IsSetup, IsEvent, IsGift}
 use Rattle.spec_run.specs.Draft.{Draft, unless}
 use Rattle.spec_run.specs.Signing.{with_pairs, endorse_row, init_row, authorise_row, sign_row}
@@ -25,16 +25,16 @@ use Rattle.spec_run.specs.Advertising.{advertise_row}
 use Rattle.spec_run.specs.Committing.{committed_strings, commit_row, digest_row}
 use Rattle.spec_run.specs.Revealing.{reveal_row}
 use Rattle.spec_run.specs.Giving.{give_row, given_pairs, gift}
-use Rattle.spec_run.specs.Firing.{initial_by, taking_by, reaches_if, fire_init_row, fire_row}
-use Rattle.spec_run.specs.Ledger.{verdict_in, accepted, judged, reaches, initial_of, first_held, kind_by, begun_after}
+use Rattle.spec_run.specs.Firing.{initial_by, taking_of_position, reaches_if, fire_init_row, fire_row}
+use Rattle.spec_run.specs.Ledger.{verdict_in, accepted, judged, reaches, initial_of, first_position, kind_by, begun_after}
 use Rattle.spec_run.specs.HonestDeposits.{gives}
 use Rattle.spec_run.specs.Event.{append_read, mine_row, draft}
 use Rattle.theory_world.proofs.Bookless.{initial_same}
-use Rattle.theory_run.proofs.Entering.{initial_is}
-use Rattle.theory_run.proofs.Bookkeeping.{KeptBooks}
-use Rattle.theory_run.proofs.Leaves.{KeptLeave}
+use Rattle.theory_run.proofs.Accepted.WhatItIs.{initial_is}
+use Rattle.theory_run.proofs.Facts.Bookkeeping.{KeptBooks}
+use Rattle.theory_run.proofs.Honest.Leaves.{KeptLeave}
 use Rattle.theory_offers.proofs.Endorsing.{IsReady, KeptStarts}
-use Rattle.theory_offers.proofs.Offered.{KeptOffers}
+use Rattle.theory_offers.proofs.Basis.Offered.{KeptOffers}
 use Rattle.theory_offers.proofs.Faithful.{begins_ready, starts_nothing}
 
 number-append : (n : ℕ) (xs ys : List ℕ) → has_number n (xs ++ ys) ≡ (has_number n xs || has_number n ys)
@@ -64,9 +64,9 @@ module _ (s : Setup) (w : World) where
       → ((k : ℕ) → initial_of s (with_pairs w pairs) tx ≡ Some k → IsReady s w k)
       → BeginsReady s w (accepted s (with_pairs w pairs) tx spent).world
   accepted_begun pairs tx spent ready k h =
-      by_initial (initial_of s (with_pairs w pairs) tx) ready (first_held (with_pairs w pairs) spent) h
+      by_initial (initial_of s (with_pairs w pairs) tx) ready (first_position (with_pairs w pairs) spent) h
     where
-      by_initial : (o : Option ℕ) → ((j : ℕ) → o ≡ Some j → IsReady s w j) → (f : Option Held)
+      by_initial : (o : Option ℕ) → ((j : ℕ) → o ≡ Some j → IsReady s w j) → (f : Option ContractPosition)
           → has_number k (begun_after (kind_by s tx spent o f) w.begun) ≡ true → (has_number k w.begun ≡ true) ⊎ IsReady s w k
       by_initial None go None q = inl q
       by_initial None go (Some held) q = inl q
@@ -146,7 +146,7 @@ module _ (s : Setup) (setup : IsSetup s) (z : List (List ℕ)) (before : List Re
   begun_after_event (events.Give a inputs outputs) is calm = give_begun a inputs outputs is
   begun_after_event (events.Append bytes) is calm = read_begun (events.Append bytes) is (λ a n. refl) (transaction_of bytes) refl calm
   begun_after_event (events.FireInit k) is calm =
-      fired_begun (events.FireInit k) is (λ a n. refl) (initial_by s (compiled_at s w k)) (first_reason (fire_init_row s w k)) refl calm
+      fired_begun (events.FireInit k) is (λ a n. refl) (initial_by s (compiled_instance s w k)) (first_reason (fire_init_row s w k)) refl calm
   begun_after_event (events.Fire n j) is calm =
-      fired_begun (events.Fire n j) is (λ a m. refl) (taking_by s w (held_at w n) j) (first_reason (fire_row s w n j)) refl calm
+      fired_begun (events.Fire n j) is (λ a m. refl) (taking_of_position s w (live_position_at w n) j) (first_reason (fire_row s w n j)) refl calm
   begun_after_event (events.Mine blocks) is calm = unless_begun s w (first_reason (mine_row w blocks)) [] _ (λ c h. inl h)

@@ -13,11 +13,11 @@ use Rattle.spec_run.specs.Draft.{settled}
 use Rattle.spec_run.specs.Event.{draft, opening_world}
 use Rattle.spec_run.specs.Translation.{opening_configuration, last_world}
 use Rattle.theory_run.proofs.Following.{Keeps, run_posts, holds_throughout, kept_at_end}
-use Rattle.theory_run.proofs.Growing.{Grows, grows}
+use Rattle.theory_run.proofs.Facts.Growing.{Grows, grows}
 use Rattle.theory_offers.specs.Begun.{is_endorsed_so, is_endorsed_at, starts_endorsed, EndorsedBeforeStart}
 use Rattle.theory_offers.proofs.Endorsing.{IsReady, ready_later}
 use Rattle.theory_offers.proofs.Beginning.{BeginsReady, begun_after_event}
-use Rattle.theory_offers.proofs.Whole.{KeptAll, all_after, opening_all}
+use Rattle.theory_offers.proofs.WholeRun.{KeptAll, all_after, opening_all}
 
 -- each contract that has begun is compiled and endorsed
 pub record KeptBegun (s : Setup) (z : List (List ℕ)) (before : List Record) (g : Configuration) (w : World) : Type 0 where

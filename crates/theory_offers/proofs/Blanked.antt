@@ -6,7 +6,7 @@ use Rattle.std.proofs.lemmas.Bool.{and_parts, and_from}
 use Rattle.spec_data.specs.Lists.{first_false, look_up}
 use Rattle.spec_terms.specs.Advert.{Advert}
 use Rattle.spec_terms.specs.Term as term
-use Rattle.spec_terms.specs.Term.{put_reveal, withdraw, split, auth, after as later, Test}
+use Rattle.spec_terms.specs.Term.{put_reveal, withdraw, split, auth, after as later, Pred}
 use Rattle.spec_terms.specs.Core.{core}
 use Rattle.spec_terms.specs.Value.{holds}
 use Rattle.spec_terms.specs.Precondition.{secrets}
@@ -17,9 +17,9 @@ use Rattle.spec_calculus.specs.declared.step.Step.{Step}
 use Rattle.spec_calculus.specs.declared.step.Step.TheVariants as steps
 use Rattle.spec_calculus.specs.Configuration.{Configuration}
 use Rattle.spec_calculus.specs.Beginning.{contract_at, pre_of, has_committed, have_committed, participants_of, bindings_of, are_there}
-use Rattle.spec_calculus.specs.Branches.{length_at, known_length, length_by, is_revealed, is_revealed_by, are_revealed, secret_length, secret_lengths, active_at, advert_of, place_of, reveals_of, test_of, is_put, lock_of, asks_of, puts_of, have_branch_authorised}
+use Rattle.spec_calculus.specs.Branches.{length_at, known_length, length_by, is_revealed, is_revealed_by, are_revealed, secret_length, secret_lengths, active_at, advert_of, contract_number, reveals_of_taken, test_of_taken, is_put, lock_of, asks_of, puts_of_taken, have_branch_authorised}
 use Rattle.spec_calculus.specs.Offers.{is_enabled, beginnings, taking, takings, branches_of, all_takings}
-use Rattle.spec_calculus.specs.Steps.{effect, after, fails, branch_at}
+use Rattle.spec_calculus.specs.Steps.{effect, after_steps, fails, branch_at}
 use Rattle.spec_run.specs.Offers.{offers_of, offers}
 use Rattle.theory_world.proofs.Tests.{all_alike, all-append}
 
@@ -69,20 +69,20 @@ effect-unmeasured g (steps.Split output branch) = refl
 effect-alike : (g h : Configuration) (x : Step) → blank g ≡ blank h → blank (effect g x) ≡ blank (effect h x)
 effect-alike g h x e = effect-blank g h.committed x ∙ ap (λ c. blank (effect c x)) (fill g h e)
 
-after-alike : (xs : List Step) (g h : Configuration) → blank g ≡ blank h → blank (after g xs) ≡ blank (after h xs)
+after-alike : (xs : List Step) (g h : Configuration) → blank g ≡ blank h → blank (after_steps g xs) ≡ blank (after_steps h xs)
 after-alike [] g h e = e
 after-alike (x ∷ xs) g h e = after-alike xs (effect g x) (effect h x) (effect-alike g h x e)
 
-after-unmeasured : (xs : List Step) (g : Configuration) → blank (after g xs) ≡ blank (after g (map unmeasured xs))
+after-unmeasured : (xs : List Step) (g : Configuration) → blank (after_steps g xs) ≡ blank (after_steps g (map unmeasured xs))
 after-unmeasured [] g = refl
 after-unmeasured (x ∷ xs) g =
     after-alike xs (effect g x) (effect g (unmeasured x)) (effect-unmeasured g x) ∙ after-unmeasured xs (effect g (unmeasured x))
 
 -- steps that differ only in the lengths that they commit
 pub after-measured : (xs ys : List Step) (g h : Configuration) → map unmeasured xs ≡ map unmeasured ys → blank g ≡ blank h
-    → blank (after g xs) ≡ blank (after h ys)
+    → blank (after_steps g xs) ≡ blank (after_steps h ys)
 after-measured xs ys g h same e =
-    after-alike xs g h e ∙ after-unmeasured xs h ∙ ap (λ zs. blank (after h zs)) same ∙ sym (after-unmeasured ys h)
+    after-alike xs g h e ∙ after-unmeasured xs h ∙ ap (λ zs. blank (after_steps h zs)) same ∙ sym (after-unmeasured ys h)
 
 -- ---- offers
 
@@ -98,7 +98,7 @@ beginnings_offered : (k : ℕ) (cs : List Advert) → list_all is_offered (begin
 beginnings_offered k [] = refl
 beginnings_offered k (c ∷ cs) = beginnings_offered (k + 1) cs
 
-taking_offered : (n i : ℕ) (b : term.Branch) → list_all is_offered (taking n i b) ≡ true
+taking_offered : (n i : ℕ) (b : term.Guarded) → list_all is_offered (taking n i b) ≡ true
 taking_offered n i (put_reveal puts reveals test next) = refl
 taking_offered n i (withdraw party) = refl
 taking_offered n i (split parts) = refl
@@ -108,7 +108,7 @@ taking_offered n i (later height body) = refl
 both_offered : (xs ys : List Step) → list_all is_offered xs ≡ true → list_all is_offered ys ≡ true → list_all is_offered (xs ++ ys) ≡ true
 both_offered xs ys h k = all-append is_offered xs ys ∙ and_from _ _ h k
 
-takings_offered : (n i : ℕ) (bs : List term.Branch) → list_all is_offered (takings n i bs) ≡ true
+takings_offered : (n i : ℕ) (bs : List term.Guarded) → list_all is_offered (takings n i bs) ≡ true
 takings_offered n i [] = refl
 takings_offered n i (b ∷ bs) =
     both_offered (taking n i (core b)) (takings n (i + 1) bs) (taking_offered n i (core b)) (takings_offered n (i + 1) bs)
@@ -156,7 +156,7 @@ module _ (g : Configuration) (cs : List Committed)
       λ i. (x, e i) ∷ ih i
 
   -- the predicate counts only where the secrets are revealed
-  put_same : (front : List Bool) (k : ℕ) (pre : List Pre) (names : List (List ℕ)) (test : Test)
+  put_same : (front : List Bool) (k : ℕ) (pre : List Pre) (names : List (List ℕ)) (test : Pred)
       → first_false 1 (front ++ are_revealed g.revealed k pre names ∷ holds (secret_lengths g.committed k pre names) test ∷ [])
       ≡ first_false 1 (front ++ are_revealed g.revealed k pre names ∷ holds (secret_lengths cs k pre names) test ∷ [])
   put_same front k pre names test = by_test (are_revealed g.revealed k pre names) refl
@@ -192,9 +192,9 @@ module _ (g : Configuration) (cs : List Committed)
           ∷ is_put b
           ∷ nat_le (lock_of b) g.time
           ∷ have_branch_authorised g.branch_authorised n i (asks_of b)
-          ∷ are_there g.deposits (bindings_of g.advertised (place_of a)) (puts_of b)
+          ∷ are_there g.deposits (bindings_of g.advertised (contract_number a)) (puts_of_taken b)
           ∷ [] in
-          put_same front (place_of a) (pre_of (advert_of g.contracts a)) (reveals_of b) (test_of b)
+          put_same front (contract_number a) (pre_of (advert_of g.contracts a)) (reveals_of_taken b) (test_of_taken b)
       fails_same (steps.Withdraw n i) h = refl
       fails_same (steps.Split n i) h = refl
 

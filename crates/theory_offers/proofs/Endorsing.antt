@@ -6,7 +6,7 @@ use Rattle.std.specs.Str.{bytes_eq}
 use Rattle.std.proofs.lemmas.Bool.{and_parts, or_cases, not-false, eqb-true}
 use Rattle.spec_data.specs.Lists.{first_reason}
 use Rattle.spec_data.proofs.ListLemmas.{no_reason-none_true}
-use Rattle.spec_compiler.specs.Setting.{Setting}
+use Rattle.spec_compiler.specs.Instance.{Instance}
 use Rattle.spec_compiler.specs.Endorsements.{Need, is_endorsed}
 use Rattle.spec_run.specs.declared.event.Event.{Event}
 use Rattle.spec_run.specs.declared.event.Event.TheVariants as events
@@ -14,7 +14,7 @@ use Rattle.spec_run.specs.declared.outcome.Reason.{Reason}
 use Rattle.spec_run.specs.declared.outcome.Record.{Record}
 use Rattle.spec_run.specs.Setup.{Setup, is_honest}
 use Rattle.spec_run.specs.World.{World}
-use Rattle.spec_run.specs.Compiled.{compiled_at}
+use Rattle.spec_run.specs.Compiled.{compiled_instance}
 use Rattle.spec_run.specs.Draft.{done, unless, settled}
 use Rattle.spec_run.specs.Signing.{with_pairs, initial_pairs, missing_need, init_row, init_draft}
 use Rattle.spec_run.specs.Event.{draft, record_of}
@@ -23,13 +23,13 @@ use Rattle.spec_run.specs.HonestDeposits.{is_init, was_done}
 use Rattle.theory_world.proofs.Same.{bytes-true}
 use Rattle.theory_world.proofs.Tests.{any-append}
 use Rattle.theory_offers.proofs.Unmet.{endorsed_from}
-use Rattle.theory_offers.proofs.OffersLast.{endorsed_later}
-use Rattle.theory_run.proofs.Growing.{Grows}
+use Rattle.theory_offers.proofs.Basis.Opening.{endorsed_later}
+use Rattle.theory_run.proofs.Facts.Growing.{Grows}
 
 -- a contract that is compiled, with all its endorsements
 pub record IsReady (s : Setup) (w : World) (k : ℕ) : Type 0 where
-  pub setting : Setting
-  pub compiled : compiled_at s w k ≡ Some setting
+  pub setting : Instance
+  pub compiled : compiled_instance s w k ≡ Some setting
   pub endorsed : is_endorsed s.hash setting w.book ≡ true
 
 -- an honest party starts what is endorsed
@@ -51,15 +51,15 @@ ready_now s w k a honest d = by_reason (first_reason (init_row s w k a)) refl d
     none_missed true (Some n) e h = cc
     none_missed false o e h = cc
 
-    by_compiled : (o : Option Setting) → compiled_at s w k ≡ o → is_some o ≡ true → missing_need s w o ≡ None → IsReady s w k
+    by_compiled : (o : Option Instance) → compiled_instance s w k ≡ o → is_some o ≡ true → missing_need s w o ≡ None → IsReady s w k
     by_compiled None c h m = cc
     by_compiled (Some st) c h m = record { setting = st; compiled = c; endorsed = endorsed_from s w st m }
 
-    by_reason : (r : Option Reason) → first_reason (init_row s w k a) ≡ r → is_done (unless r w [] (done (with_pairs w (initial_pairs s a (compiled_at s w k))) [])).outcome ≡ true → IsReady s w k
+    by_reason : (r : Option Reason) → first_reason (init_row s w k a) ≡ r → is_done (unless r w [] (done (with_pairs w (initial_pairs s a (compiled_instance s w k))) [])).outcome ≡ true → IsReady s w k
     by_reason (Some r) e h = cc
     by_reason None e h =
         let row = no_reason-none_true (init_row s w k a) e in
-        by_compiled (compiled_at s w k) refl (not-false _ row.1.1.0) (none_missed (is_honest s a) (missing_need s w (compiled_at s w k)) honest row.1.1.1.0)
+        by_compiled (compiled_instance s w k) refl (not-false _ row.1.1.0) (none_missed (is_honest s a) (missing_need s w (compiled_instance s w k)) honest row.1.1.1.0)
 
 module _ (s : Setup) (before : List Record) (w : World) (kept : KeptStarts s before w) where
   pub starts_after : (e : Event) → Grows s w (settled w (draft s w e)) → KeptStarts s (before ++ record_of e (draft s w e) ∷ []) (settled w (draft s w e))

@@ -15,29 +15,29 @@ use Rattle.spec_run.specs.declared.outcome.Reason.{Reason}
 use Rattle.spec_run.specs.declared.outcome.Reason.TheVariants as reason
 use Rattle.spec_run.specs.Setup.{Setup}
 use Rattle.spec_data.specs.Messages.{noted_all, collision}
-use Rattle.spec_run.specs.World.{World, held_at}
-use Rattle.spec_run.specs.Compiled.{compiled_at}
+use Rattle.spec_run.specs.World.{World, live_position_at}
+use Rattle.spec_run.specs.Compiled.{compiled_instance}
 use Rattle.spec_run.specs.Conditions.{IsSetup, IsEvent, IsGift}
 use Rattle.spec_run.specs.Draft.{settled, unless}
 use Rattle.spec_run.specs.Signing.{signed_all, with_pairs}
 use Rattle.spec_run.specs.Giving.{give_row, given_pairs, gift, give_draft}
-use Rattle.spec_run.specs.Firing.{initial_by, taking_by, reaches_if, fire_init_row, fire_row}
+use Rattle.spec_run.specs.Firing.{initial_by, taking_of_position, reaches_if, fire_init_row, fire_row}
 use Rattle.spec_run.specs.Ledger.{verdict_in, strings_of, items_of, reason_of, accepted, judged, reaches, initial_of}
 use Rattle.spec_run.specs.HonestDeposits.{gives, SpendsWithLeave}
 use Rattle.spec_run.specs.Event.{append_read, draft, record_of}
-use Rattle.theory_world.proofs.Worth.{accepted_by}
-use Rattle.theory_run.proofs.Kept.{KeptBook}
-use Rattle.theory_run.proofs.Entering.{initial_is}
-use Rattle.theory_run.proofs.Given.{signed_kept}
-use Rattle.theory_run.proofs.ScriptsApart.{gift_starts_nothing}
-use Rattle.theory_run.proofs.Bookkeeping.{KeptBooks, checks, fits}
-use Rattle.theory_run.proofs.Leaves.{KeptLeave}
-use Rattle.theory_run.proofs.HonestSpends.{leave_of_event}
+use Rattle.theory_world.proofs.Ledger.Worth.{accepted_by}
+use Rattle.theory_run.proofs.Facts.Kept.{KeptBook}
+use Rattle.theory_run.proofs.Accepted.WhatItIs.{initial_is}
+use Rattle.theory_run.proofs.Events.Given.{signed_kept}
+use Rattle.theory_run.proofs.Accepted.ScriptsApart.{gift_starts_nothing}
+use Rattle.theory_run.proofs.Facts.Bookkeeping.{KeptBooks, checks, fits}
+use Rattle.theory_run.proofs.Honest.Leaves.{KeptLeave}
+use Rattle.theory_run.proofs.Honest.HonestSpends.{leave_of_event}
 use Rattle.theory_offers.proofs.Endorsing.{KeptStarts}
-use Rattle.theory_offers.proofs.Offered.{KeptOffers}
-use Rattle.theory_offers.proofs.OffersEvery.{OffersKept, refused_offers, endorse_every, sign_every, mine_every, authorise_every, init_every, post_every, reveal_every, advertise_every, commit_every}
-use Rattle.theory_offers.proofs.OffersReached.{BeginsEndorsed, accepted_every, given_accepted}
-use Rattle.theory_offers.proofs.OffersBegun.{begins_endorsed}
+use Rattle.theory_offers.proofs.Basis.Offered.{KeptOffers}
+use Rattle.theory_offers.proofs.Basis.EveryEvent.{OffersKept, refused_offers, endorse_every, sign_every, mine_every, authorise_every, init_every, post_every, reveal_every, advertise_every, commit_every}
+use Rattle.theory_offers.proofs.Basis.Reached.{BeginsEndorsed, accepted_every, given_accepted}
+use Rattle.theory_offers.proofs.Basis.Begun.{begins_endorsed}
 
 module _ (s : Setup) (setup : IsSetup s) (z : List (List ℕ)) (before : List Record) (g : Configuration) (w : World) (books : KeptBooks s g w) (leave : KeptLeave s before g w) (starts : KeptStarts s before w) (more : KeptOffers s g w) where
   -- ---- a transaction reaches the ledger
@@ -122,6 +122,6 @@ module _ (s : Setup) (setup : IsSetup s) (z : List (List ℕ)) (before : List Re
   offers_after (events.Sign party label digest) is calm = sign_every s z g w books.book more party label digest
   offers_after (events.Give party inputs outputs) is calm = give_offers party inputs outputs is calm
   offers_after (events.Append bytes) is calm = append_offers (events.Append bytes) is (λ a n. refl) (transaction_of bytes) refl calm
-  offers_after (events.FireInit k) is calm = unless_reached (events.FireInit k) is (λ a n. refl) (initial_by s (compiled_at s w k)) (first_reason (fire_init_row s w k)) refl calm
-  offers_after (events.Fire n j) is calm = unless_reached (events.Fire n j) is (λ a m. refl) (taking_by s w (held_at w n) j) (first_reason (fire_row s w n j)) refl calm
+  offers_after (events.FireInit k) is calm = unless_reached (events.FireInit k) is (λ a n. refl) (initial_by s (compiled_instance s w k)) (first_reason (fire_init_row s w k)) refl calm
+  offers_after (events.Fire n j) is calm = unless_reached (events.Fire n j) is (λ a m. refl) (taking_of_position s w (live_position_at w n) j) (first_reason (fire_row s w n j)) refl calm
   offers_after (events.Mine blocks) is calm = mine_every s z g w books.book more blocks

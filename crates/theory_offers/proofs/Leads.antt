@@ -9,31 +9,31 @@ use Rattle.spec_calculus.specs.declared.step.Step.{Step}
 use Rattle.spec_calculus.specs.declared.step.Step.TheVariants as steps
 use Rattle.spec_calculus.specs.Configuration.{Configuration}
 use Rattle.spec_calculus.specs.Steps.{fails}
-use Rattle.spec_compiler.specs.Setting.{Setting}
+use Rattle.spec_compiler.specs.Instance.{Instance}
 use Rattle.spec_compiler.specs.Transactions.{tx_of, prepared, initial_unsigned}
 use Rattle.spec_run.specs.declared.event.Event.{Event}
 use Rattle.spec_run.specs.declared.event.Event.TheVariants as events
 use Rattle.spec_run.specs.declared.header.HeldSecret.{HeldSecret}
 use Rattle.spec_run.specs.Setup.{Setup, pre_at}
 use Rattle.spec_run.specs.World.{World}
-use Rattle.spec_run.specs.Compiled.{compiled_at, setting}
+use Rattle.spec_run.specs.Compiled.{compiled_instance, instance_of}
 use Rattle.spec_run.specs.Conditions.{IsSetup}
 use Rattle.spec_run.specs.Draft.{Draft, unless, settle, settled, answer, guess}
 use Rattle.spec_data.specs.Messages.{collision}
 use Rattle.spec_run.specs.Agreement.{Agree}
 use Rattle.spec_run.specs.Firing.{initial_witnesses, initial_transaction, initial_by, fire_init_row, reaches_if}
-use Rattle.spec_run.specs.Ledger.{judged, accepted, kind_by, kind_of, Begins, first_held, initial_of}
+use Rattle.spec_run.specs.Ledger.{judged, accepted, kind_by, kind_of, Begins, first_position, initial_of}
 use Rattle.spec_run.specs.Steps.{reveals, kind_steps, auth_inits, unauthorised, steps_of}
 use Rattle.spec_run.specs.Event.{draft}
 use Rattle.spec_run.specs.Statements.{IsLast, LeadsTo, IsKept}
-use Rattle.theory_world.proofs.Bare.{bare}
-use Rattle.theory_run.proofs.OnePosition.{one_initial}
-use Rattle.theory_run.proofs.Keeping.{KeptSecrets}
-use Rattle.theory_run.proofs.Kept.{KeptBook}
-use Rattle.theory_run.proofs.Spending.{Checked}
-use Rattle.theory_run.proofs.Entering.{initial_is, not_initial}
-use Rattle.theory_world.proofs.Acceptable.{none_reason, with-bare}
-use Rattle.theory_offers.proofs.Offered.{KeptOffers}
+use Rattle.theory_world.proofs.Ledger.Bare.{bare}
+use Rattle.theory_run.proofs.Facts.OnePosition.{one_initial}
+use Rattle.theory_run.proofs.Facts.KeptSecrets.{KeptSecrets}
+use Rattle.theory_run.proofs.Facts.Kept.{KeptBook}
+use Rattle.theory_run.proofs.Accepted.Spending.{Checked}
+use Rattle.theory_run.proofs.Accepted.WhatItIs.{initial_is, not_initial}
+use Rattle.theory_world.proofs.Ledger.Acceptable.{none_reason, with-bare}
+use Rattle.theory_offers.proofs.Basis.Offered.{KeptOffers}
 use Rattle.theory_offers.proofs.Starts.{MayBegin, may_begin, numbers, start_accepts}
 
 -- ---- what is left of an event
@@ -50,37 +50,37 @@ leads_by s g w e step d h = by_halts (collision s.hash w.hashed d.hashes) (guess
 -- ---- a beginning
 
 module _ (s : Setup) (setup : IsSetup s) (z : List (List ℕ)) (g : Configuration) (w : World) (agree : Agree s g w) (kept : KeptBook s g w) (check : Checked s w) (secrets : KeptSecrets s z g w) (more : KeptOffers s g w) (k : ℕ) (may : MayBegin s setup z g w agree kept secrets more k) where
-  abbrev st : Setting
-  st = setting w k may.advert
+  abbrev st : Instance
+  st = instance_of w k may.advert
 
   abbrev tx : Tx
-  tx = initial_transaction s (setting w k may.advert)
+  tx = initial_transaction s (instance_of w k may.advert)
 
   abbrev ns : List ℕ
   ns = numbers s setup z g w agree kept secrets more k may
 
-  tx_bare : bare tx ≡ bare (tx_of (initial_unsigned s.hash (setting w k may.advert)))
-  tx_bare = with-bare (tx_of (initial_unsigned s.hash (setting w k may.advert))) (initial_witnesses s (setting w k may.advert) (prepared s.hash (initial_unsigned s.hash (setting w k may.advert))))
+  tx_bare : bare tx ≡ bare (tx_of (initial_unsigned s.hash (instance_of w k may.advert)))
+  tx_bare = with-bare (tx_of (initial_unsigned s.hash (instance_of w k may.advert))) (initial_witnesses s (instance_of w k may.advert) (prepared s.hash (initial_unsigned s.hash (instance_of w k may.advert))))
 
   is_initial_of : initial_of s w tx ≡ Some k
   is_initial_of = by_contract (initial_of s w tx) refl
     where
       by_contract : (o : Option ℕ) → initial_of s w tx ≡ o → o ≡ Some k
-      by_contract None e = absurd (not_initial s w tx k (setting w k may.advert) e may.compiled tx_bare)
+      by_contract None e = absurd (not_initial s w tx k (instance_of w k may.advert) e may.compiled tx_bare)
       by_contract (Some j) e =
           let is = initial_is s w tx j e in
-          let q = one_initial s setup.hash setup.few_contracts w check w.hashed secrets.clear kept.heard k j (setting w k may.advert) is.setting may.compiled is.compiled (sym tx_bare ∙ is.is) in
+          let q = one_initial s setup.hash setup.few_contracts w check w.hashed secrets.clear kept.heard k j (instance_of w k may.advert) is.setting may.compiled is.compiled (sym tx_bare ∙ is.is) in
           ap Some (sym q)
 
   kind_is : kind_of s w tx ns ≡ Begins k
-  kind_is = ap (λ o. kind_by s tx ns o (first_held w ns)) is_initial_of
+  kind_is = ap (λ o. kind_by s tx ns o (first_position w ns)) is_initial_of
 
   row : first_reason (fire_init_row s w k) ≡ None
   row = none_reason (fire_init_row s w k) (ap (λ o. not (is_some o)) may.there, (ap (λ o. not (is_some o)) may.compiled, tt))
 
   draft_is : draft s w (events.FireInit k) ≡ accepted s w tx ns
   draft_is =
-      let i : initial_by s (compiled_at s w k) ≡ Some tx = ap (initial_by s) may.compiled in
+      let i : initial_by s (compiled_instance s w k) ≡ Some tx = ap (initial_by s) may.compiled in
       (λ j. unless (row j) w [] (reaches_if s w (i j))) ∙ ap (judged s w w tx) (start_accepts s setup z g w agree kept secrets more k may)
 
   last : (next : World) → IsLast (steps.Init k) (steps_of s next.posted g w next (events.FireInit k) (accepted s w tx ns))
@@ -93,7 +93,7 @@ module _ (s : Setup) (setup : IsSetup s) (z : List (List ℕ)) (g : Configuratio
   begins_kept = record {
     tx = tx;
     spent = ns;
-    made = bitcoin.numbers_from (length w.outputs) (initial_unsigned s.hash (setting w k may.advert)).outputs;
+    made = bitcoin.numbers_from (length w.outputs) (initial_unsigned s.hash (instance_of w k may.advert)).outputs;
     fires = ap (initial_by s) may.compiled;
     accepts = start_accepts s setup z g w agree kept secrets more k may;
     leads = subst (λ d. LeadsTo s g w (events.FireInit k) (steps.Init k) (answer s w d)) (sym draft_is) (leads_by s g w (events.FireInit k) (steps.Init k) (accepted s w tx ns) last);

@@ -21,12 +21,12 @@ use Rattle.spec_run.specs.Conditions.{IsSetup}
 use Rattle.spec_run.specs.Agreement.{Agree}
 use Rattle.spec_run.specs.Offers.{Offer, offers_of, offers}
 use Rattle.spec_run.specs.Statements.{IsKept}
-use Rattle.theory_world.proofs.Positions.{Is_in}
-use Rattle.theory_world.proofs.Standing.{term_choice}
-use Rattle.theory_run.proofs.Keeping.{Begins, KeptSecrets}
-use Rattle.theory_run.proofs.Kept.{KeptBook}
-use Rattle.theory_run.proofs.Spending.{Checked}
-use Rattle.theory_offers.proofs.Offered.{KeptOffers}
+use Rattle.theory_world.proofs.Contracts.Positions.{Is_in}
+use Rattle.theory_world.proofs.Contracts.Standing.{term_choice}
+use Rattle.theory_run.proofs.Facts.KeptSecrets.{Begins, KeptSecrets}
+use Rattle.theory_run.proofs.Facts.Kept.{KeptBook}
+use Rattle.theory_run.proofs.Accepted.Spending.{Checked}
+use Rattle.theory_offers.proofs.Basis.Offered.{KeptOffers}
 use Rattle.theory_offers.proofs.Leads.{init_kept}
 use Rattle.theory_offers.proofs.Permitted.{Active, fine, withdraw_kept, split_kept}
 use Rattle.theory_offers.proofs.PutReveals.{put_kept}
@@ -65,7 +65,7 @@ module _ (s : Setup) (setup : IsSetup s) (z : List (List ℕ)) (g : Configuratio
   only x y (inl e) h = subst (IsKept s g w) (sym e) h
   only x y (inr i) h = absurd i
 
-  even : (n i : ℕ) (a : Active s setup g w agree kept check more n) (b : term.Branch) (ps : Parts) → slice_get (branches (fine s setup g w agree kept check more n i a).choice) i ≡ Some b → core b ≡ split ps
+  even : (n i : ℕ) (a : Active s setup g w agree kept check more n) (b : term.Guarded) (ps : Parts) → slice_get (branches (fine s setup g w agree kept check more n i a).choice) i ≡ Some b → core b ≡ split ps
       → (0 < length (parts_list ps)) × (sum_of_parts ps ≤ (fine s setup g w agree kept check more n i a).here.output.value)
   even n i a b ps t c =
       let f = fine s setup g w agree kept check more n i a in

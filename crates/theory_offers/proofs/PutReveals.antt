@@ -6,12 +6,12 @@ use Rattle.std.specs.Str.{bytes_eq}
 use Rattle.std.proofs.lemmas.Bool.{and_parts, or_cases, both_ways}
 use Rattle.spec_data.specs.Lists.{is_among, are_different, look_up, AllTrue}
 use Rattle.spec_terms.specs.Advert.{Advert}
-use Rattle.spec_terms.specs.Balance.{Stand, stands}
+use Rattle.spec_terms.specs.Balance.{Funded, all_funded}
 use Rattle.spec_terms.specs.Term as term
-use Rattle.spec_terms.specs.Term.{Choice, branches, auth, after, put_reveal, withdraw, split}
+use Rattle.spec_terms.specs.Term.{Contract, branches, auth, after, put_reveal, withdraw, split}
 use Rattle.spec_terms.specs.Core.{core, puts_of, reveals_of, test_of}
 use Rattle.spec_terms.specs.Faults.{IsWellFormed, at_core, are_among, first_place}
-use Rattle.spec_terms.specs.Paths.{Spot, position, at_branch, choice_at}
+use Rattle.spec_terms.specs.Paths.{Subterm, position, at_branch, contract_under}
 use Rattle.spec_terms.specs.Value.{holds}
 use Rattle.spec_terms.specs.Precondition.{Holding, holding, deposits, volatile, names_of, value_of, value_of_puts, secrets_of}
 use Rattle.spec_terms.specs.declared.pre.Pre.{Pre}
@@ -24,38 +24,38 @@ use Rattle.spec_calculus.specs.Beginning.{is_there, bindings_of, pre_of}
 use Rattle.spec_calculus.specs.Branches as calculus
 use Rattle.spec_calculus.specs.Branches.{active_at, are_revealed}
 use Rattle.spec_calculus.specs.Steps.{fails, branch_at, put_reveal_premises}
-use Rattle.spec_compiler.specs.Setting.{Setting, branch_path, position_script}
+use Rattle.spec_compiler.specs.Instance.{Instance, branch_path, position_script}
 use Rattle.spec_compiler.specs.Transactions.{pays, continued_value, core_outputs, branch_unsigned, put_deposits, holding_or_none}
 use Rattle.spec_run.specs.declared.event.Event.TheVariants as events
 use Rattle.spec_run.specs.Setup as setups
 use Rattle.spec_run.specs.Setup.{Setup, contract_at}
 use Rattle.spec_run.specs.World.{Promise, World, bindings_at, digests_at}
-use Rattle.spec_run.specs.Compiled.{compiled_at}
+use Rattle.spec_run.specs.Compiled.{compiled_instance}
 use Rattle.spec_run.specs.Conditions.{IsSetup}
 use Rattle.spec_run.specs.Agreement.{Agree}
 use Rattle.spec_run.specs.Steps.{core_step}
 use Rattle.spec_run.specs.Statements.{IsKept}
-use Rattle.theory_script.proofs.Spots.{each_at, each_of_branches, each_of_advert}
+use Rattle.theory_script.proofs.Listing.Subterms.{each_at, each_of_branches, each_of_advert}
 use Rattle.theory_world.proofs.Same.{bytes-true}
-use Rattle.theory_world.proofs.Faultless.{no_fault}
-use Rattle.theory_run.proofs.AllSecrets.{different_names}
-use Rattle.theory_world.proofs.Positions.{Is_in}
+use Rattle.theory_world.proofs.Contracts.Faultless.{no_fault}
+use Rattle.theory_run.proofs.Facts.AllSecrets.{different_names}
+use Rattle.theory_world.proofs.Contracts.Positions.{Is_in}
 use Rattle.theory_world.proofs.Later.{compiled_is}
-use Rattle.theory_world.proofs.Standing.{term_choice}
-use Rattle.theory_run.proofs.Keeping.{Begins, KeptSecrets}
-use Rattle.theory_run.proofs.Kept.{KeptBook}
-use Rattle.theory_run.proofs.Spending.{Checked}
-use Rattle.theory_world.proofs.Acceptable.{worth}
-use Rattle.theory_offers.proofs.Offered.{KeptOffers}
+use Rattle.theory_world.proofs.Contracts.Standing.{term_choice}
+use Rattle.theory_run.proofs.Facts.KeptSecrets.{Begins, KeptSecrets}
+use Rattle.theory_run.proofs.Facts.Kept.{KeptBook}
+use Rattle.theory_run.proofs.Accepted.Spending.{Checked}
+use Rattle.theory_world.proofs.Ledger.Acceptable.{worth}
+use Rattle.theory_offers.proofs.Basis.Offered.{KeptOffers}
 use Rattle.theory_offers.proofs.Starts.{no_false, one_total, there_is}
-use Rattle.theory_run.proofs.Beginnings.{bindings_same}
+use Rattle.theory_run.proofs.Steps.Beginnings.{bindings_same}
 use Rattle.theory_offers.proofs.TakingLeads.{takes_kept}
 use Rattle.theory_offers.proofs.Permitted.{Active, is_active, fine, Permitted, permitted}
 use Rattle.theory_offers.proofs.Unlocked.{Unlocked, unlocked}
 
 -- ---- what the check of a contract says of a core
 
-abbrev of_core : (term.Branch → Bool) → Spot → Bool
+abbrev of_core : (term.Guarded → Bool) → Subterm → Bool
 of_core g (position c) = true
 of_core g (at_branch b) = g (core b)
 
@@ -63,19 +63,19 @@ not_false : (b : Bool) → not b ≡ false → b ≡ true
 not_false true h = refl
 not_false false h = sym h
 
-core_says : (g : term.Branch → Bool) (p : Spot) → at_core (λ b. not (g b)) p ≡ false → of_core g p ≡ true
+core_says : (g : term.Guarded → Bool) (p : Subterm) → at_core (λ b. not (g b)) p ≡ false → of_core g p ≡ true
 core_says g (position c) h = refl
 core_says g (at_branch b) h = not_false (g (core b)) h
 
-nth : (f : term.Branch → Bool) (bs : List term.Branch) (i : ℕ) (b : term.Branch) → list_all f bs ≡ true → slice_get bs i ≡ Some b → f b ≡ true
+nth : (f : term.Guarded → Bool) (bs : List term.Guarded) (i : ℕ) (b : term.Guarded) → list_all f bs ≡ true → slice_get bs i ≡ Some b → f b ≡ true
 nth f [] i b h e = cc
 nth f (x ∷ bs) zero b h e = let z : x ≡ b = cc in subst (λ y. f y ≡ true) z (and_parts (f x) (list_all f bs) h).0
 nth f (x ∷ bs) (suc i) b h e = nth f bs i b (and_parts (f x) (list_all f bs) h).1 e
 
-pub core_fact : (test : term.Branch → Bool) (a : Advert) (path : List PathStep) (c : Choice) (i : ℕ) (b : term.Branch) → first_place (λ (x : Stand). at_core (λ y. not (test y)) x.spot) (stands a) ≡ None
-    → choice_at a.root path ≡ Some c → slice_get (branches c) i ≡ Some b → test (core b) ≡ true
+pub core_fact : (test : term.Guarded → Bool) (a : Advert) (path : List PathStep) (c : Contract) (i : ℕ) (b : term.Guarded) → first_place (λ (x : Funded). at_core (λ y. not (test y)) x.subterm) (all_funded a) ≡ None
+    → contract_under a.root path ≡ Some c → slice_get (branches c) i ≡ Some b → test (core b) ≡ true
 core_fact test a path c i b f e g =
-    let all = each_at (of_core test) a.root path c (each_of_advert (of_core test) _ a (λ x h. core_says test x.spot h) f) e in
+    let all = each_at (of_core test) a.root path c (each_of_advert (of_core test) _ a (λ x h. core_says test x.subterm h) f) e in
     nth (λ y. test (core y)) (branches c) i b (each_of_branches (of_core test) c all.1) g
 
 all_in : (f : List ℕ → Bool) (xs : List (List ℕ)) (x : List ℕ) → list_all f xs ≡ true → Is_in x xs → f x ≡ true
@@ -96,7 +96,7 @@ volatile_in name (Volatile party value n ∷ pre) h = by_test (bytes_eq n name) 
     by_test false e (inr q) ih = inr (ih q)
 volatile_in name (Secret party n ∷ pre) h = volatile_in name pre h
 
-puts_worth : (hash : List ℕ → List ℕ) (st : Setting) (puts : List (List ℕ)) → worth (put_deposits hash st puts) ≡ value_of_puts (volatile st.advert.pre) puts
+puts_worth : (hash : List ℕ → List ℕ) (st : Instance) (puts : List (List ℕ)) → worth (put_deposits hash st puts) ≡ value_of_puts (volatile st.advert.pre) puts
 puts_worth hash st [] = refl
 puts_worth hash st (x ∷ puts) =
     let a = by_look (look_up x (volatile st.advert.pre)) in
@@ -108,24 +108,24 @@ puts_worth hash st (x ∷ puts) =
     by_look (Some h) = refl
 
 module _ (s : Setup) (setup : IsSetup s) (z : List (List ℕ)) (g : Configuration) (w : World) (agree : Agree s g w) (kept : KeptBook s g w) (check : Checked s w) (secrets : KeptSecrets s z g w) (begins : Begins z w.posted) (more : KeptOffers s g w) where
-  module _ (n i : ℕ) (a : Active s setup g w agree kept check more n) (b : term.Branch) (p : Permitted s setup g w agree kept check more n i a b) where
-    abbrev pub st : Setting
+  module _ (n i : ℕ) (a : Active s setup g w agree kept check more n) (b : term.Guarded) (p : Permitted s setup g w agree kept check more n i a b) where
+    abbrev pub st : Instance
     st = (fine s setup g w agree kept check more n i a).setting
 
     abbrev pub k : ℕ
     k = a.held.contract
 
-    pub compiled : compiled_at s w k ≡ Some st
+    pub compiled : compiled_instance s w k ≡ Some st
     compiled = (fine s setup g w agree kept check more n i a).compiled
 
     there : contract_at s k ≡ Some st.advert
-    there = let ci = compiled_is s w k st compiled in ci.there ∙ ap (λ (y : Setting). Some y.advert) (sym ci.is)
+    there = let ci = compiled_is s w k st compiled in ci.there ∙ ap (λ (y : Instance). Some y.advert) (sym ci.is)
 
     pub pre_is : pre_of (calculus.advert_of g.contracts (Some record { number = n; contract = a.held.contract; position = a.held.position; balance = a.output.value })) ≡ st.advert.pre
     pre_is = ap (λ cs. pre_of (slice_get cs k)) more.constant.contracts ∙ ap pre_of there
 
     pub hashes : st.hashes ≡ digests_at w.promises k
-    hashes = ap (λ (y : Setting). y.hashes) (compiled_is s w k st compiled).is
+    hashes = ap (λ (y : Instance). y.hashes) (compiled_is s w k st compiled).is
 
     pub well : IsWellFormed st.advert
     well = check.checked k st compiled
@@ -140,7 +140,7 @@ module _ (s : Setup) (setup : IsSetup s) (z : List (List ℕ)) (g : Configuratio
     opened h = unlocked s z g w secrets begins st k hashes (different_names st.advert well) own (reveals_of (core b)) h
 
     -- a put's or reveal's branch that may be taken
-    pub put_take : (puts reveals : List (List ℕ)) (test : term.Test) (next : Choice) → core b ≡ put_reveal puts reveals test next
+    pub put_take : (puts reveals : List (List ℕ)) (test : term.Pred) (next : Contract) → core b ≡ put_reveal puts reveals test next
         → list_all (λ x. is_there g.deposits (look_up x (bindings_of g.advertised k))) (puts_of (core b)) ≡ true
         → are_revealed g.revealed k st.advert.pre (reveals_of (core b)) ≡ true
         → holds (calculus.secret_lengths g.committed k st.advert.pre (reveals_of (core b))) (test_of (core b)) ≡ true
@@ -183,7 +183,7 @@ module _ (s : Setup) (setup : IsSetup s) (z : List (List ℕ)) (g : Configuratio
         })
         (steps.PutReveal n i) (ap (core_step n i) e)
 
-    pub put_core : (c : term.Branch) → core b ≡ c → calculus.is_put_core c ≡ true
+    pub put_core : (c : term.Guarded) → core b ≡ c → calculus.is_put_core c ≡ true
         → list_all (λ x. is_there g.deposits (look_up x (bindings_of g.advertised k))) (puts_of (core b)) ≡ true
         → are_revealed g.revealed k st.advert.pre (reveals_of (core b)) ≡ true
         → holds (calculus.secret_lengths g.committed k st.advert.pre (reveals_of (core b))) (test_of (core b)) ≡ true
@@ -194,7 +194,7 @@ module _ (s : Setup) (setup : IsSetup s) (z : List (List ℕ)) (g : Configuratio
     put_core (auth party body) e x l r h = cc
     put_core (after height body) e x l r h = cc
 
-  put_by : (n i : ℕ) (a : Active s setup g w agree kept check more n) (o : Option term.Branch) → branch_at g n i ≡ o
+  put_by : (n i : ℕ) (a : Active s setup g w agree kept check more n) (o : Option term.Guarded) → branch_at g n i ≡ o
       → AllTrue (put_reveal_premises g n i (Some record { number = n; contract = a.held.contract; position = a.held.position; balance = a.output.value }) o) → IsKept s g w (record { step = steps.PutReveal n i; event = events.Fire n i })
   put_by n i a None e t = let x = t.1.0 in cc
   put_by n i a (Some b) e t =

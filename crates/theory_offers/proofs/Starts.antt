@@ -21,28 +21,28 @@ use Rattle.spec_calculus.specs.Moves.{deposit_at}
 use Rattle.spec_calculus.specs.Beginning as calculus
 use Rattle.spec_calculus.specs.Beginning.{is_there, are_there, bindings_of, is_init_authorised, are_init_authorised, persistent_names, has_committed, have_committed, participants_of}
 use Rattle.spec_calculus.specs.Steps.{fails, init_premises}
-use Rattle.spec_compiler.specs.Setting.{Setting, position_script}
+use Rattle.spec_compiler.specs.Instance.{Instance, position_script}
 use Rattle.spec_compiler.specs.Transactions.{tx_of, prepared, pays, deposit, root_value, initial_unsigned}
 use Rattle.spec_run.specs.Setup.{Setup, contract_at}
 use Rattle.spec_run.specs.World.{Output, World, is_deposit, bindings_at, has_promised, have_promised}
-use Rattle.spec_run.specs.Compiled.{compiled_at, setting}
+use Rattle.spec_run.specs.Compiled.{compiled_instance, instance_of}
 use Rattle.spec_run.specs.Conditions.{IsSetup}
 use Rattle.spec_run.specs.Agreement.{Agree}
 use Rattle.spec_run.specs.Firing.{initial_witnesses, initial_transaction}
 use Rattle.spec_run.specs.Ledger.{verdict_in}
 use Rattle.spec_run.specs.Steps.{names_deposit, is_bound_live}
 use Rattle.theory_world.proofs.Tests.{any_map, length_map, all_alike, all_among}
-use Rattle.theory_world.proofs.Positions.{in_some, Is_in}
-use Rattle.theory_world.proofs.Outputs.{deposit-at, deposit_of}
-use Rattle.theory_run.proofs.Keeping.{KeptSecrets, committed_by}
-use Rattle.theory_run.proofs.AllSecrets.{different_names}
+use Rattle.theory_world.proofs.Contracts.Positions.{in_some, Is_in}
+use Rattle.theory_world.proofs.Ledger.Outputs.{deposit-at, deposit_of}
+use Rattle.theory_run.proofs.Facts.KeptSecrets.{KeptSecrets, committed_by}
+use Rattle.theory_run.proofs.Facts.AllSecrets.{different_names}
 use Rattle.theory_world.proofs.Later.{compiled_from}
-use Rattle.theory_world.proofs.Mentions.{has_deposit, a_person}
-use Rattle.theory_run.proofs.Kept.{KeptBook}
-use Rattle.theory_run.proofs.Entering.{persistent_deposit}
-use Rattle.theory_world.proofs.Acceptable.{Asked, accepts, worth}
-use Rattle.theory_offers.proofs.Offered.{KeptOffers, number_of, ready_all, numbers_apart}
-use Rattle.theory_run.proofs.Beginnings.{bindings_same}
+use Rattle.theory_world.proofs.Contracts.Mentions.{has_deposit, a_person}
+use Rattle.theory_run.proofs.Facts.Kept.{KeptBook}
+use Rattle.theory_run.proofs.Accepted.WhatItIs.{persistent_deposit}
+use Rattle.theory_world.proofs.Ledger.Acceptable.{Asked, accepts, worth}
+use Rattle.theory_offers.proofs.Basis.Offered.{KeptOffers, number_of, ready_all, numbers_apart}
+use Rattle.theory_run.proofs.Steps.Beginnings.{bindings_same}
 
 -- where no premise fails, each is true
 pub no_false : (n : ℕ) (bs : List Bool) → 1 ≤ n → first_false n bs ≡ 0 → AllTrue bs
@@ -71,7 +71,7 @@ persistent_apart (Persistent party value name ∷ pre) h =
 persistent_apart (Volatile party value name ∷ pre) h = persistent_apart pre (and_parts (not (is_among name (map name_in pre))) _ h).1
 persistent_apart (Secret party name ∷ pre) h = persistent_apart pre (and_parts (not (is_among name (map name_in pre))) _ h).1
 
-total_worth : (hash : List ℕ → List ℕ) (st : Setting) (ds : List (List ℕ × Holding)) → worth (map (λ d. deposit hash st (d.0) (d.1)) ds) ≡ total_of ds
+total_worth : (hash : List ℕ → List ℕ) (st : Instance) (ds : List (List ℕ × Holding)) → worth (map (λ d. deposit hash st (d.0) (d.1)) ds) ≡ total_of ds
 total_worth hash st [] = refl
 total_worth hash st (d ∷ ds) = ap (λ n. (d.1).value + n) (total_worth hash st ds)
 
@@ -105,7 +105,7 @@ module _ (s : Setup) (setup : IsSetup s) (z : List (List ℕ)) (g : Configuratio
     pub advert : Advert
     pub there : contract_at s k ≡ Some advert
     pub well : IsWellFormed advert
-    pub compiled : compiled_at s w k ≡ Some (setting w k advert)
+    pub compiled : compiled_instance s w k ≡ Some (instance_of w k advert)
     pub live : (d : List ℕ × Holding) → Is_in d (persistent advert.pre) → is_bound_live w k d ≡ true
     pub authorised : (d : List ℕ × Holding) → Is_in d (persistent advert.pre) → is_init_authorised g.init_authorised k (d.0) ≡ true
 
@@ -134,18 +134,18 @@ module _ (s : Setup) (setup : IsSetup s) (z : List (List ℕ)) (g : Configuratio
     abbrev pub numbers : List ℕ
     numbers = map (λ (d : List ℕ × Holding). number_of w k (d.0)) (persistent may.advert.pre)
 
-    pub start_asked : Asked s w setup.hash.size kept.apart (initial_unsigned s.hash (setting w k may.advert)) (initial_witnesses s (setting w k may.advert) (prepared s.hash (initial_unsigned s.hash (setting w k may.advert)))) numbers
+    pub start_asked : Asked s w setup.hash.size kept.apart (initial_unsigned s.hash (instance_of w k may.advert)) (initial_witnesses s (instance_of w k may.advert) (prepared s.hash (initial_unsigned s.hash (instance_of w k may.advert)))) numbers
     start_asked =
         let one = a_person may.advert may.well in
         let dep = has_deposit may.advert one.0 may.well one.1 in
         let ds = persistent may.advert.pre in
-        let fresh = total_worth s.hash (setting w k may.advert) ds in
-        let total = one_total (pays s.hash (position_script s.hash (setting w k may.advert) [] may.advert.root) (root_value (setting w k may.advert))) in
+        let fresh = total_worth s.hash (instance_of w k may.advert) ds in
+        let total = one_total (pays s.hash (position_script s.hash (instance_of w k may.advert) [] may.advert.root) (root_value (instance_of w k may.advert))) in
         let some = in_some (dep.name, dep.holding) ds dep.there in
-        let len = length_map (λ (d : List ℕ × Holding). deposit s.hash (setting w k may.advert) (d.0) (d.1)) ds in
+        let len = length_map (λ (d : List ℕ × Holding). deposit s.hash (instance_of w k may.advert) (d.0) (d.1)) ds in
         record {
-          ready = ready_all s setup.hash.size g w kept k (setting w k may.advert) may.compiled (tx_of (initial_unsigned s.hash (setting w k may.advert))) (λ d. d) ds (λ d i. record { known = persistent_deposit may.advert.pre d i; live = may.live d i; signed = more.inits k (setting w k may.advert) d may.compiled i (may.authorised d i) (may.live d i) });
-          distinct = numbers_apart s setup.hash.size g w kept k (setting w k may.advert) may.compiled (λ d. d) ds (λ d i. persistent_deposit may.advert.pre d i) (persistent_apart may.advert.pre (different_names may.advert may.well));
+          ready = ready_all s setup.hash.size g w kept k (instance_of w k may.advert) may.compiled (tx_of (initial_unsigned s.hash (instance_of w k may.advert))) (λ d. d) ds (λ d i. record { known = persistent_deposit may.advert.pre d i; live = may.live d i; signed = more.inits k (instance_of w k may.advert) d may.compiled i (may.authorised d i) (may.live d i) });
+          distinct = numbers_apart s setup.hash.size g w kept k (instance_of w k may.advert) may.compiled (λ d. d) ds (λ d i. persistent_deposit may.advert.pre d i) (persistent_apart may.advert.pre (different_names may.advert may.well));
           some = omega (arith, some, len);
           makes = omega arith;
           enough = omega (arith, fresh, total);
@@ -154,5 +154,5 @@ module _ (s : Setup) (setup : IsSetup s) (z : List (List ℕ)) (g : Configuratio
           height = more.height;
         }
 
-    pub start_accepts : verdict_in s w (initial_transaction s (setting w k may.advert)) ≡ verdicts.Accepted numbers (bitcoin.numbers_from (length w.outputs) (initial_unsigned s.hash (setting w k may.advert)).outputs)
-    start_accepts = accepts s w setup.hash.size kept.apart (initial_unsigned s.hash (setting w k may.advert)) (initial_witnesses s (setting w k may.advert) (prepared s.hash (initial_unsigned s.hash (setting w k may.advert)))) numbers start_asked
+    pub start_accepts : verdict_in s w (initial_transaction s (instance_of w k may.advert)) ≡ verdicts.Accepted numbers (bitcoin.numbers_from (length w.outputs) (initial_unsigned s.hash (instance_of w k may.advert)).outputs)
+    start_accepts = accepts s w setup.hash.size kept.apart (initial_unsigned s.hash (instance_of w k may.advert)) (initial_witnesses s (instance_of w k may.advert) (prepared s.hash (initial_unsigned s.hash (instance_of w k may.advert)))) numbers start_asked

@@ -11,36 +11,36 @@ use Rattle.spec_bitcoin.specs.Keys.{is_valid}
 use Rattle.spec_bitcoin.specs.Verdict as bitcoin
 use Rattle.spec_calculus.specs.declared.step.Step.{Step}
 use Rattle.spec_calculus.specs.Configuration.{Configuration}
-use Rattle.spec_compiler.specs.Setting.{Setting}
+use Rattle.spec_compiler.specs.Instance.{Instance}
 use Rattle.spec_compiler.specs.declared.unsigned.Spent.{Spent}
 use Rattle.spec_compiler.specs.Transactions.{input_of, tx_of, prepared, deposit, initial_unsigned}
 use Rattle.spec_run.specs.declared.event.Event.TheVariants as events
 use Rattle.spec_run.specs.Setup.{Setup, people_at}
-use Rattle.spec_run.specs.World.{Output, World, held_at}
+use Rattle.spec_run.specs.World.{Output, World, live_position_at}
 use Rattle.spec_run.specs.Conditions.{IsSetup}
 use Rattle.spec_run.specs.Draft.{unless, answer}
-use Rattle.spec_run.specs.Signing.{branch_held}
-use Rattle.spec_run.specs.Firing.{taking_witnesses, fire_row, reaches_if, held_setting, unknown_secret, unknown_at, held_script}
+use Rattle.spec_run.specs.Signing.{branch_if_live}
+use Rattle.spec_run.specs.Firing.{taking_witnesses, fire_row, reaches_if, position_instance, unknown_secret, unknown_at, script_of_position}
 use Rattle.spec_run.specs.Ledger.{judged, accepted, kind_by, kind_of, Takes, initial_of, branch_count}
 use Rattle.spec_compiler.specs.Witness.{chosen_by}
 use Rattle.spec_run.specs.Steps.{reveals, kind_steps, branch_steps, auth_branch, is_awaited, core_step, steps_of}
 use Rattle.spec_run.specs.Event.{draft}
 use Rattle.spec_run.specs.Statements.{IsLast, LeadsTo, IsKept}
-use Rattle.theory_world.proofs.Bare.{bare, bare_input}
-use Rattle.theory_world.proofs.Positions.{Is_in}
-use Rattle.theory_run.proofs.Kept.{KeptBook}
-use Rattle.theory_run.proofs.Spending.{Checked}
-use Rattle.theory_run.proofs.Kinded.{counted}
-use Rattle.theory_run.proofs.Entering.{initial_is, persistent_deposit, at_bound}
-use Rattle.theory_world.proofs.Acceptable.{none_reason, with-bare}
-use Rattle.theory_offers.proofs.Offered.{KeptOffers}
+use Rattle.theory_world.proofs.Ledger.Bare.{bare, bare_input}
+use Rattle.theory_world.proofs.Contracts.Positions.{Is_in}
+use Rattle.theory_run.proofs.Facts.Kept.{KeptBook}
+use Rattle.theory_run.proofs.Accepted.Spending.{Checked}
+use Rattle.theory_run.proofs.Accepted.Kinded.{counted}
+use Rattle.theory_run.proofs.Accepted.WhatItIs.{initial_is, persistent_deposit, at_bound}
+use Rattle.theory_world.proofs.Ledger.Acceptable.{none_reason, with-bare}
+use Rattle.theory_offers.proofs.Basis.Offered.{KeptOffers}
 use Rattle.theory_offers.proofs.Leads.{leads_by}
 use Rattle.theory_offers.proofs.Takings as taking
 use Rattle.theory_offers.proofs.Takings.{MayTake, witness_chooses}
 
 -- the first of the persistent deposits
-first_persistent : (hash : List ℕ → List ℕ) (st : Setting) (ds : List (List ℕ × Holding)) (x : Spent) (xs : List Spent) → map bare_input (map input_of (x ∷ xs)) ≡ map bare_input (map input_of (map (λ (d : List ℕ × Holding). deposit hash st d.0 d.1) ds))
-    → (d : List ℕ × Holding) × Is_in d ds × (x.place ≡ (deposit hash st d.0 d.1).place)
+first_persistent : (hash : List ℕ → List ℕ) (st : Instance) (ds : List (List ℕ × Holding)) (x : Spent) (xs : List Spent) → map bare_input (map input_of (x ∷ xs)) ≡ map bare_input (map input_of (map (λ (d : List ℕ × Holding). deposit hash st d.0 d.1) ds))
+    → (d : List ℕ × Holding) × Is_in d ds × (x.outpoint ≡ (deposit hash st d.0 d.1).outpoint)
 first_persistent hash st [] x xs h = cc
 first_persistent hash st (d ∷ ds) x xs h =
     let a : bare_input (input_of x) ≡ bare_input (input_of (deposit hash st d.0 d.1)) = cc in
@@ -53,13 +53,13 @@ module _ (s : Setup) (setup : IsSetup s) (g : Configuration) (w : World) (kept :
   abbrev ns : List ℕ
   ns = taking.ns s setup g w kept check more n i may
 
-  held_is : held_at w n ≡ Some may.held
+  held_is : live_position_at w n ≡ Some may.held
   held_is = taking.held_is s setup g w kept check more n i may
 
   row : first_reason (fire_row s w n i) ≡ None
   row =
-      let b : branch_held s (held_at w n) i ≡ Some may.branch = ap (λ h. branch_held s h i) held_is ∙ taking.branch_is s setup g w kept check more n i may in
-      let t : held_setting s w (held_at w n) ≡ Some may.fine.setting = ap (held_setting s w) held_is ∙ may.fine.compiled in
+      let b : branch_if_live s (live_position_at w n) i ≡ Some may.branch = ap (λ h. branch_if_live s h i) held_is ∙ taking.branch_is s setup g w kept check more n i may in
+      let t : position_instance s w (live_position_at w n) ≡ Some may.fine.setting = ap (position_instance s w) held_is ∙ may.fine.compiled in
       let u : unknown_at s w n i ≡ None = (λ j. unknown_secret s w (t j) (b j)) ∙ may.shown in
       none_reason (fire_row s w n i) (ap (λ o. not (is_some o)) held_is, (ap (λ o. not (is_some o)) b, (ap is_some u, tt)))
 
@@ -82,7 +82,7 @@ module _ (s : Setup) (setup : IsSetup s) (g : Configuration) (w : World) (kept :
           let b : bare (tx_of (taking.made s setup g w kept check more n i may)) ≡ bare (tx_of (initial_unsigned s.hash is.setting)) = sym tx_bare ∙ is.is in
           let d = first_persistent s.hash is.setting (persistent is.setting.advert.pre) may.fine.here.output _ (ap (λ (y : Tx). y.inputs) b) in
           let a = at_bound s g w kept j is.setting is.compiled (d.0.0) (d.0.1) (persistent_deposit is.setting.advert.pre d.0 d.1) in
-          let m = kept.apart n a.number may.output a.bound.output may.there a.bound.there (may.fine.place ∙ d.2 ∙ a.place) in
+          let m = kept.apart n a.number may.output a.bound.output may.there a.bound.there (may.fine.outpoint ∙ d.2 ∙ a.outpoint) in
           let o : (let y : Option Output = Some may.output in y) ≡ Some a.bound.output = sym may.there ∙ ap (slice_get w.outputs) m ∙ a.bound.there in
           let f : may.output ≡ a.bound.output = cc in
           let k : Some may.held ≡ None = sym may.holds_it ∙ ap (λ (y : Output). y.holds) f ∙ a.bound.free in
@@ -93,7 +93,7 @@ module _ (s : Setup) (setup : IsSetup s) (g : Configuration) (w : World) (kept :
       let witness = taking.witness s setup g w kept check more n i may in
       let c : chosen_by (branch_count s may.held) witness ≡ i =
       ap (λ m. chosen_by m witness) (counted s w may.held may.output may.fine)
-      ∙ witness_chooses s.hash (is_valid w.book (taking.dg s setup g w kept check more n i may)) may.fine.setting may.held.position may.fine.choice i (taking.sigs s setup g w kept check more n i may) (taking.strings s setup g w kept check more n i may) (held_script s may.fine.setting may.held may.fine.choice) (taking.fills s setup g w kept check more n i may) in
+      ∙ witness_chooses s.hash (is_valid w.book (taking.dg s setup g w kept check more n i may)) may.fine.setting may.held.position may.fine.choice i (taking.sigs s setup g w kept check more n i may) (taking.strings s setup g w kept check more n i may) (script_of_position s may.fine.setting may.held may.fine.choice) (taking.fills s setup g w kept check more n i may) in
       (λ j. kind_by s tx (n ∷ ns) (no_initial j) (held_is j)) ∙ ap (Takes may.held n) c
 
   module _ (step : Step) (step_is : core_step n i (core may.branch) ≡ step ∷ []) where

@@ -7,7 +7,7 @@ use Rattle.std.proofs.lemmas.List.{reverse-append, reverse-reverse}
 use Rattle.std.proofs.Common.{append_assoc}
 use Rattle.spec_data.specs.Lists.{is_among, are_different, has_number, look_up}
 use Rattle.spec_terms.specs.Term as term
-use Rattle.spec_terms.specs.Term.{Choice, branches}
+use Rattle.spec_terms.specs.Term.{Contract, branches}
 use Rattle.spec_terms.specs.Core.{core, lock, is_asked, puts_of, reveals_of, test_of}
 use Rattle.spec_terms.specs.Value.{holds}
 use Rattle.spec_terms.specs.Precondition.{Holding, deposits, volatile}
@@ -20,7 +20,7 @@ use Rattle.spec_bitcoin.specs.Keys.{Pair, key_of, has_signed, is_valid, signatur
 use Rattle.spec_bitcoin.specs.Meaning.{script_meaning}
 use Rattle.spec_calculus.specs.Configuration.{Configuration}
 use Rattle.spec_calculus.specs.Branches.{has_branch_authorised}
-use Rattle.spec_compiler.specs.Setting.{Setting, branch_path, branch_label, people, position_script}
+use Rattle.spec_compiler.specs.Instance.{Instance, branch_path, branch_label, people, position_script}
 use Rattle.spec_compiler.specs.Scripts.{digest_of}
 use Rattle.spec_compiler.specs.Statements.{IsCompiled, is_short, is_secret, are_valid, are_secrets, secret_lengths, Opens, Fills}
 use Rattle.spec_compiler.specs.declared.unsigned.Unsigned.{Unsigned}
@@ -28,27 +28,27 @@ use Rattle.spec_compiler.specs.Transactions.{Standing, tx_of, digest_of_spent, p
 use Rattle.spec_compiler.specs.ByPath.{prepared_at}
 use Rattle.spec_compiler.specs.Witness.{selectors, witness_stack, witness_of, chosen, chosen_by}
 use Rattle.spec_run.specs.Setup.{Setup, contract_at}
-use Rattle.spec_run.specs.World.{Held, Output, World, held_at, bindings_at}
-use Rattle.spec_run.specs.Compiled.{compiled_at}
+use Rattle.spec_run.specs.World.{ContractPosition, Output, World, live_position_at, bindings_at}
+use Rattle.spec_run.specs.Compiled.{compiled_instance}
 use Rattle.spec_run.specs.Conditions.{IsSetup}
-use Rattle.spec_run.specs.Firing.{branch_signatures, shown_strings, first_unshown, branch_witness, taking_witnesses, taking_transaction, taking_with, taking_by, prepared_by}
-use Rattle.spec_run.specs.Ledger.{verdict_in, choice_in, held_path, held_branch}
+use Rattle.spec_run.specs.Firing.{branch_signatures, shown_strings, first_unshown, branch_witness, taking_witnesses, taking_transaction, taking_of_parts, taking_of_position, prepared_if_compiled}
+use Rattle.spec_run.specs.Ledger.{verdict_in, contract_in, position_path, position_branch}
 use Rattle.spec_run.specs.Steps.{names_deposit}
-use Rattle.theory_script.proofs.Whole.{all_append, all_reverse, selectors_select}
-use Rattle.theory_script.proofs.Witnesses.{witness_opens}
-use Rattle.theory_script.proofs.Chosen.{opened_is_chosen}
-use Rattle.theory_script.proofs.Stands.{position_stands}
+use Rattle.theory_script.proofs.ScriptTheorem.{all_append, all_reverse, selectors_select}
+use Rattle.theory_script.proofs.Scripts.Witnesses.{witness_opens}
+use Rattle.theory_script.proofs.Scripts.Chosen.{opened_is_chosen}
+use Rattle.theory_script.proofs.Listing.Stands.{position_stands}
 use Rattle.theory_world.proofs.Same.{bytes_refl}
-use Rattle.theory_world.proofs.Positions.{Is_in}
+use Rattle.theory_world.proofs.Contracts.Positions.{Is_in}
 use Rattle.theory_world.proofs.Hashed.{among_tail, among_head}
 use Rattle.theory_world.proofs.Later.{compiled_is}
-use Rattle.theory_world.proofs.Standing.{unsigned_of_branch, position_named, term_choice}
-use Rattle.theory_run.proofs.Kept.{KeptBook, HeldFine}
-use Rattle.theory_run.proofs.Spending.{Checked}
-use Rattle.theory_run.proofs.Kinded.{looked_branch}
-use Rattle.theory_run.proofs.Entering.{at_bound}
-use Rattle.theory_world.proofs.Acceptable.{Ready, Asked, accepts, worth}
-use Rattle.theory_offers.proofs.Offered.{KeptOffers, number_of, IsOpen, ready_all, numbers_apart, number_is, digest_size, signature_short}
+use Rattle.theory_world.proofs.Contracts.Standing.{unsigned_of_branch, position_named, term_choice}
+use Rattle.theory_run.proofs.Facts.Kept.{KeptBook, HeldFine}
+use Rattle.theory_run.proofs.Accepted.Spending.{Checked}
+use Rattle.theory_run.proofs.Accepted.Kinded.{looked_branch}
+use Rattle.theory_run.proofs.Accepted.WhatItIs.{at_bound}
+use Rattle.theory_world.proofs.Ledger.Acceptable.{Ready, Asked, accepts, worth}
+use Rattle.theory_offers.proofs.Basis.Offered.{KeptOffers, number_of, IsOpen, ready_all, numbers_apart, number_is, digest_size, signature_short}
 use Rattle.theory_offers.proofs.AllSigned.{branch_met, put_met}
 
 -- ---- a witness stack
@@ -85,7 +85,7 @@ from_top signatures strings i n =
     ∙ rw (reverse-reverse, reverse-reverse, reverse-reverse) (append_assoc (selectors i n) strings signatures)
 
 -- the witness chooses its branch
-pub witness_chooses : (hash : List ℕ → List ℕ) (valid : List ℕ → List ℕ → Bool) (st : Setting) (position : List PathStep) (choice : Choice) (i : ℕ) (signatures strings : List (List ℕ)) (script : List ℕ) → Fills hash valid st position choice i signatures strings
+pub witness_chooses : (hash : List ℕ → List ℕ) (valid : List ℕ → List ℕ → Bool) (st : Instance) (position : List PathStep) (choice : Contract) (i : ℕ) (signatures strings : List (List ℕ)) (script : List ℕ) → Fills hash valid st position choice i signatures strings
     → chosen_by (length (branches choice)) (witness_of signatures strings i (length (branches choice)) script) ≡ i
 witness_chooses hash valid st position choice i signatures strings script f =
     let n = length (branches choice) in
@@ -121,10 +121,10 @@ pub record MayTake (s : Setup) (g : Configuration) (w : World) (n i : ℕ) : Typ
   pub output : Output
   pub there : slice_get w.outputs n ≡ Some output
   pub live : output.live ≡ true
-  pub held : Held
+  pub held : ContractPosition
   pub holds_it : output.holds ≡ Some held
   pub fine : HeldFine s w output held
-  pub branch : term.Branch
+  pub branch : term.Guarded
   pub is_branch : slice_get (branches fine.choice) i ≡ Some branch
   pub reached : lock branch ≤ w.tip
   pub agreed : (a : List ℕ) → is_asked branch a ≡ true → has_branch_authorised g.branch_authorised n i a ≡ true
@@ -141,19 +141,19 @@ pub record MayTake (s : Setup) (g : Configuration) (w : World) (n i : ℕ) : Typ
   pub enough : bitcoin.total_of (branch_unsigned s.hash fine.setting fine.here i branch).outputs ≤ worth (branch_unsigned s.hash fine.setting fine.here i branch).spends
 
 module _ (s : Setup) (setup : IsSetup s) (g : Configuration) (w : World) (kept : KeptBook s g w) (check : Checked s w) (more : KeptOffers s g w) (n i : ℕ) (may : MayTake s g w n i) where
-  abbrev pub held : Held
+  abbrev pub held : ContractPosition
   held = may.held
 
-  abbrev pub st : Setting
+  abbrev pub st : Instance
   st = may.fine.setting
 
   abbrev pub here : Standing
   here = may.fine.here
 
-  abbrev pub choice : Choice
+  abbrev pub choice : Contract
   choice = may.fine.choice
 
-  abbrev pub b : term.Branch
+  abbrev pub b : term.Guarded
   b = may.branch
 
   abbrev pub made : Unsigned
@@ -163,17 +163,17 @@ module _ (s : Setup) (setup : IsSetup s) (g : Configuration) (w : World) (kept :
   dg = digest_of_spent s.hash (tx_of made) may.fine.here.output
 
   abbrev pub path : List PathStep
-  path = held_path may.held i
+  path = position_path may.held i
 
-  pub held_is : held_at w n ≡ Some may.held
+  pub held_is : live_position_at w n ≡ Some may.held
   held_is = ap active may.there ∙ rw may.live may.holds_it
     where
-      active : Option Output → Option Held
+      active : Option Output → Option ContractPosition
       active None = None
       active (Some o) = if o.live then o.holds else None
 
   same_contract : st.contract ≡ held.contract
-  same_contract = ap (λ (y : Setting). y.contract) (compiled_is s w held.contract st may.fine.compiled).is
+  same_contract = ap (λ (y : Instance). y.contract) (compiled_is s w held.contract st may.fine.compiled).is
 
   path_is : branch_path here.position i ≡ path
   path_is = ap (λ p. p ++ To i ∷ []) (position_named s.hash st held.position here choice may.fine.stands)
@@ -218,7 +218,7 @@ module _ (s : Setup) (setup : IsSetup s) (g : Configuration) (w : World) (kept :
         output = may.output;
         there = may.there;
         live = may.live;
-        place = sym may.fine.place;
+        outpoint = sym may.fine.outpoint;
         value = sym may.fine.value;
         pays = may.fine.script;
         items = stack;
@@ -281,14 +281,14 @@ module _ (s : Setup) (setup : IsSetup s) (g : Configuration) (w : World) (kept :
   -- ---- it is the transaction of the branch
 
   contract_is : contract_at s held.contract ≡ Some st.advert
-  contract_is = let ci = compiled_is s w held.contract st may.fine.compiled in ci.there ∙ ap (λ (y : Setting). Some y.advert) (sym ci.is)
+  contract_is = let ci = compiled_is s w held.contract st may.fine.compiled in ci.there ∙ ap (λ (y : Instance). Some y.advert) (sym ci.is)
 
-  pub branch_is : held_branch s held i ≡ Some b
+  pub branch_is : position_branch s held i ≡ Some b
   branch_is = looked_branch s w held may.output may.fine i b may.is_branch
 
-  pub taking_is : taking_by s w (held_at w n) i ≡ Some tx
+  pub taking_is : taking_of_position s w (live_position_at w n) i ≡ Some tx
   taking_is =
-      let c : choice_in (contract_at s held.contract) held.position ≡ Some choice = ap (λ a. choice_in a held.position) contract_is ∙ term_choice s.hash st held.position here choice may.fine.stands in
+      let c : contract_in (contract_at s held.contract) held.position ≡ Some choice = ap (λ a. contract_in a held.position) contract_is ∙ term_choice s.hash st held.position here choice may.fine.stands in
       let d : prepared_at s.hash st path ≡ Some (prepared s.hash made) = ap (option_map (prepared s.hash)) (unsigned_of_branch s.hash st held.position here choice i b may.fine.stands may.is_branch) in
-      let p : prepared_by s (compiled_at s w held.contract) path ≡ Some (prepared s.hash made) = ap (λ o. prepared_by s o path) may.fine.compiled ∙ d in
-      ap (λ h. taking_by s w h i) held_is ∙ (λ j. taking_with s w held i (may.fine.compiled j) (c j) (branch_is j) (p j))
+      let p : prepared_if_compiled s (compiled_instance s w held.contract) path ≡ Some (prepared s.hash made) = ap (λ o. prepared_if_compiled s o path) may.fine.compiled ∙ d in
+      ap (λ h. taking_of_position s w h i) held_is ∙ (λ j. taking_of_parts s w held i (may.fine.compiled j) (c j) (branch_is j) (p j))

@@ -24,12 +24,12 @@ use Rattle.spec_run.specs.Offers.{Offer, offers}
 use Rattle.spec_run.specs.Statements.{IsRun, IsKept, spends_with_leave, offers_kept as kept_offers, OffersThroughoutTheorem}
 use Rattle.theory_world.proofs.Tests.{any_map}
 use Rattle.theory_world.proofs.Hashed.{any_found}
-use Rattle.theory_run.proofs.Keeping.{Begins, KeptSecrets, committed_by, length_at-by}
-use Rattle.theory_run.proofs.Followed.{agree_all}
+use Rattle.theory_run.proofs.Facts.KeptSecrets.{Begins, KeptSecrets, committed_by, length_at-by}
+use Rattle.theory_run.proofs.Steps.Followed.{agree_all}
 use Rattle.theory_run.proofs.Following.{Keeps, turn_at, posted_begins, run_posts, kept_at_end, holds_throughout}
-use Rattle.theory_run.proofs.Bookkeeping.{checks}
+use Rattle.theory_run.proofs.Facts.Bookkeeping.{checks}
 use Rattle.theory_offers.proofs.OffersKept.{offers_kept}
-use Rattle.theory_offers.proofs.Whole.{KeptAll, all_after, opening_all, keeps_all}
+use Rattle.theory_offers.proofs.WholeRun.{KeptAll, all_after, opening_all, keeps_all}
 use Rattle.theory_offers.proofs.Blanked.{blank, same_offers}
 use Rattle.theory_offers.proofs.CutRuns.{turn_same}
 use Rattle.spec_run.proofs.Courses.{left_more, last_left, reached, reached_more, passing, played_more}

@@ -14,7 +14,7 @@ use Rattle.spec_calculus.specs.Configuration.{Configuration}
 use Rattle.spec_calculus.specs.Branches as calculus
 use Rattle.spec_calculus.specs.Branches.{are_revealed, is_revealed_by, length_by, known_length, length_at}
 use Rattle.spec_compiler.specs.Scripts.{digest_of}
-use Rattle.spec_compiler.specs.Setting.{Setting}
+use Rattle.spec_compiler.specs.Instance.{Instance}
 use Rattle.spec_compiler.specs.Statements.{are_secrets, secret_lengths}
 use Rattle.spec_run.specs.Setup.{Setup, is_honest, held_secret}
 use Rattle.spec_run.specs.World.{Promise, World, digests_at}
@@ -24,8 +24,8 @@ use Rattle.spec_run.specs.Secrets.{digest_at, is_shown, secret_size, length_in_r
 use Rattle.spec_run.specs.Firing.{shown_string, shown_strings, first_unshown}
 use Rattle.theory_world.proofs.Same.{bytes-true, bytes_refl}
 use Rattle.theory_world.proofs.Hashed.{any_found}
-use Rattle.theory_world.proofs.Positions.{Is_in}
-use Rattle.theory_run.proofs.Keeping.{Begins, KeptSecrets, is_own, length_at-by}
+use Rattle.theory_world.proofs.Contracts.Positions.{Is_in}
+use Rattle.theory_run.proofs.Facts.KeptSecrets.{Begins, KeptSecrets, is_own, length_at-by}
 
 -- ---- whose a name is
 
@@ -126,7 +126,7 @@ module _ (s : Setup) (z : List (List ℕ)) (g : Configuration) (w : World) (secr
       by_honest true h = by_held (held_secret s owner name) (own h)
       by_honest false h = ap (option_map secret_size) (begins.first (fits s d) (any_found (fits s d) w.posted (ap is_some f)) ∙ f)
 
-  module _ (st : Setting) (k : ℕ) (hashes : st.hashes ≡ digests_at w.promises k) (apart : are_different (map name_in st.advert.pre) ≡ true)
+  module _ (st : Instance) (k : ℕ) (hashes : st.hashes ≡ digests_at w.promises k) (apart : are_different (map name_in st.advert.pre) ≡ true)
       (own : (p : Promise) → Is_in p w.promises → p.contract ≡ k → (name : List ℕ) → is_some (look_up name p.digests) ≡ true → is_among name (secrets_of p.party st.advert.pre) ≡ true) where
     -- a secret that is shown
     pub record ShownSecret (name : List ℕ) : Type 0 where

@@ -2,23 +2,23 @@
 use Rattle.std.specs.Prelude.{◌≡◌, ℕ, List, Bool, true, false, ◌||◌, Option, Some, None}
 use Rattle.std.specs.List.{list_all}
 use Rattle.spec_data.specs.Lists.{has_number}
-use Rattle.spec_compiler.specs.Setting.{Setting}
+use Rattle.spec_compiler.specs.Instance.{Instance}
 use Rattle.spec_compiler.specs.Endorsements.{is_endorsed}
 use Rattle.spec_run.specs.declared.event.Event.{Event}
 use Rattle.spec_run.specs.Setup.{Setup}
 use Rattle.spec_run.specs.World.{World}
-use Rattle.spec_run.specs.Compiled.{compiled_at}
+use Rattle.spec_run.specs.Compiled.{compiled_instance}
 use Rattle.spec_run.specs.Translation.{last_world}
 use Rattle.spec_run.specs.Statements.{Claim, HoldsThroughout, IsRun}
 
 -- whether a contract that is compiled so has all its endorsements in the book
-abbrev pub is_endorsed_so : Setup → World → Option Setting → Bool
+abbrev pub is_endorsed_so : Setup → World → Option Instance → Bool
 is_endorsed_so s w None = false
 is_endorsed_so s w (Some setting) = is_endorsed s.hash setting w.book
 
 -- whether the contract of this number is compiled and endorsed
 abbrev pub is_endorsed_at : Setup → World → ℕ → Bool
-is_endorsed_at s w contract = is_endorsed_so s w (compiled_at s w contract)
+is_endorsed_at s w contract = is_endorsed_so s w (compiled_instance s w contract)
 
 -- a contract that has begun after an event had begun before it, or was endorsed before it
 abbrev pub StartsEndorsed : Setup → World → World → Type 0

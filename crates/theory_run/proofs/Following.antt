@@ -17,7 +17,7 @@ use Rattle.spec_run.specs.Conditions.{IsEvent}
 use Rattle.spec_run.specs.Statements.{Claim, HoldsFrom, HoldsThroughout}
 use Rattle.spec_run.proofs.Courses.{passing, last_left}
 use Rattle.theory_world.proofs.Tests.{any-append}
-use Rattle.theory_run.proofs.Keeping.{Begins}
+use Rattle.theory_run.proofs.Facts.KeptSecrets.{Begins}
 
 -- ---- what is posted stays
 

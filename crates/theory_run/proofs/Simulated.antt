@@ -2,7 +2,7 @@
 use Rattle.std.proofs.Common.{◌≡◌, ℕ, List, [], ◌∷◌, ◌++◌, map, true, None, refl, sym, ap, ◌∙◌, subst}
 use Rattle.spec_calculus.specs.Configuration.{Configuration}
 use Rattle.spec_calculus.specs.declared.step.Step.{Step}
-use Rattle.spec_calculus.specs.Steps.{after, effect, Legal}
+use Rattle.spec_calculus.specs.Steps.{after_steps, effect, Legal}
 use Rattle.spec_run.specs.declared.event.Event.{Event}
 use Rattle.spec_run.specs.declared.outcome.Record.{Record}
 use Rattle.spec_run.specs.Setup.{Setup}
@@ -16,15 +16,15 @@ use Rattle.spec_run.specs.Steps.{steps_of}
 use Rattle.spec_run.specs.Translation.{Turn, record_in, opening_configuration, course, last_or, in_order}
 use Rattle.spec_run.specs.Agreement.{Agree}
 use Rattle.spec_run.specs.Statements.{IsRun, HoldsFrom, IsSimulated, simulated, SimulationTheorem}
-use Rattle.theory_run.proofs.Secrets.{different_secrets}
-use Rattle.theory_run.proofs.AllSecrets.{all_different}
-use Rattle.theory_run.proofs.Keeping.{Begins}
-use Rattle.theory_run.proofs.Opening.{opening_money, opening_secrets, opening_agrees}
-use Rattle.theory_run.proofs.Followed.{agree_all}
+use Rattle.theory_run.proofs.Facts.Secrets.{different_secrets}
+use Rattle.theory_run.proofs.Facts.AllSecrets.{all_different}
+use Rattle.theory_run.proofs.Facts.KeptSecrets.{Begins}
+use Rattle.theory_run.proofs.Facts.Opening.{opening_money, opening_secrets, opening_agrees}
+use Rattle.theory_run.proofs.Steps.Followed.{agree_all}
 use Rattle.theory_run.proofs.Following.{Keeps, turn_at, run_posts, holds_throughout}
-use Rattle.theory_run.proofs.Bookkeeping.{KeptBooks, checks, fits, opening_keeps, keeps_after}
-use Rattle.theory_run.proofs.Tracking.{Tracks, IsTracked}
-use Rattle.theory_run.proofs.TrackEvery.{tracked_after}
+use Rattle.theory_run.proofs.Facts.Bookkeeping.{KeptBooks, checks, fits, opening_keeps, keeps_after}
+use Rattle.theory_run.proofs.Tracking.Tracked.{Tracks, IsTracked}
+use Rattle.theory_run.proofs.Tracking.EveryEvent.{tracked_after}
 
 -- what every run keeps: the configuration tracks the world, and signatures, outputs, contracts and commitments are fine
 pub record KeptRun (s : Setup) (z : List (List ℕ)) (g : Configuration) (w : World) : Type 0 where
@@ -42,14 +42,14 @@ module _ (s : Setup) (setup : IsSetup s) (z : List (List ℕ)) (g : Configuratio
     next = settled w (draft s w e)
 
     abbrev there : Configuration
-    there = after g (steps_of s z g w (settled w (draft s w e)) e (draft s w e))
+    there = after_steps g (steps_of s z g w (settled w (draft s w e)) e (draft s w e))
 
     pub followed : IsTracked s z g w e (draft s w e)
     followed =
         tracked_after s setup z apart g w kept.tracks kept.books.book (fits s setup g w kept.books)
         (checks s setup g w kept.books) kept.books.promises.named e is calm unguessed begins
 
-    pub run_after : KeptRun s z (after g (steps_of s z g w (settled w (draft s w e)) e (draft s w e))) (settled w (draft s w e))
+    pub run_after : KeptRun s z (after_steps g (steps_of s z g w (settled w (draft s w e)) e (draft s w e))) (settled w (draft s w e))
     run_after = record { tracks = followed.tracks; books = keeps_after s setup z g w kept.books e is calm }
 
     pub simulates : IsSimulated s g (turn_at s z g w e)
@@ -76,18 +76,18 @@ kept_by s z before g w = KeptRun s z g w
 
 -- ---- all steps in order
 
-after-append : (xs ys : List Step) (g : Configuration) → after g (xs ++ ys) ≡ after (after g xs) ys
+after-append : (xs ys : List Step) (g : Configuration) → after_steps g (xs ++ ys) ≡ after_steps (after_steps g xs) ys
 after-append [] ys g = refl
 after-append (x ∷ xs) ys g = after-append xs ys (effect g x)
 
-legal-append : (xs ys : List Step) (g : Configuration) → Legal g xs → Legal (after g xs) ys → Legal g (xs ++ ys)
+legal-append : (xs ys : List Step) (g : Configuration) → Legal g xs → Legal (after_steps g xs) ys → Legal g (xs ++ ys)
 legal-append [] ys g h k = k
 legal-append (x ∷ xs) ys g h k = (h.0, legal-append xs ys (effect g x) h.1 k)
 
 -- the steps of these turns are a legal run that leads to the last of their configurations
 pub record InOrder (g : Configuration) (ts : List Turn) : Type 0 where
   pub legal : Legal g (in_order (map (λ t. t.steps) ts))
-  pub leads : after g (in_order (map (λ t. t.steps) ts)) ≡ last_or g (map (λ t. t.configuration) ts)
+  pub leads : after_steps g (in_order (map (λ t. t.steps) ts)) ≡ last_or g (map (λ t. t.configuration) ts)
 
 joined : (s : Setup) (ts : List Turn) (before : List Record) (g : Configuration) (w : World) → HoldsFrom (simulated s) before g w ts
     → InOrder g ts
@@ -98,7 +98,7 @@ joined s (t ∷ ts) before g w h =
     let steps = in_order (map (λ x. x.steps) ts) in
     record {
       legal = legal-append t.steps steps g h.0.legal (subst (λ c. Legal c steps) (sym there) later.legal);
-      leads = after-append t.steps steps g ∙ ap (λ c. after c steps) there ∙ later.leads;
+      leads = after-append t.steps steps g ∙ ap (λ c. after_steps c steps) there ∙ later.leads;
     }
 
 -- configuration and world agree after the last turn

@@ -11,7 +11,7 @@ use Rattle.spec_bitcoin.specs.Reading.{transaction_of}
 use Rattle.spec_run.specs.Conditions.{IsPiece}
 use Rattle.theory_bitcoin.proofs.Formats.{wide32}
 use Rattle.theory_bitcoin.proofs.Top.{read_is_spelled}
-use Rattle.theory_world.proofs.Preimages.{few_outputs}
+use Rattle.theory_world.proofs.Ledger.Preimages.{few_outputs}
 
 long_tail : (x y : List ℕ) → length y ≤ length (x ++ y)
 long_tail x y = let a = length-append x y in omega (arith, a)

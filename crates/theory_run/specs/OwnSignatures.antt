@@ -6,8 +6,8 @@ use Rattle.spec_run.specs.declared.event.Event.{Event}
 use Rattle.spec_run.specs.declared.event.Event.TheVariants as events
 use Rattle.spec_run.specs.declared.outcome.Outcome.{Outcome}
 use Rattle.spec_run.specs.Setup.{Setup}
-use Rattle.spec_run.specs.World.{World, held_at}
-use Rattle.spec_run.specs.Compiled.{compiled_at}
+use Rattle.spec_run.specs.World.{World, live_position_at}
+use Rattle.spec_run.specs.Compiled.{compiled_instance}
 use Rattle.spec_run.specs.Signing.{endorsing_pairs, initial_pairs, authorising_pairs}
 use Rattle.spec_run.specs.Giving.{given_pairs}
 use Rattle.spec_run.specs.Values.{is_refused}
@@ -25,9 +25,9 @@ is_signer party _ = false
 
 -- the pairs of key and digest that an event in this world signs, where it isn't refused
 abbrev pub event_pairs : Setup → World → Event → List Pair
-event_pairs s w (events.Endorse contract a) = endorsing_pairs s a (compiled_at s w contract)
-event_pairs s w (events.Init contract a) = initial_pairs s a (compiled_at s w contract)
-event_pairs s w (events.Authorise a output branch) = authorising_pairs s w a (held_at w output) branch
+event_pairs s w (events.Endorse contract a) = endorsing_pairs s a (compiled_instance s w contract)
+event_pairs s w (events.Init contract a) = initial_pairs s a (compiled_instance s w contract)
+event_pairs s w (events.Authorise a output branch) = authorising_pairs s w a (live_position_at w output) branch
 event_pairs s w (events.Sign a label digest) = (key_of s.hash label, digest) ∷ []
 event_pairs s w (events.Give a inputs outputs) = given_pairs s w a inputs outputs
 event_pairs s w _ = []

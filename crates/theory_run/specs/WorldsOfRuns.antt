@@ -9,16 +9,16 @@ use Rattle.spec_terms.specs.declared.path.PathStep.{PathStep}
 use Rattle.spec_bitcoin.specs.declared.label.Label.{Label}
 use Rattle.spec_bitcoin.specs.Keys.{IsLabel, label_text, key_of, has_signed}
 use Rattle.spec_bitcoin.specs.declared.tx.TxOut.{TxOut}
-use Rattle.spec_compiler.specs.Setting.{Setting}
+use Rattle.spec_compiler.specs.Instance.{Instance}
 use Rattle.spec_compiler.specs.Transactions.{pays}
 use Rattle.spec_compiler.specs.ByPath.{position_at}
 use Rattle.spec_run.specs.declared.event.Event.{Event}
 use Rattle.spec_run.specs.Setup.{Setup, is_honest}
 use Rattle.spec_run.specs.Conditions.{are_all_among}
 use Rattle.spec_data.specs.Messages.{noted_all}
-use Rattle.spec_run.specs.World.{Held, Output, Promise, World, output_at}
-use Rattle.spec_run.specs.Compiled.{compiled_at}
-use Rattle.spec_run.specs.Agreement.{is_place, compiled_place}
+use Rattle.spec_run.specs.World.{ContractPosition, Output, Promise, World, output_at}
+use Rattle.spec_run.specs.Compiled.{compiled_instance}
+use Rattle.spec_run.specs.Agreement.{is_outpoint, compiled_outpoint}
 use Rattle.spec_run.specs.Signing.{label_party}
 use Rattle.spec_run.specs.Committing.{secrets_at, own_digests, used_digests}
 use Rattle.spec_run.specs.Ledger.{tx_out}
@@ -63,17 +63,17 @@ pub record HasSignatures (s : Setup) (es : List Event) (w : World) : Type 0 wher
 -- ---- where outputs lie
 
 -- whether it is this position of the contract
-abbrev pub is_position_of : ℕ → List PathStep → Option Held → Bool
+abbrev pub is_position_of : ℕ → List PathStep → Option ContractPosition → Bool
 is_position_of contract position None = false
 is_position_of contract position (Some held) = (held.contract == contract) && path_eq held.position position
 
 -- whether it is a position of the contract
-abbrev pub is_of_contract : ℕ → Option Held → Bool
+abbrev pub is_of_contract : ℕ → Option ContractPosition → Bool
 is_of_contract contract None = false
 is_of_contract contract (Some held) = held.contract == contract
 
 -- the output that a position is compiled to, where the contract is compiled
-abbrev pub compiled_output : Setup → Option Setting → List PathStep → Option TxOut
+abbrev pub compiled_output : Setup → Option Instance → List PathStep → Option TxOut
 compiled_output s None position = None
 compiled_output s (Some setting) position =
     option_map (λ p. pays s.hash p.0.output.script p.0.output.value) (position_at s.hash setting position)
@@ -81,13 +81,13 @@ compiled_output s (Some setting) position =
 -- outputs, spent ones included, are told by their places. One holds a position exactly where it lies at the place that the position
 -- is compiled to; so before all participants of a contract have committed, none holds one of its positions
 pub record HasPlaces (s : Setup) (w : World) : Type 0 where
-  pub different : (m n : ℕ) (o p : Output) → output_at w m ≡ Some o → output_at w n ≡ Some p → o.place ≡ p.place → m ≡ n
+  pub different : (m n : ℕ) (o p : Output) → output_at w m ≡ Some o → output_at w n ≡ Some p → o.outpoint ≡ p.outpoint → m ≡ n
   pub held : (contract : ℕ) (position : List PathStep) (n : ℕ) (o : Output) → output_at w n ≡ Some o
-      → is_position_of contract position o.holds ≡ is_place o.place (compiled_place s (compiled_at s w contract) position)
+      → is_position_of contract position o.holds ≡ is_outpoint o.outpoint (compiled_outpoint s (compiled_instance s w contract) position)
   -- and then it has the value and the script that the position is compiled to
   pub same : (contract : ℕ) (position : List PathStep) (n : ℕ) (o : Output) → output_at w n ≡ Some o
-      → is_position_of contract position o.holds ≡ true → compiled_output s (compiled_at s w contract) position ≡ Some (tx_out o)
-  pub none : (contract : ℕ) → compiled_at s w contract ≡ None → list_any (λ (o : Output). is_of_contract contract o.holds) w.outputs ≡ false
+      → is_position_of contract position o.holds ≡ true → compiled_output s (compiled_instance s w contract) position ≡ Some (tx_out o)
+  pub none : (contract : ℕ) → compiled_instance s w contract ≡ None → list_any (λ (o : Output). is_of_contract contract o.holds) w.outputs ≡ false
 
 -- ---- what is committed
 

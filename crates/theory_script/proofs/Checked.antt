@@ -9,10 +9,10 @@ use Rattle.std.proofs.lemmas.Bool.{and_parts, and_from}
 use Rattle.spec_data.specs.Lists.{is_among}
 use Rattle.spec_data.proofs.ListLemmas.{or_else-none}
 use Rattle.spec_terms.specs.Term as term
-use Rattle.spec_terms.specs.Term.{Test, always, both, negation, equal, less, auth, after, put_reveal, withdraw, split, Choice, no_branch, branch, branches, Parts, no_part, part}
+use Rattle.spec_terms.specs.Term.{Pred, always, both, negation, equal, less, auth, after, put_reveal, withdraw, split, Contract, no_branch, branch, branches, Parts, no_part, part}
 use Rattle.spec_terms.specs.Advert.{Advert}
 use Rattle.spec_terms.specs.Core.{core, reveals_of, test_of}
-use Rattle.spec_terms.specs.Paths.{Spot, position, at_branch}
+use Rattle.spec_terms.specs.Paths.{Subterm, position, at_branch}
 use Rattle.spec_terms.specs.Parties.{participants, add_new, add_all, choice_mentions}
 use Rattle.spec_terms.specs.Precondition.{secrets, names_of, party_of}
 use Rattle.spec_terms.specs.Bound.{is_bounded, lengths_of_test}
@@ -24,19 +24,19 @@ use Rattle.spec_terms.specs.declared.pre.Pre.{Pre}
 use Rattle.spec_terms.specs.declared.place.Place.{Place}
 use Rattle.spec_terms.specs.declared.path.PathStep.{PathStep}
 use Rattle.spec_compiler.specs.Scripts.{digest_of}
-use Rattle.spec_compiler.specs.Setting.{Setting, people}
+use Rattle.spec_compiler.specs.Instance.{Instance, people}
 use Rattle.spec_compiler.specs.Statements.{has_size, IsCompiled}
-use Rattle.theory_script.proofs.Spots.{Each, EachUnder, EachPart, each_at, each_of_branches, each_of_advert}
+use Rattle.theory_script.proofs.Listing.Subterms.{Each, EachUnder, EachPart, each_at, each_of_branches, each_of_advert}
 
 -- ---- tests of cores and of positions
 
 -- the test is true of a branch's core
-abbrev of_core : (term.Branch → Bool) → Spot → Bool
+abbrev of_core : (term.Guarded → Bool) → Subterm → Bool
 of_core g (position c) = true
 of_core g (at_branch b) = g (core b)
 
 -- the test is true of a position's choice
-abbrev of_choice : (Choice → Bool) → Spot → Bool
+abbrev of_choice : (Contract → Bool) → Subterm → Bool
 of_choice g (position c) = g c
 of_choice g (at_branch b) = true
 
@@ -44,11 +44,11 @@ not_false : (b : Bool) → not b ≡ false → b ≡ true
 not_false true h = refl
 not_false false h = sym h
 
-core_says : (g : term.Branch → Bool) (p : Spot) → at_core (λ b. not (g b)) p ≡ false → of_core g p ≡ true
+core_says : (g : term.Guarded → Bool) (p : Subterm) → at_core (λ b. not (g b)) p ≡ false → of_core g p ≡ true
 core_says g (position c) h = refl
 core_says g (at_branch b) h = not_false (g (core b)) h
 
-choice_says : (g : Choice → Bool) (p : Spot) → at_position (λ c. not (g c)) p ≡ false → of_choice g p ≡ true
+choice_says : (g : Contract → Bool) (p : Subterm) → at_position (λ c. not (g c)) p ≡ false → of_choice g p ≡ true
 choice_says g (position c) h = not_false (g c) h
 choice_says g (at_branch b) h = refl
 
@@ -70,18 +70,18 @@ none_found (f ∷ fs) h =
     (none_mapped (λ place. (f.0, place)) f.1 p.0, none_found fs p.1)
 
 -- what is known of the core of each branch
-pub record IsSound (hashes : List (List ℕ × List ℕ)) (b : term.Branch) : Type 0 where
+pub record IsSound (hashes : List (List ℕ × List ℕ)) (b : term.Guarded) : Type 0 where
   pub known : are_among (lengths_of_test (test_of b)) (reveals_of b) ≡ true
   pub bounded : is_bounded (test_of b) ≡ true
   pub no_test : length (reveals_of b) ≡ 0 → test_of b ≡ always
   pub sizes : list_all (λ name. has_size 32 (digest_of hashes name)) (reveals_of b) ≡ true
 
-abbrev pub AllSound : List (List ℕ × List ℕ) → List term.Branch → Type 0
+abbrev pub AllSound : List (List ℕ × List ℕ) → List term.Guarded → Type 0
 AllSound hashes [] = Unit {0}
 AllSound hashes (b ∷ bs) = IsSound hashes (core b) × AllSound hashes bs
 
 -- what is known of a position
-pub record IsGood (s : Setting) (choice : Choice) : Type 0 where
+pub record IsGood (s : Instance) (choice : Contract) : Type 0 where
   pub some_branch : 0 < length (branches choice)
   pub some_people : 0 < length (people s)
   pub sound : AllSound s.hashes (branches choice)
@@ -112,26 +112,26 @@ all_of g (a ∷ names) known h k =
 -- ---- what a text can spell
 
 -- where a core reveals nothing, its test is always true
-abbrev is_whole : term.Branch → Bool
+abbrev is_whole : term.Guarded → Bool
 is_whole (put_reveal puts reveals test next) = is_whole_prefix puts reveals test
 is_whole (auth party body) = true
 is_whole (after height body) = true
 is_whole (withdraw party) = true
 is_whole (split parts) = true
 
-abbrev reads : Spot → Bool
+abbrev reads : Subterm → Bool
 reads (position c) = is_readable_count c
 reads (at_branch b) = is_whole (core b)
 
 mutual
-  each_reads : (c : Choice) → are_readable c ≡ true → Each reads c
+  each_reads : (c : Contract) → are_readable c ≡ true → Each reads c
   each_reads no_branch h = tt
   each_reads (branch b bs) h =
       let p = and_parts (is_readable_branch b) (are_readable bs) h in
       let q = branch_reads b p.0 in
       (q.0, q.1, each_reads bs p.1)
 
-  branch_reads : (b : term.Branch) → is_readable_branch b ≡ true → (is_whole (core b) ≡ true) × EachUnder reads b
+  branch_reads : (b : term.Guarded) → is_readable_branch b ≡ true → (is_whole (core b) ≡ true) × EachUnder reads b
   branch_reads (auth party body) h = branch_reads body (and_parts _ (is_readable_branch body) h).1
   branch_reads (after height body) h = branch_reads body (and_parts _ (is_readable_branch body) h).1
   branch_reads (put_reveal puts reveals test next) h =
@@ -151,7 +151,7 @@ mutual
       let u = and_parts (is_readable_count c) (are_readable c) q.1 in
       (u.0, each_reads c u.1, parts_read ps p.1)
 
-always_is : (t : Test) → is_always t ≡ true → t ≡ always
+always_is : (t : Pred) → is_always t ≡ true → t ≡ always
 always_is always h = refl
 always_is (both p q) h = cc
 always_is (negation p) h = cc
@@ -162,18 +162,18 @@ or_left : (a b : Bool) → (a || b) ≡ true → b ≡ false → a ≡ true
 or_left true b h k = refl
 or_left false b h k = sym k ∙ h
 
-whole_test : (puts reveals : List (List ℕ)) (test : Test) → is_whole_prefix puts reveals test ≡ true → length reveals ≡ 0 → test ≡ always
+whole_test : (puts reveals : List (List ℕ)) (test : Pred) → is_whole_prefix puts reveals test ≡ true → length reveals ≡ 0 → test ≡ always
 whole_test puts [] test h e = always_is test (and_parts (is_some_list puts) (is_always test) (or_left _ (is_some_list {X = List ℕ} []) h refl)).1
 whole_test puts (a ∷ reveals) test h e = absurd (omega (arith, e))
 
-core_test : (b : term.Branch) → is_whole b ≡ true → length (reveals_of b) ≡ 0 → test_of b ≡ always
+core_test : (b : term.Guarded) → is_whole b ≡ true → length (reveals_of b) ≡ 0 → test_of b ≡ always
 core_test (put_reveal puts reveals test next) h e = whole_test puts reveals test h e
 core_test (auth party body) h e = refl
 core_test (after height body) h e = refl
 core_test (withdraw party) h e = refl
 core_test (split parts) h e = refl
 
-some_branches : (c : Choice) → is_readable_count c ≡ true → 0 < length (branches c)
+some_branches : (c : Contract) → is_readable_count c ≡ true → 0 < length (branches c)
 some_branches no_branch h = cc
 some_branches (branch b bs) h = omega arith
 
@@ -197,7 +197,7 @@ some_people a h = by_pre a.pre h
 -- ---- all together
 
 -- what each branch of a position keeps, one fact after another
-sound_of : (hashes : List (List ℕ × List ℕ)) (secret_names : List (List ℕ)) (bs : List term.Branch) → list_all (λ name. has_size 32 (digest_of hashes name)) secret_names ≡ true
+sound_of : (hashes : List (List ℕ × List ℕ)) (secret_names : List (List ℕ)) (bs : List term.Guarded) → list_all (λ name. has_size 32 (digest_of hashes name)) secret_names ≡ true
     → list_all (λ b. are_among (reveals_of (core b)) secret_names) bs ≡ true
     → list_all (λ b. are_among (lengths_of_test (test_of (core b))) (reveals_of (core b))) bs ≡ true
     → list_all (λ b. is_bounded (test_of (core b))) bs ≡ true
@@ -214,25 +214,25 @@ sound_of hashes secret_names (b ∷ bs) c h k l m =
     )
 
 -- a position of a contract that passed the check
-pub is_good : (s : Setting) (path : List PathStep) (choice : Choice) → IsCompiled s path choice → IsGood s choice
+pub is_good : (s : Instance) (path : List PathStep) (choice : Contract) → IsCompiled s path choice → IsGood s choice
 is_good s path choice c =
     let f = none_found (faults s.advert) c.checked.faultless in
     let l = none_found (exceeded s.advert) c.checked.limited in
     let names = names_of (secrets s.advert.pre) in
-    let known : term.Branch → Bool = λ b. are_among (reveals_of b) names in
-    let revealed : term.Branch → Bool = λ b. are_among (lengths_of_test (test_of b)) (reveals_of b) in
-    let bounded : term.Branch → Bool = λ b. is_bounded (test_of b) in
-    let fits : Choice → Bool = λ x. fits_a_script (cost (length (participants s.advert)) x) in
+    let known : term.Guarded → Bool = λ b. are_among (reveals_of b) names in
+    let revealed : term.Guarded → Bool = λ b. are_among (lengths_of_test (test_of b)) (reveals_of b) in
+    let bounded : term.Guarded → Bool = λ b. is_bounded (test_of b) in
+    let fits : Contract → Bool = λ x. fits_a_script (cost (length (participants s.advert)) x) in
     let r = and_parts (is_readable_pre s.advert.pre) _ c.checked.readable in
     let r2 = and_parts (nat_le s.advert.fee max_money) (is_readable_contract s.advert.root) r.1 in
     let r3 = and_parts (is_readable_count s.advert.root && are_readable s.advert.root) _ r2.1 in
     let r4 = and_parts (is_readable_count s.advert.root) (are_readable s.advert.root) r3.0 in
     let pre = and_parts (is_some_list s.advert.pre && list_all is_readable_entry s.advert.pre) _ r.0 in
     let pre2 = and_parts (is_some_list s.advert.pre) _ pre.0 in
-    let a = each_at (of_core known) s.advert.root path choice (each_of_advert (of_core known) _ s.advert (λ x h. core_says known x.spot h) f.1.1.0) c.is_position in
-    let b = each_at (of_core revealed) s.advert.root path choice (each_of_advert (of_core revealed) _ s.advert (λ x h. core_says revealed x.spot h) f.1.1.1.1.0) c.is_position in
-    let d = each_at (of_core bounded) s.advert.root path choice (each_of_advert (of_core bounded) _ s.advert (λ x h. core_says bounded x.spot h) l.1.1.0) c.is_position in
-    let e = each_at (of_choice fits) s.advert.root path choice (each_of_advert (of_choice fits) _ s.advert (λ x h. choice_says fits x.spot h) l.1.1.1.0) c.is_position in
+    let a = each_at (of_core known) s.advert.root path choice (each_of_advert (of_core known) _ s.advert (λ x h. core_says known x.subterm h) f.1.1.0) c.is_position in
+    let b = each_at (of_core revealed) s.advert.root path choice (each_of_advert (of_core revealed) _ s.advert (λ x h. core_says revealed x.subterm h) f.1.1.1.1.0) c.is_position in
+    let d = each_at (of_core bounded) s.advert.root path choice (each_of_advert (of_core bounded) _ s.advert (λ x h. core_says bounded x.subterm h) l.1.1.0) c.is_position in
+    let e = each_at (of_choice fits) s.advert.root path choice (each_of_advert (of_choice fits) _ s.advert (λ x h. choice_says fits x.subterm h) l.1.1.1.0) c.is_position in
     let w = each_at reads s.advert.root path choice (r4.0, each_reads s.advert.root r4.1) c.is_position in
     record {
       some_branch = some_branches choice w.0;

@@ -2,15 +2,15 @@
 use Rattle.std.proofs.Common.{◌≡◌, ℕ, ◌+◌, List, [], ◌∷◌, ◌++◌, map, refl, sym, ap, ◌∙◌}
 use Rattle.std.proofs.lemmas.List.{map-append}
 use Rattle.spec_terms.specs.Term as term
-use Rattle.spec_terms.specs.Term.{Choice, no_branch, branch, Parts, no_part, part, auth, after, put_reveal, withdraw, split}
+use Rattle.spec_terms.specs.Term.{Contract, no_branch, branch, Parts, no_part, part, auth, after, put_reveal, withdraw, split}
 use Rattle.spec_terms.specs.Core.{lock}
 use Rattle.spec_terms.specs.Paths as terms
-use Rattle.spec_terms.specs.Order.{Stop, branches_from, under, parts_from, if_branch, if_position}
+use Rattle.spec_terms.specs.Order.{Located, branches_from, under, parts_from, if_branch, if_position}
 use Rattle.spec_terms.specs.Order.{branch_paths_of, position_paths_of, branch_paths, position_paths}
 use Rattle.spec_terms.specs.declared.path.PathStep.{PathStep}
 use Rattle.spec_compiler.specs.declared.prepared.Prepared.{Prepared}
 use Rattle.spec_compiler.specs.declared.unsigned.Unsigned.{Unsigned}
-use Rattle.spec_compiler.specs.Setting.{Setting, branch_path}
+use Rattle.spec_compiler.specs.Instance.{Instance, branch_path}
 use Rattle.spec_compiler.specs.Transactions.{Standing, part_position, part_standing, root_standing, prepared}
 use Rattle.spec_compiler.specs.Compilation.{choice_transactions, branch_transactions, parts_transactions, path_transactions}
 use Rattle.spec_compiler.specs.Compilation.{choice_scripts, branch_scripts, parts_scripts, compilation}
@@ -19,29 +19,29 @@ use Rattle.spec_compiler.specs.Compilation.{choice_scripts, branch_scripts, part
 abbrev paths_of : {V : Type 0} → List (List PathStep × V) → List (List PathStep)
 paths_of es = map (λ e. e.0) es
 
-branch_paths_of-append : (xs ys : List Stop) → branch_paths_of (xs ++ ys) ≡ branch_paths_of xs ++ branch_paths_of ys
+branch_paths_of-append : (xs ys : List Located) → branch_paths_of (xs ++ ys) ≡ branch_paths_of xs ++ branch_paths_of ys
 branch_paths_of-append [] ys = refl
-branch_paths_of-append (x ∷ xs) ys = by_spot x.spot (branch_paths_of-append xs ys)
+branch_paths_of-append (x ∷ xs) ys = by_spot x.subterm (branch_paths_of-append xs ys)
   where
-    by_spot : (spot : terms.Spot) → branch_paths_of (xs ++ ys) ≡ branch_paths_of xs ++ branch_paths_of ys
-        → if_branch spot x.path (branch_paths_of (xs ++ ys)) ≡ if_branch spot x.path (branch_paths_of xs) ++ branch_paths_of ys
+    by_spot : (subterm : terms.Subterm) → branch_paths_of (xs ++ ys) ≡ branch_paths_of xs ++ branch_paths_of ys
+        → if_branch subterm x.path (branch_paths_of (xs ++ ys)) ≡ if_branch subterm x.path (branch_paths_of xs) ++ branch_paths_of ys
     by_spot (terms.position c) h = h
     by_spot (terms.at_branch b) h = ap (λ (ps : List (List PathStep)). x.path ∷ ps) h
 
-position_paths_of-append : (xs ys : List Stop) → position_paths_of (xs ++ ys) ≡ position_paths_of xs ++ position_paths_of ys
+position_paths_of-append : (xs ys : List Located) → position_paths_of (xs ++ ys) ≡ position_paths_of xs ++ position_paths_of ys
 position_paths_of-append [] ys = refl
-position_paths_of-append (x ∷ xs) ys = by_spot x.spot (position_paths_of-append xs ys)
+position_paths_of-append (x ∷ xs) ys = by_spot x.subterm (position_paths_of-append xs ys)
   where
-    by_spot : (spot : terms.Spot) → position_paths_of (xs ++ ys) ≡ position_paths_of xs ++ position_paths_of ys
-        → if_position spot x.path (position_paths_of (xs ++ ys)) ≡ if_position spot x.path (position_paths_of xs) ++ position_paths_of ys
+    by_spot : (subterm : terms.Subterm) → position_paths_of (xs ++ ys) ≡ position_paths_of xs ++ position_paths_of ys
+        → if_position subterm x.path (position_paths_of (xs ++ ys)) ≡ if_position subterm x.path (position_paths_of xs) ++ position_paths_of ys
     by_spot (terms.position c) h = ap (λ (ps : List (List PathStep)). x.path ∷ ps) h
     by_spot (terms.at_branch b) h = h
 
-module _ (hash : List ℕ → List ℕ) (s : Setting) where
+module _ (hash : List ℕ → List ℕ) (s : Instance) where
   -- ---- the transactions
 
   mutual
-    choice_paths : (here : Standing) (i : ℕ) (c : Choice)
+    choice_paths : (here : Standing) (i : ℕ) (c : Contract)
         → paths_of (choice_transactions hash s here i c) ≡ branch_paths_of (branches_from here.position i c)
     choice_paths here i no_branch = refl
     choice_paths here i (branch b bs) =
@@ -51,7 +51,7 @@ module _ (hash : List ℕ → List ℕ) (s : Setting) where
         ∙ (λ j. one_paths here i (lock b) b j ++ choice_paths here (i + 1) bs j)
         ∙ ap (λ (ps : List (List PathStep)). p ∷ ps) (sym (branch_paths_of-append (under p b) (branches_from here.position (i + 1) bs)))
 
-    one_paths : (here : Standing) (i l : ℕ) (b : term.Branch)
+    one_paths : (here : Standing) (i l : ℕ) (b : term.Guarded)
         → paths_of (branch_transactions hash s here i l b)
         ≡ branch_path here.position i ∷ branch_paths_of (under (branch_path here.position i) b)
     one_paths here i l (auth party body) = one_paths here i l body
@@ -83,7 +83,7 @@ module _ (hash : List ℕ → List ℕ) (s : Setting) where
   -- ---- the scripts
 
   mutual
-    choice_positions : (position : List PathStep) (i : ℕ) (c : Choice)
+    choice_positions : (position : List PathStep) (i : ℕ) (c : Contract)
         → paths_of (choice_scripts hash s position i c) ≡ position_paths_of (branches_from position i c)
     choice_positions position i no_branch = refl
     choice_positions position i (branch b bs) =
@@ -92,7 +92,7 @@ module _ (hash : List ℕ → List ℕ) (s : Setting) where
         ∙ (λ j. one_positions p b j ++ choice_positions position (i + 1) bs j)
         ∙ sym (position_paths_of-append (under p b) (branches_from position (i + 1) bs))
 
-    one_positions : (path : List PathStep) (b : term.Branch) → paths_of (branch_scripts hash s path b) ≡ position_paths_of (under path b)
+    one_positions : (path : List PathStep) (b : term.Guarded) → paths_of (branch_scripts hash s path b) ≡ position_paths_of (under path b)
     one_positions path (auth party body) = one_positions path body
     one_positions path (after height body) = one_positions path body
     one_positions path (put_reveal puts reveals test next) = ap (λ (ps : List (List PathStep)). path ∷ ps) (choice_positions path 0 next)

@@ -3,14 +3,14 @@ use Rattle.std.proofs.Common.{◌≡◌, ℕ, ◌+◌, ◌≤◌, List, [], ◌�
 use Rattle.std.specs.Prelude.{◌&&◌, slice_get, option_map, option_and_then, pos, int_lt, sum_by}
 use Rattle.std.specs.List.{Contains}
 use Rattle.spec_terms.specs.Balance as balance
-use Rattle.spec_terms.specs.Balance.{stands}
+use Rattle.spec_terms.specs.Balance.{all_funded}
 use Rattle.std.specs.Ordering.{int_eq}
 use Rattle.std.proofs.lemmas.Bool.{and_parts, not-true}
 use Rattle.std.proofs.lemmas.Int.{ints}
 use Rattle.std.proofs.lemmas.List.Sums.{sum_by-cons}
 use Rattle.spec_data.specs.Lists.{look_up}
 use Rattle.spec_terms.specs.Term as term
-use Rattle.spec_terms.specs.Term.{Choice, branches, Parts, no_part, part, auth, after, put_reveal, withdraw, split}
+use Rattle.spec_terms.specs.Term.{Contract, branches, Parts, no_part, part, auth, after, put_reveal, withdraw, split}
 use Rattle.spec_terms.specs.Core.{core, lock}
 use Rattle.spec_terms.specs.Precondition.{Holding, persistent, volatile, total_of, value_of, value_of_puts}
 use Rattle.spec_terms.specs.Paths as terms
@@ -19,14 +19,14 @@ use Rattle.spec_terms.specs.declared.path.PathStep.{PathStep}
 use Rattle.spec_bitcoin.specs.declared.tx.TxOut.{TxOut}
 use Rattle.spec_compiler.specs.declared.unsigned.Spent.{Spent}
 use Rattle.spec_compiler.specs.declared.unsigned.Unsigned.{Unsigned}
-use Rattle.spec_compiler.specs.Setting.{Setting, branch_path, position_script}
+use Rattle.spec_compiler.specs.Instance.{Instance, branch_path, position_script}
 use Rattle.spec_compiler.specs.Transactions.{Standing, pays, deposit, holding_or_none, put_deposits, part_position, part_outputs}
 use Rattle.spec_compiler.specs.Transactions.{core_unsigned, branch_unsigned, initial_unsigned}
 use Rattle.spec_compiler.specs.ByPath as by_path
-use Rattle.spec_compiler.specs.ByPath.{Stand, branch_stand, stand_at, as_position, position_at, as_unsigned, unsigned_at}
+use Rattle.spec_compiler.specs.ByPath.{PathEnd, branch_end, end_at, as_position, position_at, as_unsigned, unsigned_at}
 use Rattle.theory_script.specs.Money.{IsKept, Pays}
 use Rattle.theory_script.proofs.Balances.{Fine, root_enough, stand_fine, put_enough, position_fine, position_static, branch_fine}
-use Rattle.theory_script.proofs.Stands.{position_stands}
+use Rattle.theory_script.proofs.Listing.Stands.{position_stands}
 
 -- ---- sums
 
@@ -40,7 +40,7 @@ held : (o : Option Holding) → (holding_or_none o).value ≡ value_of o
 held None = refl
 held (Some h) = refl
 
-module _ (hash : List ℕ → List ℕ) (s : Setting) where
+module _ (hash : List ℕ → List ℕ) (s : Instance) where
   sum_of_puts : (puts : List (List ℕ)) → sum_by worth (put_deposits hash s puts) ≡ value_of_puts (volatile s.advert.pre) puts
   sum_of_puts [] = refl
   sum_of_puts (x ∷ puts) =
@@ -61,7 +61,7 @@ module _ (hash : List ℕ → List ℕ) (s : Setting) where
 
   -- ---- a branch that its position pays for
 
-  core_kept : (here : Standing) (i l : ℕ) (b : term.Branch) → Pays s.advert here.output.value (core b)
+  core_kept : (here : Standing) (i l : ℕ) (b : term.Guarded) → Pays s.advert here.output.value (core b)
       → IsKept s.advert (core_unsigned hash s here i l (core b))
   core_kept here i l (auth party body) h = core_kept here i l body h
   core_kept here i l (after height body) h = core_kept here i l body h
@@ -85,22 +85,22 @@ module _ (hash : List ℕ → List ℕ) (s : Setting) where
 
   -- the position of a branch pays for its core
   -- the check of a branch, without that of all money
-  seen : (here : Standing) (i : ℕ) (w : term.Branch) → Fine hash s (by_path.at_branch here i w)
+  seen : (here : Standing) (i : ℕ) (w : term.Guarded) → Fine hash s (by_path.at_branch here i w)
       → (not (is_withdraw (core w) && int_lt (pos here.output.value) (pos s.advert.fee)) ≡ true)
       × (not (is_uneven s.advert.fee (pos here.output.value) (core w)) ≡ true)
   seen here i w f =
       and_parts (not (is_short s.advert.fee (pos here.output.value) (terms.at_branch w))) _ (and_parts _ true f.1.0.0).0
 
-  core_pays : (here : Standing) (i : ℕ) (w b : term.Branch) → core w ≡ core b → Fine hash s (by_path.at_branch here i w)
+  core_pays : (here : Standing) (i : ℕ) (w b : term.Guarded) → core w ≡ core b → Fine hash s (by_path.at_branch here i w)
       → Pays s.advert here.output.value (core b)
   core_pays here i w (auth party body) e f = core_pays here i w body e f
   core_pays here i w (after height body) e f = core_pays here i w body e f
   core_pays here i w (put_reveal puts reveals test next) e f = put_enough hash s here i w puts reveals test next e f
   core_pays here i w (withdraw party) e f =
-      let test : term.Branch → Bool = λ c. not (is_withdraw c && int_lt (pos here.output.value) (pos s.advert.fee)) in
+      let test : term.Guarded → Bool = λ c. not (is_withdraw c && int_lt (pos here.output.value) (pos s.advert.fee)) in
       withdraw_pays here.output.value (subst (λ c. test c ≡ true) e (seen here i w f).0)
   core_pays here i w (split parts) e f =
-      let test : term.Branch → Bool = λ c. not (is_uneven s.advert.fee (pos here.output.value) c) in
+      let test : term.Guarded → Bool = λ c. not (is_uneven s.advert.fee (pos here.output.value) c) in
       split_pays here.output.value parts (subst (λ c. test c ≡ true) e (seen here i w f).1)
 
   module _ (well : IsWellFormed s.advert) where
@@ -111,29 +111,29 @@ module _ (hash : List ℕ → List ℕ) (s : Setting) where
         omega (arith, e, h)
 
     pub paths_kept : (path : List PathStep) (d : Unsigned) → unsigned_at hash s path ≡ Some d → IsKept s.advert d
-    paths_kept path d h = by_stand (stand_at hash s path) refl h
+    paths_kept path d h = by_stand (end_at hash s path) refl h
       where
-        by_end : (st : Stand) → Fine hash s st → as_unsigned hash s st ≡ Some d → IsKept s.advert d
+        by_end : (st : PathEnd) → Fine hash s st → as_unsigned hash s st ≡ Some d → IsKept s.advert d
         by_end (by_path.at_position here choice) f e = cc
         by_end (by_path.at_branch here i b) f e =
             let z : branch_unsigned hash s here i b ≡ d = cc in
             subst (IsKept s.advert) z (core_kept here i (lock b) b (core_pays here i b b refl f))
 
-        by_stand : (o : Option Stand) → stand_at hash s path ≡ o → option_and_then (as_unsigned hash s) o ≡ Some d → IsKept s.advert d
+        by_stand : (o : Option PathEnd) → end_at hash s path ≡ o → option_and_then (as_unsigned hash s) o ≡ Some d → IsKept s.advert d
         by_stand None e k = cc
         by_stand (Some st) e k = by_end st (stand_fine hash s well path st e) k
 
-    pub positions_pay : (position : List PathStep) (here : Standing) (choice : Choice) (i : ℕ) (b : term.Branch)
+    pub positions_pay : (position : List PathStep) (here : Standing) (choice : Contract) (i : ℕ) (b : term.Guarded)
         → position_at hash s position ≡ Some (here, choice) → slice_get (branches choice) i ≡ Some b
         → Pays s.advert here.output.value (core b)
     positions_pay position here choice i b h k =
-        let st : branch_stand here choice i ≡ Some (by_path.at_branch here i b) = ap (option_map (by_path.at_branch here i)) k in
+        let st : branch_end here choice i ≡ Some (by_path.at_branch here i b) = ap (option_map (by_path.at_branch here i)) k in
         core_pays here i b b refl
         (branch_fine hash s here choice i (by_path.at_branch here i b) (position_fine hash s well position here choice h) st)
 
-    pub positions_static : (position : List PathStep) (here : Standing) (choice : Choice)
+    pub positions_static : (position : List PathStep) (here : Standing) (choice : Contract)
         → position_at hash s position ≡ Some (here, choice)
-        → Contains (stands s.advert) (balance.stand position (pos here.output.value) (terms.position choice))
+        → Contains (all_funded s.advert) (balance.funded position (pos here.output.value) (terms.position choice))
     positions_static position here choice h =
-        subst (λ q. Contains (stands s.advert) (balance.stand q (pos here.output.value) (terms.position choice)))
+        subst (λ q. Contains (all_funded s.advert) (balance.funded q (pos here.output.value) (terms.position choice)))
         (position_stands hash s position here choice h).path (position_static hash s well position here choice h)

@@ -3,10 +3,10 @@ use Rattle.std.proofs.Common.{◌≡◌, ℕ, zero, suc, ◌+◌, ◌≤◌, Lis
 use Rattle.std.proofs.Common.{ap, ◌∙◌, subst, arith}
 use Rattle.std.specs.Prelude.{slice_get, if◌then◌else◌, ◌||◌, not}
 use Rattle.std.proofs.lemmas.Bool.{and_parts, and_from, not-true, not_from_false}
-use Rattle.spec_terms.specs.Term.{Branch, auth, after, put_reveal, withdraw, split, Choice, no_branch, branch, Parts, no_part, part}
-use Rattle.spec_terms.specs.Paths.{Spot, position, at_branch, path_eq}
+use Rattle.spec_terms.specs.Term.{Guarded, auth, after, put_reveal, withdraw, split, Contract, no_branch, branch, Parts, no_part, part}
+use Rattle.spec_terms.specs.Paths.{Subterm, position, at_branch, path_eq}
 use Rattle.spec_terms.specs.PathSameness.{path_eq-Decides}
-use Rattle.spec_terms.specs.Order.{Stop, stop, branches_from, under, parts_from, in_order, if_branch, if_position}
+use Rattle.spec_terms.specs.Order.{Located, located, branches_from, under, parts_from, in_order, if_branch, if_position}
 use Rattle.spec_terms.specs.Order.{branch_paths_of, position_paths_of, branch_paths, position_paths}
 use Rattle.spec_terms.specs.declared.path.PathStep.{PathStep}
 use Rattle.spec_terms.specs.declared.path.PathStep.TheVariants.{Branch as To, Part as Into}
@@ -29,15 +29,15 @@ longer (x ∷ q) t (suc d) step h = longer q t d step h
 
 -- ---- what is true of the paths of all stops
 
-abbrev All : (List PathStep → Type 0) → List Stop → Type 0
+abbrev All : (List PathStep → Type 0) → List Located → Type 0
 All P [] = Unit {0}
 All P (x ∷ xs) = P x.path × All P xs
 
-all-append : (P : List PathStep → Type 0) (xs ys : List Stop) → All P xs → All P ys → All P (xs ++ ys)
+all-append : (P : List PathStep → Type 0) (xs ys : List Located) → All P xs → All P ys → All P (xs ++ ys)
 all-append P [] ys h k = k
 all-append P (x ∷ xs) ys h k = (h.0, all-append P xs ys h.1 k)
 
-all_then : (P Q : List PathStep → Type 0) (xs : List Stop) → ((r : List PathStep) → P r → Q r) → All P xs → All Q xs
+all_then : (P Q : List PathStep → Type 0) (xs : List Located) → ((r : List PathStep) → P r → Q r) → All P xs → All Q xs
 all_then P Q [] f h = tt
 all_then P Q (x ∷ xs) f h = (f x.path h.0, all_then P Q xs f h.1)
 
@@ -47,7 +47,7 @@ Has d step r = slice_get r d ≡ Some step
 
 -- all paths below a path have its steps
 mutual
-  below_choice : (d : ℕ) (step : PathStep) (q : List PathStep) (i : ℕ) (c : Choice) → Has d step q → All (Has d step) (branches_from q i c)
+  below_choice : (d : ℕ) (step : PathStep) (q : List PathStep) (i : ℕ) (c : Contract) → Has d step q → All (Has d step) (branches_from q i c)
   below_choice d step q i no_branch h = tt
   below_choice d step q i (branch b bs) h =
       let here = longer q (To i ∷ []) d step h in
@@ -55,7 +55,7 @@ mutual
       let first = below_branch d step p b here in
       (here, all-append (Has d step) (under p b) (branches_from q (i + 1) bs) first (below_choice d step q (i + 1) bs h))
 
-  below_branch : (d : ℕ) (step : PathStep) (p : List PathStep) (b : Branch) → Has d step p → All (Has d step) (under p b)
+  below_branch : (d : ℕ) (step : PathStep) (p : List PathStep) (b : Guarded) → Has d step p → All (Has d step) (under p b)
   below_branch d step p (auth party body) h = below_branch d step p body h
   below_branch d step p (after height body) h = below_branch d step p body h
   below_branch d step p (put_reveal puts reveals test next) h = (h, below_choice d step p 0 next h)
@@ -83,7 +83,7 @@ later_than : (kind : ℕ → PathStep) (d i j : ℕ) → j ≤ i → (r : List P
 later_than kind d i j le r h = record { number = h.number; least = omega (arith, le, h.least); has = h.has }
 
 -- the paths of branches from number i on, and of parts
-later_branches : (q : List PathStep) (i : ℕ) (c : Choice) → All (Later To (length q) i) (branches_from q i c)
+later_branches : (q : List PathStep) (i : ℕ) (c : Contract) → All (Later To (length q) i) (branches_from q i c)
 later_branches q i no_branch = tt
 later_branches q i (branch b bs) =
     let here = at_end q (To i) in
@@ -141,33 +141,33 @@ abbrev pick_one : Bool → List PathStep → List (List PathStep) → List (List
 pick_one picked path others = if picked then path ∷ others else others
 
 -- the paths of those stops whose spots pass the test
-abbrev pick : (Spot → Bool) → List Stop → List (List PathStep)
+abbrev pick : (Subterm → Bool) → List Located → List (List PathStep)
 pick f [] = []
-pick f (x ∷ xs) = pick_one (f x.spot) x.path (pick f xs)
+pick f (x ∷ xs) = pick_one (f x.subterm) x.path (pick f xs)
 
-abbrev is_branch : Spot → Bool
+abbrev is_branch : Subterm → Bool
 is_branch (position c) = false
 is_branch (at_branch b) = true
 
-abbrev is_position : Spot → Bool
+abbrev is_position : Subterm → Bool
 is_position (position c) = true
 is_position (at_branch b) = false
 
-branch_paths_of-pick : (xs : List Stop) → branch_paths_of xs ≡ pick is_branch xs
+branch_paths_of-pick : (xs : List Located) → branch_paths_of xs ≡ pick is_branch xs
 branch_paths_of-pick [] = refl
-branch_paths_of-pick (x ∷ xs) = by_spot x.spot (branch_paths_of-pick xs)
+branch_paths_of-pick (x ∷ xs) = by_spot x.subterm (branch_paths_of-pick xs)
   where
-    by_spot : (spot : Spot) → branch_paths_of xs ≡ pick is_branch xs
-        → if_branch spot x.path (branch_paths_of xs) ≡ pick_one (is_branch spot) x.path (pick is_branch xs)
+    by_spot : (subterm : Subterm) → branch_paths_of xs ≡ pick is_branch xs
+        → if_branch subterm x.path (branch_paths_of xs) ≡ pick_one (is_branch subterm) x.path (pick is_branch xs)
     by_spot (position c) h = h
     by_spot (at_branch b) h = ap (λ (ps : List (List PathStep)). x.path ∷ ps) h
 
-position_paths_of-pick : (xs : List Stop) → position_paths_of xs ≡ pick is_position xs
+position_paths_of-pick : (xs : List Located) → position_paths_of xs ≡ pick is_position xs
 position_paths_of-pick [] = refl
-position_paths_of-pick (x ∷ xs) = by_spot x.spot (position_paths_of-pick xs)
+position_paths_of-pick (x ∷ xs) = by_spot x.subterm (position_paths_of-pick xs)
   where
-    by_spot : (spot : Spot) → position_paths_of xs ≡ pick is_position xs
-        → if_position spot x.path (position_paths_of xs) ≡ pick_one (is_position spot) x.path (pick is_position xs)
+    by_spot : (subterm : Subterm) → position_paths_of xs ≡ pick is_position xs
+        → if_position subterm x.path (position_paths_of xs) ≡ pick_one (is_position subterm) x.path (pick is_position xs)
     by_spot (position c) h = ap (λ (ps : List (List PathStep)). x.path ∷ ps) h
     by_spot (at_branch b) h = h
 
@@ -177,18 +177,18 @@ abbrev AllPaths : (List PathStep → Type 0) → List (List PathStep) → Type 0
 AllPaths P [] = Unit {0}
 AllPaths P (p ∷ ps) = P p × AllPaths P ps
 
-pick-append : (f : Spot → Bool) (xs ys : List Stop) → pick f (xs ++ ys) ≡ pick f xs ++ pick f ys
+pick-append : (f : Subterm → Bool) (xs ys : List Located) → pick f (xs ++ ys) ≡ pick f xs ++ pick f ys
 pick-append f [] ys = refl
-pick-append f (x ∷ xs) ys = by_test (f x.spot) (pick-append f xs ys)
+pick-append f (x ∷ xs) ys = by_test (f x.subterm) (pick-append f xs ys)
   where
     by_test : (t : Bool) → pick f (xs ++ ys) ≡ pick f xs ++ pick f ys
         → pick_one t x.path (pick f (xs ++ ys)) ≡ pick_one t x.path (pick f xs) ++ pick f ys
     by_test true h = ap (λ (ps : List (List PathStep)). x.path ∷ ps) h
     by_test false h = h
 
-all_pick : (f : Spot → Bool) (P : List PathStep → Type 0) (xs : List Stop) → All P xs → AllPaths P (pick f xs)
+all_pick : (f : Subterm → Bool) (P : List PathStep → Type 0) (xs : List Located) → All P xs → AllPaths P (pick f xs)
 all_pick f P [] h = tt
-all_pick f P (x ∷ xs) h = by_test (f x.spot) (all_pick f P xs h.1)
+all_pick f P (x ∷ xs) h = by_test (f x.subterm) (all_pick f P xs h.1)
   where
     by_test : (t : Bool) → AllPaths P (pick f xs) → AllPaths P (pick_one t x.path (pick f xs))
     by_test true k = (h.0, k)
@@ -237,9 +237,9 @@ one_more false p ps a h = h
 -- ---- the order of the text
 
 -- the test picks branches alone or positions alone
-module _ (f : Spot → Bool) (one_kind : (b : Branch) (c : Choice) → f (at_branch b) ≡ true → f (position c) ≡ true → ⊥) where
+module _ (f : Subterm → Bool) (one_kind : (b : Guarded) (c : Contract) → f (at_branch b) ≡ true → f (position c) ≡ true → ⊥) where
   -- what is below a path is apart from it
-  below_apart : (p : List PathStep) (c : Choice) → AllPaths (Apart p) (pick f (branches_from p 0 c))
+  below_apart : (p : List PathStep) (c : Contract) → AllPaths (Apart p) (pick f (branches_from p 0 c))
   below_apart p c =
       paths_then (Later To (length p) 0) (Apart p) (pick f (branches_from p 0 c)) (λ r h. end_apart To p r 0 h)
       (all_pick f (Later To (length p) 0) (branches_from p 0 c) (later_branches p 0 c))
@@ -251,13 +251,13 @@ module _ (f : Spot → Bool) (one_kind : (b : Branch) (c : Choice) → f (at_bra
   put_once false t p ps a h kinds = one_more t p ps a h
 
   mutual
-    choice_once : (q : List PathStep) (i : ℕ) (c : Choice) → are_once (pick f (branches_from q i c)) ≡ true
+    choice_once : (q : List PathStep) (i : ℕ) (c : Contract) → are_once (pick f (branches_from q i c)) ≡ true
     choice_once q i no_branch = refl
     choice_once q i (branch b bs) =
         let p = q ++ To i ∷ [] in
         let d = length q in
         let here = at_end q (To i) in
-        let block = stop p (at_branch b) ∷ under p b in
+        let block = located p (at_branch b) ∷ under p b in
         let rest = branches_from q (i + 1) bs in
         subst (λ ps. are_once ps ≡ true) (sym (pick-append f block rest))
         (once_append (pick f block) (pick f rest) (block_once p b b) (choice_once q (i + 1) bs)
@@ -267,7 +267,7 @@ module _ (f : Spot → Bool) (one_kind : (b : Branch) (c : Choice) → f (at_bra
         (all_pick f (Has d (To i)) block (here, below_branch d (To i) p b here))))
 
     -- a branch with what is under it, by its core
-    block_once : (p : List PathStep) (w b : Branch) → are_once (pick f (stop p (at_branch w) ∷ under p b)) ≡ true
+    block_once : (p : List PathStep) (w b : Guarded) → are_once (pick f (located p (at_branch w) ∷ under p b)) ≡ true
     block_once p w (auth party body) = block_once p w body
     block_once p w (after height body) = block_once p w body
     block_once p w (put_reveal puts reveals test next) =
@@ -286,7 +286,7 @@ module _ (f : Spot → Bool) (one_kind : (b : Branch) (c : Choice) → f (at_bra
         let q = p ++ Into k ∷ [] in
         let d = length p in
         let here = at_end p (Into k) in
-        let block = stop q (position c) ∷ branches_from q 0 c in
+        let block = located q (position c) ∷ branches_from q 0 c in
         let rest = parts_from p (k + 1) ps in
         subst (λ ps. are_once ps ≡ true) (sym (pick-append f block rest))
         (once_append (pick f block) (pick f rest)
@@ -297,13 +297,13 @@ module _ (f : Spot → Bool) (one_kind : (b : Branch) (c : Choice) → f (at_bra
         (all_pick f (Later Into d (k + 1)) rest (later_parts p (k + 1) ps)))
         (all_pick f (Has d (Into k)) block (here, below_choice d (Into k) q 0 c here))))
 
-  picked_once : (root : Choice) → are_once (pick f (in_order root)) ≡ true
+  picked_once : (root : Contract) → are_once (pick f (in_order root)) ≡ true
   picked_once root = one_more (f (position root)) [] (pick f (branches_from [] 0 root)) (below_apart [] root) (choice_once [] 0 root)
 
-pub branches_once : (root : Choice) → are_once (branch_paths root) ≡ true
+pub branches_once : (root : Contract) → are_once (branch_paths root) ≡ true
 branches_once root =
     subst (λ ps. are_once ps ≡ true) (sym (branch_paths_of-pick (in_order root))) (picked_once is_branch (λ b c h k. cc) root)
 
-pub positions_once : (root : Choice) → are_once (position_paths root) ≡ true
+pub positions_once : (root : Contract) → are_once (position_paths root) ≡ true
 positions_once root =
     subst (λ ps. are_once ps ≡ true) (sym (position_paths_of-pick (in_order root))) (picked_once is_position (λ b c h k. cc) root)

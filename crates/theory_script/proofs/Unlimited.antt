@@ -6,11 +6,11 @@ use Rattle.spec_bitcoin.specs.declared.script.Op.{Op}
 use Rattle.spec_bitcoin.specs.declared.opcode.Kind.{Kind}
 use Rattle.spec_bitcoin.specs.declared.opcode.Kind.TheVariants.{Begins, Cuts, Ends, Runs}
 use Rattle.spec_bitcoin.specs.Effects.{Item, Stacks, truth}
-use Rattle.spec_bitcoin.specs.Meaning.{within_limit, choose, run, run_sections, outcome}
+use Rattle.spec_bitcoin.specs.Meaning.{within_limit, pop_condition, run, run_sections, outcome}
 use Rattle.spec_bitcoin.specs.Trees.{Items, End, Plain, Block, Sections, NoMore, Section, Open, Outside, Inside, Unmatched}
 use Rattle.spec_bitcoin.specs.Trees.{put_front, put_kind, kind_of, read, outside, tree_of}
 use Rattle.theory_script.specs.Limits.{free_act, free_choose, free_items, free_sections, free_outcome}
-use Rattle.theory_script.proofs.Limits.{Holds, act_holds, act_is, step_in}
+use Rattle.theory_script.proofs.Scripts.Limits.{Holds, act_holds, act_is, step_in}
 
 -- ---- how many operations a tree has
 
@@ -120,7 +120,7 @@ module _ (hash : Item → Item) (valid : Item → Item → Bool) where
   block_same : (negated : Bool) (sections : Sections) (m alt : List Item) → length m + length alt + ops_in_sections sections ≤ 1000
       → ((even : Bool) (t : Stacks) → size t ≤ length m + length alt
       → run_sections hash valid sections even t ≡ free_sections hash valid sections even t)
-      → option_and_then (λ (p : Bool × Stacks). run_sections hash valid sections p.0 p.1) (choose negated (record { main = m; alt = alt }))
+      → option_and_then (λ (p : Bool × Stacks). run_sections hash valid sections p.0 p.1) (pop_condition negated (record { main = m; alt = alt }))
       ≡ option_and_then (λ (p : Bool × Stacks). free_sections hash valid sections p.0 p.1)
       (free_choose negated (record { main = m; alt = alt }))
   block_same negated sections [] alt le ih = refl

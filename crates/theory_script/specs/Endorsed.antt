@@ -2,7 +2,7 @@
 use Rattle.std.specs.Prelude.{◌≡◌, ℕ, List, ◌∷◌, ◌++◌, true, false, Some}
 use Rattle.std.specs.Option.{is_none}
 use Rattle.spec_bitcoin.specs.Keys.{Pair}
-use Rattle.spec_compiler.specs.Setting.{Setting}
+use Rattle.spec_compiler.specs.Instance.{Instance}
 use Rattle.spec_compiler.specs.Endorsements.{Need, needed, is_met, all_met, is_endorsed, missing_endorsement}
 
 -- the book misses this one of what is wanted, and has all that stands before it
@@ -14,9 +14,9 @@ pub record IsFirstMissing (book : List Pair) (wanted : List Need) (need : Need) 
   pub met : all_met book earlier ≡ true
 
 -- no endorsement is missing exactly where the contract is endorsed, and the one that is answered is the first that is missing
-pub record TellsMissing (hash : List ℕ → List ℕ) (s : Setting) (book : List Pair) : Type 0 where
+pub record TellsMissing (hash : List ℕ → List ℕ) (s : Instance) (book : List Pair) : Type 0 where
   pub none : is_none (missing_endorsement hash s book) ≡ is_endorsed hash s book
   pub first : (need : Need) → missing_endorsement hash s book ≡ Some need → IsFirstMissing book (needed hash s) need
 
 abbrev pub MissingIsFirst : Type 0
-MissingIsFirst = (hash : List ℕ → List ℕ) (s : Setting) (book : List Pair) → TellsMissing hash s book
+MissingIsFirst = (hash : List ℕ → List ℕ) (s : Instance) (book : List Pair) → TellsMissing hash s book

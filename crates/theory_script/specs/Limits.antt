@@ -1,7 +1,7 @@
 -- What is claimed of the limits that Bitcoin's consensus sets to scripts: that of a position meets none of them, whether it opens or not.
 use Rattle.std.specs.Prelude.{◌≡◌, ℕ, ◌+◌, ◌≤◌, List, [], ◌∷◌, length, Bool, true, not, if◌then◌else◌, Option, Some, None, reverse}
 use Rattle.std.specs.Option.{option_and_then}
-use Rattle.spec_terms.specs.Term.{Choice}
+use Rattle.spec_terms.specs.Term.{Contract}
 use Rattle.spec_terms.specs.declared.path.PathStep.{PathStep}
 use Rattle.spec_bitcoin.specs.declared.script.Op.{Op}
 use Rattle.spec_bitcoin.specs.declared.script.Op.TheVariants.{Push, Code}
@@ -11,15 +11,15 @@ use Rattle.spec_bitcoin.specs.Trees.{Items, End, Plain, Block, Sections, NoMore,
 use Rattle.spec_bitcoin.specs.Scripts.{script_ops}
 use Rattle.spec_bitcoin.specs.Meaning.{within_limits, outcome, meaning, script_meaning}
 use Rattle.spec_compiler.specs.Scripts.{output_ops}
-use Rattle.spec_compiler.specs.Setting.{Setting, position_demands, position_script}
+use Rattle.spec_compiler.specs.Instance.{Instance, position_demands, position_script}
 use Rattle.spec_compiler.specs.Statements.{IsHash, IsCompiled}
 
 -- the operations of a position's script
-abbrev pub ops_at : (List ℕ → List ℕ) → Setting → List PathStep → Choice → List Op
+abbrev pub ops_at : (List ℕ → List ℕ) → Instance → List PathStep → Contract → List Op
 ops_at hash s position choice = output_ops (position_demands hash s position choice)
 
 -- few bytes, which are read as operations; no push is too long, few operations count, and there are few of them in all
-pub record MeetsNoLimit (hash : List ℕ → List ℕ) (s : Setting) (position : List PathStep) (choice : Choice) : Type 0 where
+pub record MeetsNoLimit (hash : List ℕ → List ℕ) (s : Instance) (position : List PathStep) (choice : Contract) : Type 0 where
   pub bytes : length (position_script hash s position choice) ≤ 10000
   pub reads : script_ops (position_script hash s position choice) ≡ Some (ops_at hash s position choice)
   pub limits : within_limits (ops_at hash s position choice) ≡ true
@@ -31,7 +31,7 @@ pub record MeetsNoLimit (hash : List ℕ → List ℕ) (s : Setting) (position :
 
 -- of every position of a checked contract
 abbrev pub NoLimitIsMet : Type 0
-NoLimitIsMet = (hash : List ℕ → List ℕ) (s : Setting) (position : List PathStep) (choice : Choice)
+NoLimitIsMet = (hash : List ℕ → List ℕ) (s : Instance) (position : List PathStep) (choice : Contract)
     → IsHash hash → IsCompiled s position choice → MeetsNoLimit hash s position choice
 
 -- ---- the limit on items

@@ -2,15 +2,15 @@
 use Rattle.std.specs.Prelude.{◌≡◌, ℕ, ◌+◌, ◌≤◌, List, Some, slice_get, sum_by, pos}
 use Rattle.std.specs.List.{Contains}
 use Rattle.spec_terms.specs.Paths as spots
-use Rattle.spec_terms.specs.Balance.{stand, stands}
-use Rattle.spec_terms.specs.Term.{Branch, auth, after, put_reveal, withdraw, split, Choice, branches}
+use Rattle.spec_terms.specs.Balance.{funded, all_funded}
+use Rattle.spec_terms.specs.Term.{Guarded, auth, after, put_reveal, withdraw, split, Contract, branches}
 use Rattle.spec_terms.specs.Advert.{Advert}
 use Rattle.spec_terms.specs.Core.{core}
 use Rattle.spec_terms.specs.Precondition.{volatile, value_of_puts}
 use Rattle.spec_terms.specs.Faults.{IsWellFormed, sum_of_parts}
 use Rattle.spec_terms.specs.declared.path.PathStep.{PathStep}
 use Rattle.spec_compiler.specs.declared.unsigned.Unsigned.{Unsigned}
-use Rattle.spec_compiler.specs.Setting.{Setting}
+use Rattle.spec_compiler.specs.Instance.{Instance}
 use Rattle.spec_compiler.specs.Transactions.{Standing, initial_unsigned}
 use Rattle.spec_compiler.specs.ByPath.{position_at, unsigned_at}
 
@@ -27,7 +27,7 @@ abbrev pub IsKept : Advert → Unsigned → Type 0
 IsKept advert d = paid_out d + advert.fee ≡ paid_in d
 
 -- a balance pays for what a core does: with the deposits that a put brings for the fee, and for a split's parts and the fee exactly
-abbrev pub Pays : Advert → ℕ → Branch → Type 0
+abbrev pub Pays : Advert → ℕ → Guarded → Type 0
 Pays advert balance (put_reveal puts reveals test next) = advert.fee ≤ balance + value_of_puts (volatile advert.pre) puts
 Pays advert balance (withdraw party) = advert.fee ≤ balance
 Pays advert balance (split parts) = sum_of_parts parts + advert.fee ≡ balance
@@ -35,15 +35,15 @@ Pays advert balance (auth party body) = Unit {0}
 Pays advert balance (after height body) = Unit {0}
 
 -- every transaction of the contract keeps its money; every position holds exactly its static balance, and pays for each of its branches
-pub record KeepsMoney (hash : List ℕ → List ℕ) (s : Setting) : Type 0 where
+pub record KeepsMoney (hash : List ℕ → List ℕ) (s : Instance) : Type 0 where
   pub initial : IsKept s.advert (initial_unsigned hash s)
   pub paths : (path : List PathStep) (d : Unsigned) → unsigned_at hash s path ≡ Some d → IsKept s.advert d
-  pub static : (position : List PathStep) (here : Standing) (choice : Choice) → position_at hash s position ≡ Some (here, choice)
-      → Contains (stands s.advert) (stand position (pos here.output.value) (spots.position choice))
-  pub positions : (position : List PathStep) (here : Standing) (choice : Choice) (i : ℕ) (b : Branch)
+  pub static : (position : List PathStep) (here : Standing) (choice : Contract) → position_at hash s position ≡ Some (here, choice)
+      → Contains (all_funded s.advert) (funded position (pos here.output.value) (spots.position choice))
+  pub positions : (position : List PathStep) (here : Standing) (choice : Contract) (i : ℕ) (b : Guarded)
       → position_at hash s position ≡ Some (here, choice) → slice_get (branches choice) i ≡ Some b
       → Pays s.advert here.output.value (core b)
 
 -- of every contract that passed the check
 abbrev pub MoneyIsKept : Type 0
-MoneyIsKept = (hash : List ℕ → List ℕ) (s : Setting) → IsWellFormed s.advert → KeepsMoney hash s
+MoneyIsKept = (hash : List ℕ → List ℕ) (s : Instance) → IsWellFormed s.advert → KeepsMoney hash s

@@ -10,9 +10,9 @@ use Rattle.spec_text.specs.Lexis.{Tokens, tokens_of}
 use Rattle.spec_text.specs.Lexeme.{lexemes}
 use Rattle.spec_text.specs.ReadAdvert.{advert_of_all, fault_of, answer_of, answer_from, read_answer}
 use Rattle.spec_text.specs.Statements.{IsSpelledBy, ReaderTheorem}
-use Rattle.theory_text.proofs.AdvertsWithin.{read_is_readable}
-use Rattle.theory_text.proofs.StopPlaces.{syntax_is, limit_is, found_is}
-use Rattle.theory_text.proofs.AgainAdverts.{all_again}
+use Rattle.theory_text.proofs.Within.Adverts.{read_is_readable}
+use Rattle.theory_text.proofs.Told.StopPlaces.{syntax_is, limit_is, found_is}
+use Rattle.theory_text.proofs.Again.Adverts.{all_again}
 
 abbrev answer : Advert → Result Advert TextFault
 answer advert = Ok advert

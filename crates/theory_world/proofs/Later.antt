@@ -8,10 +8,10 @@ use Rattle.spec_terms.specs.Advert.{Advert}
 use Rattle.spec_terms.specs.Parties.{participants}
 use Rattle.spec_bitcoin.specs.declared.tx.TxOut.{TxOut}
 use Rattle.spec_calculus.specs.declared.parts.Advertised.{Advertised}
-use Rattle.spec_compiler.specs.Setting.{Setting}
+use Rattle.spec_compiler.specs.Instance.{Instance}
 use Rattle.spec_run.specs.Setup.{Setup, contract_at}
-use Rattle.spec_run.specs.World.{Held, Output, Promise, World, output_at, bindings_at, is_advertised, is_promise_of, has_promised, have_promised, digests_at}
-use Rattle.spec_run.specs.Compiled.{place_of, bound_places, setting, is_complete, compiled_by, compiled_at}
+use Rattle.spec_run.specs.World.{ContractPosition, Output, Promise, World, output_at, bindings_at, is_advertised, is_promise_of, has_promised, have_promised, digests_at}
+use Rattle.spec_run.specs.Compiled.{outpoint_of, bound_outpoints, instance_of, is_complete, instance_if_complete, compiled_instance}
 use Rattle.spec_run.specs.Ledger.{spend_from, made_from}
 use Rattle.theory_world.proofs.Tests.{any-append, all_then}
 
@@ -37,12 +37,12 @@ get-split (y ∷ xs) ys (suc n) x h = elim (get-split xs ys n x h) [
 ]
 
 -- new output m
-pub get-made : (held : ℕ → Option Held) (id : List ℕ) (k m : ℕ) (os : List TxOut) (x : Output) → slice_get (made_from held id k os) m ≡ Some x
-    → (o : TxOut) × (slice_get os m ≡ Some o) × (x ≡ record { place = record { txid = id; vout = m + k }; value = o.value; script = o.script; live = true; holds = held (m + k) })
+pub get-made : (held : ℕ → Option ContractPosition) (id : List ℕ) (k m : ℕ) (os : List TxOut) (x : Output) → slice_get (made_from held id k os) m ≡ Some x
+    → (o : TxOut) × (slice_get os m ≡ Some o) × (x ≡ record { outpoint = record { txid = id; vout = m + k }; value = o.value; script = o.script; live = true; holds = held (m + k) })
 get-made held id k m [] x h = cc
 get-made held id k zero (o ∷ os) x h =
     let z : 0 + k ≡ k = omega arith in
-    let e : record { place = record { txid = id; vout = k }; value = o.value; script = o.script; live = true; holds = held k } ≡ x = cc in
+    let e : record { outpoint = record { txid = id; vout = k }; value = o.value; script = o.script; live = true; holds = held k } ≡ x = cc in
     (o, refl, rw z (sym e))
 get-made held id k (suc m) (o ∷ os) x h =
     let z : m + (k + 1) ≡ suc m + k = omega arith in
@@ -53,7 +53,7 @@ get-made held id k (suc m) (o ∷ os) x h =
 
 -- the second output is the first, but that it may have been spent
 pub record SameOutput (o p : Output) : Type 0 where
-  pub place : p.place ≡ o.place
+  pub outpoint : p.outpoint ≡ o.outpoint
   pub script : p.script ≡ o.script
   pub value : p.value ≡ o.value
   pub holds : p.holds ≡ o.holds
@@ -63,7 +63,7 @@ pub record Lasts (os ps : List Output) : Type 0 where
   pub last : (n : ℕ) (o : Output) → slice_get os n ≡ Some o → (p : Output) × (slice_get ps n ≡ Some p) × SameOutput o p
 
 pub lasts_refl : (os : List Output) → Lasts os os
-lasts_refl os = record { last = λ n o h. (o, h, record { place = refl; script = refl; value = refl; holds = refl; dead = λ e. e }) }
+lasts_refl os = record { last = λ n o h. (o, h, record { outpoint = refl; script = refl; value = refl; holds = refl; dead = λ e. e }) }
 
 pub lasts_same : (os ps : List Output) → ps ≡ os → Lasts os ps
 lasts_same os ps e = subst (Lasts os) (sym e) (lasts_refl os)
@@ -74,35 +74,35 @@ lasts_spent ns os news = record { last = λ n o h. by_test n o h (has_number (n 
     by_test : (n : ℕ) (o : Output) → slice_get os n ≡ Some o → (b : Bool) → has_number (n + 0) ns ≡ b → (p : Output) × (slice_get (spend_from 0 ns os ++ news) n ≡ Some p) × SameOutput o p
     by_test n o h true e =
         let g : slice_get (spend_from 0 ns os) n ≡ Some (record o { live = false }) = get-spent 0 n ns os ∙ rw (h, e) refl in
-        (record o { live = false }, get-front (spend_from 0 ns os) news n (record o { live = false }) g, record { place = refl; script = refl; value = refl; holds = refl; dead = λ x. refl })
+        (record o { live = false }, get-front (spend_from 0 ns os) news n (record o { live = false }) g, record { outpoint = refl; script = refl; value = refl; holds = refl; dead = λ x. refl })
     by_test n o h false e =
         let g : slice_get (spend_from 0 ns os) n ≡ Some o = get-spent 0 n ns os ∙ rw (h, e) refl in
-        (o, get-front (spend_from 0 ns os) news n o g, record { place = refl; script = refl; value = refl; holds = refl; dead = λ x. x })
+        (o, get-front (spend_from 0 ns os) news n o g, record { outpoint = refl; script = refl; value = refl; holds = refl; dead = λ x. x })
 
 -- ---- compiled contracts
 
-pub record IsCompiledAt (s : Setup) (w : World) (k : ℕ) (st : Setting) : Type 0 where
+pub record IsCompiledAt (s : Setup) (w : World) (k : ℕ) (st : Instance) : Type 0 where
   pub advert : Advert
   pub there : contract_at s k ≡ Some advert
   pub advertised : is_advertised w k ≡ true
   pub promised : have_promised w k (participants advert) ≡ true
-  pub is : st ≡ setting w k advert
+  pub is : st ≡ instance_of w k advert
 
-pub compiled_is : (s : Setup) (w : World) (k : ℕ) (st : Setting) → compiled_at s w k ≡ Some st → IsCompiledAt s w k st
+pub compiled_is : (s : Setup) (w : World) (k : ℕ) (st : Instance) → compiled_instance s w k ≡ Some st → IsCompiledAt s w k st
 compiled_is s w k st h = by_contract (contract_at s k) refl h
   where
-    by_test : (a : Advert) → contract_at s k ≡ Some a → (b : Bool) → is_complete w k a ≡ b → (if b then Some (setting w k a) else None) ≡ Some st → IsCompiledAt s w k st
-    by_test a e true f q = let p = and_parts (is_advertised w k) (have_promised w k (participants a)) f in let z : setting w k a ≡ st = cc in record { advert = a; there = e; advertised = p.0; promised = p.1; is = sym z }
+    by_test : (a : Advert) → contract_at s k ≡ Some a → (b : Bool) → is_complete w k a ≡ b → (if b then Some (instance_of w k a) else None) ≡ Some st → IsCompiledAt s w k st
+    by_test a e true f q = let p = and_parts (is_advertised w k) (have_promised w k (participants a)) f in let z : instance_of w k a ≡ st = cc in record { advert = a; there = e; advertised = p.0; promised = p.1; is = sym z }
     by_test a e false f q = cc
 
-    by_contract : (o : Option Advert) → contract_at s k ≡ o → compiled_by w k o ≡ Some st → IsCompiledAt s w k st
+    by_contract : (o : Option Advert) → contract_at s k ≡ o → instance_if_complete w k o ≡ Some st → IsCompiledAt s w k st
     by_contract None e q = cc
     by_contract (Some a) e q = by_test a e (is_complete w k a) refl q
 
-pub compiled_from : (s : Setup) (w : World) (k : ℕ) (a : Advert) → contract_at s k ≡ Some a → is_advertised w k ≡ true → have_promised w k (participants a) ≡ true → compiled_at s w k ≡ Some (setting w k a)
+pub compiled_from : (s : Setup) (w : World) (k : ℕ) (a : Advert) → contract_at s k ≡ Some a → is_advertised w k ≡ true → have_promised w k (participants a) ≡ true → compiled_instance s w k ≡ Some (instance_of w k a)
 compiled_from s w k a e f g =
     let c : is_complete w k a ≡ true = and_from _ _ f g in
-    ap (compiled_by w k) e ∙ rw c refl
+    ap (instance_if_complete w k) e ∙ rw c refl
 
 pub bindings-more : (xs ys : List Advertised) (k : ℕ) → list_any (λ a. a.contract == k) xs ≡ true → bindings_at (xs ++ ys) k ≡ bindings_at xs k
 bindings-more [] ys k h = cc
@@ -117,7 +117,7 @@ digests-other (p ∷ ps) qs k h = grind (arith, digests-other ps qs k)
 abbrev pub are_made : World → List (List ℕ × ℕ) → Bool
 are_made w bs = list_all (λ b. is_some (output_at w (b.1))) bs
 
-places-last : (w next : World) (bs : List (List ℕ × ℕ)) → Lasts w.outputs next.outputs → are_made w bs ≡ true → bound_places next bs ≡ bound_places w bs
+places-last : (w next : World) (bs : List (List ℕ × ℕ)) → Lasts w.outputs next.outputs → are_made w bs ≡ true → bound_outpoints next bs ≡ bound_outpoints w bs
 places-last w next [] l h = refl
 places-last w next (b ∷ bs) l h =
     let p = and_parts (is_some (output_at w (b.1))) (are_made w bs) h in
@@ -125,21 +125,21 @@ places-last w next (b ∷ bs) l h =
     let ih = places-last w next bs l p.1 in
     λ i. (b.0, e i) ∷ ih i
   where
-    by_output : (o : Option Output) → output_at w (b.1) ≡ o → is_some o ≡ true → place_of (output_at next (b.1)) ≡ place_of o
+    by_output : (o : Option Output) → output_at w (b.1) ≡ o → is_some o ≡ true → outpoint_of (output_at next (b.1)) ≡ outpoint_of o
     by_output None e q = cc
-    by_output (Some o) e q = let r = l.last (b.1) o e in ap place_of r.1 ∙ r.2.place
+    by_output (Some o) e q = let r = l.last (b.1) o e in ap outpoint_of r.1 ∙ r.2.outpoint
 
 -- a contract that is compiled stays so
-pub compiled_stays : (s : Setup) (w next : World) (new : List Advertised) (ps : List Promise) (k : ℕ) (st : Setting)
+pub compiled_stays : (s : Setup) (w next : World) (new : List Advertised) (ps : List Promise) (k : ℕ) (st : Instance)
     → next.advertised ≡ w.advertised ++ new → next.promises ≡ w.promises ++ ps → Lasts w.outputs next.outputs
     → are_made w (bindings_at w.advertised k) ≡ true → list_any (λ p. p.contract == k) ps ≡ false
-    → compiled_at s w k ≡ Some st → compiled_at s next k ≡ Some st
+    → compiled_instance s w k ≡ Some st → compiled_instance s next k ≡ Some st
 compiled_stays s w next new ps k st ea ep l made other h =
     let c = compiled_is s w k st h in
     let adv : is_advertised next k ≡ true = ap (list_any (λ a. a.contract == k)) ea ∙ any-append (λ a. a.contract == k) w.advertised new ∙ or_left _ _ c.advertised in
     let pro : have_promised next k (participants c.advert) ≡ true = all_then (has_promised w k) (has_promised next k) (participants c.advert) (λ a i. ap (list_any (is_promise_of k a)) ep ∙ any-append (is_promise_of k a) w.promises ps ∙ or_left _ _ i) c.promised in
     let b : bindings_at next.advertised k ≡ bindings_at w.advertised k = ap (λ xs. bindings_at xs k) ea ∙ bindings-more w.advertised new k c.advertised in
-    let pl : bound_places next (bindings_at next.advertised k) ≡ bound_places w (bindings_at w.advertised k) = ap (bound_places next) b ∙ places-last w next (bindings_at w.advertised k) l made in
+    let pl : bound_outpoints next (bindings_at next.advertised k) ≡ bound_outpoints w (bindings_at w.advertised k) = ap (bound_outpoints next) b ∙ places-last w next (bindings_at w.advertised k) l made in
     let d : digests_at next.promises k ≡ digests_at w.promises k = ap (λ xs. digests_at xs k) ep ∙ digests-other w.promises ps k other in
-    let e : setting next k c.advert ≡ setting w k c.advert = λ i. record { contract = k; advert = c.advert; bound = pl i; hashes = d i } in
+    let e : instance_of next k c.advert ≡ instance_of w k c.advert = λ i. record { contract = k; advert = c.advert; bound = pl i; hashes = d i } in
     compiled_from s next k c.advert c.there adv pro ∙ ap Some (e ∙ sym c.is)

@@ -11,17 +11,17 @@ use Rattle.spec_run.specs.declared.header.HeldSecret.{HeldSecret}
 use Rattle.spec_run.specs.declared.outcome.Reason.{Reason}
 use Rattle.spec_run.specs.Setup.{Setup}
 use Rattle.spec_data.specs.Messages.{noted_all, collision}
-use Rattle.spec_run.specs.World.{World, held_at}
+use Rattle.spec_run.specs.World.{World, live_position_at}
 use Rattle.spec_run.specs.Draft.{Draft, unless, settled, settle, guess}
 use Rattle.spec_run.specs.Values.{is_refused, RefusedKept}
-use Rattle.spec_run.specs.Compiled.{compiled_at}
+use Rattle.spec_run.specs.Compiled.{compiled_instance}
 use Rattle.spec_run.specs.Advertising.{advertise_row}
 use Rattle.spec_run.specs.Committing.{commit_row, digest_row, committed_strings}
 use Rattle.spec_run.specs.Signing.{endorse_row, init_row, authorise_row, sign_row}
 use Rattle.spec_run.specs.Revealing.{reveal_row}
 use Rattle.spec_run.specs.Giving.{give_row, given_pairs, gift}
 use Rattle.spec_run.specs.Signing.{with_pairs}
-use Rattle.spec_run.specs.Firing.{fire_init_row, fire_row, reaches_if, initial_by, taking_by}
+use Rattle.spec_run.specs.Firing.{fire_init_row, fire_row, reaches_if, initial_by, taking_of_position}
 use Rattle.spec_run.specs.Ledger.{judged, verdict_in, reaches}
 use Rattle.spec_run.specs.Event.{append_read, mine_row, draft, event}
 
@@ -69,9 +69,9 @@ draft_quiet s w (events.Give party inputs outputs) =
     (reaches_quiet s w (with_pairs w (given_pairs s w party inputs outputs)) (gift s w party inputs outputs))
 draft_quiet s w (events.Append bytes) = append_quiet s w (transaction_of bytes)
 draft_quiet s w (events.FireInit contract) =
-    unless_quiet w (first_reason (fire_init_row s w contract)) [] _ (reaches_if_quiet s w (initial_by s (compiled_at s w contract)))
+    unless_quiet w (first_reason (fire_init_row s w contract)) [] _ (reaches_if_quiet s w (initial_by s (compiled_instance s w contract)))
 draft_quiet s w (events.Fire output branch) =
-    unless_quiet w (first_reason (fire_row s w output branch)) [] _ (reaches_if_quiet s w (taking_by s w (held_at w output) branch))
+    unless_quiet w (first_reason (fire_row s w output branch)) [] _ (reaches_if_quiet s w (taking_of_position s w (live_position_at w output) branch))
 draft_quiet s w (events.Mine blocks) = unless_quiet w (first_reason (mine_row w blocks)) [] _ (λ e. cc)
 
 -- a quiet draft leaves all but the messages

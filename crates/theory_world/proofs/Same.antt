@@ -5,7 +5,7 @@ use Rattle.std.specs.Str.{bytes_eq}
 use Rattle.std.proofs.lemmas.Bool.{and_parts, and_from, eqb-true, eq-eqb}
 use Rattle.std.proofs.lemmas.Slice.Eq.{bytes_eq-Decides}
 use Rattle.spec_bitcoin.specs.declared.tx.OutPoint.{OutPoint}
-use Rattle.spec_bitcoin.specs.Live.{same_place}
+use Rattle.spec_bitcoin.specs.Live.{same_outpoint}
 
 pub bytes-true : (xs ys : List ℕ) → bytes_eq xs ys ≡ true → xs ≡ ys
 bytes-true xs ys h = (bytes_eq-Decides xs ys).0 h
@@ -13,12 +13,12 @@ bytes-true xs ys h = (bytes_eq-Decides xs ys).0 h
 pub bytes_refl : (xs : List ℕ) → bytes_eq xs xs ≡ true
 bytes_refl xs = (bytes_eq-Decides xs xs).1 refl
 
-pub place-true : (p q : OutPoint) → same_place p q ≡ true → p ≡ q
+pub place-true : (p q : OutPoint) → same_outpoint p q ≡ true → p ≡ q
 place-true p q h =
     let a = and_parts (bytes_eq p.txid q.txid) (p.vout == q.vout) h in
     let e = bytes-true p.txid q.txid a.0 in
     let f = eqb-true p.vout q.vout a.1 in
     λ i. record { txid = e i; vout = f i }
 
-pub place_refl : (p : OutPoint) → same_place p p ≡ true
+pub place_refl : (p : OutPoint) → same_outpoint p p ≡ true
 place_refl p = and_from (bytes_eq p.txid p.txid) (p.vout == p.vout) (bytes_refl p.txid) (eq-eqb p.vout p.vout refl)

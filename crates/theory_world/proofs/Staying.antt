@@ -12,11 +12,11 @@ use Rattle.spec_calculus.specs.declared.step.Step.TheVariants as steps
 use Rattle.spec_calculus.specs.Configuration.{Configuration}
 use Rattle.spec_calculus.specs.Beginning.{is_init_authorised}
 use Rattle.spec_calculus.specs.Branches.{has_branch_authorised}
-use Rattle.spec_calculus.specs.Steps.{with_init, with_branch, effect, after}
+use Rattle.spec_calculus.specs.Steps.{with_init, with_branch, effect, after_steps}
 use Rattle.spec_run.specs.Steps.{auth_inits}
 use Rattle.theory_world.proofs.Same.{bytes_refl}
 use Rattle.theory_world.proofs.Tests.{any-append}
-use Rattle.theory_world.proofs.Positions.{Is_in}
+use Rattle.theory_world.proofs.Contracts.Positions.{Is_in}
 
 -- ---- one authorisation
 
@@ -78,16 +78,16 @@ branch_step (steps.PutReveal output branch) g n i a h = h
 branch_step (steps.Withdraw output branch) g n i a h = h
 branch_step (steps.Split output branch) g n i a h = h
 
-pub inits_stay : (xs : List Step) (g : Configuration) (k : ℕ) (x : List ℕ) → is_init_authorised g.init_authorised k x ≡ true → is_init_authorised (after g xs).init_authorised k x ≡ true
+pub inits_stay : (xs : List Step) (g : Configuration) (k : ℕ) (x : List ℕ) → is_init_authorised g.init_authorised k x ≡ true → is_init_authorised (after_steps g xs).init_authorised k x ≡ true
 inits_stay [] g k x h = h
 inits_stay (step ∷ xs) g k x h = inits_stay xs (effect g step) k x (init_step step g k x h)
 
-pub asked_stay : (xs : List Step) (g : Configuration) (n i : ℕ) (a : List ℕ) → has_branch_authorised g.branch_authorised n i a ≡ true → has_branch_authorised (after g xs).branch_authorised n i a ≡ true
+pub asked_stay : (xs : List Step) (g : Configuration) (n i : ℕ) (a : List ℕ) → has_branch_authorised g.branch_authorised n i a ≡ true → has_branch_authorised (after_steps g xs).branch_authorised n i a ≡ true
 asked_stay [] g n i a h = h
 asked_stay (step ∷ xs) g n i a h = asked_stay xs (effect g step) n i a (branch_step step g n i a h)
 
 -- each deposit of the list is authorised after its steps
-pub auth_inits_new : (k : ℕ) (ds : List (List ℕ × Holding)) (g : Configuration) (e : List ℕ × Holding) → Is_in e ds → is_init_authorised (after g (auth_inits k ds)).init_authorised k (e.0) ≡ true
+pub auth_inits_new : (k : ℕ) (ds : List (List ℕ × Holding)) (g : Configuration) (e : List ℕ × Holding) → Is_in e ds → is_init_authorised (after_steps g (auth_inits k ds)).init_authorised k (e.0) ≡ true
 auth_inits_new k [] g e h = absurd h
 auth_inits_new k (d ∷ ds) g e (inl q) = inits_stay (auth_inits k ds) (effect g (steps.AuthInit k (d.1).owner (d.0))) k (e.0) (subst (λ (y : List ℕ × Holding). is_init_authorised (with_init g.init_authorised k (d.0)) k (y.0) ≡ true) (sym q) (init_new g.init_authorised k (d.0)))
 auth_inits_new k (d ∷ ds) g e (inr i) = auth_inits_new k ds (effect g (steps.AuthInit k (d.1).owner (d.0))) e i

@@ -1,4 +1,4 @@
-use Rattle.theory_run.proofs.Honest.{honest_deposits}
+use Rattle.theory_run.proofs.Honest.Throughout.{honest_deposits}
 use Rattle.theory_run.proofs.honest_deposits_theorem.Goals as goal
 
 pub returns : goal.returns

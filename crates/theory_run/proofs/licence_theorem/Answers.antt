@@ -1,4 +1,4 @@
-use Rattle.theory_run.proofs.Honest.{licence}
+use Rattle.theory_run.proofs.Honest.Throughout.{licence}
 use Rattle.theory_run.proofs.licence_theorem.Goals as goal
 
 pub returns : goal.returns

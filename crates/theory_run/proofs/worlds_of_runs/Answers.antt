@@ -1,4 +1,4 @@
-use Rattle.theory_run.proofs.WorldsOfRuns.{worlds_of_runs}
+use Rattle.theory_run.proofs.Worlds.WorldsOfRuns.{worlds_of_runs}
 use Rattle.theory_run.proofs.worlds_of_runs.Goals as goal
 
 pub returns : goal.returns

@@ -1,4 +1,4 @@
-use Rattle.theory_script.proofs.Choosing.{chooses_by_items}
+use Rattle.theory_script.proofs.Scripts.Choosing.{chooses_by_items}
 use Rattle.theory_script.proofs.chooses_by_items.Goals as goal
 
 pub returns : goal.returns

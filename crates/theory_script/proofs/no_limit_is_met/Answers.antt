@@ -1,4 +1,4 @@
-use Rattle.theory_script.proofs.Opened.{no_limit_met}
+use Rattle.theory_script.proofs.Scripts.Opened.{no_limit_met}
 use Rattle.theory_script.proofs.no_limit_is_met.Goals as goal
 
 pub returns : goal.returns

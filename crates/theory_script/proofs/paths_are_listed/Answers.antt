@@ -1,4 +1,4 @@
-use Rattle.theory_script.proofs.Listing.{paths_are_listed}
+use Rattle.theory_script.proofs.Listing.Transactions.{paths_are_listed}
 use Rattle.theory_script.proofs.paths_are_listed.Goals as goal
 
 pub returns : goal.returns

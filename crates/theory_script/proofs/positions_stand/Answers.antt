@@ -1,4 +1,4 @@
-use Rattle.theory_script.proofs.Stands.{position_stands}
+use Rattle.theory_script.proofs.Listing.Stands.{position_stands}
 use Rattle.theory_script.proofs.positions_stand.Goals as goal
 
 pub returns : goal.returns

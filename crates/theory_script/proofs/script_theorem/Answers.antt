@@ -1,4 +1,4 @@
-use Rattle.theory_script.proofs.Opened.{opens_exactly}
+use Rattle.theory_script.proofs.Scripts.Opened.{opens_exactly}
 use Rattle.theory_script.proofs.script_theorem.Goals as goal
 
 pub returns : goal.returns

@@ -1,4 +1,4 @@
-use Rattle.theory_script.proofs.ScriptListing.{scripts_are_listed}
+use Rattle.theory_script.proofs.Listing.OutputScripts.{scripts_are_listed}
 use Rattle.theory_script.proofs.scripts_are_listed.Goals as goal
 
 pub returns : goal.returns

@@ -1,4 +1,4 @@
-use Rattle.theory_script.proofs.Opened.{cost_is}
+use Rattle.theory_script.proofs.Scripts.Opened.{cost_is}
 use Rattle.theory_script.proofs.size_theorem.Goals as goal
 
 pub returns : goal.returns

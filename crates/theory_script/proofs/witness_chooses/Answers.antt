@@ -1,4 +1,4 @@
-use Rattle.theory_script.proofs.Choosing.{witness_chooses}
+use Rattle.theory_script.proofs.Scripts.Choosing.{witness_chooses}
 use Rattle.theory_script.proofs.witness_chooses.Goals as goal
 
 pub returns : goal.returns

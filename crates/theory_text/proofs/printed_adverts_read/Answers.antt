@@ -1,4 +1,4 @@
-use Rattle.theory_text.proofs.PrintedAdverts.{printed_advert}
+use Rattle.theory_text.proofs.Printed.Adverts.{printed_advert}
 use Rattle.theory_text.proofs.printed_adverts_read.Goals as goal
 
 pub returns : goal.returns

@@ -1,4 +1,4 @@
-use Rattle.theory_text.proofs.PrintedLines.{printed_event}
+use Rattle.theory_text.proofs.Lines.EventLines.{printed_event}
 use Rattle.theory_text.proofs.printed_events_read.Goals as goal
 
 pub returns : goal.returns

@@ -1,4 +1,4 @@
-use Rattle.theory_world.proofs.Worth.{values_keep}
+use Rattle.theory_world.proofs.Ledger.Worth.{values_keep}
 use Rattle.theory_world.proofs.value_theorem.Goals as goal
 
 pub returns : goal.returns

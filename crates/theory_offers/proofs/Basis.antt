@@ -1,0 +1,12 @@
+pub mod Accepted
+pub mod Begun
+pub mod Entered
+pub mod Events
+pub mod EveryEvent
+pub mod Offered
+pub mod Opening
+pub mod Reached
+pub mod Signed
+pub mod Stepped
+pub mod Telling
+pub mod Told

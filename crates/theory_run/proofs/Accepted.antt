@@ -1,0 +1,10 @@
+pub mod Accept
+pub mod Kinded
+pub mod Numbers
+pub mod Reached
+pub mod ScriptsApart
+pub mod Spending
+pub mod Tested
+pub mod Unmade
+pub mod WhatItIs
+pub mod WhatItMakes

@@ -1,0 +1,16 @@
+pub mod AllSecrets
+pub mod Bookkeeping
+pub mod Growing
+pub mod Kept
+pub mod KeptCommitments
+pub mod KeptSecrets
+pub mod Labelled
+pub mod OnePosition
+pub mod Opening
+pub mod OwnLabels
+pub mod Owned
+pub mod Posting
+pub mod Promised
+pub mod Readings
+pub mod Secrets
+pub mod Undertakings

@@ -1,0 +1,3 @@
+pub mod Allowing
+pub mod Halts
+pub mod HaltsRightly

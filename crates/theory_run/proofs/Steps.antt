@@ -1,0 +1,10 @@
+pub mod Awaiting
+pub mod Beginnings
+pub mod Branching
+pub mod CommitSteps
+pub mod Decided
+pub mod Followed
+pub mod Gone
+pub mod Lawful
+pub mod Legal
+pub mod Moved

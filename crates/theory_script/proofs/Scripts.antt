@@ -1,0 +1,13 @@
+pub mod Blocks
+pub mod Branches
+pub mod Choosing
+pub mod Chosen
+pub mod Demanded
+pub mod Deposits
+pub mod Limits
+pub mod Opened
+pub mod Positions
+pub mod Predicates
+pub mod Readable
+pub mod Runs
+pub mod Witnesses

@@ -1,0 +1,16 @@
+pub mod Decimals
+pub mod Digests
+pub mod EventLines
+pub mod Events
+pub mod Headers
+pub mod Hex
+pub mod HexBack
+pub mod Labels
+pub mod LineBytes
+pub mod PrintedWords
+pub mod ReadHeaders
+pub mod Separated
+pub mod ValidEvents
+pub mod ValidHeaders
+pub mod ValidRuns
+pub mod Words

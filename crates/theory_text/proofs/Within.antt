@@ -1,0 +1,6 @@
+pub mod Adverts
+pub mod Contracts
+pub mod Headings
+pub mod LexemeNames
+pub mod ReadWithin
+pub mod Tests

@@ -1,0 +1,11 @@
+pub mod Balances
+pub mod Checking
+pub mod Endorsed
+pub mod Faultless
+pub mod FirstKey
+pub mod Keyed
+pub mod Made
+pub mod Mentions
+pub mod Places
+pub mod Positions
+pub mod Standing

@@ -1,0 +1,10 @@
+pub mod Acceptable
+pub mod Accepting
+pub mod AfterTransaction
+pub mod Bare
+pub mod Counts
+pub mod Found
+pub mod Outputs
+pub mod Preimages
+pub mod Spend
+pub mod Worth

@@ -126,6 +126,3 @@ fn drop_last(pairs: &mut Vec<Pair>, index: &mut BTreeSet<Pair>)
         index.remove(&pair);
     }
 }
-
-#[cfg(test)]
-mod tests;

@@ -9,6 +9,3 @@ pub use hashing::{Hash32, Sha, Toy, Twin};
 pub use messages::{Trail, TrailError};
 pub use spec_data::{Bytes, OutOfMemory};
 pub use strings::hash_all;
-
-#[cfg(test)]
-mod tests;

@@ -8,6 +8,3 @@ mod top_first;
 
 pub use effects::SigCheck;
 pub use evaluating::eval;
-
-#[cfg(test)]
-mod tests;

@@ -13,6 +13,3 @@ pub use spec_bitcoin::Label;
 pub use spec_data::Name;
 pub use spec_terms::{Path, PathStep};
 pub use texts::{label_text, put_path, put_step};
-
-#[cfg(test)]
-mod tests;

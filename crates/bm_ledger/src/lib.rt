@@ -13,6 +13,3 @@ mod whole;
 pub use judging::Judged;
 pub use spec_bitcoin::{OutPoint, Refusal, Tx, TxIn, TxOut, Verdict};
 pub use state::Ledger;
-
-#[cfg(test)]
-mod tests;

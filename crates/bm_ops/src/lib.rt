@@ -11,6 +11,3 @@ pub use opcodes::opcode_named;
 pub use reading::{ScriptError, decode_script};
 pub use spec_bitcoin::{Binary, Op, Opcode};
 pub use writing::{encode_script, push_number};
-
-#[cfg(test)]
-mod tests;

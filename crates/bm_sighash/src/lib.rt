@@ -7,6 +7,3 @@ mod signing;
 pub use bm_hash::{Hash32, Trail, TrailError};
 pub use list_hashes::{ListHashes, shared};
 pub use signing::{digest, digest_of_input};
-
-#[cfg(test)]
-mod tests;

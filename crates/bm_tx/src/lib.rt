@@ -14,6 +14,3 @@ pub use spec_bitcoin::{OutPoint, Tx, TxIn, TxOut};
 pub use writing::{
     encode, encode_stripped, put_long_word, put_output, put_place, put_sized, put_word,
 };
-
-#[cfg(test)]
-mod tests;

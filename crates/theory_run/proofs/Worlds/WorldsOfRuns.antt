@@ -15,9 +15,10 @@ use Rattle.spec_run.specs.Event.{Passed, event, goes_on, opening_strings, openin
 use Rattle.spec_run.specs.Draft.{Answer, Went, Halted}
 use Rattle.spec_run.specs.Translation.{Turn, turn_of, turns_from, opening_configuration, last_configuration, last_world, world_after}
 use Rattle.spec_run.specs.Statements.{IsRun, simulated}
+use Rattle.spec_run.proofs.Courses.{last_left}
 use Rattle.theory_run.specs.WorldsOfRuns.{HasMessages, HasCommitments, IsWorldOfRun, WorldsOfRuns, WorldsOfTurns}
 use Rattle.theory_world.proofs.Hashed.{among_head, among_tail}
-use Rattle.theory_run.proofs.Following.{Keeps, run_posts, last_left, kept_at_end}
+use Rattle.theory_run.proofs.Following.{Keeps, run_posts, kept_at_end}
 use Rattle.theory_run.proofs.Simulated.{KeptRun, run_after, simulates, opening_run}
 use Rattle.theory_run.proofs.Worlds.AllPassed.{AllPassed, all_passed}
 use Rattle.theory_run.proofs.Worlds.Hashed.{noted-append, hashed_after, posted_after}

@@ -1,7 +1,7 @@
 //! The examples of BIP 143 that sign with the hash type ALL by a key's hash.
 
-use crate::{ListHashes, TrailError, digest, shared};
 use bm_hash::{Sha, Trail};
+use bm_sighash::{ListHashes, TrailError, digest, shared};
 use bm_tx::decode;
 use std::alloc::Global;
 use std::test::Fail;

@@ -14,7 +14,8 @@ use Rattle.bitml.specs.Steps.{move_of}
 -- the live outputs as deposits under their birth numbers, where the first output has this number
 abbrev pub live_from : ℕ → List Output → List Deposit
 live_from k [] = []
-live_from k (o ∷ os) = cond o.live (record { number = k; owner = Party o.owner; value = o.value } ∷ live_from (k + 1) os) (live_from (k + 1) os)
+live_from k (o ∷ os) =
+    cond o.live (record { number = k; owner = Party o.owner; value = o.value } ∷ live_from (k + 1) os) (live_from (k + 1) os)
 
 -- the configuration agrees with the world: in the time, in the next name, and in the deposits with their owners and values
 pub record Agrees (g : Configuration) (w : World) : Type 0 where
@@ -24,6 +25,7 @@ pub record Agrees (g : Configuration) (w : World) : Type 0 where
 
 -- an honest party agrees to a move only by its own give of that move
 abbrev pub IsLicensed : List (List ℕ) → Event → Step → Type 0
-IsLicensed honest (Give giver inputs paid) (steps.AuthMove party action) = Contains honest party → (party ≡ giver) × (action ≡ move_of inputs paid)
+IsLicensed honest (Give giver inputs paid) (steps.AuthMove party action) =
+    Contains honest party → (party ≡ giver) × (action ≡ move_of inputs paid)
 IsLicensed honest (Mine blocks) (steps.AuthMove party action) = Contains honest party → ⊥
 IsLicensed honest e other = Unit {0}

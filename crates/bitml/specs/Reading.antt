@@ -1,5 +1,6 @@
 -- What the lines of a run file spell, and the first that is bad; of this project's profile.
-use Rattle.std.specs.Prelude.{◌≡◌, ℕ, ◌+◌, Bool, true, false, ◌&&◌, ◌||◌, ◌==◌, cond, List, [], ◌∷◌, ◌++◌, Option, Some, None, nat_le, nat_lt, not, length, codes, sum_by, Result, Ok, Err}
+use Rattle.std.specs.Prelude.{◌≡◌, ℕ, ◌+◌, Bool, true, false, ◌&&◌, ◌||◌, ◌==◌, cond, List, [], ◌∷◌, ◌++◌, Option, Some, None, nat_le}
+use Rattle.std.specs.Prelude.{nat_lt, not, length, codes, sum_by, Result, Ok, Err}
 use Rattle.std.specs.List.{list_all, list_any}
 use Rattle.std.specs.Str.{bytes_eq}
 use Rattle.bitml.specs.declared.event.Event.{Event}
@@ -29,7 +30,9 @@ is_name_byte b = is_letter b || is_digit b || (b == 95)
 
 -- the words that no name is
 abbrev pub keywords : List (List ℕ)
-keywords = codes "put" ∷ codes "reveal" ∷ codes "if" ∷ codes "withdraw" ∷ codes "split" ∷ codes "after" ∷ codes "secret" ∷ codes "true" ∷ codes "and" ∷ codes "not" ∷ codes "fee" ∷ codes "Outside" ∷ []
+keywords =
+    codes "put" ∷ codes "reveal" ∷ codes "if" ∷ codes "withdraw" ∷ codes "split" ∷ codes "after" ∷ codes "secret" ∷ codes "true"
+    ∷ codes "and" ∷ codes "not" ∷ codes "fee" ∷ codes "Outside" ∷ []
 
 -- whether the word is one of these
 abbrev pub is_keyword : List ℕ → Bool
@@ -117,7 +120,8 @@ with_front front (Some r) = Some (front ++ r.0, r.1)
 -- the header after a line `party A`: a name that isn't declared yet, of at most 64
 abbrev pub party_after : Header → List (List ℕ) → Option Header
 party_after h [] = None
-party_after h (a ∷ []) = cond (is_name a && not (is_known h.parties a) && nat_lt (length h.parties) 64) (Some (record h { parties = h.parties ++ a ∷ [] })) None
+party_after h (a ∷ []) =
+    cond (is_name a && not (is_known h.parties a) && nat_lt (length h.parties) 64) (Some (record h { parties = h.parties ++ a ∷ [] })) None
 party_after h (a ∷ b ∷ ws) = None
 
 -- the header after a line `honest A`: the party is declared, and not honest yet
@@ -128,7 +132,8 @@ honest_after h (a ∷ b ∷ ws) = None
 
 -- the header with one more deposit, if there are no more than 1,000 and their sum is at most the most money
 abbrev pub deposited : Header → List ℕ → ℕ → Option Header
-deposited h p n = cond (nat_lt (length h.deposits) 1000 && nat_le (sum_by (λ d. d.1) h.deposits + n) MAX_MONEY) (Some (record h { deposits = h.deposits ++ (p, n) ∷ [] })) None
+deposited h p n =
+    cond (nat_lt (length h.deposits) 1000 && nat_le (sum_by (λ d. d.1) h.deposits + n) MAX_MONEY) (Some (record h { deposits = h.deposits ++ (p, n) ∷ [] })) None
 
 -- the header after a line `deposit A v`: the party is declared
 abbrev pub deposit_after : Header → List (List ℕ) → Option Header
@@ -224,7 +229,8 @@ events_end k n (Some (Some e)) later = cond (nat_lt k 10000) (onto_events e late
 -- the events of the lines, where k came before; or the number of the first bad line
 abbrev pub read_events : List (List ℕ) → ℕ → ℕ → List (List ℕ) → Result (List Event) ℕ
 read_events parties k n [] = Ok []
-read_events parties k n (line ∷ lines) = events_end k n (event_line parties line) (read_events parties (counted k (event_line parties line)) (n + 1) lines)
+read_events parties k n (line ∷ lines) =
+    events_end k n (event_line parties line) (read_events parties (counted k (event_line parties line)) (n + 1) lines)
 
 -- the run of a header and its events
 abbrev pub run_of : Header → Result (List Event) ℕ → Result Run ℕ

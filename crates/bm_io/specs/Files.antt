@@ -1,5 +1,6 @@
 -- What reading a file by its name answers and leaves; of this project's profile.
-use Rattle.std.specs.Prelude.{◌≡◌, ℕ, ◌+◌, ◌≤◌, Bool, false, ◌==◌, nat_le, if◌then◌else◌, List, [], ◌∷◌, ◌++◌, length, Option, Some, None, Result, Ok, Err}
+use Rattle.std.specs.Prelude.{◌≡◌, ℕ, ◌+◌, ◌≤◌, Bool, false, ◌==◌, nat_le, if◌then◌else◌, List, [], ◌∷◌, ◌++◌, length, Option, Some, None}
+use Rattle.std.specs.Prelude.{Result, Ok, Err}
 use Rattle.std.specs.Str.{bytes_eq}
 use Rattle.spec_data.specs.Lists.{look_up}
 use Rattle.bm_io.specs.Counts.{RoseBy, raised}
@@ -30,7 +31,8 @@ answer_of_file limit (Some bytes) = within limit bytes
 
 -- what a read of this name answers, unless memory is wanting
 abbrev pub answer_of : Told → List ℕ → ℕ → Result (List ℕ) ReadError
-answer_of told name limit = if is_number told.failing (length told.asked) then Err Failed else answer_of_file limit (look_up name told.files)
+answer_of told name limit =
+    if is_number told.failing (length told.asked) then Err Failed else answer_of_file limit (look_up name told.files)
 
 -- the result is this answer, or says that memory is wanting
 abbrev pub IsUnlessMemory : {X : Type 0} → Result X ReadError → Result X ReadError → Type 0

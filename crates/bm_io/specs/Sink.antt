@@ -1,5 +1,6 @@
 -- What writing to a sink answers and leaves; of this project's profile.
-use Rattle.std.specs.Prelude.{◌≡◌, ℕ, ◌-◌, Bool, nat_le, if◌then◌else◌, List, [], ◌++◌, length, take, min, Option, Some, None, Result, Ok, Err}
+use Rattle.std.specs.Prelude.{◌≡◌, ℕ, ◌-◌, Bool, nat_le, if◌then◌else◌, List, [], ◌++◌, length, take, min, Option, Some, None, Result, Ok}
+use Rattle.std.specs.Prelude.{Err}
 use Rattle.bm_io.specs.Counts.{raised}
 
 -- what a write adds to the bytes written: the piece, or on a fault a front of it

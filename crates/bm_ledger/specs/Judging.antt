@@ -8,7 +8,8 @@ use Rattle.spec_bitcoin.specs.declared.tx.TxIn.{TxIn}
 use Rattle.spec_bitcoin.specs.declared.tx.TxOut.{TxOut}
 use Rattle.spec_bitcoin.specs.declared.tx.Tx.{Tx}
 use Rattle.spec_bitcoin.specs.declared.verdict.Refusal.{Refusal}
-use Rattle.spec_bitcoin.specs.declared.verdict.Refusal.TheVariants.{ScriptSigNotEmpty, NotWitnessScript, ScriptMismatch, ItemTooLong, ScriptFalse}
+use Rattle.spec_bitcoin.specs.declared.verdict.Refusal.TheVariants.{ScriptSigNotEmpty, NotWitnessScript, ScriptMismatch, ItemTooLong}
+use Rattle.spec_bitcoin.specs.declared.verdict.Refusal.TheVariants.{ScriptFalse}
 use Rattle.spec_bitcoin.specs.declared.verdict.Verdict.{Verdict}
 use Rattle.spec_bitcoin.specs.declared.verdict.Verdict.TheVariants.{Accepted, Refused}
 use Rattle.spec_bitcoin.specs.Spelling.{is_filled}
@@ -48,7 +49,8 @@ spending_refusal hash book k input (Some hashes) output = first_reason (row_with
 
 -- the hashes of an input, where it has a witness and spends a live output
 abbrev pub input_hashes : (List ℕ → List ℕ) → List Entry → Tx → TxIn → Option InputHashes
-input_hashes hash live tx input = if is_filled input.witness then option_map (λ p. hashes_with hash tx input p.1) (at_place live input.prev) else None
+input_hashes hash live tx input =
+    if is_filled input.witness then option_map (λ p. hashes_with hash tx input p.1) (at_place live input.prev) else None
 
 -- the ledger after a transaction with this verdict
 abbrev pub after_verdict : (List ℕ → List ℕ) → Chain → Tx → Verdict → Chain

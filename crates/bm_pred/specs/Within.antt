@@ -15,4 +15,5 @@ IsWithin (less e f) = (bound e ≤ greatest_bound) × (bound f ≤ greatest_boun
 
 -- the size of each value of the expression is at most this, whatever the lengths, none of which is greater than an item's may be
 abbrev pub BoundsEveryValue : ℕ → Expr → Type 0
-BoundsEveryValue most f = (lengths : List (List ℕ × ℕ)) → All (λ entry. entry.1 ≤ most_item_bytes) lengths → unsigned_abs (value lengths f) ≤ most
+BoundsEveryValue most f =
+    (lengths : List (List ℕ × ℕ)) → All (λ entry. entry.1 ≤ most_item_bytes) lengths → unsigned_abs (value lengths f) ≤ most

@@ -1,6 +1,8 @@
 -- The terms of the definitions that contracts, predicates and expressions of the code are seen as; of this project, from no standard.
 use Rattle.std.specs.Prelude.{ℕ, List, [], ◌∷◌, map}
-use Rattle.spec_terms.specs.Term.{Expr as TermExpr, constant, length_of, plus, minus, Pred as TermPred, always, both, negation, equal, less, Guarded as TermGuarded, auth, after, put_reveal, withdraw, split, Contract as TermContract, no_branch, branch, Parts, no_part, part}
+use Rattle.spec_terms.specs.Term.{Expr as TermExpr, constant, length_of, plus, minus, Pred as TermPred, always, both, negation, equal, less}
+use Rattle.spec_terms.specs.Term.{Guarded as TermGuarded, auth, after, put_reveal, withdraw, split, Contract as TermContract, no_branch}
+use Rattle.spec_terms.specs.Term.{branch, Parts, no_part, part}
 use Rattle.bm_syntax.specs.declared.term.Expr.{Expr, fold-Expr}
 use Rattle.bm_syntax.specs.declared.term.Expr.TheOpen.{Expr-F}
 use Rattle.bm_syntax.specs.declared.term.Pred.{Pred, fold-Pred}

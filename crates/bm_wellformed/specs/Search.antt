@@ -6,13 +6,15 @@ use Rattle.spec_terms.specs.Advert.{Advert}
 use Rattle.spec_terms.specs.Paths.{Subterm, position, at_branch}
 use Rattle.spec_terms.specs.Precondition.{volatile}
 use Rattle.spec_terms.specs.Balance.{Funded, after_put, all_funded}
-use Rattle.spec_terms.specs.Faults.{first_place, at_core, at_position, puts_unknown, reveals_unknown, repeats, tests_hidden, is_uneven, is_short, is_withdraw, is_too_much, is_unbounded, is_too_large}
+use Rattle.spec_terms.specs.Faults.{first_place, at_core, at_position, puts_unknown, reveals_unknown, repeats, tests_hidden, is_uneven}
+use Rattle.spec_terms.specs.Faults.{is_short, is_withdraw, is_too_much, is_unbounded, is_too_large}
 use Rattle.spec_terms.specs.declared.path.PathStep.{PathStep}
 use Rattle.spec_terms.specs.declared.path.PathStep.TheVariants.{Branch as To, Part as Into}
 use Rattle.spec_terms.specs.declared.place.Place.{Place}
 use Rattle.spec_terms.specs.declared.place.Place.TheVariants as places
 use Rattle.bm_wellformed.specs.declared.flaw.Flaw.{Flaw}
-use Rattle.bm_wellformed.specs.declared.flaw.Flaw.TheVariants.{UnknownDeposit, UnknownSecret, PrefixRepeated, PredicateSecret, SplitSum, FeeShort, Balance, Expression, Script}
+use Rattle.bm_wellformed.specs.declared.flaw.Flaw.TheVariants.{UnknownDeposit, UnknownSecret, PrefixRepeated, PredicateSecret, SplitSum}
+use Rattle.bm_wellformed.specs.declared.flaw.Flaw.TheVariants.{FeeShort, Balance, Expression, Script}
 
 -- whether a position or branch with this balance shows the flaw
 abbrev pub passes : Flaw → Advert → ℤ → Subterm → Bool
@@ -75,7 +77,8 @@ module _ (flaw : Flaw) (a : Advert) where
 
   -- the position q itself, and then its branches
   abbrev pub found_in_choice : List PathStep → ℤ → Contract → Option Place
-  found_in_choice q balance c = or_else (place_when (passes flaw a balance (position c)) (places.Position q)) (found_in_branches q balance 0 c)
+  found_in_choice q balance c =
+      or_else (place_when (passes flaw a balance (position c)) (places.Position q)) (found_in_branches q balance 0 c)
 
 -- where the advert shows it first
 abbrev pub found : Flaw → Advert → Option Place

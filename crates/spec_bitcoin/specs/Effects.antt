@@ -1,10 +1,13 @@
 -- What each operation makes of the two stacks, as Bitcoin's script has it, for the opcodes of this project's profile.
-use Rattle.std.specs.Prelude.{ℕ, List, [], ◌∷◌, length, Bool, true, false, not, ◌&&◌, if◌then◌else◌, ◌||◌, slice_get, Option, Some, None, ◌==◌, ℤ, pos, negsuc, ◌+ℤ◌, ◌-ℤ◌, int_lt, int_le}
+use Rattle.std.specs.Prelude.{ℕ, List, [], ◌∷◌, length, Bool, true, false, not, ◌&&◌, if◌then◌else◌, ◌||◌, slice_get, Option, Some, None}
+use Rattle.std.specs.Prelude.{◌==◌, ℤ, pos, negsuc, ◌+ℤ◌, ◌-ℤ◌, int_lt, int_le}
 use Rattle.std.specs.Ordering.{int_eq}
 use Rattle.std.specs.Option.{option_and_then, option_map}
 use Rattle.std.specs.Str.{bytes_eq}
 use Rattle.spec_bitcoin.specs.declared.opcode.Opcode.{Opcode}
-use Rattle.spec_bitcoin.specs.declared.opcode.Opcode.TheVariants.{Constant, Binary, If, NotIf, Else, EndIf, Nop, Verify, Return, ToAltStack, FromAltStack, Drop, Dup, Pick, Swap, Size, Equal, EqualVerify, Not, Within, Sha256, Hash256, CheckSig, CheckSigVerify}
+use Rattle.spec_bitcoin.specs.declared.opcode.Opcode.TheVariants.{Constant, Binary, If, NotIf, Else, EndIf, Nop, Verify, Return, ToAltStack}
+use Rattle.spec_bitcoin.specs.declared.opcode.Opcode.TheVariants.{FromAltStack, Drop, Dup, Pick, Swap, Size, Equal, EqualVerify, Not}
+use Rattle.spec_bitcoin.specs.declared.opcode.Opcode.TheVariants.{Within, Sha256, Hash256, CheckSig, CheckSigVerify}
 use Rattle.spec_bitcoin.specs.declared.opcode.Binary.TheVariants.{Add, Sub, BoolAnd, BoolOr, NumEqual, LessThan, Min, Max}
 use Rattle.spec_bitcoin.specs.declared.opcode.Binary as binaries
 use Rattle.spec_bitcoin.specs.Numbers.{number_of_item, item_of_number}
@@ -115,7 +118,8 @@ with_number (Some z) f = f z
 abbrev pub binary_of : binaries.Binary → List Item → Option (List Item)
 binary_of b [] = None
 binary_of b (y ∷ []) = None
-binary_of b (y ∷ x ∷ rest) = with_number (number_of_item x) (λ m. with_number (number_of_item y) (λ n. Some (item_of_number (result_of b m n) ∷ rest)))
+binary_of b (y ∷ x ∷ rest) =
+    with_number (number_of_item x) (λ m. with_number (number_of_item y) (λ n. Some (item_of_number (result_of b m n) ∷ rest)))
 
 -- NOT
 abbrev pub not_of : List Item → Option (List Item)
@@ -127,7 +131,8 @@ abbrev pub within_of : List Item → Option (List Item)
 within_of [] = None
 within_of (top ∷ []) = None
 within_of (top ∷ low ∷ []) = None
-within_of (top ∷ low ∷ x ∷ rest) = with_number (number_of_item x) (λ n. with_number (number_of_item low) (λ a. with_number (number_of_item top) (λ b. Some (item_of_number (number_of_bool (int_le a n && int_lt n b)) ∷ rest))))
+within_of (top ∷ low ∷ x ∷ rest) =
+    with_number (number_of_item x) (λ n. with_number (number_of_item low) (λ a. with_number (number_of_item top) (λ b. Some (item_of_number (number_of_bool (int_le a n && int_lt n b)) ∷ rest))))
 
 -- ---- both stacks
 

@@ -1,5 +1,6 @@
 -- The meaning of a script, as Bitcoin's consensus runs it, narrowed to the opcodes of this project's profile: a recursion on the tree of blocks, with all limits.
-use Rattle.std.specs.Prelude.{ℕ, ◌+◌, List, [], ◌∷◌, length, reverse, Bool, true, false, not, ◌&&◌, if◌then◌else◌, nat_le, nat_lt, count_by, Option, Some, None}
+use Rattle.std.specs.Prelude.{ℕ, ◌+◌, List, [], ◌∷◌, length, reverse, Bool, true, false, not, ◌&&◌, if◌then◌else◌, nat_le, nat_lt, count_by}
+use Rattle.std.specs.Prelude.{Option, Some, None}
 use Rattle.std.specs.List.{list_all}
 use Rattle.std.specs.Option.{option_and_then, option_map_or}
 use Rattle.spec_bitcoin.specs.declared.script.Op.{Op}
@@ -32,12 +33,14 @@ abbrev mutual
   pub run : (Item → Item) → (Item → Item → Bool) → Items → Stacks → Option Stacks
   run hash valid End s = Some s
   run hash valid (Plain op rest) s = option_and_then (run hash valid rest) (act hash valid op s)
-  run hash valid (Block negated sections rest) s = option_and_then (run hash valid rest) (option_and_then (λ (p : Bool × Stacks). run_sections hash valid sections p.0 p.1) (pop_condition negated s))
+  run hash valid (Block negated sections rest) s =
+      option_and_then (run hash valid rest) (option_and_then (λ (p : Bool × Stacks). run_sections hash valid sections p.0 p.1) (pop_condition negated s))
 
   -- the sections at even places run where the flag says so, and else those at odd places
   pub run_sections : (Item → Item) → (Item → Item → Bool) → Sections → Bool → Stacks → Option Stacks
   run_sections hash valid NoMore even s = Some s
-  run_sections hash valid (Section items others) even s = option_and_then (run_sections hash valid others (not even)) (if even then run hash valid items s else Some s)
+  run_sections hash valid (Section items others) even s =
+      option_and_then (run_sections hash valid others (not even)) (if even then run hash valid items s else Some s)
 
 -- the main stack has one item, and it counts as true
 abbrev pub succeeds : Option Stacks → Bool
@@ -71,4 +74,5 @@ within_limits ops = list_all is_short_push ops && nat_le (count_by is_counted op
 -- whether a script is true on a stack, given from its bottom; the hash, and which signature is valid for which key, are given
 unfoldable pub script_meaning : (Item → Item) → (Item → Item → Bool) → List ℕ → List Item → Bool
 script_meaning hash valid script stack =
-    nat_le (length script) 10000 && option_map_or (λ ops. within_limits ops && meaning hash valid ops (reverse stack)) (script_ops script) false
+    nat_le (length script) 10000
+    && option_map_or (λ ops. within_limits ops && meaning hash valid ops (reverse stack)) (script_ops script) false

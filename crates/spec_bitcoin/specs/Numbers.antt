@@ -1,5 +1,6 @@
 -- Items as numbers, as Bitcoin's script has them: the lowest byte first, the top bit of the last byte the sign.
-use Rattle.std.specs.Prelude.{ℕ, zero, suc, ◌+◌, ◌*◌, ◌/◌, ◌%◌, List, [], ◌∷◌, length, Bool, true, false, if◌then◌else◌, nat_lt, nat_le, ◌==◌, Option, Some, None, ℤ, pos, negsuc, ◌-ℤ◌}
+use Rattle.std.specs.Prelude.{ℕ, zero, suc, ◌+◌, ◌*◌, ◌/◌, ◌%◌, List, [], ◌∷◌, length, Bool, true, false, if◌then◌else◌, nat_lt, nat_le}
+use Rattle.std.specs.Prelude.{◌==◌, Option, Some, None, ℤ, pos, negsuc, ◌-ℤ◌}
 
 -- the number without its sign
 abbrev pub magnitude : List ℕ → ℕ

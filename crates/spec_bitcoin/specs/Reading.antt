@@ -1,5 +1,6 @@
 -- Reading of a transaction's bytes from left to right, by BIP 144: the transaction, or the place where the bytes go wrong.
-use Rattle.std.specs.Prelude.{ℕ, zero, suc, ◌≤◌, ◌<◌, List, [], ◌∷◌, length, take, drop, nat_lt, nat_le, ◌||◌, ◌^◌, ◌-◌, ◌++◌, ◌==◌, not, Result, Ok, Err, Bool, true, false, if◌then◌else◌}
+use Rattle.std.specs.Prelude.{ℕ, zero, suc, ◌≤◌, ◌<◌, List, [], ◌∷◌, length, take, drop, nat_lt, nat_le, ◌||◌, ◌^◌, ◌-◌, ◌++◌, ◌==◌, not}
+use Rattle.std.specs.Prelude.{Result, Ok, Err, Bool, true, false, if◌then◌else◌}
 use Rattle.std.specs.Int.{Width, w16, w32, w64, byte_len, from_le_bytes}
 use Rattle.spec_bitcoin.specs.declared.tx.TxIn.{TxIn}
 use Rattle.spec_bitcoin.specs.declared.tx.TxOut.{TxOut}
@@ -20,7 +21,8 @@ byte_where p [] = Err 0
 byte_where p (b ∷ bytes) = if p b then Ok (b, bytes) else Err (suc (length bytes))
 
 -- one of two readers, by a test of the next byte; where there is none, the second
-abbrev pub choose : {A : Type 0} → (ℕ → Bool) → (List ℕ → Result (A × List ℕ) ℕ) → (List ℕ → Result (A × List ℕ) ℕ) → List ℕ → Result (A × List ℕ) ℕ
+abbrev pub choose : {A : Type 0} → (ℕ → Bool) → (List ℕ → Result (A × List ℕ) ℕ) → (List ℕ → Result (A × List ℕ) ℕ) → List ℕ
+    → Result (A × List ℕ) ℕ
 choose p l m [] = m []
 choose p l m (b ∷ bytes) = if p b then l (b ∷ bytes) else m (b ∷ bytes)
 

@@ -1,5 +1,6 @@
 -- The bytes of a script as operations, read and written, as Bitcoin's script has them.
-use Rattle.std.specs.Prelude.{ℕ, zero, suc, ◌+◌, ◌*◌, ◌/◌, ◌%◌, List, [], ◌∷◌, ◌++◌, length, drop, slice_range, nat_le, nat_lt, ◌==◌, ◌&&◌, Bool, if◌then◌else◌, Option, Some, None, is_some, ℤ, pos, negsuc}
+use Rattle.std.specs.Prelude.{ℕ, zero, suc, ◌+◌, ◌*◌, ◌/◌, ◌%◌, List, [], ◌∷◌, ◌++◌, length, drop, slice_range, nat_le, nat_lt, ◌==◌, ◌&&◌}
+use Rattle.std.specs.Prelude.{Bool, if◌then◌else◌, Option, Some, None, is_some, ℤ, pos, negsuc}
 use Rattle.std.specs.Option.{option_map, option_and_then}
 use Rattle.spec_bitcoin.specs.declared.script.Op.{Op}
 use Rattle.spec_bitcoin.specs.declared.script.Op.TheVariants.{Push, Code}
@@ -37,7 +38,8 @@ head_of b rest =
 -- the push that the bytes begin with, and what follows it
 abbrev pub cut_push : List ℕ → Option (ℕ × ℕ) → Option (Op × List ℕ)
 cut_push bytes None = None
-cut_push bytes (Some p) = if nat_le (p.0 + p.1) (length bytes) then Some (Push (slice_range bytes p.0 (p.0 + p.1)), drop (p.0 + p.1) bytes) else None
+cut_push bytes (Some p) =
+    if nat_le (p.0 + p.1) (length bytes) then Some (Push (slice_range bytes p.0 (p.0 + p.1)), drop (p.0 + p.1) bytes) else None
 
 -- the operation that the bytes begin with, and what follows it
 abbrev pub first_op : List ℕ → Option (Op × List ℕ)
@@ -49,7 +51,8 @@ first_op (b ∷ rest) =
 unfoldable pub ops_of : ℕ → List ℕ → Option (List Op)
 ops_of k [] = Some []
 ops_of zero (b ∷ rest) = None
-ops_of (suc k) (b ∷ rest) = option_and_then (λ (p : Op × List ℕ). option_map (λ (ops : List Op). p.0 ∷ ops) (ops_of k p.1)) (first_op (b ∷ rest))
+ops_of (suc k) (b ∷ rest) =
+    option_and_then (λ (p : Op × List ℕ). option_map (λ (ops : List Op). p.0 ∷ ops) (ops_of k p.1)) (first_op (b ∷ rest))
 
 -- the operations of a script; none where a push is cut off or another byte stands in the place of an opcode
 abbrev pub script_ops : List ℕ → Option (List Op)

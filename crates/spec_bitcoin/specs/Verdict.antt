@@ -1,5 +1,6 @@
 -- The verdict on a transaction: Bitcoin's conditions of acceptance in their order, for version 0 witness scripts (BIP 141, BIP 143) and lock times as heights; and the strings that are hashed to reach it.
-use Rattle.std.specs.Prelude.{ℕ, ◌+◌, List, [], ◌∷◌, ◌++◌, length, drop, map, sum_by, Bool, false, not, ◌&&◌, ◌||◌, ◌==◌, nat_lt, nat_le, if◌then◌else◌, Option, Some, None, is_some}
+use Rattle.std.specs.Prelude.{ℕ, ◌+◌, List, [], ◌∷◌, ◌++◌, length, drop, map, sum_by, Bool, false, not, ◌&&◌, ◌||◌, ◌==◌, nat_lt, nat_le}
+use Rattle.std.specs.Prelude.{if◌then◌else◌, Option, Some, None, is_some}
 use Rattle.std.specs.List.{list_any, position_from, flat_map}
 use Rattle.std.specs.Option.{option_and_then, option_map_or}
 use Rattle.std.specs.Str.{bytes_eq}
@@ -9,7 +10,9 @@ use Rattle.spec_bitcoin.specs.declared.tx.TxIn.{TxIn}
 use Rattle.spec_bitcoin.specs.declared.tx.TxOut.{TxOut}
 use Rattle.spec_bitcoin.specs.declared.tx.Tx.{Tx}
 use Rattle.spec_bitcoin.specs.declared.verdict.Refusal.{Refusal}
-use Rattle.spec_bitcoin.specs.declared.verdict.Refusal.TheVariants.{NoInput, NoOutput, InputRepeated, MissingInput, ValueLimit, InsufficientIn, NotFinal, ScriptSigNotEmpty, NotWitnessScript, ScriptMismatch, ItemTooLong, ScriptFalse}
+use Rattle.spec_bitcoin.specs.declared.verdict.Refusal.TheVariants.{NoInput, NoOutput, InputRepeated, MissingInput, ValueLimit}
+use Rattle.spec_bitcoin.specs.declared.verdict.Refusal.TheVariants.{InsufficientIn, NotFinal, ScriptSigNotEmpty, NotWitnessScript}
+use Rattle.spec_bitcoin.specs.declared.verdict.Refusal.TheVariants.{ScriptMismatch, ItemTooLong, ScriptFalse}
 use Rattle.spec_bitcoin.specs.declared.verdict.Verdict.{Verdict}
 use Rattle.spec_bitcoin.specs.declared.verdict.Verdict.TheVariants.{Accepted, Refused}
 use Rattle.spec_bitcoin.specs.Spelling.{is_filled}
@@ -111,7 +114,8 @@ input_row hash book tx k input output =
 
 -- the refusal of input k; none where its output isn't live
 abbrev pub input_refusal : (List ℕ → List ℕ) → List Pair → List Entry → Tx → ℕ → TxIn → Option Refusal
-input_refusal hash book live tx k input = option_and_then (λ p. first_reason (input_row hash book tx k input p.1)) (at_place live input.prev)
+input_refusal hash book live tx k input =
+    option_and_then (λ p. first_reason (input_row hash book tx k input p.1)) (at_place live input.prev)
 
 -- the first refusal of an input, counted from k
 abbrev pub inputs_refusal : (List ℕ → List ℕ) → List Pair → List Entry → Tx → ℕ → List TxIn → Option Refusal
@@ -150,7 +154,8 @@ spending_strings hash tx input output = script_of input.witness ∷ digest_strin
 
 -- what is hashed for an input
 abbrev pub input_strings : (List ℕ → List ℕ) → List Entry → Tx → TxIn → List (List ℕ)
-input_strings hash live tx input = if is_filled input.witness then option_map_or (λ p. spending_strings hash tx input p.1) (at_place live input.prev) [] else []
+input_strings hash live tx input =
+    if is_filled input.witness then option_map_or (λ p. spending_strings hash tx input p.1) (at_place live input.prev) [] else []
 
 -- what is hashed for a transaction, whatever its verdict
 abbrev pub transaction_strings : (List ℕ → List ℕ) → List Entry → Tx → List (List ℕ)

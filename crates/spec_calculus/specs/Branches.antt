@@ -1,5 +1,6 @@
 -- What taking a branch of an active contract and revealing a secret ask of a configuration, and what a branch makes.
-use Rattle.std.specs.Prelude.{ℕ, ◌+◌, ◌==◌, Bool, true, false, ◌&&◌, not, List, [], ◌∷◌, ◌++◌, Option, Some, None, is_some, find, filter, map, sum_by, if◌then◌else◌}
+use Rattle.std.specs.Prelude.{ℕ, ◌+◌, ◌==◌, Bool, true, false, ◌&&◌, not, List, [], ◌∷◌, ◌++◌, Option, Some, None, is_some, find, filter}
+use Rattle.std.specs.Prelude.{map, sum_by, if◌then◌else◌}
 use Rattle.std.specs.List.{list_any, list_all}
 use Rattle.std.specs.Str.{bytes_eq}
 use Rattle.spec_data.specs.Lists.{has_number, look_up}

@@ -1,5 +1,6 @@
 -- What a move of deposits asks of a configuration, and what it makes of the deposits.
-use Rattle.std.specs.Prelude.{ℕ, ◌+◌, Bool, true, ◌&&◌, ◌==◌, not, cond, List, [], ◌∷◌, ◌++◌, Option, Some, None, is_some, sum_by, nat_le, length, find, filter}
+use Rattle.std.specs.Prelude.{ℕ, ◌+◌, Bool, true, ◌&&◌, ◌==◌, not, cond, List, [], ◌∷◌, ◌++◌, Option, Some, None, is_some, sum_by, nat_le}
+use Rattle.std.specs.Prelude.{length, find, filter}
 use Rattle.std.specs.List.{list_all, list_any}
 use Rattle.std.specs.Str.{bytes_eq}
 use Rattle.spec_data.specs.Lists.{has_number, are_distinct}

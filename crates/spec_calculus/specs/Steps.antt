@@ -18,8 +18,13 @@ use Rattle.spec_calculus.specs.declared.parts.InitAuthorisation.{InitAuthorisati
 use Rattle.spec_calculus.specs.declared.parts.BranchAuthorisation.{BranchAuthorisation}
 use Rattle.spec_calculus.specs.Configuration.{Configuration}
 use Rattle.spec_calculus.specs.Moves.{spends_live, owns_one, pays, all_agree, kept, made, with_authorisation, without_move}
-use Rattle.spec_calculus.specs.Beginning.{contract_at, pre_of, participants_of, fee_of, is_advertised, binds, is_any_honest, has_committed, have_committed, lists_secrets, is_told, bindings_of, is_there, are_there, numbers_of, persistent_names, has_persistent, is_init_authorised, are_init_authorised}
-use Rattle.spec_calculus.specs.Branches.{length_at, is_known, is_revealed, are_revealed, secret_lengths, active_at, contract_number, position_of, balance_of, advert_of, branch_of, asks_of, lock_of, has_branch_authorised, have_branch_authorised, is_put, is_withdraw, is_split, puts_of_taken, reveals_of_taken, test_of_taken, payee_of, values_of, gone, total_value, others, parts_made}
+use Rattle.spec_calculus.specs.Beginning.{contract_at, pre_of, participants_of, fee_of, is_advertised, binds, is_any_honest, has_committed}
+use Rattle.spec_calculus.specs.Beginning.{have_committed, lists_secrets, is_told, bindings_of, is_there, are_there, numbers_of}
+use Rattle.spec_calculus.specs.Beginning.{persistent_names, has_persistent, is_init_authorised, are_init_authorised}
+use Rattle.spec_calculus.specs.Branches.{length_at, is_known, is_revealed, are_revealed, secret_lengths, active_at, contract_number}
+use Rattle.spec_calculus.specs.Branches.{position_of, balance_of, advert_of, branch_of, asks_of, lock_of, has_branch_authorised}
+use Rattle.spec_calculus.specs.Branches.{have_branch_authorised, is_put, is_withdraw, is_split, puts_of_taken, reveals_of_taken}
+use Rattle.spec_calculus.specs.Branches.{test_of_taken, payee_of, values_of, gone, total_value, others, parts_made}
 
 -- ---- premises, for each kind of step in their order
 

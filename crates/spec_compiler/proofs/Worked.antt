@@ -35,8 +35,8 @@ abbrev B : List ℕ
 B = codes "B"
 
 -- the deposits lie in the outputs of a transaction of zeros
-abbrev setting : List Pre → Contract → Instance
-setting pre root = record {
+abbrev instance : List Pre → Contract → Instance
+instance pre root = record {
   contract = 0;
   advert = record { pre = pre; fee = 0; root = root };
   bound = (codes "x", record { txid = replicate 32 0; vout = 0 }) ∷ (codes "y", record { txid = replicate 32 0; vout = 1 }) ∷ [];
@@ -49,7 +49,7 @@ abbrev told : Contract
 told = branch (put_reveal [] (codes "a" ∷ []) always (branch (withdraw A) no_branch)) no_branch
 
 abbrev tells : Instance
-tells = setting (Persistent A 1 (codes "x") ∷ Secret A (codes "a") ∷ []) told
+tells = instance (Persistent A 1 (codes "x") ∷ Secret A (codes "a") ∷ []) told
 
 tells_bytes : length (position_script weigh tells [] told) ≡ 83
 unfolding position_script item_of_number signed_bytes
@@ -65,7 +65,7 @@ abbrev timed : Contract
 timed = branch (put_reveal [] (codes "a" ∷ []) always (branch (withdraw A) no_branch)) (branch (after 1000 (withdraw B)) no_branch)
 
 abbrev times : Instance
-times = setting (Persistent A 100000000 (codes "x") ∷ Persistent B 0 (codes "y") ∷ Secret A (codes "a") ∷ []) timed
+times = instance (Persistent A 100000000 (codes "x") ∷ Persistent B 0 (codes "y") ∷ Secret A (codes "a") ∷ []) timed
 
 timed_bytes : length (position_script weigh times [] timed) ≡ 191
 unfolding position_script item_of_number signed_bytes
@@ -81,7 +81,7 @@ abbrev either : Contract
 either = branch (auth A (withdraw B)) (branch (auth B (withdraw B)) no_branch)
 
 abbrev eithers : Instance
-eithers = setting (Persistent A 10 (codes "x") ∷ Persistent B 0 (codes "y") ∷ []) either
+eithers = instance (Persistent A 10 (codes "x") ∷ Persistent B 0 (codes "y") ∷ []) either
 
 -- whether all transactions are the same
 abbrev are_same : List Tx → Type 0
@@ -168,7 +168,7 @@ abbrev divided : Contract
 divided = branch (split (part 5 (branch (withdraw A) no_branch) (part 3 (branch (withdraw A) no_branch) no_part))) no_branch
 
 abbrev divides : Instance
-divides = record (setting (Persistent A 10 (codes "x") ∷ []) divided) { advert = record { pre = Persistent A 10 (codes "x") ∷ []; fee = 1; root = divided } }
+divides = record (instance (Persistent A 10 (codes "x") ∷ []) divided) { advert = record { pre = Persistent A 10 (codes "x") ∷ []; fee = 1; root = divided } }
 
 abbrev values : Unsigned → List ℕ
 values d = map (λ o. o.value) d.outputs

@@ -1,5 +1,6 @@
 -- Numbers and bytes as words: plain decimals, and hexadecimal digits.
-use Rattle.std.specs.Prelude.{ℕ, ◌+◌, ◌-◌, ◌*◌, ◌/◌, ◌%◌, ◌^◌, List, [], ◌∷◌, length, flat_map, Bool, false, ◌&&◌, if◌then◌else◌, ◌==◌, nat_le, nat_lt, Option, Some, None}
+use Rattle.std.specs.Prelude.{ℕ, ◌+◌, ◌-◌, ◌*◌, ◌/◌, ◌%◌, ◌^◌, List, [], ◌∷◌, length, flat_map, Bool, false, ◌&&◌, if◌then◌else◌, ◌==◌}
+use Rattle.std.specs.Prelude.{nat_le, nat_lt, Option, Some, None}
 use Rattle.std.specs.List.{list_all}
 
 -- ---- decimals

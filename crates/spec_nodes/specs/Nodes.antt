@@ -1,6 +1,7 @@
 -- A contract as a list of numbered nodes, in the order of its text, each choice before its branches.
 use Rattle.std.specs.Prelude.{ℕ, ◌+◌, List, [], ◌∷◌, ◌++◌}
-use Rattle.spec_terms.specs.Term.{Pred, Guarded, auth, after, put_reveal, withdraw, split, Contract, no_branch, branch, Parts, no_part, part}
+use Rattle.spec_terms.specs.Term.{Pred, Guarded, auth, after, put_reveal, withdraw, split, Contract, no_branch, branch, Parts, no_part}
+use Rattle.spec_terms.specs.Term.{part}
 use Rattle.spec_terms.specs.Core.{core, asks, lock}
 use Rattle.spec_terms.specs.Parties.{add_all}
 use Rattle.spec_terms.specs.declared.path.PathStep.{PathStep}

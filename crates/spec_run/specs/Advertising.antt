@@ -39,7 +39,8 @@ not_live w (b ∷ bs) = if is_deposit (output_at w (b.1)) then not_live w bs els
 -- the name of the first binding to a deposit of another owner or value than the precondition wants
 abbrev pub unsuited : Setup → World → ℕ → List (List ℕ × ℕ) → Option (List ℕ)
 unsuited s w contract [] = None
-unsuited s w contract (b ∷ bs) = if suits s (look_up (b.0) (deposits (pre_at s contract))) (output_at w (b.1)) then unsuited s w contract bs else Some (b.0)
+unsuited s w contract (b ∷ bs) =
+    if suits s (look_up (b.0) (deposits (pre_at s contract))) (output_at w (b.1)) then unsuited s w contract bs else Some (b.0)
 
 -- ---- the event
 

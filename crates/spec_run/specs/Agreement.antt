@@ -53,7 +53,7 @@ is_outpoint outpoint (Some other) = same_outpoint outpoint other
 -- where the output of a position lies, where the contract is compiled
 abbrev pub compiled_outpoint : Setup → Option Instance → List PathStep → Option OutPoint
 compiled_outpoint s None position = None
-compiled_outpoint s (Some setting) position = outpoint_at s.hash setting position
+compiled_outpoint s (Some instance) position = outpoint_at s.hash instance position
 
 abbrev pub is_placed_by : Setup → World → OutPoint → Option ContractPosition → Bool
 is_placed_by s w outpoint None = true

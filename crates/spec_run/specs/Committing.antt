@@ -1,5 +1,6 @@
 -- Committing the digests of secrets, after the last of which the contract is compiled; of this project's profile of BitML.
-use Rattle.std.specs.Prelude.{ℕ, List, [], ◌∷◌, ◌++◌, map, length, Bool, not, ◌&&◌, ◌==◌, nat_le, if◌then◌else◌, Option, Some, None, is_some}
+use Rattle.std.specs.Prelude.{ℕ, List, [], ◌∷◌, ◌++◌, map, length, Bool, not, ◌&&◌, ◌==◌, nat_le, if◌then◌else◌, Option, Some, None}
+use Rattle.std.specs.Prelude.{is_some}
 use Rattle.spec_data.specs.Ranges.{least_secret_bytes, most_item_bytes}
 use Rattle.spec_data.specs.Lists.{is_among, first_reason}
 use Rattle.spec_terms.specs.Precondition.{names_of, secrets_of}
@@ -41,7 +42,8 @@ not_held s party (name ∷ names) = if is_some (held_secret s party name) then n
 -- the first of the names whose secret hasn't the size of one
 abbrev pub badly_long : Setup → List ℕ → List (List ℕ) → Option (List ℕ)
 badly_long s party [] = None
-badly_long s party (name ∷ names) = if is_secret_long (bytes_or_none (held_secret s party name)) then badly_long s party names else Some name
+badly_long s party (name ∷ names) =
+    if is_secret_long (bytes_or_none (held_secret s party name)) then badly_long s party names else Some name
 
 -- ---- digests
 
@@ -67,7 +69,8 @@ bad_secret s contract party = if is_honest s party then badly_long s party (secr
 
 -- an honest party's line has no digests, another's one for each of its secrets
 abbrev pub names_fit : Setup → ℕ → List ℕ → List (List ℕ × List ℕ) → Bool
-names_fit s contract party digests = if is_honest s party then length digests == 0 else are_rearranged (names_of digests) (secrets_at s contract party)
+names_fit s contract party digests =
+    if is_honest s party then length digests == 0 else are_rearranged (names_of digests) (secrets_at s contract party)
 
 -- the digests that the party commits: an honest one's own, another's those of the line
 abbrev pub committed_digests : Setup → ℕ → List ℕ → List (List ℕ × List ℕ) → List (List ℕ × List ℕ)
@@ -112,7 +115,7 @@ with_promise s w contract party digests = record w {
 -- the strings of a compiled contract, none where it isn't compiled
 abbrev pub strings_compiled : Setup → Option Instance → List (List ℕ)
 strings_compiled s None = []
-strings_compiled s (Some setting) = compiled_strings s.hash setting
+strings_compiled s (Some instance) = compiled_strings s.hash instance
 
 abbrev pub committed_draft : Setup → World → ℕ → List ℕ → List (List ℕ) → Draft
 committed_draft s next contract party strings = done next (strings ++ strings_compiled s (compiled_instance s next contract))

@@ -6,7 +6,8 @@ use Rattle.spec_data.specs.Lists.{is_among, are_different}
 use Rattle.spec_terms.specs.Faults.{IsWellFormed}
 pub use Rattle.spec_data.specs.Hashes.{HashesBytes}
 use Rattle.spec_bitcoin.specs.Spelling.{IsBytes}
-use Rattle.spec_data.specs.Ranges.{max_money, most_contracts, most_parties, most_header_deposits, most_header_secrets, most_piece_bytes, most_gift_outputs}
+use Rattle.spec_data.specs.Ranges.{max_money, most_contracts, most_parties, most_header_deposits, most_header_secrets, most_piece_bytes}
+use Rattle.spec_data.specs.Ranges.{most_gift_outputs}
 use Rattle.spec_bitcoin.specs.Keys.{IsLabel}
 use Rattle.spec_run.specs.declared.header.Header.{Header}
 use Rattle.spec_run.specs.declared.header.HeldSecret.{HeldSecret}

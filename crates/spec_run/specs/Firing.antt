@@ -46,12 +46,12 @@ deposit_witnesses s (owner ∷ owners) (digest ∷ digests) = deposit_witness s 
 -- ---- the initial transaction
 
 abbrev pub initial_witnesses : Setup → Instance → Prepared → List (List (List ℕ))
-initial_witnesses s setting made = deposit_witnesses s (map (λ d. (d.1).owner) (persistent setting.advert.pre)) made.digests
+initial_witnesses s instance made = deposit_witnesses s (map (λ d. (d.1).owner) (persistent instance.advert.pre)) made.digests
 
 -- the initial transaction with its witnesses
 abbrev pub initial_transaction : Setup → Instance → Tx
-initial_transaction s setting =
-    with_witnesses (prepared s.hash (initial_unsigned s.hash setting)).tx (initial_witnesses s setting (prepared s.hash (initial_unsigned s.hash setting)))
+initial_transaction s instance =
+    with_witnesses (prepared s.hash (initial_unsigned s.hash instance)).tx (initial_witnesses s instance (prepared s.hash (initial_unsigned s.hash instance)))
 
 -- the contract is there, and it is compiled
 abbrev pub fire_init_row : Setup → World → ℕ → List (Bool × Reason)
@@ -67,7 +67,7 @@ reaches_if s w (Some tx) = reaches s w w tx
 
 abbrev pub initial_by : Setup → Option Instance → Option Tx
 initial_by s None = None
-initial_by s (Some setting) = Some (initial_transaction s setting)
+initial_by s (Some instance) = Some (initial_transaction s instance)
 
 abbrev pub fire_init_draft : Setup → World → ℕ → Draft
 fire_init_draft s w contract =
@@ -82,17 +82,17 @@ revealed_by (Some b) = reveals_of (core b)
 
 -- the posted string that fits a committed secret
 abbrev pub shown_string : Setup → World → Instance → List ℕ → Option (List ℕ)
-shown_string s w setting name = fitting s w.posted (digest_of setting.hashes name)
+shown_string s w instance name = fitting s w.posted (digest_of instance.hashes name)
 
 -- the first of the names for which no fitting string is posted
 abbrev pub first_unshown : Setup → World → Instance → List (List ℕ) → Option (List ℕ)
-first_unshown s w setting [] = None
-first_unshown s w setting (name ∷ names) = if is_some (shown_string s w setting name) then first_unshown s w setting names else Some name
+first_unshown s w instance [] = None
+first_unshown s w instance (name ∷ names) = if is_some (shown_string s w instance name) then first_unshown s w instance names else Some name
 
 -- the first secret of a branch that isn't known, where its contract is compiled
 abbrev pub unknown_secret : Setup → World → Option Instance → Option term.Guarded → Option (List ℕ)
 unknown_secret s w None b = None
-unknown_secret s w (Some setting) b = first_unshown s w setting (revealed_by b)
+unknown_secret s w (Some instance) b = first_unshown s w instance (revealed_by b)
 
 -- what the contract of a held position is compiled with
 abbrev pub position_instance : Setup → World → Option ContractPosition → Option Instance
@@ -101,7 +101,8 @@ position_instance s w (Some held) = compiled_instance s w held.contract
 
 -- the first secret that isn't known of this branch of what is held
 abbrev pub unknown_at : Setup → World → ℕ → ℕ → Option (List ℕ)
-unknown_at s w output branch = unknown_secret s w (position_instance s w (live_position_at w output)) (branch_if_live s (live_position_at w output) branch)
+unknown_at s w output branch =
+    unknown_secret s w (position_instance s w (live_position_at w output)) (branch_if_live s (live_position_at w output) branch)
 
 -- there is an active contract of this number, it has the branch, and the branch's secrets are known
 abbrev pub fire_row : Setup → World → ℕ → ℕ → List (Bool × Reason)
@@ -113,20 +114,20 @@ fire_row s w output branch =
 
 -- the participants' signatures of a digest by their keys of a branch
 abbrev pub branch_signatures : Setup → Instance → List PathStep → List ℕ → List (List ℕ)
-branch_signatures s setting path digest = map (λ key. signature_of key digest) (branch_keys s.hash setting path)
+branch_signatures s instance path digest = map (λ key. signature_of key digest) (branch_keys s.hash instance path)
 
 -- the posted strings of these secrets
 abbrev pub shown_strings : Setup → World → Instance → List (List ℕ) → List (List ℕ)
-shown_strings s w setting names = map (λ name. bytes_or_none (shown_string s w setting name)) names
+shown_strings s w instance names = map (λ name. bytes_or_none (shown_string s w instance name)) names
 
 -- the script of the position that is held
 abbrev pub script_of_position : Setup → Instance → ContractPosition → term.Contract → List ℕ
-script_of_position s setting held choice = position_script s.hash setting held.position choice
+script_of_position s instance held choice = position_script s.hash instance held.position choice
 
 -- the witness that takes a branch of what is held
 abbrev pub branch_witness : Setup → World → Instance → ContractPosition → ℕ → term.Contract → term.Guarded → List ℕ → List (List ℕ)
-branch_witness s w setting held branch choice b digest =
-    witness_of (branch_signatures s setting (position_path held branch) digest) (shown_strings s w setting (reveals_of (core b))) branch (count_of (Some choice)) (script_of_position s setting held choice)
+branch_witness s w instance held branch choice b digest =
+    witness_of (branch_signatures s instance (position_path held branch) digest) (shown_strings s w instance (reveals_of (core b))) branch (count_of (Some choice)) (script_of_position s instance held choice)
 
 -- the digests but the first
 abbrev pub other_digests : List (List ℕ) → List (List ℕ)
@@ -134,26 +135,29 @@ other_digests [] = []
 other_digests (digest ∷ digests) = digests
 
 -- the witness of the position's output, and those of the deposits that are put
-abbrev pub taking_witnesses : Setup → World → Instance → ContractPosition → ℕ → term.Contract → term.Guarded → Prepared → List (List (List ℕ))
-taking_witnesses s w setting held branch choice b made =
-    branch_witness s w setting held branch choice b (first_digest made)
-    ∷ deposit_witnesses s (map (put_owner setting.advert) (puts_of (core b))) (other_digests made.digests)
+abbrev pub taking_witnesses : Setup → World → Instance → ContractPosition → ℕ → term.Contract → term.Guarded → Prepared
+    → List (List (List ℕ))
+taking_witnesses s w instance held branch choice b made =
+    branch_witness s w instance held branch choice b (first_digest made)
+    ∷ deposit_witnesses s (map (put_owner instance.advert) (puts_of (core b))) (other_digests made.digests)
 
 abbrev pub taking_transaction : Setup → World → Instance → ContractPosition → ℕ → term.Contract → term.Guarded → Prepared → Tx
-taking_transaction s w setting held branch choice b made = with_witnesses made.tx (taking_witnesses s w setting held branch choice b made)
+taking_transaction s w instance held branch choice b made = with_witnesses made.tx (taking_witnesses s w instance held branch choice b made)
 
 -- the transaction of a branch of what is held, where there is all that it needs
-abbrev pub taking_of_parts : Setup → World → ContractPosition → ℕ → Option Instance → Option term.Contract → Option term.Guarded → Option Prepared → Option Tx
-taking_of_parts s w held branch (Some setting) (Some choice) (Some b) (Some made) = Some (taking_transaction s w setting held branch choice b made)
+abbrev pub taking_of_parts : Setup → World → ContractPosition → ℕ → Option Instance → Option term.Contract → Option term.Guarded
+    → Option Prepared → Option Tx
+taking_of_parts s w held branch (Some instance) (Some choice) (Some b) (Some made) =
+    Some (taking_transaction s w instance held branch choice b made)
 taking_of_parts s w held branch None choice b made = None
-taking_of_parts s w held branch (Some setting) None b made = None
-taking_of_parts s w held branch (Some setting) (Some choice) None made = None
-taking_of_parts s w held branch (Some setting) (Some choice) (Some b) None = None
+taking_of_parts s w held branch (Some instance) None b made = None
+taking_of_parts s w held branch (Some instance) (Some choice) None made = None
+taking_of_parts s w held branch (Some instance) (Some choice) (Some b) None = None
 
 -- the transaction of a path, where the contract is compiled
 abbrev pub prepared_if_compiled : Setup → Option Instance → List PathStep → Option Prepared
 prepared_if_compiled s None path = None
-prepared_if_compiled s (Some setting) path = prepared_at s.hash setting path
+prepared_if_compiled s (Some instance) path = prepared_at s.hash instance path
 
 -- the transaction of this branch of what is held, with its witnesses
 abbrev pub taking_of_position : Setup → World → Option ContractPosition → ℕ → Option Tx

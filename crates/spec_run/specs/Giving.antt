@@ -88,7 +88,8 @@ gift s w party inputs outputs =
 
 -- what the party signs
 abbrev pub given_pairs : Setup → World → List ℕ → List ℕ → List (List ℕ × ℕ) → List Pair
-given_pairs s w party inputs outputs = map {B = Pair} (λ n. (deposit_key s.hash party, given_digest s w party (unsigned_gift s w inputs outputs) n)) inputs
+given_pairs s w party inputs outputs =
+    map {B = Pair} (λ n. (deposit_key s.hash party, given_digest s w party (unsigned_gift s w inputs outputs) n)) inputs
 
 abbrev pub give_draft : Setup → World → List ℕ → List ℕ → List (List ℕ × ℕ) → Draft
 give_draft s w party inputs outputs =

@@ -68,7 +68,8 @@ put_by (Some b) = puts_of (core b)
 
 -- whether a branch puts a deposit of the party that is bound to this number
 abbrev pub takes_put : Setup → World → ℕ → Option term.Guarded → List ℕ → ℕ → Bool
-takes_put s w contract b party number = list_any (λ name. is_put_of w contract party number name (look_up name (volatile (pre_at s contract)))) (put_by b)
+takes_put s w contract b party number =
+    list_any (λ name. is_put_of w contract party number name (look_up name (volatile (pre_at s contract)))) (put_by b)
 
 -- ---- leave to spend
 
@@ -85,12 +86,13 @@ is_but_for_witnesses tx (Some d) = same_bare tx (tx_of d)
 -- whether it is the transaction of this path, but for witnesses, of a contract that is compiled so
 abbrev pub is_of_path : Setup → Tx → List PathStep → Option Instance → Bool
 is_of_path s tx path None = false
-is_of_path s tx path (Some setting) = is_but_for_witnesses tx (unsigned_at s.hash setting path)
+is_of_path s tx path (Some instance) = is_but_for_witnesses tx (unsigned_at s.hash instance path)
 
 -- whether a transaction of this kind is the compiled one, and takes the party's deposit by what the party signed before
 abbrev pub by_contract : Setup → World → List Record → List ℕ → ℕ → Tx → Kind → Bool
 by_contract s w before party number tx (Begins contract) =
-    is_initial s tx (compiled_instance s w contract) && takes_persistent s w contract party number && was_done (is_init contract party) before
+    is_initial s tx (compiled_instance s w contract) && takes_persistent s w contract party number
+    && was_done (is_init contract party) before
 by_contract s w before party number tx (Takes held output branch) =
     is_of_path s tx (position_path held branch) (compiled_instance s w held.contract)
     && takes_put s w held.contract (position_branch s held branch) party number
@@ -104,11 +106,13 @@ by_transaction s w before party number spent (Some tx) = by_contract s w before 
 -- whether an event, after these records, had the party's leave to spend the deposit of this number
 abbrev pub has_leave : Setup → World → List Record → Event → Option Tx → List ℕ → ℕ → Outcome → Bool
 has_leave s w before e tx party number outcomes.Done = false
-has_leave s w before e tx party number (outcomes.Accepted spent made lock) = gives party number e || by_transaction s w before party number spent tx
+has_leave s w before e tx party number (outcomes.Accepted spent made lock) =
+    gives party number e || by_transaction s w before party number spent tx
 has_leave s w before e tx party number (outcomes.Refused reason) = false
 
 -- a deposit of an honest party that was live before what is recorded and isn't after it went with the party's leave
 abbrev pub SpendsWithLeave : Setup → List Record → World → Record → World → Type 0
 SpendsWithLeave s before w r next =
-    (party : List ℕ) (number : ℕ) → is_honest s party ≡ true → owner_of s (output_at w number) ≡ Party party → is_deposit (output_at next number) ≡ false
+    (party : List ℕ) (number : ℕ) → is_honest s party ≡ true → owner_of s (output_at w number) ≡ Party party
+        → is_deposit (output_at next number) ≡ false
     → has_leave s w before r.event r.tx party number r.outcome ≡ true

@@ -60,7 +60,8 @@ spend_from k numbers (o ∷ os) = (if has_number k numbers then record o { live 
 abbrev pub made_from : (ℕ → Option ContractPosition) → List ℕ → ℕ → List TxOut → List Output
 made_from held txid k [] = []
 made_from held txid k (o ∷ os) =
-    record { outpoint = record { txid = txid; vout = k }; value = o.value; script = o.script; live = true; holds = held k } ∷ made_from held txid (k + 1) os
+    record { outpoint = record { txid = txid; vout = k }; value = o.value; script = o.script; live = true; holds = held k }
+    ∷ made_from held txid (k + 1) os
 
 -- ---- what a transaction is to the contracts
 
@@ -81,12 +82,13 @@ same_output a b = (a.value == b.value) && bytes_eq a.script b.script
 
 -- whether two transactions are the same but for their witnesses
 abbrev pub same_bare : Tx → Tx → Bool
-same_bare a b = (a.version == b.version) && pointwise same_input a.inputs b.inputs && pointwise same_output a.outputs b.outputs && (a.lock == b.lock)
+same_bare a b =
+    (a.version == b.version) && pointwise same_input a.inputs b.inputs && pointwise same_output a.outputs b.outputs && (a.lock == b.lock)
 
 -- whether it is the initial transaction of a contract that is compiled so
 abbrev pub is_initial : Setup → Tx → Option Instance → Bool
 is_initial s tx None = false
-is_initial s tx (Some setting) = same_bare tx (tx_of (initial_unsigned s.hash setting))
+is_initial s tx (Some instance) = same_bare tx (tx_of (initial_unsigned s.hash instance))
 
 -- the first contract from number k on whose initial transaction it is
 abbrev pub initial_from : Setup → World → Tx → ℕ → List Advert → Option ℕ

@@ -36,4 +36,5 @@ deposit_value (Some o) = if is_deposit (Some o) then o.value else 0
 -- whether it is a live deposit with the owner and the value that a precondition wants
 abbrev pub suits : Setup → Option Holding → Option Output → Bool
 suits s None output = false
-suits s (Some wanted) output = is_deposit output && owner_eq (owner_of s output) (Party wanted.owner) && (deposit_value output == wanted.value)
+suits s (Some wanted) output =
+    is_deposit output && owner_eq (owner_of s output) (Party wanted.owner) && (deposit_value output == wanted.value)

@@ -1,5 +1,6 @@
 -- The secrets of the contracts of a run: which are shown by posted strings, and their lengths; of this project's profile of BitML.
-use Rattle.std.specs.Prelude.{ℕ, ◌+◌, ◌-◌, List, [], ◌∷◌, ◌++◌, length, Bool, false, not, ◌&&◌, if◌then◌else◌, Option, Some, None, option_map, is_some}
+use Rattle.std.specs.Prelude.{ℕ, ◌+◌, ◌-◌, List, [], ◌∷◌, ◌++◌, length, Bool, false, not, ◌&&◌, if◌then◌else◌, Option, Some, None}
+use Rattle.std.specs.Prelude.{option_map, is_some}
 use Rattle.std.specs.List.{filter}
 use Rattle.spec_data.specs.Lists.{look_up}
 use Rattle.spec_terms.specs.Advert.{Advert}

@@ -60,7 +60,8 @@ takes_part s contract party = is_among party (people_at s contract)
 -- the bytes of a party's secret among these
 abbrev pub held_among : List ℕ → List ℕ → List HeldSecret → Option (List ℕ)
 held_among party name [] = None
-held_among party name (held ∷ rest) = if bytes_eq held.party party && bytes_eq held.name name then Some held.bytes else held_among party name rest
+held_among party name (held ∷ rest) =
+    if bytes_eq held.party party && bytes_eq held.name name then Some held.bytes else held_among party name rest
 
 -- the bytes of a party's secret that stands in the header
 abbrev pub held_secret : Setup → List ℕ → List ℕ → Option (List ℕ)

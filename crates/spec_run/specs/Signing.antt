@@ -40,17 +40,18 @@ with_pairs w pairs = record w { book = signed_all w.book pairs }
 
 -- the signatures that a compiled contract needs, by path in the order of the text
 abbrev pub needs_at : Setup → Instance → List Need
-needs_at s setting = needed s.hash setting
+needs_at s instance = needed s.hash instance
 
 -- the pairs of those of these needs that are the party's
 abbrev pub pairs_of_party : List ℕ → List Need → List Pair
 pairs_of_party party [] = []
-pairs_of_party party (need ∷ rest) = if bytes_eq need.party party then (need.key, need.digest) ∷ pairs_of_party party rest else pairs_of_party party rest
+pairs_of_party party (need ∷ rest) =
+    if bytes_eq need.party party then (need.key, need.digest) ∷ pairs_of_party party rest else pairs_of_party party rest
 
 -- what a party signs to endorse a contract, where it is compiled
 abbrev pub endorsing_pairs : Setup → List ℕ → Option Instance → List Pair
 endorsing_pairs s party None = []
-endorsing_pairs s party (Some setting) = pairs_of_party party (needs_at s setting)
+endorsing_pairs s party (Some instance) = pairs_of_party party (needs_at s instance)
 
 -- the contract is there, the party takes part, and all have committed
 abbrev pub endorse_row : Setup → World → ℕ → List ℕ → List (Bool × Reason)
@@ -72,17 +73,19 @@ abbrev pub pairs_of_deposits : Setup → List ℕ → List (List ℕ × Holding)
 pairs_of_deposits s party [] digests = []
 pairs_of_deposits s party (d ∷ ds) [] = []
 pairs_of_deposits s party (d ∷ ds) (digest ∷ digests) =
-    if bytes_eq (d.1).owner party then (deposit_key s.hash party, digest) ∷ pairs_of_deposits s party ds digests else pairs_of_deposits s party ds digests
+    if bytes_eq (d.1).owner party then (deposit_key s.hash party, digest) ∷ pairs_of_deposits s party ds digests
+    else pairs_of_deposits s party ds digests
 
 -- what a party signs of the initial transaction, where the contract is compiled
 abbrev pub initial_pairs : Setup → List ℕ → Option Instance → List Pair
 initial_pairs s party None = []
-initial_pairs s party (Some setting) = pairs_of_deposits s party (persistent setting.advert.pre) (compilation s.hash setting).init.digests
+initial_pairs s party (Some instance) =
+    pairs_of_deposits s party (persistent instance.advert.pre) (compilation s.hash instance).init.digests
 
 -- the first endorsement that is missing, where the contract is compiled
 abbrev pub missing_need : Setup → World → Option Instance → Option Need
 missing_need s w None = None
-missing_need s w (Some setting) = missing_endorsement s.hash setting w.book
+missing_need s w (Some instance) = missing_endorsement s.hash instance w.book
 
 -- the first endorsement that an honest party misses
 abbrev pub missed_need : Setup → World → ℕ → List ℕ → Option Need
@@ -144,7 +147,7 @@ branch_pair s party contract path (Some made) = (key_of s.hash (branch_label con
 -- the transaction of a path, where the contract is compiled
 abbrev pub prepared_if_compiled : Setup → Option Instance → List PathStep → Option Prepared
 prepared_if_compiled s None path = None
-prepared_if_compiled s (Some setting) path = prepared_at s.hash setting path
+prepared_if_compiled s (Some instance) path = prepared_at s.hash instance path
 
 -- what a party signs to authorise a branch of what is held
 abbrev pub authorising_pairs : Setup → World → List ℕ → Option ContractPosition → ℕ → List Pair

@@ -18,7 +18,8 @@ use Rattle.spec_run.specs.Firing.{initial_by, taking_of_position}
 use Rattle.spec_run.specs.Event.{draft, event, opening_world, opening_collision}
 use Rattle.spec_run.specs.Halting.{HaltIsThere, NothingHalts, SameStrings, OpeningIs}
 use Rattle.spec_run.specs.Steps.{steps_of}
-use Rattle.spec_run.specs.Translation.{Turn, record_in, opening_configuration, course, translated, in_order, last_configuration, last_world, first_halt}
+use Rattle.spec_run.specs.Translation.{Turn, record_in, opening_configuration, course, translated, in_order, last_configuration, last_world}
+use Rattle.spec_run.specs.Translation.{first_halt}
 use Rattle.spec_run.specs.Agreement.{Agree}
 use Rattle.spec_run.specs.Licence.{Licensed}
 use Rattle.spec_run.specs.Offers.{Offer, offers}

@@ -100,12 +100,14 @@ core_step output branch (after height body) = []
 -- the participants whom a branch asks authorise it where they haven't, and then it is taken
 abbrev pub branch_steps : Configuration → List (List ℕ) → ℕ → ℕ → Option term.Guarded → List Step
 branch_steps g people output branch None = []
-branch_steps g people output branch (Some b) = map (auth_branch output branch) (filter (is_awaited g output branch b) people) ++ core_step output branch (core b)
+branch_steps g people output branch (Some b) =
+    map (auth_branch output branch) (filter (is_awaited g output branch b) people) ++ core_step output branch (core b)
 
 -- the steps of an accepted transaction, by what it is
 abbrev pub kind_steps : Setup → Configuration → World → Tx → List ℕ → Kind → List Step
 kind_steps s g w tx spent (Begins contract) = begin_steps s g contract
-kind_steps s g w tx spent (Takes held output branch) = branch_steps g (people_at s held.contract) output branch (position_branch s held branch)
+kind_steps s g w tx spent (Takes held output branch) =
+    branch_steps g (people_at s held.contract) output branch (position_branch s held branch)
 kind_steps s g w tx spent Moves = move_steps s w tx spent
 
 abbrev pub accepted_steps : Setup → Configuration → World → World → List ℕ → Option Tx → List Step
@@ -129,7 +131,8 @@ is_bound_live w contract d = names_deposit w (look_up (d.0) (bindings_at w.adver
 
 -- a party lets the contract take each of its persistent deposits that is bound to a live one
 abbrev pub init_steps : Setup → World → ℕ → List ℕ → List Step
-init_steps s w contract party = auth_inits contract (filter (λ d. is_of_party party d && is_bound_live w contract d) (persistent (pre_at s contract)))
+init_steps s w contract party =
+    auth_inits contract (filter (λ d. is_of_party party d && is_bound_live w contract d) (persistent (pre_at s contract)))
 
 -- the lengths of what a party commits, in the precondition's order
 abbrev pub commit_lengths : Setup → List (List ℕ) → ℕ → List ℕ → List (List ℕ × List ℕ) → List (List ℕ × Option ℕ)
@@ -138,8 +141,10 @@ commit_lengths s strings contract party digests =
 
 -- the steps of an event that is done, from one world to the next, in a run that posts these strings
 abbrev pub done_steps : Setup → List (List ℕ) → World → World → Event → List Step
-done_steps s strings w next (events.Advertise contract bindings) = steps.Advertise contract (arranged 0 (deposit_names s contract) bindings) ∷ []
-done_steps s strings w next (events.Commit contract party digests) = steps.Commit contract party (commit_lengths s strings contract party digests) ∷ reveals s w next
+done_steps s strings w next (events.Advertise contract bindings) =
+    steps.Advertise contract (arranged 0 (deposit_names s contract) bindings) ∷ []
+done_steps s strings w next (events.Commit contract party digests) =
+    steps.Commit contract party (commit_lengths s strings contract party digests) ∷ reveals s w next
 done_steps s strings w next (events.Endorse contract party) = []
 done_steps s strings w next (events.Init contract party) = init_steps s w contract party
 done_steps s strings w next (events.Authorise party output branch) = steps.AuthBranch party output branch ∷ []

@@ -1,7 +1,8 @@
 -- The bytes and the counted operations of the script of a position, by the shortest pushes of Bitcoin script.
 use Rattle.std.specs.Prelude.{ℕ, ◌+◌, ◌*◌, nat_le, List, [], ◌∷◌, length, if◌then◌else◌}
 use Rattle.std.specs.Str.{bytes_eq}
-use Rattle.spec_terms.specs.Term.{Expr, constant, length_of, plus, minus, Pred, always, both, negation, equal, less, Guarded, Contract, no_branch, branch}
+use Rattle.spec_terms.specs.Term.{Expr, constant, length_of, plus, minus, Pred, always, both, negation, equal, less, Guarded, Contract}
+use Rattle.spec_terms.specs.Term.{no_branch, branch}
 use Rattle.spec_terms.specs.Core.{core, reveals_of, test_of}
 use Rattle.spec_terms.specs.Bound.{held}
 use Rattle.spec_terms.specs.declared.script_size.ScriptSize.{ScriptSize}

@@ -3,7 +3,8 @@ use Rattle.std.specs.Prelude.{ℕ, ◌+◌, max, nat_le, Bool, true, false, ◌&
 use Rattle.std.specs.List.{list_all}
 use Rattle.spec_data.specs.Lists.{is_among}
 use Rattle.spec_data.specs.Ranges.{max_money, last_height, most_name_bytes}
-use Rattle.spec_terms.specs.Term.{Expr, constant, length_of, plus, minus, Pred, always, both, negation, equal, less, Guarded, auth, after, put_reveal, withdraw, split, Contract, no_branch, branch, branches, Parts, no_part, part, parts_list}
+use Rattle.spec_terms.specs.Term.{Expr, constant, length_of, plus, minus, Pred, always, both, negation, equal, less, Guarded, auth, after}
+use Rattle.spec_terms.specs.Term.{put_reveal, withdraw, split, Contract, no_branch, branch, branches, Parts, no_part, part, parts_list}
 use Rattle.spec_terms.specs.Advert.{Advert}
 use Rattle.spec_terms.specs.Precondition.{deposits, secrets}
 use Rattle.spec_terms.specs.declared.pre.Pre.{Pre}

@@ -3,7 +3,8 @@ use Rattle.std.specs.Prelude.{◌≡◌, ℕ, List, refl}
 use Rattle.std.specs.Coded.{Coded, coded_ℕ, coded_list}
 use Rattle.std.proofs.Common.{ap}
 use base.Stored.{Gv, gnil, gnum, gcons}
-use Rattle.spec_terms.specs.Term.{Expr, constant, length_of, plus, minus, Pred, always, both, negation, equal, less, Guarded, auth, after, put_reveal, withdraw, split, Contract, no_branch, branch, Parts, no_part, part}
+use Rattle.spec_terms.specs.Term.{Expr, constant, length_of, plus, minus, Pred, always, both, negation, equal, less, Guarded, auth, after}
+use Rattle.spec_terms.specs.Term.{put_reveal, withdraw, split, Contract, no_branch, branch, Parts, no_part, part}
 
 abbrev pub first : Gv → Gv
 first gnil = gnil
@@ -30,8 +31,10 @@ formula_code (minus e f) = gcons (gnum 3) (gcons (formula_code e) (formula_code 
 pub formula_inj : (x y : Expr) → formula_code x ≡ formula_code y → x ≡ y
 formula_inj (constant n) (constant m) p = ap constant (coded_ℕ.inj n m (ap others p))
 formula_inj (length_of n) (length_of m) p = ap length_of (coded_name.inj n m (ap others p))
-formula_inj (plus e f) (plus g h) p = λ i. plus (formula_inj e g (ap (λ v. first (others v)) p) i) (formula_inj f h (ap (λ v. others (others v)) p) i)
-formula_inj (minus e f) (minus g h) p = λ i. minus (formula_inj e g (ap (λ v. first (others v)) p) i) (formula_inj f h (ap (λ v. others (others v)) p) i)
+formula_inj (plus e f) (plus g h) p =
+    λ i. plus (formula_inj e g (ap (λ v. first (others v)) p) i) (formula_inj f h (ap (λ v. others (others v)) p) i)
+formula_inj (minus e f) (minus g h) p =
+    λ i. minus (formula_inj e g (ap (λ v. first (others v)) p) i) (formula_inj f h (ap (λ v. others (others v)) p) i)
 formula_inj x y p = cc
 
 abbrev pub coded_formula : Coded Expr
@@ -46,10 +49,13 @@ test_code (less e f) = gcons (gnum 4) (gcons (formula_code e) (formula_code f))
 
 pub test_inj : (x y : Pred) → test_code x ≡ test_code y → x ≡ y
 test_inj always always p = refl
-test_inj (both a b) (both c d) p = λ i. both (test_inj a c (ap (λ v. first (others v)) p) i) (test_inj b d (ap (λ v. others (others v)) p) i)
+test_inj (both a b) (both c d) p =
+    λ i. both (test_inj a c (ap (λ v. first (others v)) p) i) (test_inj b d (ap (λ v. others (others v)) p) i)
 test_inj (negation a) (negation b) p = ap negation (test_inj a b (ap others p))
-test_inj (equal e f) (equal g h) p = λ i. equal (formula_inj e g (ap (λ v. first (others v)) p) i) (formula_inj f h (ap (λ v. others (others v)) p) i)
-test_inj (less e f) (less g h) p = λ i. less (formula_inj e g (ap (λ v. first (others v)) p) i) (formula_inj f h (ap (λ v. others (others v)) p) i)
+test_inj (equal e f) (equal g h) p =
+    λ i. equal (formula_inj e g (ap (λ v. first (others v)) p) i) (formula_inj f h (ap (λ v. others (others v)) p) i)
+test_inj (less e f) (less g h) p =
+    λ i. less (formula_inj e g (ap (λ v. first (others v)) p) i) (formula_inj f h (ap (λ v. others (others v)) p) i)
 test_inj x y p = cc
 
 abbrev pub coded_test : Coded Pred
@@ -59,7 +65,8 @@ abbrev mutual
   pub branch_code : Guarded → Gv
   branch_code (auth party body) = gcons (gnum 0) (gcons (coded_name.code party) (branch_code body))
   branch_code (after height body) = gcons (gnum 1) (gcons (gnum height) (branch_code body))
-  branch_code (put_reveal puts reveals test next) = gcons (gnum 2) (gcons (coded_names.code puts) (gcons (coded_names.code reveals) (gcons (test_code test) (choice_code next))))
+  branch_code (put_reveal puts reveals test next) =
+      gcons (gnum 2) (gcons (coded_names.code puts) (gcons (coded_names.code reveals) (gcons (test_code test) (choice_code next))))
   branch_code (withdraw party) = gcons (gnum 3) (coded_name.code party)
   branch_code (split parts) = gcons (gnum 4) (parts_code parts)
 
@@ -73,8 +80,10 @@ abbrev mutual
 
 mutual
   pub branch_inj : (x y : Guarded) → branch_code x ≡ branch_code y → x ≡ y
-  branch_inj (auth n b) (auth m c) p = λ i. auth (coded_name.inj n m (ap (λ v. first (others v)) p) i) (branch_inj b c (ap (λ v. others (others v)) p) i)
-  branch_inj (after n b) (after m c) p = λ i. after (coded_ℕ.inj n m (ap (λ v. first (others v)) p) i) (branch_inj b c (ap (λ v. others (others v)) p) i)
+  branch_inj (auth n b) (auth m c) p =
+      λ i. auth (coded_name.inj n m (ap (λ v. first (others v)) p) i) (branch_inj b c (ap (λ v. others (others v)) p) i)
+  branch_inj (after n b) (after m c) p =
+      λ i. after (coded_ℕ.inj n m (ap (λ v. first (others v)) p) i) (branch_inj b c (ap (λ v. others (others v)) p) i)
   branch_inj (put_reveal a r t c) (put_reveal b s u d) p = λ i. put_reveal
       (coded_names.inj a b (ap (λ v. first (others v)) p) i)
       (coded_names.inj r s (ap (λ v. first (others (others v))) p) i)
@@ -91,7 +100,8 @@ mutual
 
   pub parts_inj : (x y : Parts) → parts_code x ≡ parts_code y → x ≡ y
   parts_inj no_part no_part p = refl
-  parts_inj (part v c ps) (part w d qs) p = λ i. part (coded_ℕ.inj v w (ap first p) i) (choice_inj c d (ap (λ v. first (others v)) p) i) (parts_inj ps qs (ap (λ v. others (others v)) p) i)
+  parts_inj (part v c ps) (part w d qs) p =
+      λ i. part (coded_ℕ.inj v w (ap first p) i) (choice_inj c d (ap (λ v. first (others v)) p) i) (parts_inj ps qs (ap (λ v. others (others v)) p) i)
   parts_inj x y p = cc
 
 abbrev pub coded_branch : Coded Guarded

@@ -1,7 +1,8 @@
 -- The canonical text of an advert; of this project's profile.
 use Rattle.std.specs.Prelude.{ℕ, zero, suc, List, [], ◌∷◌, ◌++◌, codes}
 use Rattle.std.specs.Fmt.{decimal}
-use Rattle.spec_terms.specs.Term.{Expr, constant, length_of, plus, minus, Pred, always, both, negation, equal, less, Guarded, auth, after, put_reveal, withdraw, split, Contract, no_branch, branch, Parts, no_part, part}
+use Rattle.spec_terms.specs.Term.{Expr, constant, length_of, plus, minus, Pred, always, both, negation, equal, less, Guarded, auth, after}
+use Rattle.spec_terms.specs.Term.{put_reveal, withdraw, split, Contract, no_branch, branch, Parts, no_part, part}
 use Rattle.spec_terms.specs.Advert.{Advert}
 use Rattle.spec_terms.specs.declared.pre.Pre.{Pre}
 use Rattle.spec_terms.specs.declared.pre.Pre.TheVariants.{Persistent, Volatile, Secret}
@@ -47,7 +48,8 @@ if_text (less e f) = codes " if " ++ test_text (less e f)
 abbrev pub heading_text : List (List ℕ) → List (List ℕ) → Pred → List ℕ
 heading_text [] reveals test = codes "reveal " ++ (joined (codes ", ") reveals ++ if_text test)
 heading_text (x ∷ xs) [] test = codes "put " ++ joined (codes ", ") (x ∷ xs)
-heading_text (x ∷ xs) (a ∷ names) test = codes "put " ++ (joined (codes ", ") (x ∷ xs) ++ (codes " & reveal " ++ (joined (codes ", ") (a ∷ names) ++ if_text test)))
+heading_text (x ∷ xs) (a ∷ names) test =
+    codes "put " ++ (joined (codes ", ") (x ∷ xs) ++ (codes " & reveal " ++ (joined (codes ", ") (a ∷ names) ++ if_text test)))
 
 -- the text of branches, in brackets where others follow the first
 abbrev pub bracketed : List ℕ → Contract → List ℕ

@@ -4,7 +4,8 @@ use Rattle.spec_text.specs.declared.token.Token.{Token}
 use Rattle.spec_text.specs.declared.token.Kind.{Kind}
 use Rattle.spec_text.specs.declared.token.Kind.TheVariants as kind
 use Rattle.spec_text.specs.declared.lexeme.Lexeme.{Lexeme}
-use Rattle.spec_text.specs.declared.lexeme.Lexeme.TheVariants.{Keyword as keyword, Symbol as symbol, Name as name, LongName as long_name, Number as number, HugeNumber as huge_number}
+use Rattle.spec_text.specs.declared.lexeme.Lexeme.TheVariants.{Keyword as keyword, Symbol as symbol, Name as name, LongName as long_name}
+use Rattle.spec_text.specs.declared.lexeme.Lexeme.TheVariants.{Number as number, HugeNumber as huge_number}
 use Rattle.spec_data.specs.Ranges.{most_name_bytes}
 
 -- the bytes of a token

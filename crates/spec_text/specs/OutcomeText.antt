@@ -71,7 +71,8 @@ made_text ms = flat_map (λ m. codes " " ++ (output_text m.0 ++ (codes " " ++ de
 
 -- `accepted spends #a #b makes #c v #d w lock L`
 abbrev pub accepted_text : List ℕ → List (ℕ × ℕ) → ℕ → List ℕ
-accepted_text spent made lock = codes "accepted spends" ++ (outputs_text spent ++ (codes " makes" ++ (made_text made ++ (codes " lock " ++ decimal lock))))
+accepted_text spent made lock =
+    codes "accepted spends" ++ (outputs_text spent ++ (codes " makes" ++ (made_text made ++ (codes " lock " ++ decimal lock))))
 
 -- the line of an outcome, without its end
 abbrev pub outcome_text : Outcome → List ℕ

@@ -28,22 +28,27 @@ script_line s = codes "script " ++ (path_text s.0 ++ (codes " " ++ (hex_text s.1
 -- `digest NAME k HEX` for each input, from number k on
 abbrev pub digest_lines : List ℕ → ℕ → List (List ℕ) → List ℕ
 digest_lines name k [] = []
-digest_lines name k (d ∷ ds) = codes "digest " ++ (name ++ (codes " " ++ (decimal k ++ (codes " " ++ (hex_text d ++ (newline ++ digest_lines name (k + 1) ds))))))
+digest_lines name k (d ∷ ds) =
+    codes "digest " ++ (name ++ (codes " " ++ (decimal k ++ (codes " " ++ (hex_text d ++ (newline ++ digest_lines name (k + 1) ds))))))
 
 -- `tx NAME TXID HEX` and the digests of its inputs; a txid is shown with its bytes reversed
 abbrev pub prepared_lines : List ℕ → Prepared → List ℕ
-prepared_lines name p = codes "tx " ++ (name ++ (codes " " ++ (hex_text (reverse p.txid) ++ (codes " " ++ (hex_text (stripped p.tx) ++ (newline ++ digest_lines name 0 p.digests))))))
+prepared_lines name p =
+    codes "tx "
+    ++ (name ++ (codes " " ++ (hex_text (reverse p.txid) ++ (codes " " ++ (hex_text (stripped p.tx) ++ (newline ++ digest_lines name 0 p.digests))))))
 
 abbrev pub path_lines : List PathStep × Prepared → List ℕ
 path_lines p = prepared_lines (path_text p.0) (p.1)
 
 -- the scripts of a contract, its initial transaction, and the transaction of each path
 abbrev pub compiled_text : Compilation → List ℕ
-compiled_text c = codes "contract 0 compiled" ++ (newline ++ (flat_map script_line c.scripts ++ (prepared_lines (codes "init") c.init ++ flat_map path_lines c.paths)))
+compiled_text c =
+    codes "contract 0 compiled"
+    ++ (newline ++ (flat_map script_line c.scripts ++ (prepared_lines (codes "init") c.init ++ flat_map path_lines c.paths)))
 
 abbrev pub setting_text : (List ℕ → List ℕ) → Option Instance → List ℕ
 setting_text hash None = codes "contract 0 not compiled" ++ newline
-setting_text hash (Some setting) = compiled_text (compilation hash setting)
+setting_text hash (Some instance) = compiled_text (compilation hash instance)
 
 -- the text of a run that wasn't halted, else its last line alone
 abbrev pub unless_halted : Ending → List ℕ → List ℕ
@@ -75,4 +80,5 @@ step_count steps = sum_by length steps
 
 -- what `make` prints of a run
 unfoldable pub make_text : Setup → List Event → List ℕ
-make_text s es = unless_halted (ending s es) (counts_text (length es) (step_count (translated s es)) (last_configuration s es) (last_world s es))
+make_text s es =
+    unless_halted (ending s es) (counts_text (length es) (step_count (translated s es)) (last_configuration s es) (last_world s es))

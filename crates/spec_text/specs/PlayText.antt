@@ -20,7 +20,8 @@ use Rattle.spec_text.specs.StepText.{owner_text, length_text, step_lines}
 -- `start #n A v` for each deposit of the header, the numbers from n on
 abbrev pub start_lines : ℕ → List (List ℕ × ℕ) → List ℕ
 start_lines n [] = []
-start_lines n (d ∷ ds) = codes "start " ++ (output_text n ++ (codes " " ++ (d.0 ++ (codes " " ++ (decimal d.1 ++ (newline ++ start_lines (n + 1) ds))))))
+start_lines n (d ∷ ds) =
+    codes "start " ++ (output_text n ++ (codes " " ++ (d.0 ++ (codes " " ++ (decimal d.1 ++ (newline ++ start_lines (n + 1) ds))))))
 
 -- ---- the events
 
@@ -45,11 +46,14 @@ live_line o = codes "live " ++ (output_text o.0 ++ (codes " " ++ (decimal o.1 ++
 
 -- `deposit #n OWNER v`
 abbrev pub deposit_line : Deposit → List ℕ
-deposit_line d = codes "deposit " ++ (output_text d.number ++ (codes " " ++ (owner_text d.owner ++ (codes " " ++ (decimal d.value ++ newline)))))
+deposit_line d =
+    codes "deposit " ++ (output_text d.number ++ (codes " " ++ (owner_text d.owner ++ (codes " " ++ (decimal d.value ++ newline)))))
 
 -- `contract #n K POSITION v`
 abbrev pub contract_line : ActiveContract → List ℕ
-contract_line a = codes "contract " ++ (output_text a.number ++ (codes " " ++ (decimal a.contract ++ (codes " " ++ (path_text a.position ++ (codes " " ++ (decimal a.balance ++ newline)))))))
+contract_line a =
+    codes "contract "
+    ++ (output_text a.number ++ (codes " " ++ (decimal a.contract ++ (codes " " ++ (path_text a.position ++ (codes " " ++ (decimal a.balance ++ newline)))))))
 
 abbrev pub shown_word : Bool → List ℕ
 shown_word true = codes "revealed"
@@ -58,7 +62,9 @@ shown_word false = codes "hidden"
 -- `secret K A a N revealed` or `hidden`, nothing where the secret isn't committed
 abbrev pub secret_line : ℕ → List ℕ → List ℕ → Bool → Option (Option ℕ) → List ℕ
 secret_line k a s revealed None = []
-secret_line k a s revealed (Some length) = codes "secret " ++ (contract_party_text k a ++ (codes " " ++ (s ++ (codes " " ++ (length_text length ++ (codes " " ++ (shown_word revealed ++ newline)))))))
+secret_line k a s revealed (Some length) =
+    codes "secret "
+    ++ (contract_party_text k a ++ (codes " " ++ (s ++ (codes " " ++ (length_text length ++ (codes " " ++ (shown_word revealed ++ newline)))))))
 
 -- the line of a secret of contract k; secrets have their party behind their name
 abbrev pub secret_line_of : Configuration → ℕ → List ℕ × List ℕ → List ℕ
@@ -110,7 +116,10 @@ ending_text i (collided (Some event) earlier later) = event_line i event ++ coll
 
 -- what is printed of a run; a collision of the opening is printed alone
 abbrev pub report_text : List (List ℕ × ℕ) → List Entry → Ending → List ℕ
-report_text deposits entries (whole tip live g offers) = start_lines 0 deposits ++ (entries_text 1 entries ++ ending_text (length entries + 1) (whole tip live g offers))
-report_text deposits entries (guessed event party secret) = start_lines 0 deposits ++ (entries_text 1 entries ++ ending_text (length entries + 1) (guessed event party secret))
+report_text deposits entries (whole tip live g offers) =
+    start_lines 0 deposits ++ (entries_text 1 entries ++ ending_text (length entries + 1) (whole tip live g offers))
+report_text deposits entries (guessed event party secret) =
+    start_lines 0 deposits ++ (entries_text 1 entries ++ ending_text (length entries + 1) (guessed event party secret))
 report_text deposits entries (collided None earlier later) = collided_line earlier later
-report_text deposits entries (collided (Some event) earlier later) = start_lines 0 deposits ++ (entries_text 1 entries ++ ending_text (length entries + 1) (collided (Some event) earlier later))
+report_text deposits entries (collided (Some event) earlier later) =
+    start_lines 0 deposits ++ (entries_text 1 entries ++ ending_text (length entries + 1) (collided (Some event) earlier later))

@@ -1,6 +1,7 @@
 -- Reading of contracts, by cases on the next token; of this project's profile.
 use Rattle.std.specs.Prelude.{ℕ, zero, suc, ◌-◌, List, [], ◌∷◌, length, Bool, true, false, if◌then◌else◌, ◌==◌, Option, Some, None, Ok, Err}
-use Rattle.spec_terms.specs.Term.{Pred, always, Guarded, auth, after, put_reveal, withdraw, split, Contract, no_branch, branch, Parts, no_part, part}
+use Rattle.spec_terms.specs.Term.{Pred, always, Guarded, auth, after, put_reveal, withdraw, split, Contract, no_branch, branch, Parts}
+use Rattle.spec_terms.specs.Term.{no_part, part}
 use Rattle.spec_terms.specs.declared.limit.Limit.{Limit}
 use Rattle.spec_terms.specs.declared.limit.Limit.TheVariants as limits
 use Rattle.spec_text.specs.declared.stop.Stop.TheVariants as stops
@@ -10,7 +11,8 @@ use Rattle.spec_text.specs.declared.lexeme.Lexeme.{Lexeme}
 use Rattle.spec_text.specs.declared.lexeme.Lexeme.TheVariants.{Keyword as keyword, Symbol as symbol, Name as name, LongName as long_name}
 use Rattle.spec_data.specs.Ranges.{max_money, last_height}
 use Rattle.spec_terms.specs.Readable.{most_depth, most_choices, most_parts}
-use Rattle.spec_text.specs.Reading.{Reads, ◌>>=◌, Seen, taken, wrong, above, token_by, too_many, a_symbol, a_keyword, a_name, a_number, names_from}
+use Rattle.spec_text.specs.Reading.{Reads, ◌>>=◌, Seen, taken, wrong, above, token_by, too_many, a_symbol, a_keyword, a_name, a_number}
+use Rattle.spec_text.specs.Reading.{names_from}
 use Rattle.spec_text.specs.ReadTest.{test_at, begun}
 
 -- ---- what stands before the point of a put or reveal

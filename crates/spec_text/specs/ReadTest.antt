@@ -6,9 +6,11 @@ use Rattle.spec_text.specs.declared.stop.Stop.TheVariants as stops
 use Rattle.spec_text.specs.declared.token.Keyword.TheVariants as word
 use Rattle.spec_text.specs.declared.token.Symbol.TheVariants as mark
 use Rattle.spec_text.specs.declared.lexeme.Lexeme.{Lexeme}
-use Rattle.spec_text.specs.declared.lexeme.Lexeme.TheVariants.{Keyword as keyword, Symbol as symbol, Number as number, HugeNumber as huge_number}
+use Rattle.spec_text.specs.declared.lexeme.Lexeme.TheVariants.{Keyword as keyword, Symbol as symbol, Number as number}
+use Rattle.spec_text.specs.declared.lexeme.Lexeme.TheVariants.{HugeNumber as huge_number}
 use Rattle.spec_terms.specs.Readable.{greatest_constant}
-use Rattle.spec_text.specs.Reading.{Reads, ◌>>=◌, Seen, taken, wrong, above, take_seen, token_by, too_many, a_symbol, a_keyword, a_name, a_number}
+use Rattle.spec_text.specs.Reading.{Reads, ◌>>=◌, Seen, taken, wrong, above, take_seen, token_by, too_many, a_symbol, a_keyword, a_name}
+use Rattle.spec_text.specs.Reading.{a_number}
 
 -- ---- expressions
 

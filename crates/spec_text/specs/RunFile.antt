@@ -1,5 +1,6 @@
 -- Run files: the run that the lines of a text spell, or the first line that is bad or one too many; of this project's profile.
-use Rattle.std.specs.Prelude.{ℕ, ◌+◌, List, [], ◌∷◌, ◌++◌, length, Bool, true, false, ◌&&◌, ◌||◌, not, if◌then◌else◌, nat_le, nat_lt, Option, Some, None, Result, Ok, Err, codes}
+use Rattle.std.specs.Prelude.{ℕ, ◌+◌, List, [], ◌∷◌, ◌++◌, length, Bool, true, false, ◌&&◌, ◌||◌, not, if◌then◌else◌, nat_le, nat_lt}
+use Rattle.std.specs.Prelude.{Option, Some, None, Result, Ok, Err, codes}
 use Rattle.std.specs.Str.{bytes_eq}
 use Rattle.std.specs.List.{list_any, sum_by}
 use Rattle.spec_data.specs.Lists.{is_among}
@@ -164,7 +165,8 @@ event_step n (says event) later = with_event event later
 -- the events of the lines from number n on, behind so many
 abbrev pub read_events : List (List ℕ) → ℕ → ℕ → List (List ℕ) → Result (List Event) RunFault
 read_events parties count n [] = Ok []
-read_events parties count n (line ∷ lines) = event_step n (event_of_line parties count line) (read_events parties (counted count (event_of_line parties count line)) (n + 1) lines)
+read_events parties count n (line ∷ lines) =
+    event_step n (event_of_line parties count line) (read_events parties (counted count (event_of_line parties count line)) (n + 1) lines)
 
 -- ---- the run
 

@@ -60,4 +60,6 @@ PrintedEventTheorem = (parties : List (List ℕ)) (count : ℕ) (line : List ℕ
 
 -- the canonical lines of a header that some file has are read as that header
 abbrev pub PrintedHeaderTheorem : Type 0
-PrintedHeaderTheorem = (text : List ℕ) (run : Run) → read_run text ≡ Ok run → read_run (header_text run.header) ≡ Ok (record { header = run.header; events = [] })
+PrintedHeaderTheorem =
+    (text : List ℕ) (run : Run) → read_run text ≡ Ok run → read_run (header_text run.header)
+    ≡ Ok (record { header = run.header; events = [] })

@@ -56,7 +56,7 @@ shown tx = option_map_or (λ t. hex_text (spelling t)) tx []
 -- the transaction of a path, without its witnesses
 abbrev pub path_shown : List PathStep → Setup → World → List ℕ
 path_shown path s w =
-    shown (option_and_then (λ setting. option_map_or (λ d. Some (tx_of d)) (unsigned_at s.hash setting path) None) (compiled_instance s w 0))
+    shown (option_and_then (λ instance. option_map_or (λ d. Some (tx_of d)) (unsigned_at s.hash instance path) None) (compiled_instance s w 0))
 
 -- the transaction that takes branch 0 of output 2, with its witness
 abbrev pub taking_shown : Setup → World → List ℕ

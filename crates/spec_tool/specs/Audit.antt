@@ -71,7 +71,7 @@ given_transactions (line ∷ lines) = onto_given (given_line line) (given_transa
 -- the compiled transactions of a contract, none where it isn't compiled
 abbrev pub listed_by : Setup → Option Instance → List Listed
 listed_by s None = []
-listed_by s (Some setting) = listed s.hash setting
+listed_by s (Some instance) = listed s.hash instance
 
 -- those of contract k in this world
 abbrev pub listed_in : Setup → World → ℕ → List Listed

@@ -62,7 +62,7 @@ report_text r = flat_map finding_line r.findings ++ (flat_map absent_line r.abse
 -- the last line, where the contract isn't compiled
 abbrev pub uncompiled_text : Option Instance → List ℕ
 uncompiled_text None = not_compiled_line
-uncompiled_text (Some setting) = []
+uncompiled_text (Some instance) = []
 
 -- ---- the answer
 

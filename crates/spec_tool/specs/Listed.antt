@@ -45,24 +45,24 @@ branch_signers contract advert path b =
 
 -- of the branch at a path, nobody where there is none
 abbrev pub path_signers : Instance → List PathStep → List (List Label)
-path_signers setting path = option_map_or (branch_signers setting.contract setting.advert path) (at setting.advert.root path) []
+path_signers instance path = option_map_or (branch_signers instance.contract instance.advert path) (at instance.advert.root path) []
 
 -- ---- the transactions
 
 abbrev pub initial_listed : (List ℕ → List ℕ) → Instance → Listed
-initial_listed hash setting = record { which = names.Init; draft = initial_unsigned hash setting; signers = initial_signers setting.advert }
+initial_listed hash instance = record { which = names.Init; draft = initial_unsigned hash instance; signers = initial_signers instance.advert }
 
 abbrev pub path_listed : Instance → List PathStep → Unsigned → Listed
-path_listed setting path draft = record { which = names.At path; draft = draft; signers = path_signers setting path }
+path_listed instance path draft = record { which = names.At path; draft = draft; signers = path_signers instance path }
 
 -- all of them: the initial one, and then those of the paths in the order of the text
 abbrev pub listed : (List ℕ → List ℕ) → Instance → List Listed
-listed hash setting = initial_listed hash setting ∷ map (λ p. path_listed setting (p.0) (p.1)) (path_transactions hash setting)
+listed hash instance = initial_listed hash instance ∷ map (λ p. path_listed instance (p.0) (p.1)) (path_transactions hash instance)
 
 -- the one of this name
 abbrev pub listed_at : (List ℕ → List ℕ) → Instance → Which → Option Listed
-listed_at hash setting names.Init = Some (initial_listed hash setting)
-listed_at hash setting (names.At path) = option_map (path_listed setting path) (unsigned_at hash setting path)
+listed_at hash instance names.Init = Some (initial_listed hash instance)
+listed_at hash instance (names.At path) = option_map (path_listed instance path) (unsigned_at hash instance path)
 
 -- ---- names
 

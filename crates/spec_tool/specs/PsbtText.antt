@@ -84,8 +84,8 @@ not_compiled_line = codes "contract 0 not compiled" ++ newline
 
 abbrev pub setting_psbt : (List ℕ → List ℕ) → List Pair → Which → Option Instance → List ℕ
 setting_psbt hash book which None = not_compiled_line
-setting_psbt hash book which (Some setting) =
-    option_map_or (λ l. psbt_line (listed_psbt hash book l)) (listed_at hash setting which) (no_path_line which)
+setting_psbt hash book which (Some instance) =
+    option_map_or (λ l. psbt_line (listed_psbt hash book l)) (listed_at hash instance which) (no_path_line which)
 
 -- a path that the contract doesn't have comes before a contract that isn't compiled
 abbrev pub which_psbt : Setup → World → Which → List ℕ

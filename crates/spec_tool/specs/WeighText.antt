@@ -68,11 +68,11 @@ named_all c = (codes "init", c.init) ∷ map named_path c.paths
 -- none where the contract isn't compiled
 abbrev pub setting_values : (List ℕ → List ℕ) → Option Instance → List (List ℕ)
 setting_values hash None = []
-setting_values hash (Some setting) = transaction_values (named_all (compilation hash setting)) (weights hash setting)
+setting_values hash (Some instance) = transaction_values (named_all (compilation hash instance)) (weights hash instance)
 
 abbrev pub plan_value : (List ℕ → List ℕ) → ℕ → Option Instance → List ℕ
-plan_value hash contract setting =
-    object ((codes "contract", decimal contract) ∷ ((codes "transactions", bracketed (setting_values hash setting)) ∷ []))
+plan_value hash contract instance =
+    object ((codes "contract", decimal contract) ∷ ((codes "transactions", bracketed (setting_values hash instance)) ∷ []))
 
 -- what `weigh` prints of a run that isn't halted
 unfoldable pub weigh_text : Setup → List Event → List ℕ

@@ -130,7 +130,7 @@ with_totals init all [] = []
 with_totals init all (p ∷ ps) = (p.1, total_to (p.0) init all) ∷ with_totals init all ps
 
 abbrev pub path_weights : (List ℕ → List ℕ) → Instance → List (List PathStep × Weight)
-path_weights hash setting = map (λ p. (p.0, path_weight setting.advert (p.0) (p.1))) (path_transactions hash setting)
+path_weights hash instance = map (λ p. (p.0, path_weight instance.advert (p.0) (p.1))) (path_transactions hash instance)
 
 abbrev pub all_weights : Weight → List (List PathStep × Weight) → List (Weight × Weight)
 all_weights init paths = (init, init) ∷ with_totals init paths paths
@@ -138,7 +138,7 @@ all_weights init paths = (init, init) ∷ with_totals init paths paths
 -- Of the initial transaction and then of each path its weight and its total: the weights of all transactions that lead
 -- there, the initial one's included.
 abbrev pub weights : (List ℕ → List ℕ) → Instance → List (Weight × Weight)
-weights hash setting = all_weights (exactly (initial_weight (initial_unsigned hash setting))) (path_weights hash setting)
+weights hash instance = all_weights (exactly (initial_weight (initial_unsigned hash instance))) (path_weights hash instance)
 
 -- ---- what is full
 

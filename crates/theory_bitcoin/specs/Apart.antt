@@ -54,8 +54,12 @@ PreimageOnce = (hash : List ℕ → List ℕ) (a b : Tx) (i j : TxIn) (s t : Lis
 
 -- the list of places tells the places
 abbrev pub PlacesOnce : Type 0
-PlacesOnce = (a b : Tx) → AllByRecursion IsInput a.inputs → AllByRecursion IsInput b.inputs → places_list a ≡ places_list b → map (λ i. i.prev) a.inputs ≡ map (λ i. i.prev) b.inputs
+PlacesOnce =
+    (a b : Tx) → AllByRecursion IsInput a.inputs → AllByRecursion IsInput b.inputs → places_list a
+    ≡ places_list b → map (λ i. i.prev) a.inputs ≡ map (λ i. i.prev) b.inputs
 
 -- the list of outputs tells the outputs
 abbrev pub OutputsOnce : Type 0
-OutputsOnce = (a b : Tx) → AllByRecursion IsOutput a.outputs → AllByRecursion IsOutput b.outputs → outputs_list a ≡ outputs_list b → a.outputs ≡ b.outputs
+OutputsOnce =
+    (a b : Tx) → AllByRecursion IsOutput a.outputs → AllByRecursion IsOutput b.outputs → outputs_list a ≡ outputs_list b → a.outputs
+    ≡ b.outputs

@@ -12,7 +12,8 @@ use Rattle.theory_calculus.specs.InOrder.{are_ascending}
 
 -- steps are a legal run from g to h exactly where each may be taken after those before it, and they make h of g
 abbrev pub LegalRunsAreOne : Type 0
-LegalRunsAreOne = (g : Configuration) (steps : List Step) (h : Configuration) → IsLegalRun g steps h ↔ (Legal g steps × (h ≡ after_steps g steps))
+LegalRunsAreOne =
+    (g : Configuration) (steps : List Step) (h : Configuration) → IsLegalRun g steps h ↔ (Legal g steps × (h ≡ after_steps g steps))
 
 -- ---- numbers
 

@@ -10,7 +10,8 @@ use Rattle.spec_nodes.specs.Numbers.{number_at, choice_number_at, IsBranchOf, Is
 
 -- at every path, the number's node is that of the branch there, and there is none where the contract has none
 abbrev pub BranchesAreFound : Type 0
-BranchesAreFound = (root : Contract) (path : List PathStep) → IsBranchOf (nodes_of root) path (number_at (nodes_of root) path) (at root path)
+BranchesAreFound =
+    (root : Contract) (path : List PathStep) → IsBranchOf (nodes_of root) path (number_at (nodes_of root) path) (at root path)
 
 -- at every position, the number's node is that of the choice there, and there is none where the contract has none
 abbrev pub ChoicesAreFound : Type 0

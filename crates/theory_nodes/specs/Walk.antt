@@ -9,7 +9,8 @@ use Rattle.spec_compiler.specs.Scripts.{Demands, demands, output_ops}
 use Rattle.spec_compiler.specs.declared.unsigned.Spent.{Spent}
 use Rattle.spec_compiler.specs.declared.unsigned.Unsigned.{Unsigned}
 use Rattle.spec_compiler.specs.Instance.{Instance, branch_keys}
-use Rattle.spec_compiler.specs.Transactions.{pays, party_script, put_deposits, continued_value, output_outpoint, initial_unsigned, root_value}
+use Rattle.spec_compiler.specs.Transactions.{pays, party_script, put_deposits, continued_value, output_outpoint, initial_unsigned}
+use Rattle.spec_compiler.specs.Transactions.{root_value}
 use Rattle.spec_compiler.specs.Compilation.{path_transactions, scripts}
 use Rattle.theory_nodes.specs.declared.waiting.Waiting.{Waiting}
 use Rattle.spec_nodes.specs.Nodes.{Deed, puts_reveals, withdraws, splits, Node, choice_node, branch_node, nodes_of}

@@ -93,8 +93,8 @@ module _ (s : Setup) (setup : IsSetup s) (z : List (List ℕ)) (before : List Re
         by_verdict (verdicts.Accepted spent made) h d c = accepted_begun s w [] tx spent (λ k i.
             let it = initial_is s w tx k i in
             let ends =
-            begins_ready s setup z before g w books leave starts more e is no_gift tx spent made h d c k it.setting i it.compiled in
-            record { setting = it.setting; compiled = it.compiled; endorsed = ends })
+            begins_ready s setup z before g w books leave starts more e is no_gift tx spent made h d c k it.instance i it.compiled in
+            record { instance = it.instance; compiled = it.compiled; endorsed = ends })
 
     if_begun : (o : Option Tx) → draft s w e ≡ reaches_if s w o → collision s.hash w.hashed (reaches_if s w o).hashes ≡ None
         → BeginsReady s w (reaches_if s w o).world

@@ -28,9 +28,9 @@ use Rattle.theory_run.proofs.Facts.Growing.{Grows}
 
 -- a contract that is compiled, with all its endorsements
 pub record IsReady (s : Setup) (w : World) (k : ℕ) : Type 0 where
-  pub setting : Instance
-  pub compiled : compiled_instance s w k ≡ Some setting
-  pub endorsed : is_endorsed s.hash setting w.book ≡ true
+  pub instance : Instance
+  pub compiled : compiled_instance s w k ≡ Some instance
+  pub endorsed : is_endorsed s.hash instance w.book ≡ true
 
 -- an honest party starts what is endorsed
 pub record KeptStarts (s : Setup) (before : List Record) (w : World) : Type 0 where
@@ -40,7 +40,7 @@ pub opening_starts : (s : Setup) (w : World) → KeptStarts s [] w
 opening_starts s w = record { started = λ k a h d. cc }
 
 pub ready_later : (s : Setup) (w next : World) → Grows s w next → (k : ℕ) → IsReady s w k → IsReady s next k
-ready_later s w next grows k r = record { setting = r.setting; compiled = grows.compiled k r.setting r.compiled; endorsed = endorsed_later s.hash r.setting w.book next.book grows.book r.endorsed }
+ready_later s w next grows k r = record { instance = r.instance; compiled = grows.compiled k r.instance r.compiled; endorsed = endorsed_later s.hash r.instance w.book next.book grows.book r.endorsed }
 
 -- what an honest party's start has seen
 ready_now : (s : Setup) (w : World) (k : ℕ) (a : List ℕ) → is_honest s a ≡ true → is_done (init_draft s w k a).outcome ≡ true → IsReady s w k
@@ -53,7 +53,7 @@ ready_now s w k a honest d = by_reason (first_reason (init_row s w k a)) refl d
 
     by_compiled : (o : Option Instance) → compiled_instance s w k ≡ o → is_some o ≡ true → missing_need s w o ≡ None → IsReady s w k
     by_compiled None c h m = cc
-    by_compiled (Some st) c h m = record { setting = st; compiled = c; endorsed = endorsed_from s w st m }
+    by_compiled (Some st) c h m = record { instance = st; compiled = c; endorsed = endorsed_from s w st m }
 
     by_reason : (r : Option Reason) → first_reason (init_row s w k a) ≡ r → is_done (unless r w [] (done (with_pairs w (initial_pairs s a (compiled_instance s w k))) [])).outcome ≡ true → IsReady s w k
     by_reason (Some r) e h = cc

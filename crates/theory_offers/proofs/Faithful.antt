@@ -91,7 +91,7 @@ module _ (s : Setup) (setup : IsSetup s) (z : List (List ℕ)) (before : List Re
         by_found None h = refl
         by_found (Some k) h =
             let it = initial_is s w given k h in
-            absurd (gift_starts_nothing s setup.hash setup.few_contracts g w books.book (checks s setup g w books) books.clear k it.setting it.compiled party inputs outputs is.takers is.some_output it.is)
+            absurd (gift_starts_nothing s setup.hash setup.few_contracts g w books.book (checks s setup g w books) books.clear k it.instance it.compiled party inputs outputs is.takers is.some_output it.is)
 
     given_offers : NoneTrue (give_row s w party inputs outputs) → (v : Verdict) → verdict_in s (with_pairs w pairs) given ≡ v → collision s.hash w.hashed (judged s w (with_pairs w pairs) given v).hashes ≡ None
         → OffersKept s z g w books.book more giving (judged s w (with_pairs w pairs) given v)

@@ -69,9 +69,9 @@ module _ (s : Setup) (setup : IsSetup s) (z : List (List ℕ)) (g : Configuratio
       → (0 < length (parts_list ps)) × (sum_of_parts ps ≤ (fine s setup g w agree kept check more n i a).here.output.value)
   even n i a b ps t c =
       let f = fine s setup g w agree kept check more n i a in
-      let well = check.checked a.held.contract f.setting f.compiled in (
-        split_some f.setting.advert a.held.position f.choice i b ps well (term_choice s.hash f.setting a.held.position f.here f.choice f.stands) t c,
-        split_even s.hash f.setting well a.held.position f.here f.choice i b ps f.stands t c,
+      let well = check.checked a.held.contract f.instance f.compiled in (
+        split_some f.instance.advert a.held.position f.choice i b ps well (term_choice s.hash f.instance a.held.position f.here f.choice f.stands) t c,
+        split_even s.hash f.instance well a.held.position f.here f.choice i b ps f.stands t c,
       )
 
   step_kept : (x : Step) (o : Offer) → fails g x ≡ 0 → Is_in o (offers_of x) → IsKept s g w o

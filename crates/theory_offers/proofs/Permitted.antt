@@ -90,12 +90,12 @@ module _ (s : Setup) (setup : IsSetup s) (g : Configuration) (w : World) (agree 
 
     pub branch_seen : branch_at g n i ≡ slice_get (branches fine.choice) i
     branch_seen =
-        let ci = compiled_is s w a.held.contract fine.setting fine.compiled in
-        let c : contract_at s a.held.contract ≡ Some fine.setting.advert = ci.there ∙ ap (λ (y : Instance). Some y.advert) (sym ci.is) in
+        let ci = compiled_is s w a.held.contract fine.instance fine.compiled in
+        let c : contract_at s a.held.contract ≡ Some fine.instance.advert = ci.there ∙ ap (λ (y : Instance). Some y.advert) (sym ci.is) in
         ap (λ x. branch_of g.contracts x i) a.seen
         ∙ ap (λ cs. calculus.branch_in (slice_get cs a.held.contract) a.held.position i) more.constant.contracts
         ∙ ap (λ o. calculus.branch_in o a.held.position i) c
-        ∙ term_branches s.hash fine.setting a.held.position fine.here fine.choice i fine.stands
+        ∙ term_branches s.hash fine.instance a.held.position fine.here fine.choice i fine.stands
 
     -- the premises that all branches have
     pub record Permitted (b : term.Guarded) : Type 0 where
@@ -112,7 +112,7 @@ module _ (s : Setup) (setup : IsSetup s) (g : Configuration) (w : World) (agree 
 
     -- a branch that puts nothing and reveals nothing
     pub quiet_take : (b : term.Guarded) → Permitted b → puts_of (core b) ≡ [] → reveals_of (core b) ≡ [] → test_of (core b) ≡ always
-        → 0 < length (branch_unsigned s.hash fine.setting fine.here i b).outputs → bitcoin.total_of (branch_unsigned s.hash fine.setting fine.here i b).outputs ≤ fine.here.output.value → MayTake s g w n i
+        → 0 < length (branch_unsigned s.hash fine.instance fine.here i b).outputs → bitcoin.total_of (branch_unsigned s.hash fine.instance fine.here i b).outputs ≤ fine.here.output.value → MayTake s g w n i
     quiet_take b p pe re te makes enough = record {
       output = a.output;
       there = a.there;
@@ -127,9 +127,9 @@ module _ (s : Setup) (setup : IsSetup s) (g : Configuration) (w : World) (agree 
       live_puts = λ name k. absurd (subst (Is_in name) pe k);
       known_puts = λ name k. absurd (subst (Is_in name) pe k);
       different_puts = ap are_different pe;
-      shown = ap (first_unshown s w fine.setting) re;
-      fits = ap (λ rs. are_secrets s.hash (shown_strings s w fine.setting rs) (map (digest_of fine.setting.hashes) rs)) re;
-      predicate = λ j. holds (secret_lengths (re j) (shown_strings s w fine.setting (re j))) (te j);
+      shown = ap (first_unshown s w fine.instance) re;
+      fits = ap (λ rs. are_secrets s.hash (shown_strings s w fine.instance rs) (map (digest_of fine.instance.hashes) rs)) re;
+      predicate = λ j. holds (secret_lengths (re j) (shown_strings s w fine.instance (re j))) (te j);
       makes = makes;
       enough = omega (arith, enough);
     }
@@ -141,8 +141,8 @@ module _ (s : Setup) (setup : IsSetup s) (g : Configuration) (w : World) (agree 
     withdraw_take b p (auth party body) e h = cc
     withdraw_take b p (after height body) e h = cc
     withdraw_take b p (withdraw party) e h =
-        let v = fine.here.output.value - fine.setting.advert.fee in
-        let o : (branch_unsigned s.hash fine.setting fine.here i b).outputs ≡ pays s.hash (party_script s.hash party) v ∷ [] = ap (core_outputs s.hash fine.setting (branch_path fine.here.position i) fine.here.output.value) e in
+        let v = fine.here.output.value - fine.instance.advert.fee in
+        let o : (branch_unsigned s.hash fine.instance fine.here i b).outputs ≡ pays s.hash (party_script s.hash party) v ∷ [] = ap (core_outputs s.hash fine.instance (branch_path fine.here.position i) fine.here.output.value) e in
         let t = ap bitcoin.total_of o ∙ one_total (pays s.hash (party_script s.hash party) v) in
         let l = ap length o in
         takes_kept s setup g w kept check more n i
@@ -158,10 +158,10 @@ module _ (s : Setup) (setup : IsSetup s) (g : Configuration) (w : World) (agree 
     split_take b p (split ps) e h k =
         let q = k ps e in
         let path = branch_path fine.here.position i in
-        let o : (branch_unsigned s.hash fine.setting fine.here i b).outputs ≡ part_outputs s.hash fine.setting path 0 ps = ap (core_outputs s.hash fine.setting path fine.here.output.value) e in
-        let t = ap bitcoin.total_of o ∙ parts_total s.hash fine.setting path 0 ps in
+        let o : (branch_unsigned s.hash fine.instance fine.here i b).outputs ≡ part_outputs s.hash fine.instance path 0 ps = ap (core_outputs s.hash fine.instance path fine.here.output.value) e in
+        let t = ap bitcoin.total_of o ∙ parts_total s.hash fine.instance path 0 ps in
         let l = ap length o in
-        let f = some_part s.hash fine.setting path ps q.0 in
+        let f = some_part s.hash fine.instance path ps q.0 in
         let u = q.1 in
         takes_kept s setup g w kept check more n i
         (quiet_take b p (ap puts_of e) (ap reveals_of e) (ap test_of e) (omega (arith, l, f)) (omega (arith, t, u)))

@@ -110,7 +110,7 @@ puts_worth hash st (x ∷ puts) =
 module _ (s : Setup) (setup : IsSetup s) (z : List (List ℕ)) (g : Configuration) (w : World) (agree : Agree s g w) (kept : KeptBook s g w) (check : Checked s w) (secrets : KeptSecrets s z g w) (begins : Begins z w.posted) (more : KeptOffers s g w) where
   module _ (n i : ℕ) (a : Active s setup g w agree kept check more n) (b : term.Guarded) (p : Permitted s setup g w agree kept check more n i a b) where
     abbrev pub st : Instance
-    st = (fine s setup g w agree kept check more n i a).setting
+    st = (fine s setup g w agree kept check more n i a).instance
 
     abbrev pub k : ℕ
     k = a.held.contract

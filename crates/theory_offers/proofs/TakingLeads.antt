@@ -59,7 +59,7 @@ module _ (s : Setup) (setup : IsSetup s) (g : Configuration) (w : World) (kept :
   row : first_reason (fire_row s w n i) ≡ None
   row =
       let b : branch_if_live s (live_position_at w n) i ≡ Some may.branch = ap (λ h. branch_if_live s h i) held_is ∙ taking.branch_is s setup g w kept check more n i may in
-      let t : position_instance s w (live_position_at w n) ≡ Some may.fine.setting = ap (position_instance s w) held_is ∙ may.fine.compiled in
+      let t : position_instance s w (live_position_at w n) ≡ Some may.fine.instance = ap (position_instance s w) held_is ∙ may.fine.compiled in
       let u : unknown_at s w n i ≡ None = (λ j. unknown_secret s w (t j) (b j)) ∙ may.shown in
       none_reason (fire_row s w n i) (ap (λ o. not (is_some o)) held_is, (ap (λ o. not (is_some o)) b, (ap is_some u, tt)))
 
@@ -69,7 +69,7 @@ module _ (s : Setup) (setup : IsSetup s) (g : Configuration) (w : World) (kept :
       (λ j. unless (row j) w [] (reaches_if s w (t j))) ∙ ap (judged s w w tx) (taking.taking_accepts s setup g w kept check more n i may)
 
   tx_bare : bare tx ≡ bare (tx_of (taking.made s setup g w kept check more n i may))
-  tx_bare = with-bare (tx_of (taking.made s setup g w kept check more n i may)) (taking_witnesses s w may.fine.setting may.held i may.fine.choice may.branch (prepared s.hash (taking.made s setup g w kept check more n i may)))
+  tx_bare = with-bare (tx_of (taking.made s setup g w kept check more n i may)) (taking_witnesses s w may.fine.instance may.held i may.fine.choice may.branch (prepared s.hash (taking.made s setup g w kept check more n i may)))
 
   -- it is no initial transaction
   no_initial : initial_of s w tx ≡ None
@@ -79,9 +79,9 @@ module _ (s : Setup) (setup : IsSetup s) (g : Configuration) (w : World) (kept :
       by_contract None e = refl
       by_contract (Some j) e =
           let is = initial_is s w tx j e in
-          let b : bare (tx_of (taking.made s setup g w kept check more n i may)) ≡ bare (tx_of (initial_unsigned s.hash is.setting)) = sym tx_bare ∙ is.is in
-          let d = first_persistent s.hash is.setting (persistent is.setting.advert.pre) may.fine.here.output _ (ap (λ (y : Tx). y.inputs) b) in
-          let a = at_bound s g w kept j is.setting is.compiled (d.0.0) (d.0.1) (persistent_deposit is.setting.advert.pre d.0 d.1) in
+          let b : bare (tx_of (taking.made s setup g w kept check more n i may)) ≡ bare (tx_of (initial_unsigned s.hash is.instance)) = sym tx_bare ∙ is.is in
+          let d = first_persistent s.hash is.instance (persistent is.instance.advert.pre) may.fine.here.output _ (ap (λ (y : Tx). y.inputs) b) in
+          let a = at_bound s g w kept j is.instance is.compiled (d.0.0) (d.0.1) (persistent_deposit is.instance.advert.pre d.0 d.1) in
           let m = kept.apart n a.number may.output a.bound.output may.there a.bound.there (may.fine.outpoint ∙ d.2 ∙ a.outpoint) in
           let o : (let y : Option Output = Some may.output in y) ≡ Some a.bound.output = sym may.there ∙ ap (slice_get w.outputs) m ∙ a.bound.there in
           let f : may.output ≡ a.bound.output = cc in
@@ -93,7 +93,7 @@ module _ (s : Setup) (setup : IsSetup s) (g : Configuration) (w : World) (kept :
       let witness = taking.witness s setup g w kept check more n i may in
       let c : chosen_by (branch_count s may.held) witness ≡ i =
       ap (λ m. chosen_by m witness) (counted s w may.held may.output may.fine)
-      ∙ witness_chooses s.hash (is_valid w.book (taking.dg s setup g w kept check more n i may)) may.fine.setting may.held.position may.fine.choice i (taking.sigs s setup g w kept check more n i may) (taking.strings s setup g w kept check more n i may) (script_of_position s may.fine.setting may.held may.fine.choice) (taking.fills s setup g w kept check more n i may) in
+      ∙ witness_chooses s.hash (is_valid w.book (taking.dg s setup g w kept check more n i may)) may.fine.instance may.held.position may.fine.choice i (taking.sigs s setup g w kept check more n i may) (taking.strings s setup g w kept check more n i may) (script_of_position s may.fine.instance may.held may.fine.choice) (taking.fills s setup g w kept check more n i may) in
       (λ j. kind_by s tx (n ∷ ns) (no_initial j) (held_is j)) ∙ ap (Takes may.held n) c
 
   module _ (step : Step) (step_is : core_step n i (core may.branch) ≡ step ∷ []) where

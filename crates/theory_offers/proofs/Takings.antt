@@ -130,22 +130,22 @@ pub record MayTake (s : Setup) (g : Configuration) (w : World) (n i : ℕ) : Typ
   pub agreed : (a : List ℕ) → is_asked branch a ≡ true → has_branch_authorised g.branch_authorised n i a ≡ true
   -- deposits that it puts
   pub live_puts : (name : List ℕ) → Is_in name (puts_of (core branch)) → names_deposit w (look_up name (bindings_at w.advertised held.contract)) ≡ true
-  pub known_puts : (name : List ℕ) → Is_in name (puts_of (core branch)) → Is_in (name, holding_or_none (look_up name (volatile fine.setting.advert.pre))) (deposits fine.setting.advert.pre)
+  pub known_puts : (name : List ℕ) → Is_in name (puts_of (core branch)) → Is_in (name, holding_or_none (look_up name (volatile fine.instance.advert.pre))) (deposits fine.instance.advert.pre)
   pub different_puts : are_different (puts_of (core branch)) ≡ true
   -- secrets that it reveals
-  pub shown : first_unshown s w fine.setting (reveals_of (core branch)) ≡ None
-  pub fits : are_secrets s.hash (shown_strings s w fine.setting (reveals_of (core branch))) (map (digest_of fine.setting.hashes) (reveals_of (core branch))) ≡ true
-  pub predicate : holds (secret_lengths (reveals_of (core branch)) (shown_strings s w fine.setting (reveals_of (core branch)))) (test_of (core branch)) ≡ true
+  pub shown : first_unshown s w fine.instance (reveals_of (core branch)) ≡ None
+  pub fits : are_secrets s.hash (shown_strings s w fine.instance (reveals_of (core branch))) (map (digest_of fine.instance.hashes) (reveals_of (core branch))) ≡ true
+  pub predicate : holds (secret_lengths (reveals_of (core branch)) (shown_strings s w fine.instance (reveals_of (core branch)))) (test_of (core branch)) ≡ true
   -- what it makes
-  pub makes : 0 < length (branch_unsigned s.hash fine.setting fine.here i branch).outputs
-  pub enough : bitcoin.total_of (branch_unsigned s.hash fine.setting fine.here i branch).outputs ≤ worth (branch_unsigned s.hash fine.setting fine.here i branch).spends
+  pub makes : 0 < length (branch_unsigned s.hash fine.instance fine.here i branch).outputs
+  pub enough : bitcoin.total_of (branch_unsigned s.hash fine.instance fine.here i branch).outputs ≤ worth (branch_unsigned s.hash fine.instance fine.here i branch).spends
 
 module _ (s : Setup) (setup : IsSetup s) (g : Configuration) (w : World) (kept : KeptBook s g w) (check : Checked s w) (more : KeptOffers s g w) (n i : ℕ) (may : MayTake s g w n i) where
   abbrev pub held : ContractPosition
   held = may.held
 
   abbrev pub st : Instance
-  st = may.fine.setting
+  st = may.fine.instance
 
   abbrev pub here : Standing
   here = may.fine.here
@@ -157,7 +157,7 @@ module _ (s : Setup) (setup : IsSetup s) (g : Configuration) (w : World) (kept :
   b = may.branch
 
   abbrev pub made : Unsigned
-  made = branch_unsigned s.hash may.fine.setting may.fine.here i may.branch
+  made = branch_unsigned s.hash may.fine.instance may.fine.here i may.branch
 
   abbrev pub dg : List ℕ
   dg = digest_of_spent s.hash (tx_of made) may.fine.here.output

@@ -14,7 +14,7 @@ use Rattle.spec_run.specs.Statements.{Claim, HoldsThroughout, IsRun}
 -- whether a contract that is compiled so has all its endorsements in the book
 abbrev pub is_endorsed_so : Setup → World → Option Instance → Bool
 is_endorsed_so s w None = false
-is_endorsed_so s w (Some setting) = is_endorsed s.hash setting w.book
+is_endorsed_so s w (Some instance) = is_endorsed s.hash instance w.book
 
 -- whether the contract of this number is compiled and endorsed
 abbrev pub is_endorsed_at : Setup → World → ℕ → Bool

@@ -75,8 +75,8 @@ is_of_contract contract (Some held) = held.contract == contract
 -- the output that a position is compiled to, where the contract is compiled
 abbrev pub compiled_output : Setup → Option Instance → List PathStep → Option TxOut
 compiled_output s None position = None
-compiled_output s (Some setting) position =
-    option_map (λ p. pays s.hash p.0.output.script p.0.output.value) (position_at s.hash setting position)
+compiled_output s (Some instance) position =
+    option_map (λ p. pays s.hash p.0.output.script p.0.output.value) (position_at s.hash instance position)
 
 -- outputs, spent ones included, are told by their places. One holds a position exactly where it lies at the place that the position
 -- is compiled to; so before all participants of a contract have committed, none holds one of its positions
@@ -87,7 +87,8 @@ pub record HasPlaces (s : Setup) (w : World) : Type 0 where
   -- and then it has the value and the script that the position is compiled to
   pub same : (contract : ℕ) (position : List PathStep) (n : ℕ) (o : Output) → output_at w n ≡ Some o
       → is_position_of contract position o.holds ≡ true → compiled_output s (compiled_instance s w contract) position ≡ Some (tx_out o)
-  pub none : (contract : ℕ) → compiled_instance s w contract ≡ None → list_any (λ (o : Output). is_of_contract contract o.holds) w.outputs ≡ false
+  pub none : (contract : ℕ) → compiled_instance s w contract ≡ None
+      → list_any (λ (o : Output). is_of_contract contract o.holds) w.outputs ≡ false
 
 -- ---- what is committed
 

@@ -43,7 +43,7 @@ module _ (s : Setup) (g : Configuration) (w : World) (kept : KeptBook s g w) (ch
     it = initial_is s w tx k i
 
     abbrev st : Instance
-    st = it.setting
+    st = it.instance
 
     -- an honest participant, and a persistent deposit of it
     someone : (a : List ℕ) × (is_among a (people st) ≡ true) × (is_honest s a ≡ true)
@@ -98,6 +98,6 @@ module _ (s : Setup) (g : Configuration) (w : World) (kept : KeptBook s g w) (ch
   pub begins_endorsed : SpendsWithLeave s before w (record_of e (accepted s w tx spent)) (settled w (accepted s w tx spent)) → ((a : List ℕ) (n : ℕ) → gives a n e ≡ false) → BeginsEndorsed s w tx
   begins_endorsed leave no_gift k st i c =
       let r = starts.started k (someone k i).0 (someone k i).2 (left k i leave (no_gift (someone k i).0 (bound k i).number)) in
-      let one : (let x : Option Instance = Some r.setting in x) ≡ Some st = sym r.compiled ∙ c in
-      let same : r.setting ≡ st = cc in
+      let one : (let x : Option Instance = Some r.instance in x) ≡ Some st = sym r.compiled ∙ c in
+      let same : r.instance ≡ st = cc in
       subst (λ (x : Instance). is_endorsed s.hash x w.book ≡ true) same r.endorsed

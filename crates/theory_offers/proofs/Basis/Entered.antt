@@ -178,5 +178,5 @@ entered_offers s g w kept more tx spent is stays back endorsed =
         | inr r ↦ inr (taken_first s w tx spent n (initial_of s w tx) (first_position w spent) refl (asked_kind s g w tx spent (kind_of s w tx spent) n i a r))
       ]
     ])
-    (λ k e. let r = initial_is s w tx k e in (r.setting, r.compiled, endorsed k r.setting e r.compiled, λ d i. is_gone s g w kept tx spent is k r.setting r.compiled d i r.is))
+    (λ k e. let r = initial_is s w tx k e in (r.instance, r.compiled, endorsed k r.instance e r.compiled, λ d i. is_gone s g w kept tx spent is k r.instance r.compiled d i r.is))
     (λ k st d c i l. was_live s g w kept tx spent is k st c d i l)

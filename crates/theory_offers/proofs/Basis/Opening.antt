@@ -133,7 +133,7 @@ held_compiled s g w kept n h e = by_output (slice_get w.outputs n) refl e
   where
     by_live : (o : Output) → slice_get w.outputs n ≡ Some o → (b : Bool) → (if b then o.holds else None) ≡ Some h → (st : Instance) × (compiled_instance s w h.contract ≡ Some st)
     by_live o f false q = cc
-    by_live o f true q = let k = kept.held n o h f q in (k.setting, k.compiled)
+    by_live o f true q = let k = kept.held n o h f q in (k.instance, k.compiled)
 
     by_output : (r : Option Output) → slice_get w.outputs n ≡ r → live_position r ≡ Some h → (st : Instance) × (compiled_instance s w h.contract ≡ Some st)
     by_output None f q = cc

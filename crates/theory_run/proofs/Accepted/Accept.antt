@@ -255,8 +255,8 @@ module _ (s : Setup) (size : HashesBytes s.hash) (g : Configuration) (w : World)
                 f.asked n i a (h.authorised x n there)
             by_place x n o (new m y hx nx ox) live hd =
                 let hf = held_new m y (record { contract = k; position = q }) o hx (ap (λ (z : Output). z.holds) (sym ox) ∙ hd) ox in
-                let st_same : (let z : Option Instance = Some hf.setting in z) ≡ Some st = sym (back k hf.setting hf.compiled) ∙ c in
-                let st_is : hf.setting ≡ st = cc in
+                let st_same : (let z : Option Instance = Some hf.instance in z) ≡ Some st = sym (back k hf.instance hf.compiled) ∙ c in
+                let st_is : hf.instance ≡ st = cc in
                 let pos : (let z : Option (Standing × Contract) = Some (hf.here, hf.choice) in z) ≡ Some (here, choice) = sym (subst (λ u. position_at s.hash u q ≡ Some (hf.here, hf.choice)) st_is hf.stands) ∙ e in
                 let pr : (let z : Standing × Contract = (hf.here, hf.choice) in z) ≡ (here, choice) = cc in
                 let here_is : hf.here ≡ here = ap (λ (z : Standing × Contract). z.0) pr in

@@ -51,14 +51,14 @@ participant_declared s g w kept check k st c a h =
 
 -- the choice at a position, and a branch there, as the ledger looks them up
 module _ (s : Setup) (w : World) (h : ContractPosition) (o : Output) (hf : HeldFine s w o h) where
-  contract_is : contract_at s h.contract ≡ Some hf.setting.advert
-  contract_is = let ci = compiled_is s w h.contract hf.setting hf.compiled in ci.there ∙ ap (λ (y : Instance). Some y.advert) (sym ci.is)
+  contract_is : contract_at s h.contract ≡ Some hf.instance.advert
+  contract_is = let ci = compiled_is s w h.contract hf.instance hf.compiled in ci.there ∙ ap (λ (y : Instance). Some y.advert) (sym ci.is)
 
   pub counted : branch_count s h ≡ length (branches hf.choice)
-  counted = ap (λ a. count_of (contract_in a h.position)) contract_is ∙ ap count_of (term_choice s.hash hf.setting h.position hf.here hf.choice hf.stands)
+  counted = ap (λ a. count_of (contract_in a h.position)) contract_is ∙ ap count_of (term_choice s.hash hf.instance h.position hf.here hf.choice hf.stands)
 
   pub looked_branch : (i : ℕ) (b : term.Guarded) → slice_get (branches hf.choice) i ≡ Some b → position_branch s h i ≡ Some b
-  looked_branch i b e = ap (λ a. branch_in a (position_path h i)) contract_is ∙ term_branches s.hash hf.setting h.position hf.here hf.choice i hf.stands ∙ e
+  looked_branch i b e = ap (λ a. branch_in a (position_path h i)) contract_is ∙ term_branches s.hash hf.instance h.position hf.here hf.choice i hf.stands ∙ e
 
 module _ (s : Setup) (size : HashesBytes s.hash) (few_contracts : length s.contracts ≤ 16) (g : Configuration) (w : World) (kept : KeptBook s g w) (fit : TransactionsFit s w) (check : Checked s w) (hs : List (List ℕ)) (clear : NoClash s.hash hs) (sub : (t : List ℕ) → is_among t w.hashed ≡ true → is_among t hs ≡ true)
     (tx : Tx) (fits : IsNumbered tx) (spent : List ℕ) (acc : Accepting s w tx spent) (all : HeardAll s w hs tx) where
@@ -90,8 +90,8 @@ module _ (s : Setup) (size : HashesBytes s.hash) (few_contracts : length s.contr
         there = t.opened.is_branch;
         is = t.is;
         payee = λ p c.
-            let l = term_branches s.hash hf.setting h.position hf.here hf.choice t.opened.i hf.stands ∙ t.opened.is_branch in
-            participant_declared s g w kept check h.contract hf.setting hf.compiled p (branch_named hf.setting.advert (h.position ++ To t.opened.i ∷ []) t.opened.b p l (payee_mentioned t.opened.b p c));
+            let l = term_branches s.hash hf.instance h.position hf.here hf.choice t.opened.i hf.stands ∙ t.opened.is_branch in
+            participant_declared s g w kept check h.contract hf.instance hf.compiled p (branch_named hf.instance.advert (h.position ++ To t.opened.i ∷ []) t.opened.b p l (payee_mentioned t.opened.b p c));
       }
 
   -- what it is, where its first witness opens a branch
@@ -101,7 +101,7 @@ module _ (s : Setup) (size : HashesBytes s.hash) (few_contracts : length s.contr
       let under = under_script fst.input.witness fst.spends.filled in
       let ch : chosen_by (branch_count s h) fst.input.witness ≡ k.opened.i =
       ap (λ n. chosen_by n fst.input.witness) (counted s w h fst.spends.output hf) ∙ ap (chosen (length (branches hf.choice))) under
-      ∙ opened_is_chosen s.hash _ hf.setting h.position hf.choice (reverse (verdict.items_of fst.input.witness)) k.opened in
+      ∙ opened_is_chosen s.hash _ hf.instance h.position hf.choice (reverse (verdict.items_of fst.input.witness)) k.opened in
       (λ j. kind_by s tx spent (i j) (f j))
       ∙ (λ j. Takes h (first_number (fst.spent_is j)) (chosen_by (branch_count s h) (first_witness (fst.inputs_is j))))
       ∙ ap (Takes h fst.number) ch

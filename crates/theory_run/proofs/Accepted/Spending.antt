@@ -184,22 +184,22 @@ module _ (s : Setup) (size : HashesBytes s.hash) (g : Configuration) (w : World)
   -- which transaction an honest party's signature of a deposit is of
   pub record IsPut (a : List ℕ) : Type 0 where
     pub contract : ℕ
-    pub setting : Instance
-    pub compiled : compiled_instance s w contract ≡ Some setting
+    pub instance : Instance
+    pub compiled : compiled_instance s w contract ≡ Some instance
     pub position : List PathStep
     pub here : Standing
     pub choice : Contract
-    pub stands : position_at s.hash setting position ≡ Some (here, choice)
+    pub stands : position_at s.hash instance position ≡ Some (here, choice)
     pub index : ℕ
     pub branch : term.Guarded
     pub there : slice_get (branches choice) index ≡ Some branch
-    pub is : bare tx ≡ bare (tx_of (branch_unsigned s.hash setting here index branch))
+    pub is : bare tx ≡ bare (tx_of (branch_unsigned s.hash instance here index branch))
 
   pub record IsStart (a : List ℕ) : Type 0 where
     pub contract : ℕ
-    pub setting : Instance
-    pub compiled : compiled_instance s w contract ≡ Some setting
-    pub is : bare tx ≡ bare (tx_of (initial_unsigned s.hash setting))
+    pub instance : Instance
+    pub compiled : compiled_instance s w contract ≡ Some instance
+    pub is : bare tx ≡ bare (tx_of (initial_unsigned s.hash instance))
     pub cause : (d : List ℕ) × Started s g w a d
 
   -- a gift with the same digest spends the same places
@@ -210,14 +210,14 @@ module _ (s : Setup) (size : HashesBytes s.hash) (g : Configuration) (w : World)
       preimage-apart s.hash size hs clear tx h.tx fits h.fits lists l i h.input pi h.prev script (party_script s.hash a) v h.value m
 
   -- one with the digest of a put is its branch's, and one with that of a start is the initial transaction
-  pub same_put : (a d : List ℕ) (i : TxIn) (script : List ℕ) (v : ℕ) → IsPlace i.prev → HeardDigest s hs tx i script v → digest s.hash tx i script v ≡ d → (h : Needed s w a d) → bare tx ≡ bare (tx_of (branch_unsigned s.hash h.setting h.here h.index h.branch))
+  pub same_put : (a d : List ℕ) (i : TxIn) (script : List ℕ) (v : ℕ) → IsPlace i.prev → HeardDigest s hs tx i script v → digest s.hash tx i script v ≡ d → (h : Needed s w a d) → bare tx ≡ bare (tx_of (branch_unsigned s.hash h.instance h.here h.index h.branch))
   same_put a d i script v pi k e h =
-      let dh = branch_heard s.hash h.setting hs (heard_at h.contract h.setting h.compiled) h.position h.here h.choice h.index h.branch h.stands h.there in
-      same_digest (branch_unsigned s.hash h.setting h.here h.index h.branch) h.spent i script v (fit.branch h.contract h.setting h.position h.here h.choice h.index h.branch h.compiled h.stands h.there) dh (inr h.put) pi k (e ∙ h.is)
+      let dh = branch_heard s.hash h.instance hs (heard_at h.contract h.instance h.compiled) h.position h.here h.choice h.index h.branch h.stands h.there in
+      same_digest (branch_unsigned s.hash h.instance h.here h.index h.branch) h.spent i script v (fit.branch h.contract h.instance h.position h.here h.choice h.index h.branch h.compiled h.stands h.there) dh (inr h.put) pi k (e ∙ h.is)
 
-  pub same_start : (a d : List ℕ) (i : TxIn) (script : List ℕ) (v : ℕ) → IsPlace i.prev → HeardDigest s hs tx i script v → digest s.hash tx i script v ≡ d → (h : Started s g w a d) → bare tx ≡ bare (tx_of (initial_unsigned s.hash h.setting))
+  pub same_start : (a d : List ℕ) (i : TxIn) (script : List ℕ) (v : ℕ) → IsPlace i.prev → HeardDigest s hs tx i script v → digest s.hash tx i script v ≡ d → (h : Started s g w a d) → bare tx ≡ bare (tx_of (initial_unsigned s.hash h.instance))
   same_start a d i script v pi k e h =
-      same_digest (initial_unsigned s.hash h.setting) h.spent i script v (fit.initial h.contract h.setting h.compiled) (initial_heard s.hash h.setting hs (heard_at h.contract h.setting h.compiled)) h.persists pi k (e ∙ h.is)
+      same_digest (initial_unsigned s.hash h.instance) h.spent i script v (fit.initial h.contract h.instance h.compiled) (initial_heard s.hash h.instance hs (heard_at h.contract h.instance h.compiled)) h.persists pi k (e ∙ h.is)
 
   -- what a cause says of a transaction with that digest
   pub data Cause (a : List ℕ) : Type 0 where
@@ -229,7 +229,7 @@ module _ (s : Setup) (size : HashesBytes s.hash) (g : Configuration) (w : World)
   cause_of a d i script v pi k e (gave h) = gift_cause d h (same_gift a d i script v pi k h e)
   cause_of a d i script v pi k e (needed h) = put_cause (record {
     contract = h.contract;
-    setting = h.setting;
+    instance = h.instance;
     compiled = h.compiled;
     position = h.position;
     here = h.here;
@@ -240,7 +240,7 @@ module _ (s : Setup) (size : HashesBytes s.hash) (g : Configuration) (w : World)
     there = h.there;
     is = same_put a d i script v pi k e h;
   })
-  cause_of a d i script v pi k e (started h) = start_cause (record { contract = h.contract; setting = h.setting; compiled = h.compiled; is = same_start a d i script v pi k e h; cause = (d, h) })
+  cause_of a d i script v pi k e (started h) = start_cause (record { contract = h.contract; instance = h.instance; compiled = h.compiled; is = same_start a d i script v pi k e h; cause = (d, h) })
 
   -- the pair of a party's deposit that is spent stands in the book
   pub deposit_signed : (n : ℕ) (i : TxIn) (sp : IsSpent s w tx n i) (h : is_among (script_of i.witness) hs ≡ true) (a : List ℕ) → is_declared s a ≡ true → sp.output.script ≡ paid_to s a
@@ -261,15 +261,15 @@ module _ (s : Setup) (size : HashesBytes s.hash) (g : Configuration) (w : World)
 
   -- the transaction is that of a branch, which its participants have signed
   pub record IsTaken (i : TxIn) (o : Output) (h : ContractPosition) (hf : HeldFine s w o h) : Type 0 where
-    pub opened : Opens s.hash (is_valid w.book (digest s.hash tx i hf.here.output.script o.value)) hf.setting h.position hf.choice (reverse (items_of i.witness))
+    pub opened : Opens s.hash (is_valid w.book (digest s.hash tx i hf.here.output.script o.value)) hf.instance h.position hf.choice (reverse (items_of i.witness))
     pub script : script_of i.witness ≡ hf.here.output.script
-    pub signed : (a : List ℕ) → is_among a (people hf.setting) ≡ true → has_signed w.book (key_of s.hash (branch_label h.contract (h.position ++ To opened.i ∷ []) a)) (digest s.hash tx i hf.here.output.script o.value) ≡ true
-    pub is : bare tx ≡ bare (tx_of (branch_unsigned s.hash hf.setting hf.here opened.i opened.b))
+    pub signed : (a : List ℕ) → is_among a (people hf.instance) ≡ true → has_signed w.book (key_of s.hash (branch_label h.contract (h.position ++ To opened.i ∷ []) a)) (digest s.hash tx i hf.here.output.script o.value) ≡ true
+    pub is : bare tx ≡ bare (tx_of (branch_unsigned s.hash hf.instance hf.here opened.i opened.b))
 
   pub taken : (n : ℕ) (i : TxIn) (sp : IsSpent s w tx n i) (hi : is_among (script_of i.witness) hs ≡ true) (hd : HeardDigest s hs tx i (script_of i.witness) sp.output.value) (h : ContractPosition) (hf : HeldFine s w sp.output h)
       → IsPlace i.prev → IsTaken i sp.output h hf
   taken n i sp hi hd h hf pi =
-      let st = hf.setting in
+      let st = hf.instance in
       let here = hf.here in
       let u : pay_to (s.hash (script_of i.witness)) ≡ pay_to (s.hash here.output.script) = sym sp.pays ∙ hf.script in
       let v : s.hash (script_of i.witness) ≡ s.hash here.output.script = cc in

@@ -152,18 +152,18 @@ module _ (s : Setup) (size : HashesBytes s.hash) (few_contracts : length s.contr
       by_cause (gift_cause d h q) = not_final (persistent_deposits s.hash st) f.tx.inputs h.tx.inputs (ap (λ (y : Tx). y.inputs) same) q.sequences h.final sp.input sp.among
       -- a put spends what holds a position first, a bound deposit holds none
       by_cause (put_cause p) =
-          let r = bare_in (map input_of (branch_unsigned s.hash p.setting p.here p.index p.branch).spends) (map input_of (persistent_deposits s.hash st)) (input_of p.here.output) (ap (λ (y : Tx). y.inputs) (sym p.is ∙ same)) (inl refl) in
+          let r = bare_in (map input_of (branch_unsigned s.hash p.instance p.here p.index p.branch).spends) (map input_of (persistent_deposits s.hash st)) (input_of p.here.output) (ap (λ (y : Tx). y.inputs) (sym p.is ∙ same)) (inl refl) in
           let x = in_map input_of (persistent_deposits s.hash st) r.0 r.1 in
           let y = in_map (λ (e : List ℕ × Holding). deposit s.hash st (e.0) (e.1)) (persistent st.advert.pre) x.0 x.1 in
           let l = lies y.0 y.1 in
           let at : l.output.outpoint ≡ p.here.output.outpoint = sym l.outpoint ∙ ap (λ (t : Spent). t.outpoint) (sym y.2) ∙ ap (λ (t : TxIn). t.prev) (sym x.2) ∙ r.2 in
-          let h = kept.placed p.contract p.setting p.position p.here p.choice l.number l.output p.compiled p.stands l.there at in
+          let h = kept.placed p.contract p.instance p.position p.here p.choice l.number l.output p.compiled p.stands l.there at in
           let no_one = l.free in
           cc
       -- another contract's initial transaction is another one
       by_cause (start_cause t) =
-          let e = one_initial s size few_contracts next next_check next.hashed clear heard k t.contract st t.setting now (stays t.contract t.setting t.compiled) (sym same ∙ t.is) in
-          before t.setting (subst (λ j. compiled_instance s w j ≡ Some t.setting) (sym e) t.compiled)
+          let e = one_initial s size few_contracts next next_check next.hashed clear heard k t.contract st t.instance now (stays t.contract t.instance t.compiled) (sym same ∙ t.is) in
+          before t.instance (subst (λ j. compiled_instance s w j ≡ Some t.instance) (sym e) t.compiled)
 
   -- ---- all positions
 

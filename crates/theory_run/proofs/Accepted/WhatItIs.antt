@@ -42,13 +42,13 @@ use Rattle.theory_run.proofs.Accepted.Accept.{scripts_none, lists, all_strings_o
 -- ---- which contract's initial transaction it is
 
 pub record IsInitial (s : Setup) (w : World) (tx : Tx) (k : ℕ) : Type 0 where
-  pub setting : Instance
-  pub compiled : compiled_instance s w k ≡ Some setting
-  pub is : bare tx ≡ bare (tx_of (initial_unsigned s.hash setting))
+  pub instance : Instance
+  pub compiled : compiled_instance s w k ≡ Some instance
+  pub is : bare tx ≡ bare (tx_of (initial_unsigned s.hash instance))
 
 initial_one : (s : Setup) (w : World) (tx : Tx) (k : ℕ) (o : Option Instance) → compiled_instance s w k ≡ o → is_initial s tx o ≡ true → IsInitial s w tx k
 initial_one s w tx k None e h = cc
-initial_one s w tx k (Some st) e h = record { setting = st; compiled = e; is = same-true tx (tx_of (initial_unsigned s.hash st)) h }
+initial_one s w tx k (Some st) e h = record { instance = st; compiled = e; is = same-true tx (tx_of (initial_unsigned s.hash st)) h }
 
 initial_some : (s : Setup) (w : World) (tx : Tx) (j k : ℕ) (cs : List Advert) → initial_from s w tx j cs ≡ Some k → IsInitial s w tx k
 initial_some s w tx j k [] h = cc
@@ -237,4 +237,4 @@ module _ (s : Setup) (size : HashesBytes s.hash) (g : Configuration) (w : World)
       let hi = heard_input s w hs tx all i n (λ t l. all_strings_of s w tx i t k l) sp in
       let tk = taken s size g w kept fit check hs clear sub tx fits (scripts_none s size g w kept fit check hs clear sub tx fits spent acc all) (lists s size g w kept fit check hs clear sub tx fits spent acc all) n i sp hi.script (record { first = hi.signed; second = hi.signed_hash }) h hf
       (subst IsPlace (sym sp.outpoint) (kept.placed_fine n sp.output sp.there)) in
-      first_holds ∙ branch_first h.contract hf.setting h.position hf.here hf.choice tk.opened.i tk.opened.b hf.compiled hf.stands tk.is
+      first_holds ∙ branch_first h.contract hf.instance h.position hf.here hf.choice tk.opened.i tk.opened.b hf.compiled hf.stands tk.is

@@ -114,22 +114,22 @@ module _ (s : Setup) (size : HashesBytes s.hash) (few_contracts : length s.contr
       accepts s size g w kept fit check hs clear sub tx fits spent acc all (root_of k) g' next outs f hn few back adv book held_new placed_new
     where
       st : Instance
-      st = is.setting
+      st = is.instance
 
-      outputs_are : tx.outputs ≡ pays s.hash (position_script s.hash is.setting [] is.setting.advert.root) (root_value is.setting) ∷ []
+      outputs_are : tx.outputs ≡ pays s.hash (position_script s.hash is.instance [] is.instance.advert.root) (root_value is.instance) ∷ []
       outputs_are = ap (λ (y : Tx). y.outputs) is.is
 
       held_new : (m : ℕ) (x : TxOut) (h : ContractPosition) (o : Output) → slice_get tx.outputs m ≡ Some x → root_of k m ≡ Some h → o ≡ record { outpoint = record { txid = txid s.hash tx; vout = m }; value = x.value; script = x.script; live = true; holds = root_of k m } → HeldFine s next o h
       held_new m x h o hx hh ho =
           let z : record { contract = k; position = [] } ≡ h = cc in
-          let r = one_of (pays s.hash (position_script s.hash is.setting [] is.setting.advert.root) (root_value is.setting)) x m (ap (λ xs. slice_get xs m) (sym outputs_are) ∙ hx) in
-          let id = bare_id s size g w kept fit check hs clear sub tx fits spent acc all (initial_unsigned s.hash is.setting) is.is in
+          let r = one_of (pays s.hash (position_script s.hash is.instance [] is.instance.advert.root) (root_value is.instance)) x m (ap (λ xs. slice_get xs m) (sym outputs_are) ∙ hx) in
+          let id = bare_id s size g w kept fit check hs clear sub tx fits spent acc all (initial_unsigned s.hash is.instance) is.is in
           subst (HeldFine s next o) z (record {
-            setting = is.setting;
-            compiled = f.compiled k is.setting is.compiled;
-            here = root_standing s.hash is.setting;
-            choice = is.setting.advert.root;
-            stands = root_position s.hash is.setting;
+            instance = is.instance;
+            compiled = f.compiled k is.instance is.compiled;
+            here = root_standing s.hash is.instance;
+            choice = is.instance.advert.root;
+            stands = root_position s.hash is.instance;
             outpoint = ap (λ (y : Output). y.outpoint) ho ∙ (λ j. record { txid = id j; vout = r.0 j });
             script = ap (λ (y : Output). y.script) ho ∙ ap (λ (y : TxOut). y.script) (sym r.1);
             value = ap (λ (y : Output). y.value) ho ∙ ap (λ (y : TxOut). y.value) (sym r.1);
@@ -140,17 +140,17 @@ module _ (s : Setup) (size : HashesBytes s.hash) (few_contracts : length s.contr
         where
           by_making : Making s size g w kept fit check hs clear sub tx fits spent acc all j su q here choice m → root_of k m ≡ Some (record { contract = j; position = q })
           by_making (initial_making a b h) =
-              let o : (pays s.hash (position_script s.hash su [] su.advert.root) (root_value su) ∷ []) ≡ pays s.hash (position_script s.hash is.setting [] is.setting.advert.root) (root_value is.setting) ∷ [] = sym (ap (λ (y : Tx). y.outputs) h) ∙ outputs_are in
-              let v : pays s.hash (position_script s.hash su [] su.advert.root) (root_value su) ≡ pays s.hash (position_script s.hash is.setting [] is.setting.advert.root) (root_value is.setting) = cc in
-              let same = same_position s size few_contracts w check hs clear heard_of j k su is.setting [] [] (root_standing s.hash su) (root_standing s.hash is.setting) su.advert.root is.setting.advert.root c is.compiled refl refl (ap (λ (y : TxOut). y.script) v) in
+              let o : (pays s.hash (position_script s.hash su [] su.advert.root) (root_value su) ∷ []) ≡ pays s.hash (position_script s.hash is.instance [] is.instance.advert.root) (root_value is.instance) ∷ [] = sym (ap (λ (y : Tx). y.outputs) h) ∙ outputs_are in
+              let v : pays s.hash (position_script s.hash su [] su.advert.root) (root_value su) ≡ pays s.hash (position_script s.hash is.instance [] is.instance.advert.root) (root_value is.instance) = cc in
+              let same = same_position s size few_contracts w check hs clear heard_of j k su is.instance [] [] (root_standing s.hash su) (root_standing s.hash is.instance) su.advert.root is.instance.advert.root c is.compiled refl refl (ap (λ (y : TxOut). y.script) v) in
               let cj : su.contract ≡ j = ap (λ (y : Instance). y.contract) (compiled_is s w j su c).is in
-              let ck : is.setting.contract ≡ k = ap (λ (y : Instance). y.contract) (compiled_is s w k is.setting is.compiled).is in
+              let ck : is.instance.contract ≡ k = ap (λ (y : Instance). y.contract) (compiled_is s w k is.instance is.compiled).is in
               let kj : k ≡ j = sym ck ∙ sym same.0 ∙ cj in
               let qa = sym a in
               λ i. Some (record { contract = kj i; position = qa i })
           by_making (branch_making bb h n) =
               let u = branch_first s size g w kept fit check hs clear sub tx fits spent acc all j su bb.is_branch.position bb.from_here bb.is_branch.choice bb.index bb.branch c bb.is_branch.stands h in
-              let v = initial_first s size g w kept fit check hs clear sub tx fits spent acc all k is.setting is.compiled is.is in
+              let v = initial_first s size g w kept fit check hs clear sub tx fits spent acc all k is.instance is.compiled is.is in
               cc
 
   -- ---- branches
@@ -165,7 +165,7 @@ module _ (s : Setup) (size : HashesBytes s.hash) (few_contracts : length s.contr
     pub index : ℕ
     pub branch : term.Guarded
     pub there : slice_get (branches fine.choice) index ≡ Some branch
-    pub is : bare tx ≡ bare (tx_of (branch_unsigned s.hash fine.setting fine.here index branch))
+    pub is : bare tx ≡ bare (tx_of (branch_unsigned s.hash fine.instance fine.here index branch))
     -- whom the branch pays is declared
     pub payee : (p : List ℕ) → core branch ≡ withdraw p → is_declared s p ≡ true
 
@@ -174,7 +174,7 @@ module _ (s : Setup) (size : HashesBytes s.hash) (few_contracts : length s.contr
 
   module _ (h : ContractPosition) (t : Taking h) where
     abbrev st : Instance
-    st = t.fine.setting
+    st = t.fine.instance
 
     abbrev path : List PathStep
     path = h.position ++ To t.index ∷ []
@@ -264,7 +264,7 @@ module _ (s : Setup) (size : HashesBytes s.hash) (few_contracts : length s.contr
         held_new m x k o hx hk ho =
             let n = new_held (core t.branch) refl m x k hx hk in
             record {
-              setting = st;
+              instance = st;
               compiled = subst (λ j. compiled_instance s next j ≡ Some st) (sym n.contract) (f.compiled h.contract st t.fine.compiled);
               here = n.here;
               choice = n.choice;

@@ -112,10 +112,10 @@ module _ (s : Setup) (size : HashesBytes s.hash) (few_contracts : length s.contr
 
   -- ---- a branch that asks the party
 
-  pub authorise_kept : (party : List ℕ) (n : ℕ) (o : Output) (held : ContractPosition) (there : slice_get w.outputs n ≡ Some o) (fine : HeldFine s w o held) (j : ℕ) (c : term.Guarded) → slice_get (branches fine.choice) j ≡ Some c → is_among party (people fine.setting) ≡ true
+  pub authorise_kept : (party : List ℕ) (n : ℕ) (o : Output) (held : ContractPosition) (there : slice_get w.outputs n ≡ Some o) (fine : HeldFine s w o held) (j : ℕ) (c : term.Guarded) → slice_get (branches fine.choice) j ≡ Some c → is_among party (people fine.instance) ≡ true
       → has_branch_authorised g'.branch_authorised n j party ≡ true → KeptBook s g' (after_pairs (authorising_pairs s w party (Some held) j))
   authorise_kept party n o held there fine j c has part now =
-      let d = digest_of_spent s.hash (tx_of (branch_unsigned s.hash fine.setting fine.here j c)) fine.here.output in
+      let d = digest_of_spent s.hash (tx_of (branch_unsigned s.hash fine.instance fine.here j c)) fine.here.output in
       let pairs : List Pair = (key_of s.hash (branch_label held.contract (held.position ++ To j ∷ []) party), d) ∷ [] in
       let e = pairs_are s size few_contracts g w kept check hs clear sub g' (after_pairs pairs) refl party n o held there fine j c has part now in
       subst (λ ps. KeptBook s g' (after_pairs ps)) (sym e) (pairs_kept pairs
@@ -149,7 +149,7 @@ module _ (s : Setup) (size : HashesBytes s.hash) (few_contracts : length s.contr
             let z = same_label s size few_contracts g w kept check hs clear sub (labels.Deposit party) (labels.Deposit a) (deposit_label s size few_contracts g w kept check hs clear sub party declared) (deposit_label s size few_contracts g w kept check hs clear sub a decl) own in (
               record {
                 contract = k0;
-                setting = st0;
+                instance = st0;
                 compiled = given;
                 position = br.is_branch.position;
                 here = br.here;
@@ -216,7 +216,7 @@ module _ (s : Setup) (size : HashesBytes s.hash) (few_contracts : length s.contr
           let r = pair_of_deposit s st0 (tx_of (initial_unsigned s.hash st0)) party (persistent st0.advert.pre) (deposit_key s.hash a) d x in
           let z = same_label s size few_contracts g w kept check hs clear sub (labels.Deposit party) (labels.Deposit a) (deposit_label s size few_contracts g w kept check hs clear sub party declared) (deposit_label s size few_contracts g w kept check hs clear sub a decl) r.0 in
           let pa : party ≡ a = ap label_party z in
-          (record { contract = k0; setting = st0; compiled = given; spent = r.1.0; persists = r.1.1; is = r.1.2; authorised = λ e i o l. now e i (o ∙ sym pa) l }, refl, pa)
+          (record { contract = k0; instance = st0; compiled = given; spent = r.1.0; persists = r.1.1; is = r.1.2; authorised = λ e i o l. now e i (o ∙ sym pa) l }, refl, pa)
 
       start_branches : BranchesNew starting
       start_branches k st q here choice i b a d c e t p honest x =

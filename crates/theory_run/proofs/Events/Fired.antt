@@ -102,28 +102,28 @@ module _ (s : Setup) (size : HashesBytes s.hash) (few_contracts : length s.contr
           hf = kept.held n act.output held act.there act.holds
 
           st : Instance
-          st = hf.setting
+          st = hf.instance
 
-          compiled : compiled_instance s w held.contract ≡ Some hf.setting
+          compiled : compiled_instance s w held.contract ≡ Some hf.instance
           compiled = hf.compiled
 
           chosen : contract_in (contract_at s held.contract) held.position ≡ Some hf.choice
-          chosen = ap (λ o. contract_in o held.position) (held_contract s w held act.output hf) ∙ term_choice s.hash hf.setting held.position hf.here hf.choice hf.stands
+          chosen = ap (λ o. contract_in o held.position) (held_contract s w held act.output hf) ∙ term_choice s.hash hf.instance held.position hf.here hf.choice hf.stands
 
           by_branch : (o : Option term.Guarded) → position_branch s held j ≡ o → taking_of_parts s w held j (compiled_instance s w held.contract) (contract_in (contract_at s held.contract) held.position) (position_branch s held j) (prepared_if_compiled s (compiled_instance s w held.contract) (position_path held j)) ≡ Some tx → IsNumbered tx
           by_branch None b x =
               let y = sym (λ i. taking_of_parts s w held j (compiled i) (chosen i) (b i) (prepared_if_compiled s (compiled i) (position_path held j))) ∙ x in
               cc
           by_branch (Some c) b x =
-              let text : at hf.setting.advert.root (held.position ++ To j ∷ []) ≡ Some c = ap (λ o. branch_in o (position_path held j)) (sym (held_contract s w held act.output hf)) ∙ b in
-              let there : slice_get (branches hf.choice) j ≡ Some c = sym (term_branches s.hash hf.setting held.position hf.here hf.choice j hf.stands) ∙ text in
-              let d = branch_unsigned s.hash hf.setting hf.here j c in
-              let made : prepared_at s.hash hf.setting (position_path held j) ≡ Some (prepared s.hash d) = ap (option_map (prepared s.hash)) (unsigned_of_branch s.hash hf.setting held.position hf.here hf.choice j c hf.stands there) in
-              let y : (let o : Option Tx = Some (taking_transaction s w hf.setting held j hf.choice c (prepared s.hash d)) in o) ≡ Some tx =
+              let text : at hf.instance.advert.root (held.position ++ To j ∷ []) ≡ Some c = ap (λ o. branch_in o (position_path held j)) (sym (held_contract s w held act.output hf)) ∙ b in
+              let there : slice_get (branches hf.choice) j ≡ Some c = sym (term_branches s.hash hf.instance held.position hf.here hf.choice j hf.stands) ∙ text in
+              let d = branch_unsigned s.hash hf.instance hf.here j c in
+              let made : prepared_at s.hash hf.instance (position_path held j) ≡ Some (prepared s.hash d) = ap (option_map (prepared s.hash)) (unsigned_of_branch s.hash hf.instance held.position hf.here hf.choice j c hf.stands there) in
+              let y : (let o : Option Tx = Some (taking_transaction s w hf.instance held j hf.choice c (prepared s.hash d)) in o) ≡ Some tx =
               sym (λ i. taking_of_parts s w held j (compiled i) (chosen i) (b i) ((ap (λ o. prepared_if_compiled s o (position_path held j)) compiled ∙ made) i)) ∙ x in
-              let z : taking_transaction s w hf.setting held j hf.choice c (prepared s.hash d) ≡ tx = cc in
-              subst IsNumbered z (bare_numbered (taking_transaction s w hf.setting held j hf.choice c (prepared s.hash d)) (tx_of d) (with-bare (tx_of d) (taking_witnesses s w hf.setting held j hf.choice c (prepared s.hash d)))
-              (fit.branch held.contract hf.setting held.position hf.here hf.choice j c hf.compiled hf.stands there))
+              let z : taking_transaction s w hf.instance held j hf.choice c (prepared s.hash d) ≡ tx = cc in
+              subst IsNumbered z (bare_numbered (taking_transaction s w hf.instance held j hf.choice c (prepared s.hash d)) (tx_of d) (with-bare (tx_of d) (taking_witnesses s w hf.instance held j hf.choice c (prepared s.hash d)))
+              (fit.branch held.contract hf.instance held.position hf.here hf.choice j c hf.compiled hf.stands there))
 
   pub fire_after : (e : Event) (n j : ℕ) → KeptAfter s size few_contracts strings g w kept check clear e (fire_draft s w n j)
   fire_after e n j = unless_after s size few_contracts strings g w kept check clear e (first_reason (fire_row s w n j)) [] (reaches_if s w (taking_of_position s w (live_position_at w n) j)) (λ r. reaches_if_after e (taking_of_position s w (live_position_at w n) j) (taken_numbered n j))

@@ -62,8 +62,8 @@ active w n held h = by_output (slice_get w.outputs n) refl h
     by_output (Some o) e q = by_live o e o.live q
 
 -- the contract of what is held
-pub held_contract : (s : Setup) (w : World) (held : ContractPosition) (o : Output) (hf : HeldFine s w o held) → contract_at s held.contract ≡ Some hf.setting.advert
-held_contract s w held o hf = let ci = compiled_is s w held.contract hf.setting hf.compiled in ci.there ∙ ap (λ (y : Instance). Some y.advert) (sym ci.is)
+pub held_contract : (s : Setup) (w : World) (held : ContractPosition) (o : Output) (hf : HeldFine s w o held) → contract_at s held.contract ≡ Some hf.instance.advert
+held_contract s w held o hf = let ci = compiled_is s w held.contract hf.instance hf.compiled in ci.there ∙ ap (λ (y : Instance). Some y.advert) (sym ci.is)
 
 -- a start authorises each of its party's deposits that is bound to a live one
 pub now_authorised : (s : Setup) (g : Configuration) (w : World) (contract : ℕ) (party : List ℕ) (e : List ℕ × Holding) → Is_in e (persistent (pre_at s contract)) → (e.1).owner ≡ party → is_bound_live w contract e ≡ true → is_init_authorised (after_steps g (init_steps s w contract party)).init_authorised contract (e.0) ≡ true
@@ -155,9 +155,9 @@ module _ (s : Setup) (size : HashesBytes s.hash) (few_contracts : length s.contr
           by_branch : (o : Option term.Guarded) → position_branch s held j ≡ o → is_some o ≡ true → is_among party (asked_by o) ≡ true → KeptBook s (after_steps g xs) (settled w (done (with_pairs w (authorising_pairs s w party (Some held) j)) []))
           by_branch None u v a = cc
           by_branch (Some c) u v a =
-              let ap_text : at hf.setting.advert.root (held.position ++ To j ∷ []) ≡ Some c = ap (λ o. branch_in o (position_path held j)) (sym (held_contract s w held act.output hf)) ∙ u in
-              let has : slice_get (branches hf.choice) j ≡ Some c = sym (term_branches s.hash hf.setting held.position hf.here hf.choice j hf.stands) ∙ ap_text in
-              let part : is_among party (people hf.setting) ≡ true = branch_named hf.setting.advert (held.position ++ To j ∷ []) c party ap_text (asked_mentioned c party a) in
+              let ap_text : at hf.instance.advert.root (held.position ++ To j ∷ []) ≡ Some c = ap (λ o. branch_in o (position_path held j)) (sym (held_contract s w held act.output hf)) ∙ u in
+              let has : slice_get (branches hf.choice) j ≡ Some c = sym (term_branches s.hash hf.instance held.position hf.here hf.choice j hf.stands) ∙ ap_text in
+              let part : is_among party (people hf.instance) ≡ true = branch_named hf.instance.advert (held.position ++ To j ∷ []) c party ap_text (asked_mentioned c party a) in
               authorise_kept s size few_contracts g w kept check w.hashed clear (λ t h. h) (after_steps g xs) w.tip (w.posted ++ []) (inits_stay xs g) (asked_stay xs g) party n act.output held act.there hf j c has part (branch_new g.branch_authorised party n j)
 
   pub sign_after : (e : Event) (party : List ℕ) (label : Label) (digest : List ℕ) → IsLabel label → KeptAfter e (sign_draft s w party label digest)

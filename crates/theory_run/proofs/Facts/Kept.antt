@@ -114,27 +114,27 @@ pub record Gave (s : Setup) (w : World) (a d : List ℕ) : Type 0 where
 -- the put of a deposit
 pub record Needed (s : Setup) (w : World) (a d : List ℕ) : Type 0 where
   pub contract : ℕ
-  pub setting : Instance
-  pub compiled : compiled_instance s w contract ≡ Some setting
+  pub instance : Instance
+  pub compiled : compiled_instance s w contract ≡ Some instance
   pub position : List PathStep
   pub here : Standing
   pub choice : Contract
-  pub stands : position_at s.hash setting position ≡ Some (here, choice)
+  pub stands : position_at s.hash instance position ≡ Some (here, choice)
   pub index : ℕ
   pub branch : term.Guarded
   pub there : slice_get (branches choice) index ≡ Some branch
   pub spent : Spent
-  pub put : Is_in spent (put_deposits s.hash setting (puts_of (core branch)))
-  pub is : d ≡ digest_of_spent s.hash (tx_of (branch_unsigned s.hash setting here index branch)) spent
+  pub put : Is_in spent (put_deposits s.hash instance (puts_of (core branch)))
+  pub is : d ≡ digest_of_spent s.hash (tx_of (branch_unsigned s.hash instance here index branch)) spent
 
 -- a deposit of an initial transaction
 pub record Started (s : Setup) (g : Configuration) (w : World) (a d : List ℕ) : Type 0 where
   pub contract : ℕ
-  pub setting : Instance
-  pub compiled : compiled_instance s w contract ≡ Some setting
+  pub instance : Instance
+  pub compiled : compiled_instance s w contract ≡ Some instance
   pub spent : Spent
-  pub persists : Is_in spent (persistent_deposits s.hash setting)
-  pub is : d ≡ digest_of_spent s.hash (tx_of (initial_unsigned s.hash setting)) spent
+  pub persists : Is_in spent (persistent_deposits s.hash instance)
+  pub is : d ≡ digest_of_spent s.hash (tx_of (initial_unsigned s.hash instance)) spent
   pub authorised : (e : List ℕ × Holding) → Is_in e (persistent (pre_at s contract)) → (e.1).owner ≡ a → is_bound_live w contract e ≡ true → is_init_authorised g.init_authorised contract (e.0) ≡ true
 
 pub data DepositCause (s : Setup) (g : Configuration) (w : World) (a d : List ℕ) : Type 0 where
@@ -169,11 +169,11 @@ pub record AdvertFine (s : Setup) (w : World) (k : ℕ) : Type 0 where
 
 -- a contract output is what its position was compiled to
 pub record HeldFine (s : Setup) (w : World) (o : Output) (h : ContractPosition) : Type 0 where
-  pub setting : Instance
-  pub compiled : compiled_instance s w h.contract ≡ Some setting
+  pub instance : Instance
+  pub compiled : compiled_instance s w h.contract ≡ Some instance
   pub here : Standing
   pub choice : Contract
-  pub stands : position_at s.hash setting h.position ≡ Some (here, choice)
+  pub stands : position_at s.hash instance h.position ≡ Some (here, choice)
   pub outpoint : o.outpoint ≡ here.output.outpoint
   pub script : o.script ≡ pay_to (s.hash here.output.script)
   pub value : o.value ≡ here.output.value
@@ -275,7 +275,7 @@ module _ (s : Setup) (g g' : Configuration) (w next : World) (f : Frame s g g' w
   gave_later a d h = record { tx = h.tx; input = h.input; value = h.value; fits = h.fits; lists = lists_later h.tx h.lists; prev = h.prev; is = h.is; heard = digest_later h.tx h.input (party_script s.hash a) h.value h.heard; some = h.some; final = h.final }
 
   unfoldable pub needed_later : (a d : List ℕ) → Needed s w a d → Needed s next a d
-  needed_later a d h = record { contract = h.contract; setting = h.setting; compiled = f.compiled h.contract h.setting h.compiled; position = h.position; here = h.here; choice = h.choice; stands = h.stands; index = h.index; branch = h.branch; there = h.there; spent = h.spent; put = h.put; is = h.is }
+  needed_later a d h = record { contract = h.contract; instance = h.instance; compiled = f.compiled h.contract h.instance h.compiled; position = h.position; here = h.here; choice = h.choice; stands = h.stands; index = h.index; branch = h.branch; there = h.there; spent = h.spent; put = h.put; is = h.is }
 
   module _ (adverts : (k : ℕ) → is_advertised w k ≡ true → AdvertFine s w k) where
     pub bound_before : (k : ℕ) (e : List ℕ × Holding) → is_advertised w k ≡ true → is_bound_live next k e ≡ true → is_bound_live w k e ≡ true
@@ -295,12 +295,12 @@ module _ (s : Setup) (g g' : Configuration) (w next : World) (f : Frame s g g' w
     unfoldable pub started_later : (a d : List ℕ) → Started s g w a d → Started s g' next a d
     started_later a d h = record {
       contract = h.contract;
-      setting = h.setting;
-      compiled = f.compiled h.contract h.setting h.compiled;
+      instance = h.instance;
+      compiled = f.compiled h.contract h.instance h.compiled;
       spent = h.spent;
       persists = h.persists;
       is = h.is;
-      authorised = λ e i o l. f.inits h.contract (e.0) (h.authorised e i o (bound_before h.contract e (compiled_is s w h.contract h.setting h.compiled).advertised l));
+      authorised = λ e i o l. f.inits h.contract (e.0) (h.authorised e i o (bound_before h.contract e (compiled_is s w h.contract h.instance h.compiled).advertised l));
     }
 
     pub cause_later : (a d : List ℕ) → DepositCause s g w a d → DepositCause s g' next a d
@@ -333,7 +333,7 @@ module _ (s : Setup) (g g' : Configuration) (w next : World) (f : Frame s g g' w
       }
 
   pub held_later : (o o' : Output) (h : ContractPosition) → SameOutput o o' → HeldFine s w o h → HeldFine s next o' h
-  held_later o o' h e k = record { setting = k.setting; compiled = f.compiled h.contract k.setting k.compiled; here = k.here; choice = k.choice; stands = k.stands; outpoint = e.outpoint ∙ k.outpoint; script = e.script ∙ k.script; value = e.value ∙ k.value }
+  held_later o o' h e k = record { instance = k.instance; compiled = f.compiled h.contract k.instance k.compiled; here = k.here; choice = k.choice; stands = k.stands; outpoint = e.outpoint ∙ k.outpoint; script = e.script ∙ k.script; value = e.value ∙ k.value }
 
   -- where outputs stay, and no further contract is compiled, the new pairs must have their causes
   pub signs : (ps : List Pair) → KeptBook s g w

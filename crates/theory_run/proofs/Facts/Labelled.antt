@@ -114,19 +114,19 @@ module _ (s : Setup) (size : HashesBytes s.hash) (few_contracts : length s.contr
   -- ---- the pair of a branch that a party authorises
 
   module _ (g' : Configuration) (next : World) (outs : next.outputs ≡ w.outputs) (party : List ℕ) (n : ℕ) (o : Output) (held : ContractPosition) (there : slice_get w.outputs n ≡ Some o) (fine : HeldFine s w o held)
-      (j : ℕ) (c : term.Guarded) (has : slice_get (branches fine.choice) j ≡ Some c) (part : is_among party (people fine.setting) ≡ true) (now : has_branch_authorised g'.branch_authorised n j party ≡ true) where
+      (j : ℕ) (c : term.Guarded) (has : slice_get (branches fine.choice) j ≡ Some c) (part : is_among party (people fine.instance) ≡ true) (now : has_branch_authorised g'.branch_authorised n j party ≡ true) where
     abbrev digest : List ℕ
-    digest = digest_of_spent s.hash (tx_of (branch_unsigned s.hash fine.setting fine.here j c)) fine.here.output
+    digest = digest_of_spent s.hash (tx_of (branch_unsigned s.hash fine.instance fine.here j c)) fine.here.output
 
     abbrev label : Label
     label = branch_label held.contract (held.position ++ To j ∷ []) party
 
     label_fine : IsHeard label
-    label_fine = heard_label held.contract fine.setting held.position fine.here fine.choice j c party fine.compiled fine.stands has part
+    label_fine = heard_label held.contract fine.instance held.position fine.here fine.choice j c party fine.compiled fine.stands has part
 
     pub pairs_are : authorising_pairs s w party (Some held) j ≡ (key_of s.hash label, digest) ∷ []
     pairs_are = ap (λ (x : Option Instance). branch_pair s party held.contract (position_path held j) (prepared_if_compiled s x (position_path held j))) fine.compiled
-        ∙ ap (λ x. branch_pair s party held.contract (position_path held j) (option_map (prepared s.hash) x)) (unsigned_of_branch s.hash fine.setting held.position fine.here fine.choice j c fine.stands has)
+        ∙ ap (λ x. branch_pair s party held.contract (position_path held j) (option_map (prepared s.hash) x)) (unsigned_of_branch s.hash fine.instance held.position fine.here fine.choice j c fine.stands has)
 
     pub authorised_deposit : (a d : List ℕ) → is_declared s a ≡ true → has_signed ((key_of s.hash label, digest) ∷ []) (deposit_key s.hash a) d ≡ true → ⊥
     authorised_deposit a d k x =
@@ -153,8 +153,8 @@ module _ (s : Setup) (size : HashesBytes s.hash) (few_contracts : length s.contr
         pa : party ≡ a
         pa = ap label_party same
 
-        settings : fine.setting ≡ st
-        settings = let m : (let y : Option Instance = Some fine.setting in y) ≡ Some st = sym fine.compiled ∙ ap (compiled_instance s w) kc ∙ given in cc
+        settings : fine.instance ≡ st
+        settings = let m : (let y : Option Instance = Some fine.instance in y) ≡ Some st = sym fine.compiled ∙ ap (compiled_instance s w) kc ∙ given in cc
 
         stands : (let y : Option (Standing × Contract) = Some (fine.here, fine.choice) in y) ≡ Some (here, choice)
         stands = sym fine.stands ∙ (λ m. position_at s.hash (settings m) (pq.0 m)) ∙ e
@@ -199,8 +199,8 @@ module _ (s : Setup) (size : HashesBytes s.hash) (few_contracts : length s.contr
             same_place : (m : ℕ) (x : Output) (l : slice_get w.outputs m ≡ Some x) (z : x.holds ≡ Some (record { contract = k; position = q })) → o.outpoint ≡ (kept.held m x (record { contract = k; position = q }) l z).here.output.outpoint
             same_place m x l z =
                 let f = kept.held m x (record { contract = k; position = q }) l z in
-                let u : (let y : Option Instance = Some f.setting in y) ≡ Some st = sym f.compiled ∙ given in
-                let us : f.setting ≡ st = cc in
+                let u : (let y : Option Instance = Some f.instance in y) ≡ Some st = sym f.compiled ∙ given in
+                let us : f.instance ≡ st = cc in
                 let v : (let y : Option (Standing × Contract) = Some (f.here, f.choice) in y) ≡ Some (here, choice) = sym f.stands ∙ ap (λ y. position_at s.hash y q) us ∙ e in
                 let vb : (let y : Standing × Contract = (f.here, f.choice) in y) ≡ (here, choice) = cc in
                 let vh : f.here ≡ here = ap (λ (y : Standing × Contract). y.0) vb in

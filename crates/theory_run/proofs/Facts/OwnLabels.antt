@@ -176,12 +176,12 @@ module _ (s : Setup) (size : HashesBytes s.hash) (few_contracts : length s.contr
       by_branch : (o : Option term.Guarded) → position_branch s held j ≡ o → is_some o ≡ true → is_among party (asked_by o) ≡ true → IsKeyOf s w party key
       by_branch None u v q = cc
       by_branch (Some c) u v q =
-          let in_text : at hf.setting.advert.root (held.position ++ To j ∷ []) ≡ Some c = ap (λ o. branch_in o (position_path held j)) (sym (held_contract s w held act.output hf)) ∙ u in
-          let has : slice_get (branches hf.choice) j ≡ Some c = sym (term_branches s.hash hf.setting held.position hf.here hf.choice j hf.stands) ∙ in_text in
-          let part : is_among party (people hf.setting) ≡ true = branch_named hf.setting.advert (held.position ++ To j ∷ []) c party in_text (asked_mentioned c party q) in
-          let l = heard_label s size few_contracts g w kept check w.hashed clear (λ t h. h) held.contract hf.setting held.position hf.here hf.choice j c party hf.compiled hf.stands has part in
+          let in_text : at hf.instance.advert.root (held.position ++ To j ∷ []) ≡ Some c = ap (λ o. branch_in o (position_path held j)) (sym (held_contract s w held act.output hf)) ∙ u in
+          let has : slice_get (branches hf.choice) j ≡ Some c = sym (term_branches s.hash hf.instance held.position hf.here hf.choice j hf.stands) ∙ in_text in
+          let part : is_among party (people hf.instance) ≡ true = branch_named hf.instance.advert (held.position ++ To j ∷ []) c party in_text (asked_mentioned c party q) in
+          let l = heard_label s size few_contracts g w kept check w.hashed clear (λ t h. h) held.contract hf.instance held.position hf.here hf.choice j c party hf.compiled hf.stands has part in
           let pairs = ap (λ (x : Option Instance). branch_pair s party held.contract (position_path held j) (prepared_if_compiled s x (position_path held j))) hf.compiled
-          ∙ ap (λ x. branch_pair s party held.contract (position_path held j) (option_map (prepared s.hash) x)) (unsigned_of_branch s.hash hf.setting held.position hf.here hf.choice j c hf.stands has) in
+          ∙ ap (λ x. branch_pair s party held.contract (position_path held j) (option_map (prepared s.hash) x)) (unsigned_of_branch s.hash hf.instance held.position hf.here hf.choice j c hf.stands has) in
           let p = one_pair (key_of s.hash (branch_label held.contract (held.position ++ To j ∷ []) party)) _ key d (subst (λ ps. has_signed ps key d ≡ true) pairs h) in
           old_label key party (branch_label held.contract (held.position ++ To j ∷ []) party) refl l p.0 (λ honest. ap is_some hf.compiled)
 

@@ -180,8 +180,8 @@ module _ (s : Setup) (setup : IsSetup s) (before : List Record) (g : Configurati
   module _ (honest : is_honest s a ≡ true) where
     -- which transaction its party has signed
     pub data Took : Type 0 where
-      put_took : (h : Needed s w a signs) → bare tx ≡ bare (tx_of (branch_unsigned s.hash h.setting h.here h.index h.branch)) → was_done (is_endorse h.contract a) before ≡ true → Took
-      start_took : (h : Started s g w a signs) → bare tx ≡ bare (tx_of (initial_unsigned s.hash h.setting)) → was_done (is_init h.contract a) before ≡ true → Took
+      put_took : (h : Needed s w a signs) → bare tx ≡ bare (tx_of (branch_unsigned s.hash h.instance h.here h.index h.branch)) → was_done (is_endorse h.contract a) before ≡ true → Took
+      start_took : (h : Started s g w a signs) → bare tx ≡ bare (tx_of (initial_unsigned s.hash h.instance)) → was_done (is_init h.contract a) before ≡ true → Took
 
     pub took : Took
     took = by_leave (leave.leave a signs declared honest both.1)
@@ -207,11 +207,11 @@ module _ (s : Setup) (setup : IsSetup s) (before : List Record) (g : Configurati
     fst = first s setup.hash g w kept fit check hs clear_hs sub tx fits spent acc all
 
     -- a branch's transaction takes a branch
-    pub put_kind : (h : Needed s w a signs) → bare tx ≡ bare (tx_of (branch_unsigned s.hash h.setting h.here h.index h.branch))
+    pub put_kind : (h : Needed s w a signs) → bare tx ≡ bare (tx_of (branch_unsigned s.hash h.instance h.here h.index h.branch))
         → (t : Taking s setup.hash setup.few_contracts g w kept fit check hs clear_hs sub tx fits spent acc all (record { contract = h.contract; position = h.position })) × (kind_of s w tx spent ≡ Takes (record { contract = h.contract; position = h.position }) fst.number t.index)
     put_kind h e =
         let held : ContractPosition = record { contract = h.contract; position = h.position } in
-        let q = branch_first s setup.hash g w kept fit check hs clear_hs sub tx fits spent acc all h.contract h.setting h.position h.here h.choice h.index h.branch h.compiled h.stands e in
+        let q = branch_first s setup.hash g w kept fit check hs clear_hs sub tx fits spent acc all h.contract h.instance h.position h.here h.choice h.index h.branch h.compiled h.stands e in
         let i0 : initial_of s w tx ≡ None = by_initial (initial_of s w tx) refl q in
         (first_taking s setup.hash setup.few_contracts g w kept fit check hs clear_hs sub tx fits spent acc all held q, kind_taken s setup.hash setup.few_contracts g w kept fit check hs clear_hs sub tx fits spent acc all held q i0)
       where
@@ -219,18 +219,18 @@ module _ (s : Setup) (setup : IsSetup s) (before : List Record) (g : Configurati
         by_initial None x q = refl
         by_initial (Some k) x q =
             let is = initial_is s w tx k x in
-            let y = sym (initial_first s setup.hash g w kept fit check hs clear_hs sub tx fits spent acc all k is.setting is.compiled is.is) ∙ q in
+            let y = sym (initial_first s setup.hash g w kept fit check hs clear_hs sub tx fits spent acc all k is.instance is.compiled is.is) ∙ q in
             cc
 
     -- an initial transaction begins its contract
-    pub start_kind : (h : Started s g w a signs) → bare tx ≡ bare (tx_of (initial_unsigned s.hash h.setting)) → kind_of s w tx spent ≡ Begins h.contract
+    pub start_kind : (h : Started s g w a signs) → bare tx ≡ bare (tx_of (initial_unsigned s.hash h.instance)) → kind_of s w tx spent ≡ Begins h.contract
     start_kind h e = by_initial (initial_of s w tx) refl
       where
         by_initial : (o : Option ℕ) → initial_of s w tx ≡ o → kind_of s w tx spent ≡ Begins h.contract
-        by_initial None x = absurd (not_initial s w tx h.contract h.setting x h.compiled e)
+        by_initial None x = absurd (not_initial s w tx h.contract h.instance x h.compiled e)
         by_initial (Some k) x =
             let is = initial_is s w tx k x in
-            let same = one_initial s setup.hash setup.few_contracts w check w.hashed clear kept.heard k h.contract is.setting h.setting is.compiled h.compiled (sym is.is ∙ e) in
+            let same = one_initial s setup.hash setup.few_contracts w check w.hashed clear kept.heard k h.contract is.instance h.instance is.compiled h.compiled (sym is.is ∙ e) in
             ap (λ o. kind_by s tx spent o (first_position w spent)) x ∙ ap Begins same
 
     -- the party has given its leave before
@@ -243,9 +243,9 @@ module _ (s : Setup) (setup : IsSetup s) (before : List Record) (g : Configurati
             let t = k.0 in
             let held : ContractPosition = record { contract = h.contract; position = h.position } in
             let b = looked_branch s w held fst.spends.output t.fine t.index t.branch t.there in
-            let puts = branch_puts h.contract t.fine.setting h.position t.fine.here t.fine.choice t.index t.branch t.fine.compiled t.fine.stands t.there t.is in
-            let is = path_is h.contract t.fine.setting h.position t.fine.here t.fine.choice t.index t.branch t.fine.compiled t.fine.stands t.there t.is in
+            let puts = branch_puts h.contract t.fine.instance h.position t.fine.here t.fine.choice t.index t.branch t.fine.compiled t.fine.stands t.there t.is in
+            let is = path_is h.contract t.fine.instance h.position t.fine.here t.fine.choice t.index t.branch t.fine.compiled t.fine.stands t.there t.is in
             ap (by_contract s w before a n tx) k.1 ∙ and_from _ _ (and_from _ _ is (ap (λ o. takes_put s w h.contract o a n) b ∙ puts)) was
         by_took (start_took h e was) =
-            let is = ap (is_initial s tx) h.compiled ∙ same_from tx (tx_of (initial_unsigned s.hash h.setting)) e in
-            ap (by_contract s w before a n tx) (start_kind h e) ∙ and_from _ _ (and_from _ _ is (begun_takes h.contract h.setting h.compiled e)) was
+            let is = ap (is_initial s tx) h.compiled ∙ same_from tx (tx_of (initial_unsigned s.hash h.instance)) e in
+            ap (by_contract s w before a n tx) (start_kind h e) ∙ and_from _ _ (and_from _ _ is (begun_takes h.contract h.instance h.compiled e)) was

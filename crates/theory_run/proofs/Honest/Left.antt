@@ -68,9 +68,9 @@ asked_pairs s size few_contracts g w kept check clear party n j held e b asks a 
     by_branch : (o : Option term.Guarded) → position_branch s held j ≡ o → is_some o ≡ true → is_among party (asked_by o) ≡ true → ⊥
     by_branch None u v k = cc
     by_branch (Some c) u v k =
-        let text : at hf.setting.advert.root (held.position ++ To j ∷ []) ≡ Some c = ap (λ o. branch_in o (position_path held j)) (sym (held_contract s w held act.output hf)) ∙ u in
-        let has : slice_get (branches hf.choice) j ≡ Some c = sym (term_branches s.hash hf.setting held.position hf.here hf.choice j hf.stands) ∙ text in
-        let part : is_among party (people hf.setting) ≡ true = branch_named hf.setting.advert (held.position ++ To j ∷ []) c party text (asked_mentioned c party k) in
+        let text : at hf.instance.advert.root (held.position ++ To j ∷ []) ≡ Some c = ap (λ o. branch_in o (position_path held j)) (sym (held_contract s w held act.output hf)) ∙ u in
+        let has : slice_get (branches hf.choice) j ≡ Some c = sym (term_branches s.hash hf.instance held.position hf.here hf.choice j hf.stands) ∙ text in
+        let part : is_among party (people hf.instance) ≡ true = branch_named hf.instance.advert (held.position ++ To j ∷ []) c party text (asked_mentioned c party k) in
         let g' = after_steps g (steps.AuthBranch party n j ∷ []) in
         let now = branch_new g.branch_authorised party n j in
         let y = subst (λ ps. has_signed ps (deposit_key s.hash a) d ≡ true) (pairs_are s size few_contracts g w kept check w.hashed clear (λ t i. i) g' w refl party n act.output held act.there hf j c has part now) x in

@@ -135,7 +135,7 @@ module _ (s : Setup) (setup : IsSetup s) (strings : List (List ℕ)) (before : L
         by_initial None x = refl
         by_initial (Some k) x =
             let i = initial_is s w (gift s w party inputs outputs) k x in
-            absurd (gift_starts_nothing s setup.hash setup.few_contracts g w kept check clear k i.setting i.compiled party inputs outputs is.takers is.some_output i.is)
+            absurd (gift_starts_nothing s setup.hash setup.few_contracts g w kept check clear k i.instance i.compiled party inputs outputs is.takers is.some_output i.is)
 
     free_first : (ns : List ℕ) → ((n : ℕ) → Is_in n ns → Is_in n inputs) → first_position w ns ≡ None
     free_first [] h = refl

@@ -146,21 +146,21 @@ module _ (s : Setup) (setup : IsSetup s) (before : List Record) (g : Configurati
       is : IsInitial s w tx k
       is = initial_is s w tx k i0
 
-      pre_is : pre_at s k ≡ is.setting.advert.pre
-      pre_is = ap pre_of (advert_of s w k is.setting is.compiled)
+      pre_is : pre_at s k ≡ is.instance.advert.pre
+      pre_is = ap pre_of (advert_of s w k is.instance is.compiled)
 
-      listed : Is_in d (persistent is.setting.advert.pre)
+      listed : Is_in d (persistent is.instance.advert.pre)
       listed = subst (λ pre. Is_in d (persistent pre)) pre_is there
 
-      at : AtBound s w is.setting (d.0) (d.1)
-      at = at_bound s g w kept k is.setting is.compiled (d.0) (d.1) (persistent_deposit is.setting.advert.pre d listed)
+      at : AtBound s w is.instance (d.0) (d.1)
+      at = at_bound s g w kept k is.instance is.compiled (d.0) (d.1) (persistent_deposit is.instance.advert.pre d listed)
 
-      number : is.setting.contract ≡ k
-      number = ap (λ (y : Instance). y.contract) (compiled_is s w k is.setting is.compiled).is
+      number : is.instance.contract ≡ k
+      number = ap (λ (y : Instance). y.contract) (compiled_is s w k is.instance is.compiled).is
 
-      r : (i : TxIn) × Is_in i tx.inputs × (i.prev ≡ (deposit s.hash is.setting (d.0) (d.1)).outpoint)
-      r = bare_in (map input_of (persistent_deposits s.hash is.setting)) tx.inputs (input_of (deposit s.hash is.setting (d.0) (d.1))) (ap (λ (x : Tx). x.inputs) (sym is.is))
-          (in_images input_of (persistent_deposits s.hash is.setting) (deposit s.hash is.setting (d.0) (d.1)) (in_images (λ (x : List ℕ × Holding). deposit s.hash is.setting x.0 x.1) (persistent is.setting.advert.pre) d listed))
+      r : (i : TxIn) × Is_in i tx.inputs × (i.prev ≡ (deposit s.hash is.instance (d.0) (d.1)).outpoint)
+      r = bare_in (map input_of (persistent_deposits s.hash is.instance)) tx.inputs (input_of (deposit s.hash is.instance (d.0) (d.1))) (ap (λ (x : Tx). x.inputs) (sym is.is))
+          (in_images input_of (persistent_deposits s.hash is.instance) (deposit s.hash is.instance (d.0) (d.1)) (in_images (λ (x : List ℕ × Holding). deposit s.hash is.instance x.0 x.1) (persistent is.instance.advert.pre) d listed))
 
       found : (n : ℕ) × (has_number n spent ≡ true) × IsSpent s w tx n r.0
       found = spent_at s w tx spent tx.inputs r.0 acc.spends r.1
@@ -218,8 +218,8 @@ module _ (s : Setup) (setup : IsSetup s) (before : List Record) (g : Configurati
     -- an honest party that the branch asks has authorised it
     asked_given : (p : List ℕ) → Is_in p (people_at s h.contract) → is_honest s p ≡ true → is_asked taking.opened.b p ≡ true → has_branch_authorised g.branch_authorised fst.number taking.opened.i p ≡ true
     asked_given p there honest asks =
-        let part : is_among p (people hf.setting) ≡ true = subst (λ o. is_among p (people_of o) ≡ true) (advert_of s w h.contract hf.setting hf.compiled) (in_among (people_at s h.contract) p there) in
-        let bc = kept.branch_pairs h.contract hf.setting h.position hf.here hf.choice taking.opened.i taking.opened.b p (digest s.hash tx fst.input hf.here.output.script fst.spends.output.value) hf.compiled hf.stands taking.opened.is_branch part honest (taking.signed p part) in
+        let part : is_among p (people hf.instance) ≡ true = subst (λ o. is_among p (people_of o) ≡ true) (advert_of s w h.contract hf.instance hf.compiled) (in_among (people_at s h.contract) p there) in
+        let bc = kept.branch_pairs h.contract hf.instance h.position hf.here hf.choice taking.opened.i taking.opened.b p (digest s.hash tx fst.input hf.here.output.script fst.spends.output.value) hf.compiled hf.stands taking.opened.is_branch part honest (taking.signed p part) in
         bc.authorised asks fst.number here_held
 
     taken_steps : Licensed s e (branch_steps g (people_at s h.contract) fst.number taking.opened.i (Some taking.opened.b))

@@ -139,10 +139,10 @@ module _ (s : Setup) (g : Configuration) (w : World) (kept : KeptBook s g w) (ch
     (z : List (List ℕ)) (c : Configuration) (con : Constant s c) (money : AgreeOnMoney s c w) (advertised : c.advertised ≡ w.advertised) (committed : c.committed ≡ map (committed_by s z) w.promises)
     (k : ℕ) (is : IsInitial s w tx k) where
   abbrev st : Instance
-  st = is.setting
+  st = is.instance
 
   abbrev ad : Advert
-  ad = is.setting.advert
+  ad = is.instance.advert
 
   advert_is : slice_get s.contracts k ≡ Some ad
   advert_is = let ci = compiled_is s w k st is.compiled in ci.there ∙ ap (λ (y : Instance). Some y.advert) (sym ci.is)
@@ -197,7 +197,7 @@ module _ (s : Setup) (g : Configuration) (w : World) (kept : KeptBook s g w) (ch
   abbrev end : Configuration
   end = begun mid k (Some ad) spent
 
-  pub ends_begin : after_steps c (begin_steps s c k) ≡ begun (record c { init_authorised = init_all c.init_authorised k (unauthorised c k (persistent is.setting.advert.pre)) }) k (Some is.setting.advert) spent
+  pub ends_begin : after_steps c (begin_steps s c k) ≡ begun (record c { init_authorised = init_all c.init_authorised k (unauthorised c k (persistent is.instance.advert.pre)) }) k (Some is.instance.advert) spent
   ends_begin =
       let numbers : numbers_of (bindings_of c.advertised k) (persistent_names ad.pre) ≡ spent = ap (λ bs. numbers_of bs (persistent_names ad.pre)) bindings_are ∙ bound.numbers in
       ap (after_steps c) steps_are ∙ after-append c (auth_inits k awaited) (steps.Init k ∷ []) ∙ ap (λ d. effect d (steps.Init k)) (after-inits k awaited c)

@@ -60,10 +60,10 @@ module _ (s : Setup) (size : HashesBytes s.hash) (few_contracts : length s.contr
   module _ (h : ContractPosition) (t : Taking s size few_contracts g w kept fit check hs clear sub tx fits spent acc all h)
       (c : Configuration) (con : Constant s c) (money : AgreeOnMoney s c w) (advertised : c.advertised ≡ w.advertised) where
     abbrev st : Instance
-    st = t.fine.setting
+    st = t.fine.instance
 
     abbrev ad : Advert
-    ad = t.fine.setting.advert
+    ad = t.fine.instance.advert
 
     abbrev n : ℕ
     n = fst.number
@@ -274,9 +274,9 @@ module _ (s : Setup) (size : HashesBytes s.hash) (few_contracts : length s.contr
 
     -- what is revealed, and what the test says of the lengths
     pub record IsTested : Type 0 where
-      pub puts_known : list_all (λ x. is_among x (names_of (volatile t.fine.setting.advert.pre))) (core_puts (core t.branch)) ≡ true
-      pub revealed : are_revealed c.revealed h.contract t.fine.setting.advert.pre (core_reveals (core t.branch)) ≡ true
-      pub test : holds (secret_lengths c.committed h.contract t.fine.setting.advert.pre (core_reveals (core t.branch))) (core_test (core t.branch)) ≡ true
+      pub puts_known : list_all (λ x. is_among x (names_of (volatile t.fine.instance.advert.pre))) (core_puts (core t.branch)) ≡ true
+      pub revealed : are_revealed c.revealed h.contract t.fine.instance.advert.pre (core_reveals (core t.branch)) ≡ true
+      pub test : holds (secret_lengths c.committed h.contract t.fine.instance.advert.pre (core_reveals (core t.branch))) (core_test (core t.branch)) ≡ true
 
     module _ (puts reveals : List (List ℕ)) (test : term.Pred) (nx : Contract) (e : core t.branch ≡ put_reveal puts reveals test nx) (tested : IsTested) where
       puts_bound : AreBound s g w kept h.contract st t.fine.compiled tx fst.numbers (map (volatile_entry ad.pre) (core_puts (core b)))

@@ -50,11 +50,11 @@ module _ (s : Setup) (size : HashesBytes s.hash) (few_contracts : length s.contr
 
     -- what a witness that opens the position shows, where what it shows is posted
     pub tested_by : (z : List (List ℕ)) (next : World) → KeptSecrets s z c next → Begins z next.posted → PromisesNamed s next.promises → next.promises ≡ w.promises
-        → (valid : List ℕ → List ℕ → Bool) (stack : List (List ℕ)) (op : Opens s.hash valid t.fine.setting h.position t.fine.choice stack) → op.b ≡ t.branch
+        → (valid : List ℕ → List ℕ → Bool) (stack : List (List ℕ)) (op : Opens s.hash valid t.fine.instance h.position t.fine.choice stack) → op.b ≡ t.branch
         → ((u : List ℕ) → is_among u stack ≡ true → is_among u next.posted ≡ true)
         → IsTested s size few_contracts g w kept fit check hs clear sub tx fits spent acc all h t c con money advertised
     tested_by z next secrets begins named promises valid stack op same posts =
-        let st = t.fine.setting in
+        let st = t.fine.instance in
         let ci = compiled_is s w h.contract st t.fine.compiled in
         let ad = st.advert in
         let there : slice_get s.contracts h.contract ≡ Some ad = ci.there ∙ ap (λ (y : Instance). Some y.advert) (sym ci.is) in
@@ -79,9 +79,9 @@ module _ (s : Setup) (size : HashesBytes s.hash) (few_contracts : length s.contr
         have_same e a k = subst (λ ps. have_promised (record next { promises = ps }) h.contract (participants a) ≡ true) (sym e) k
 
     -- a core is a put or reveal, a payment or a division
-    no_core : (x : term.Guarded) → core t.branch ≡ x → core_outputs s.hash t.fine.setting (branch_path t.fine.here.position t.index) t.fine.here.output.value x ≡ [] → ⊥
+    no_core : (x : term.Guarded) → core t.branch ≡ x → core_outputs s.hash t.fine.instance (branch_path t.fine.here.position t.index) t.fine.here.output.value x ≡ [] → ⊥
     no_core x e n =
-        let o : tx.outputs ≡ [] = ap (λ (y : Tx). y.outputs) t.is ∙ ap (core_outputs s.hash t.fine.setting (branch_path t.fine.here.position t.index) t.fine.here.output.value) e ∙ n in
+        let o : tx.outputs ≡ [] = ap (λ (y : Tx). y.outputs) t.is ∙ ap (core_outputs s.hash t.fine.instance (branch_path t.fine.here.position t.index) t.fine.here.output.value) e ∙ n in
         let m : not true ≡ true = subst (λ os. not (length os == 0) ≡ true) o acc.makes in
         cc
 

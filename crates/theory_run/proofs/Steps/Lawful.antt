@@ -90,14 +90,14 @@ module _ (s : Setup) (size : HashesBytes s.hash) (few_contracts : length s.contr
         there = k.opened.is_branch;
         is = k.is;
         payee = λ p c.
-            let l = term_branches s.hash hf.setting h.position hf.here hf.choice k.opened.i hf.stands ∙ k.opened.is_branch in
-            participant_declared s g w kept check h.contract hf.setting hf.compiled p (branch_named hf.setting.advert (h.position ++ To k.opened.i ∷ []) k.opened.b p l (payee_mentioned k.opened.b p c));
+            let l = term_branches s.hash hf.instance h.position hf.here hf.choice k.opened.i hf.stands ∙ k.opened.is_branch in
+            participant_declared s g w kept check h.contract hf.instance hf.compiled p (branch_named hf.instance.advert (h.position ++ To k.opened.i ∷ []) k.opened.b p l (payee_mentioned k.opened.b p c));
       }
 
   -- the first witness opens it
   pub record HasOpened (h : ContractPosition) (t : Taking s size few_contracts g w kept fit check hs clear sub tx fits spent acc all h) : Type 0 where
     pub valid : List ℕ → List ℕ → Bool
-    pub opens : Opens s.hash valid t.fine.setting h.position t.fine.choice (reverse (verdict.items_of fst.input.witness))
+    pub opens : Opens s.hash valid t.fine.instance h.position t.fine.choice (reverse (verdict.items_of fst.input.witness))
     pub same : opens.b ≡ t.branch
     pub number : opens.i ≡ t.index
 
@@ -114,7 +114,7 @@ module _ (s : Setup) (size : HashesBytes s.hash) (few_contracts : length s.contr
       let under = under_script fst.input.witness fst.spends.filled in
       let ch : chosen_by (branch_count s h) fst.input.witness ≡ t.index =
       ap (λ n. chosen_by n fst.input.witness) (counted s w h fst.spends.output t.fine) ∙ ap (chosen (length (branches t.fine.choice))) under
-      ∙ opened_is_chosen s.hash k.valid t.fine.setting h.position t.fine.choice (reverse (verdict.items_of fst.input.witness)) k.opens ∙ k.number in
+      ∙ opened_is_chosen s.hash k.valid t.fine.instance h.position t.fine.choice (reverse (verdict.items_of fst.input.witness)) k.opens ∙ k.number in
       (λ j. kind_by s tx spent (i j) (f j))
       ∙ (λ j. Takes h (first_number (fst.spent_is j)) (chosen_by (branch_count s h) (first_witness (fst.inputs_is j))))
       ∙ ap (Takes h fst.number) ch

@@ -52,9 +52,9 @@ module _ (s : Setup) (g : Configuration) (w : World) (kept : KeptBook s g w) whe
       by_held None e = refl
       by_held (Some held) e = false_from_ne_true _ (λ t.
           let hf = kept.held n o held there e in
-          let c : compiled_instance s w k ≡ Some hf.setting =
-          subst (λ j. compiled_instance s w j ≡ Some hf.setting) (eqb-true held.contract k t) hf.compiled in
-          let z : (let x : Option Instance = None in x) ≡ Some hf.setting = sym none ∙ c in
+          let c : compiled_instance s w k ≡ Some hf.instance =
+          subst (λ j. compiled_instance s w j ≡ Some hf.instance) (eqb-true held.contract k t) hf.compiled in
+          let z : (let x : Option Instance = None in x) ≡ Some hf.instance = sym none ∙ c in
           cc)
 
   held_there : (k : ℕ) (q : List PathStep) (n : ℕ) (o : Output) → output_at w n ≡ Some o
@@ -68,8 +68,8 @@ module _ (s : Setup) (g : Configuration) (w : World) (kept : KeptBook s g w) whe
           is_held k q o.holds (kept.placed k st q here choice n o c stands there (place-true o.outpoint here.output.outpoint e))
       by_place st here choice c stands false e = false_from_ne_true _ (λ t.
           let hf = fine k q n o there t in
-          let x : (let y : Option Instance = Some hf.setting in y) ≡ Some st = sym hf.compiled ∙ c in
-          let same : hf.setting ≡ st = cc in
+          let x : (let y : Option Instance = Some hf.instance in y) ≡ Some st = sym hf.compiled ∙ c in
+          let same : hf.instance ≡ st = cc in
           let y : (let p : Option (Standing × Contract) = Some (hf.here, hf.choice) in p) ≡ Some (here, choice) =
           sym hf.stands ∙ ap (λ (z : Instance). position_at s.hash z q) same ∙ stands in
           let z : (let p : Standing × Contract = (hf.here, hf.choice) in p) ≡ (here, choice) = cc in
@@ -80,8 +80,8 @@ module _ (s : Setup) (g : Configuration) (w : World) (kept : KeptBook s g w) whe
           → is_position_of k q o.holds ≡ is_outpoint o.outpoint (option_map (λ (x : Standing × Contract). x.0.output.outpoint) p)
       by_position st c None stands = false_from_ne_true _ (λ t.
           let hf = fine k q n o there t in
-          let x : (let y : Option Instance = Some hf.setting in y) ≡ Some st = sym hf.compiled ∙ c in
-          let same : hf.setting ≡ st = cc in
+          let x : (let y : Option Instance = Some hf.instance in y) ≡ Some st = sym hf.compiled ∙ c in
+          let same : hf.instance ≡ st = cc in
           let y : (let p : Option (Standing × Contract) = Some (hf.here, hf.choice) in p) ≡ None =
           sym hf.stands ∙ ap (λ (z : Instance). position_at s.hash z q) same ∙ stands in
           cc)
@@ -90,7 +90,7 @@ module _ (s : Setup) (g : Configuration) (w : World) (kept : KeptBook s g w) whe
       by_compiled : (c : Option Instance) → compiled_instance s w k ≡ c → is_position_of k q o.holds ≡ is_outpoint o.outpoint (compiled_outpoint s c q)
       by_compiled None c = false_from_ne_true _ (λ t.
           let hf = fine k q n o there t in
-          let x : (let y : Option Instance = Some hf.setting in y) ≡ None = sym hf.compiled ∙ c in
+          let x : (let y : Option Instance = Some hf.instance in y) ≡ None = sym hf.compiled ∙ c in
           cc)
       by_compiled (Some st) c = by_position st c (position_at s.hash st q) refl
 

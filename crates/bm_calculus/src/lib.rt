@@ -4,8 +4,6 @@
 pub mod config;
 mod moves;
 mod same;
-#[cfg(test)]
-mod tests;
 
 pub use config::{Config, StepError};
 pub use spec_calculus::{Deposit, Move, MoveAuthorisation, Owner, Step};

@@ -155,7 +155,7 @@ impl Ledger {
         ensures refusal { IfOk result (λ r. r ≡ spec.refusal_of (H.digest_of trail.old.hasher) book.now self.now.tip self.now.live tx.now) }
         ensures trail { Hashes H.digest_of trail.old trail.new (spec.transaction_strings (H.digest_of trail.old.hasher) self.now.live tx.now) result }
     {
-        let judged = examine(self.alloc, trail, book, self.tip, &self.outputs, tx)?;
+        let judged = self.examine(trail, book, tx)?;
         Ok(judged.refusal)
     }
 
@@ -204,7 +204,7 @@ impl Ledger {
         ensures same { OnErr result (self.new ≡ self.old) }
         ensures trail { Hashes H.digest_of trail.old trail.new (spec.transaction_strings (H.digest_of trail.old.hasher) self.old.live tx.now) result }
     {
-        let judged = examine(self.alloc, trail, book, self.tip, &self.outputs, tx)?;
+        let judged = self.examine(trail, book, tx)?;
         if let Some(refusal) = judged.refusal {
             return Ok(Verdict::Refused(refusal));
         }

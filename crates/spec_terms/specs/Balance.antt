@@ -13,8 +13,8 @@ pub record Funded : Type 0 where
   pub balance : ℤ
   pub subterm : Subterm
 
-abbrev pub funded : List PathStep → ℤ → Subterm → Funded
-funded path balance subterm = record { path = path; balance = balance; subterm = subterm }
+abbrev pub as_funded : List PathStep → ℤ → Subterm → Funded
+as_funded path balance subterm = record { path = path; balance = balance; subterm = subterm }
 
 -- the balance after a put of these deposits: they are added, and the fee is left to the miner
 abbrev pub after_put : List (List ℕ × Holding) → ℕ → ℤ → List (List ℕ) → ℤ
@@ -27,14 +27,14 @@ module _ (ds : List (List ℕ × Holding)) (fee : ℕ) where
     pub branches_funded : List PathStep → ℤ → ℕ → Contract → List Funded
     branches_funded q balance i no_branch = []
     branches_funded q balance i (branch b bs) =
-        funded (q ++ To i ∷ []) balance (at_branch b) ∷ (funded_under (q ++ To i ∷ []) balance b ++ branches_funded q balance (i + 1) bs)
+        as_funded (q ++ To i ∷ []) balance (at_branch b) ∷ (funded_under (q ++ To i ∷ []) balance b ++ branches_funded q balance (i + 1) bs)
 
     -- what stands under the branch at path p: a put's or reveal's continuation, or a split's parts with their values
     pub funded_under : List PathStep → ℤ → Guarded → List Funded
     funded_under p balance (auth party body) = funded_under p balance body
     funded_under p balance (after height body) = funded_under p balance body
     funded_under p balance (put_reveal puts reveals test next) =
-        funded p (after_put ds fee balance puts) (position next) ∷ branches_funded p (after_put ds fee balance puts) 0 next
+        as_funded p (after_put ds fee balance puts) (position next) ∷ branches_funded p (after_put ds fee balance puts) 0 next
     funded_under p balance (withdraw party) = []
     funded_under p balance (split parts) = parts_funded p 0 parts
 
@@ -42,7 +42,7 @@ module _ (ds : List (List ℕ × Holding)) (fee : ℕ) where
     pub parts_funded : List PathStep → ℕ → Parts → List Funded
     parts_funded p k no_part = []
     parts_funded p k (part v c ps) =
-        funded (p ++ Into k ∷ []) (pos v) (position c) ∷ (branches_funded (p ++ Into k ∷ []) (pos v) 0 c ++ parts_funded p (k + 1) ps)
+        as_funded (p ++ Into k ∷ []) (pos v) (position c) ∷ (branches_funded (p ++ Into k ∷ []) (pos v) 0 c ++ parts_funded p (k + 1) ps)
 
 -- the balance of the root: the persistent deposits, less the fee
 abbrev pub root_balance : Advert → ℤ
@@ -50,4 +50,4 @@ root_balance a = pos (total_of (persistent a.pre)) -ℤ pos a.fee
 
 -- all positions and branches of an advert in the order of the text
 abbrev pub all_funded : Advert → List Funded
-all_funded a = funded [] (root_balance a) (position a.root) ∷ branches_funded (volatile a.pre) a.fee [] (root_balance a) 0 a.root
+all_funded a = as_funded [] (root_balance a) (position a.root) ∷ branches_funded (volatile a.pre) a.fee [] (root_balance a) 0 a.root

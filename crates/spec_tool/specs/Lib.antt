@@ -17,3 +17,4 @@ pub mod Turns
 pub mod AutoText
 pub mod Answers
 pub mod Reading
+pub mod Causes

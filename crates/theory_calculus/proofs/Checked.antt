@@ -10,7 +10,7 @@ use Rattle.std.proofs.lemmas.List.Sums.{sum_by-cons}
 use Rattle.spec_data.specs.Lists.{is_among, are_different, look_up}
 use Rattle.spec_data.proofs.ListLemmas.{or_else-none}
 use Rattle.spec_terms.specs.Advert.{Advert}
-use Rattle.spec_terms.specs.Balance.{Funded, funded, after_put, root_balance, all_funded}
+use Rattle.spec_terms.specs.Balance.{Funded, as_funded, after_put, root_balance, all_funded}
 use Rattle.spec_terms.specs.Core.{core}
 use Rattle.spec_terms.specs.Core as cores
 use Rattle.spec_terms.specs.Faults.{IsWellFormed, first_found, first_repeated, first_place, faults, at_core, puts_unknown, repeats, are_among, sum_of_parts, is_uneven, is_withdraw, is_short}
@@ -200,22 +200,22 @@ module _ (a : Advert) (well : IsWellFormed a) where
       → s.subterm ≡ at_branch b → t (core b) ≡ false
   branch_at s b t h i e = subst (λ y. at_core t y ≡ false) e (none_at (λ y. at_core t y.subterm) (all_funded a) s h i)
 
-  pub puts_known : (q : List PathStep) (v : ℤ) (b : Guarded) → Is_in (funded q v (at_branch b)) (all_funded a)
+  pub puts_known : (q : List PathStep) (v : ℤ) (b : Guarded) → Is_in (as_funded q v (at_branch b)) (all_funded a)
       → are_among (cores.puts_of (core b)) (names_of (volatile a.pre)) ≡ true
-  puts_known q v b i = not-false _ (branch_at (funded q v (at_branch b)) b (puts_unknown a.pre) (no_fault a well).1.0 i refl)
+  puts_known q v b i = not-false _ (branch_at (as_funded q v (at_branch b)) b (puts_unknown a.pre) (no_fault a well).1.0 i refl)
 
-  pub puts_differ : (q : List PathStep) (v : ℤ) (b : Guarded) → Is_in (funded q v (at_branch b)) (all_funded a)
+  pub puts_differ : (q : List PathStep) (v : ℤ) (b : Guarded) → Is_in (as_funded q v (at_branch b)) (all_funded a)
       → are_different (cores.puts_of (core b)) ≡ true
   puts_differ q v b i =
       (and_parts (are_different (cores.puts_of (core b))) (are_different (cores.reveals_of (core b)))
-      (not-false _ (branch_at (funded q v (at_branch b)) b repeats (no_fault a well).1.1.1.0 i refl))).0
+      (not-false _ (branch_at (as_funded q v (at_branch b)) b repeats (no_fault a well).1.1.1.0 i refl))).0
 
   -- ---- balances that pay
 
   -- a position's balance isn't negative
-  pub position_pays : (q : List PathStep) (v : ℤ) (c : Contract) → Is_in (funded q v (position c)) (all_funded a) → int_lt v (pos 0) ≡ false
+  pub position_pays : (q : List PathStep) (v : ℤ) (c : Contract) → Is_in (as_funded q v (position c)) (all_funded a) → int_lt v (pos 0) ≡ false
   position_pays q v c i =
-      none_at (λ y. is_short a.fee y.balance y.subterm) (all_funded a) (funded q v (position c)) (no_fault a well).1.1.1.1.1.1.1.0 i
+      none_at (λ y. is_short a.fee y.balance y.subterm) (all_funded a) (as_funded q v (position c)) (no_fault a well).1.1.1.1.1.1.1.0 i
 
   short_withdraw : (v : ℕ) (c : Guarded) (party : List ℕ) → c ≡ withdraw party → (is_withdraw c && int_lt (pos v) (pos a.fee)) ≡ false
       → a.fee ≤ v
@@ -224,7 +224,7 @@ module _ (a : Advert) (well : IsWellFormed a) where
   even_split : (v : ℕ) (c : Guarded) (parts : Parts) → c ≡ split parts → is_uneven a.fee (pos v) c ≡ false → sum_of_parts parts + a.fee ≡ v
   even_split v c parts e h = same_number (sum_of_parts parts + a.fee) v (subst (λ y. is_uneven a.fee (pos v) y ≡ false) e h)
 
-  pub branch_pays : (q : List PathStep) (v : ℕ) (b : Guarded) → Is_in (funded q (pos v) (at_branch b)) (all_funded a) → Pays a v (core b)
+  pub branch_pays : (q : List PathStep) (v : ℕ) (b : Guarded) → Is_in (as_funded q (pos v) (at_branch b)) (all_funded a) → Pays a v (core b)
   branch_pays q v b i = by_core (core b) refl
     where
       by_core : (c : Guarded) → core b ≡ c → Pays a v c
@@ -233,10 +233,10 @@ module _ (a : Advert) (well : IsWellFormed a) where
           (position_pays q (after_put (volatile a.pre) a.fee (pos v) puts) next (stands_next a q (pos v) b puts reveals test next i e))
       by_core (withdraw party) e =
           short_withdraw v (core b) party e
-          (none_at (λ y. is_short a.fee y.balance y.subterm) (all_funded a) (funded q (pos v) (at_branch b)) (no_fault a well).1.1.1.1.1.1.1.0 i)
+          (none_at (λ y. is_short a.fee y.balance y.subterm) (all_funded a) (as_funded q (pos v) (at_branch b)) (no_fault a well).1.1.1.1.1.1.1.0 i)
       by_core (split parts) e =
           even_split v (core b) parts e
-          (none_at (λ y. at_core (is_uneven a.fee y.balance) y.subterm) (all_funded a) (funded q (pos v) (at_branch b))
+          (none_at (λ y. at_core (is_uneven a.fee y.balance) y.subterm) (all_funded a) (as_funded q (pos v) (at_branch b))
           (no_fault a well).1.1.1.1.1.1.0 i)
       by_core (auth party body) e = tt
       by_core (after height body) e = tt

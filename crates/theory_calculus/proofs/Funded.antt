@@ -6,7 +6,7 @@ use Rattle.std.specs.List.{AllByRecursion}
 use Rattle.std.proofs.lemmas.Bool.{and_parts, eqb-true, not-true}
 use Rattle.spec_data.specs.Lists.{has_number, are_different}
 use Rattle.spec_terms.specs.Advert.{Advert}
-use Rattle.spec_terms.specs.Balance.{funded, all_funded}
+use Rattle.spec_terms.specs.Balance.{as_funded, all_funded}
 use Rattle.spec_terms.specs.Faults.{IsWellFormed}
 use Rattle.spec_terms.specs.Paths.{position, contract_under}
 use Rattle.spec_terms.specs.Precondition.{deposits, names_of}
@@ -32,7 +32,7 @@ pub record StandsAt (contracts : List Advert) (a : ActiveContract) : Type 0 wher
   pub there : contract_at contracts a.contract ≡ Some advert
   pub choice : Contract
   pub chosen : contract_under advert.root a.position ≡ Some choice
-  pub static : Is_in (funded a.position (pos a.balance) (position choice)) (all_funded advert)
+  pub static : Is_in (as_funded a.position (pos a.balance) (position choice)) (all_funded advert)
 
 pub record IsFine (g : Configuration) : Type 0 where
   pub checked : AllByRecursion IsWellFormed g.contracts

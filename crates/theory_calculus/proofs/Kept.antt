@@ -6,7 +6,7 @@ use Rattle.std.proofs.lemmas.Bool.{and_parts, leb-true}
 use Rattle.spec_data.specs.Lists.{are_distinct}
 use Rattle.spec_data.specs.Ranges.{max_money}
 use Rattle.spec_terms.specs.Advert.{Advert}
-use Rattle.spec_terms.specs.Balance.{funded, all_funded}
+use Rattle.spec_terms.specs.Balance.{as_funded, all_funded}
 use Rattle.spec_terms.specs.Core.{core}
 use Rattle.spec_terms.specs.Faults.{IsWellFormed, sum_of_parts}
 use Rattle.spec_terms.specs.Paths.{position}
@@ -30,6 +30,7 @@ use Rattle.theory_calculus.proofs.Sums.{sum_of, kept_gone, gone_value, others_ba
 use Rattle.theory_calculus.proofs.Bindings.{bound_by_none}
 use Rattle.theory_calculus.proofs.Checked.{branch_pays, root_enough}
 use Rattle.theory_calculus.proofs.Stands.{stands_branch}
+use Rattle.theory_calculus.proofs.OneBalance.{one_balance}
 use Rattle.theory_calculus.proofs.Funded.{StandsAt, IsFine, checked_at, bound_kept, bound_moved, bound_paid, bound_divided, bound_advertised}
 use Rattle.theory_calculus.proofs.Standing.{taken_by, init_gone, begun_stands, put_value, put_enough, continued_stands, divided_stands}
 use Rattle.theory_calculus.proofs.Totals.{begun_total, continued_total, withdrawn_total, divided_total, moved_total, all_little}
@@ -341,7 +342,9 @@ module _ (g : Configuration) (fine : IsFine g) where
         there = st.there;
         choice = st.choice;
         chosen = st.chosen;
-        static = contains_from_in (all_funded st.advert) (funded a.position (pos a.balance) (position st.choice)) st.static;
+        static = contains_from_in (all_funded st.advert) (as_funded a.position (pos a.balance) (position st.choice)) st.static;
+        only = λ v c h. one_balance st.advert a.position (pos a.balance) v st.choice c st.static
+            (in_from_contains (all_funded st.advert) (as_funded a.position v (position c)) h);
         pays = λ j b h. branch_pays st.advert well (a.position ++ To j ∷ []) a.balance b
             (stands_branch st.advert a.position (pos a.balance) st.choice j b st.static h);
       }

@@ -10,5 +10,6 @@ pub mod Checked
 pub mod Funded
 pub mod Standing
 pub mod Totals
+pub mod OneBalance
 pub mod Kept
 mod Worked

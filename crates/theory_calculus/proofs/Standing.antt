@@ -6,7 +6,7 @@ use Rattle.std.specs.Str.{bytes_eq}
 use Rattle.std.proofs.lemmas.Bool.{and_parts, or_cases}
 use Rattle.spec_data.specs.Lists.{is_among, are_different, look_up}
 use Rattle.spec_terms.specs.Advert.{Advert}
-use Rattle.spec_terms.specs.Balance.{funded, all_funded}
+use Rattle.spec_terms.specs.Balance.{as_funded, all_funded}
 use Rattle.spec_terms.specs.Core.{core}
 use Rattle.spec_terms.specs.Core as cores
 use Rattle.spec_terms.specs.Faults.{IsWellFormed, are_among}
@@ -99,7 +99,7 @@ module _ (g : Configuration) (fine : IsFine g) where
         there = e;
         choice = advert.root;
         chosen = refl;
-        static = inl (ap (λ m. funded [] m (position advert.root)) (sym (root_is advert well)));
+        static = inl (ap (λ m. as_funded [] m (position advert.root)) (sym (root_is advert well)));
       })
 
   -- ---- a branch of an active contract
@@ -114,7 +114,7 @@ module _ (g : Configuration) (fine : IsFine g) where
     pub branch : Guarded
     pub taken : branch_at g output i ≡ Some branch
     pub among : slice_get (branches held.choice) i ≡ Some branch
-    pub static : Is_in (funded (active.position ++ To i ∷ []) (pos active.balance) (at_branch branch)) (all_funded held.advert)
+    pub static : Is_in (as_funded (active.position ++ To i ∷ []) (pos active.balance) (at_branch branch)) (all_funded held.advert)
 
   pub taken_by : (output i : ℕ) → is_some (active_at g.active output) ≡ true → is_some (branch_at g output i) ≡ true → IsTaken output i
   taken_by output i h k =
@@ -210,7 +210,7 @@ module _ (g : Configuration) (fine : IsFine g) where
             choice = next;
             chosen = choice_next t.held.advert.root t.active.position t.held.choice i t.branch puts reveals test next t.held.chosen t.among e;
             static =
-                subst (λ m. Is_in (funded q m (position next)) (all_funded t.held.advert))
+                subst (λ m. Is_in (as_funded q m (position next)) (all_funded t.held.advert))
                 (difference t.active.balance (value_of_puts (volatile t.held.advert.pre) puts) t.held.advert.fee put_enough)
                 (stands_next t.held.advert q (pos t.active.balance) t.branch puts reveals test next t.static e);
           })

@@ -3,7 +3,7 @@ use Rattle.std.proofs.Common.{◌≡◌, ℕ, zero, suc, ◌+◌, ℤ, pos, List
 use Rattle.std.specs.Prelude.{slice_get, option_map, option_and_then, if◌then◌else◌}
 use Rattle.spec_data.proofs.ListLemmas.{or_else-none}
 use Rattle.spec_terms.specs.Advert.{Advert}
-use Rattle.spec_terms.specs.Balance.{Funded, funded, after_put, branches_funded, funded_under, parts_funded, root_balance, all_funded}
+use Rattle.spec_terms.specs.Balance.{Funded, as_funded, after_put, branches_funded, funded_under, parts_funded, root_balance, all_funded}
 use Rattle.spec_terms.specs.Core.{core, continuation}
 use Rattle.spec_terms.specs.Faults.{place_of, place_if, first_place}
 use Rattle.spec_terms.specs.Paths.{Subterm, position, at_branch, next_subterm, below, subterm_from, as_contract, contract_under}
@@ -84,30 +84,30 @@ module _ (ds : List (List ℕ × Holding)) (fee : ℕ) where
 
   -- a branch of a choice
   branch_there : (q : List PathStep) (v : ℤ) (i j : ℕ) (c : Contract) (b : Guarded) → slice_get (branches c) j ≡ Some b
-      → Is_in (funded (q ++ To (j + i) ∷ []) v (at_branch b)) (branches_funded ds fee q v i c)
+      → Is_in (as_funded (q ++ To (j + i) ∷ []) v (at_branch b)) (branches_funded ds fee q v i c)
   branch_there q v i j no_branch b h = cc
   branch_there q v i zero (branch d c) b h =
       let z : d ≡ b = cc in
       let n : 0 + i ≡ i = omega arith in
-      inl (λ k. funded (q ++ To (n k) ∷ []) v (at_branch (sym z k)))
+      inl (λ k. as_funded (q ++ To (n k) ∷ []) v (at_branch (sym z k)))
   branch_there q v i (suc j) (branch d c) b h =
       let n : j + (i + 1) ≡ suc j + i = omega arith in
       inr (in_right _ (funded_under ds fee (q ++ To i ∷ []) v d) (branches_funded ds fee q v (i + 1) c)
-      (subst (λ m. Is_in (funded (q ++ To m ∷ []) v (at_branch b)) (branches_funded ds fee q v (i + 1) c)) n
+      (subst (λ m. Is_in (as_funded (q ++ To m ∷ []) v (at_branch b)) (branches_funded ds fee q v (i + 1) c)) n
       (branch_there q v (i + 1) j c b h)))
 
   -- a part of a split
   part_there : (p : List PathStep) (k j : ℕ) (ps : Parts) (x : ℕ × Contract) → slice_get (parts_list ps) j ≡ Some x
-      → Is_in (funded (p ++ Into (j + k) ∷ []) (pos (x.0)) (position (x.1))) (parts_funded ds fee p k ps)
+      → Is_in (as_funded (p ++ Into (j + k) ∷ []) (pos (x.0)) (position (x.1))) (parts_funded ds fee p k ps)
   part_there p k j no_part x h = cc
   part_there p k zero (part w c ps) x h =
       let z : (let y : ℕ × Contract = (w, c) in y) ≡ x = cc in
       let n : 0 + k ≡ k = omega arith in
-      inl (λ i. funded (p ++ Into (n i) ∷ []) (pos ((sym z i).0)) (position ((sym z i).1)))
+      inl (λ i. as_funded (p ++ Into (n i) ∷ []) (pos ((sym z i).0)) (position ((sym z i).1)))
   part_there p k (suc j) (part w c ps) x h =
       let n : j + (k + 1) ≡ suc j + k = omega arith in
       inr (in_right _ (branches_funded ds fee (p ++ Into k ∷ []) (pos w) 0 c) (parts_funded ds fee p (k + 1) ps)
-      (subst (λ m. Is_in (funded (p ++ Into m ∷ []) (pos (x.0)) (position (x.1))) (parts_funded ds fee p (k + 1) ps)) n
+      (subst (λ m. Is_in (as_funded (p ++ Into m ∷ []) (pos (x.0)) (position (x.1))) (parts_funded ds fee p (k + 1) ps)) n
       (part_there p (k + 1) j ps x h)))
 
   -- the core has below it what the branch has
@@ -129,32 +129,32 @@ module _ (a : Advert) where
   closed s (inr h) = λ t k. inr (choice_closed ds a.fee [] (root_balance a) 0 a.root s h t k)
 
   -- each branch of a position that stands there
-  pub stands_branch : (q : List PathStep) (v : ℤ) (c : Contract) (i : ℕ) (b : Guarded) → Is_in (funded q v (position c)) (all_funded a)
-      → slice_get (branches c) i ≡ Some b → Is_in (funded (q ++ To i ∷ []) v (at_branch b)) (all_funded a)
+  pub stands_branch : (q : List PathStep) (v : ℤ) (c : Contract) (i : ℕ) (b : Guarded) → Is_in (as_funded q v (position c)) (all_funded a)
+      → slice_get (branches c) i ≡ Some b → Is_in (as_funded (q ++ To i ∷ []) v (at_branch b)) (all_funded a)
   stands_branch q v c i b h e =
       let n : i + 0 ≡ i = omega arith in
-      closed (funded q v (position c)) h (funded (q ++ To i ∷ []) v (at_branch b))
-      (subst (λ m. Is_in (funded (q ++ To m ∷ []) v (at_branch b)) (branches_funded ds a.fee q v 0 c)) n (branch_there ds a.fee q v 0 i c b e))
+      closed (as_funded q v (position c)) h (as_funded (q ++ To i ∷ []) v (at_branch b))
+      (subst (λ m. Is_in (as_funded (q ++ To m ∷ []) v (at_branch b)) (branches_funded ds a.fee q v 0 c)) n (branch_there ds a.fee q v 0 i c b e))
 
   -- and what its core goes on with
   pub stands_next : (q : List PathStep) (v : ℤ) (b : Guarded) (puts reveals : List (List ℕ)) (test : Pred) (next : Contract)
-      → Is_in (funded q v (at_branch b)) (all_funded a) → core b ≡ put_reveal puts reveals test next
-      → Is_in (funded q (after_put ds a.fee v puts) (position next)) (all_funded a)
+      → Is_in (as_funded q v (at_branch b)) (all_funded a) → core b ≡ put_reveal puts reveals test next
+      → Is_in (as_funded q (after_put ds a.fee v puts) (position next)) (all_funded a)
   stands_next q v b puts reveals test next h e =
-      let s = funded q (after_put ds a.fee v puts) (position next) in
+      let s = as_funded q (after_put ds a.fee v puts) (position next) in
       let u : funded_under ds a.fee q v b ≡ funded_under ds a.fee q v (put_reveal puts reveals test next) =
       under_core ds a.fee q v b ∙ ap (funded_under ds a.fee q v) e in
-      closed (funded q v (at_branch b)) h s (subst (λ xs. Is_in s xs) (sym u) (inl refl))
+      closed (as_funded q v (at_branch b)) h s (subst (λ xs. Is_in s xs) (sym u) (inl refl))
 
   pub stands_part : (q : List PathStep) (v : ℤ) (b : Guarded) (parts : Parts) (k : ℕ) (x : ℕ × Contract)
-      → Is_in (funded q v (at_branch b)) (all_funded a) → core b ≡ split parts → slice_get (parts_list parts) k ≡ Some x
-      → Is_in (funded (q ++ Into k ∷ []) (pos (x.0)) (position (x.1))) (all_funded a)
+      → Is_in (as_funded q v (at_branch b)) (all_funded a) → core b ≡ split parts → slice_get (parts_list parts) k ≡ Some x
+      → Is_in (as_funded (q ++ Into k ∷ []) (pos (x.0)) (position (x.1))) (all_funded a)
   stands_part q v b parts k x h e f =
-      let s = funded (q ++ Into k ∷ []) (pos (x.0)) (position (x.1)) in
+      let s = as_funded (q ++ Into k ∷ []) (pos (x.0)) (position (x.1)) in
       let n : k + 0 ≡ k = omega arith in
       let u : funded_under ds a.fee q v b ≡ parts_funded ds a.fee q 0 parts = under_core ds a.fee q v b ∙ ap (funded_under ds a.fee q v) e in
-      closed (funded q v (at_branch b)) h s
-      (subst (λ xs. Is_in s xs) (sym u) (subst (λ m. Is_in (funded (q ++ Into m ∷ []) (pos (x.0)) (position (x.1)))
+      closed (as_funded q v (at_branch b)) h s
+      (subst (λ xs. Is_in s xs) (sym u) (subst (λ m. Is_in (as_funded (q ++ Into m ∷ []) (pos (x.0)) (position (x.1)))
       (parts_funded ds a.fee q 0 parts)) n (part_there ds a.fee q 0 k parts x f)))
 
 -- ---- paths

@@ -1,10 +1,10 @@
 -- What is claimed of money: what active contracts hold, what each step takes and gives, and how much there is.
-use Rattle.std.specs.Prelude.{◌≡◌, ℕ, ◌+◌, ◌≤◌, nat_le, true, List, Some, slice_get, sum_by, pos}
+use Rattle.std.specs.Prelude.{◌≡◌, ℕ, ◌+◌, ◌≤◌, nat_le, true, List, Some, slice_get, sum_by, ℤ, pos}
 use Rattle.std.specs.List.{Contains, AllByRecursion, list_all}
 use Rattle.spec_data.specs.Lists.{are_distinct}
 use Rattle.spec_data.specs.Ranges.{max_money}
 use Rattle.spec_terms.specs.Advert.{Advert}
-use Rattle.spec_terms.specs.Balance.{funded, all_funded}
+use Rattle.spec_terms.specs.Balance.{as_funded, all_funded}
 use Rattle.spec_terms.specs.Core.{core}
 use Rattle.spec_terms.specs.Faults.{IsWellFormed, sum_of_parts}
 use Rattle.spec_terms.specs.Paths.{position, contract_under}
@@ -35,7 +35,9 @@ pub record IsBalanced (contracts : List Advert) (a : ActiveContract) : Type 0 wh
   pub there : contract_at contracts a.contract ≡ Some advert
   pub choice : Contract
   pub chosen : contract_under advert.root a.position ≡ Some choice
-  pub static : Contains (all_funded advert) (funded a.position (pos a.balance) (position choice))
+  -- the static balance at that position, which is the only one there
+  pub static : Contains (all_funded advert) (as_funded a.position (pos a.balance) (position choice))
+  pub only : (v : ℤ) (c : Contract) → Contains (all_funded advert) (as_funded a.position v (position c)) → v ≡ pos a.balance
   pub pays : (branch : ℕ) (b : Guarded) → slice_get (branches choice) branch ≡ Some b → Pays advert a.balance (core b)
 
 -- ---- what a step takes and gives

@@ -9,7 +9,6 @@ use Rattle.spec_calculus.specs.Configuration.{Configuration}
 use Rattle.spec_calculus.specs.Steps.{fails, Legal, IsLegalRun, effect, after_steps, owned}
 use Rattle.spec_run.specs.declared.outcome.Record.{Record}
 use Rattle.spec_run.specs.Conditions.{IsSetup}
-use Rattle.spec_run.specs.Translation.{last_world}
 use Rattle.spec_run.specs.Setup.{Setup}
 use Rattle.spec_run.specs.Translation.{opening_configuration}
 use Rattle.spec_run.specs.World.{World}
@@ -18,7 +17,7 @@ use Rattle.theory_calculus.proofs.Kept.{money_is_kept, money_stays_within}
 use Rattle.theory_calculus.proofs.Numbered.{numbers_apart}
 use Rattle.theory_calculus.proofs.Sums.{made_value}
 use Rattle.theory_money.specs.Runs.{IsSound, sound_after, RunsAreSound}
-use Rattle.theory_run.proofs.Following.{Keeps, holds_throughout, kept_at_end}
+use Rattle.theory_run.proofs.Following.{Keeps, run_posts, holds_throughout, kept_at_end}
 use Rattle.theory_run.proofs.Simulated.{KeptRun, opening_run, simulates, run_after}
 use Rattle.theory_world.proofs.Tests.{sum_map}
 
@@ -26,8 +25,12 @@ use Rattle.theory_world.proofs.Tests.{sum_map}
 longer : (g : Configuration) (ss : List Step) (h : Configuration) (ts : List Step) → IsLegalRun g ss h → Legal h ts
     → IsLegalRun g (ss ++ ts) (after_steps h ts)
 longer g [] h [] r l = r
-longer g [] h (t ∷ ts) r l =
-    (effect h t, record { enabled = subst (λ c. fails c t ≡ 0) r l.0; leads = ap (λ c. effect c t) r }, longer (effect h t) [] (effect h t) ts refl l.1)
+longer g [] h (t ∷ ts) r l = (
+  effect h t,
+  record { enabled = subst (λ c. fails c t ≡ 0) r l.0; leads = ap (λ c. effect c t) r },
+  longer (effect h t) []
+      (effect h t) ts refl l.1,
+)
 longer g (s ∷ ss) h ts r l = (r.0, r.1, longer r.0 ss h ts r.2 l)
 
 module _ (s : Setup) (setup : IsSetup s) where
@@ -60,13 +63,13 @@ reached_by s z before g w = IsReached s z g w
 
 pub sound_runs : RunsAreSound
 sound_runs s es run =
-    let z = (last_world s es).posted in
+    let z = run_posts s es in
     let start : IsReached s z (opening_configuration s) _ = record { kept = opening_run s es run z; steps = []; legal = refl } in
     let keeps : Keeps s (sound_after s) (reached_by s z) z = record {
-      step = λ before g w k r is calm unguessed begins. (
-          let t = simulates s run.setup z g w r.kept k is calm unguessed begins in
+      step = λ before g w r e is calm unguessed begins. (
+          let t = simulates s run.setup z g w r.kept e is calm unguessed begins in
           let l = longer (opening_configuration s) r.steps g _ r.legal t.legal in
-          (sound s run.setup _ _ l, record { kept = run_after s run.setup z g w r.kept k is calm unguessed begins; steps = _; legal = l })
+          (sound s run.setup _ _ l, record { kept = run_after s run.setup z g w r.kept e is calm unguessed begins; steps = _; legal = l })
           );
     } in
     let last = kept_at_end s (sound_after s) (reached_by s z) es keeps run.events start in

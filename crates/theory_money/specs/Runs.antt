@@ -2,11 +2,10 @@
 use Rattle.std.specs.Prelude.{List}
 use Rattle.spec_calculus.specs.declared.step.Step.{Step}
 use Rattle.spec_calculus.specs.Configuration.{Configuration}
-use Rattle.spec_calculus.specs.Steps.{IsLegalRun, after_steps}
+use Rattle.spec_calculus.specs.Steps.{IsLegalRun}
 use Rattle.spec_run.specs.declared.event.Event.{Event}
 use Rattle.spec_run.specs.Setup.{Setup}
 use Rattle.spec_run.specs.Statements.{Claim, HoldsThroughout, IsRun}
-use Rattle.spec_run.specs.Steps.{steps_of}
 use Rattle.spec_run.specs.Translation.{opening_configuration, last_configuration}
 use Rattle.theory_calculus.specs.Money.{IsFunded, IsWithinAllMoney}
 use Rattle.theory_calculus.specs.Numbered.{IsNumbered}
@@ -21,7 +20,7 @@ pub record IsSound (s : Setup) (g : Configuration) : Type 0 where
 
 -- the configuration after the event is sound
 abbrev pub sound_after : Setup → Claim
-sound_after s before strings g w e d next = IsSound s (after_steps g (steps_of s strings g w next e d))
+sound_after s before g w t = IsSound s t.configuration
 
 -- the configuration is sound at the opening, after each event up to the first halt, and at the end
 pub record IsSoundThroughout (s : Setup) (es : List Event) : Type 0 where

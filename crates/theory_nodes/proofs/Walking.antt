@@ -102,10 +102,10 @@ module _ (hash : List ℕ → List ℕ) (s : Instance) (ns : List Node) where
         let value = continued_value s w.value puts in
         let made : node_unsigned hash s script w height deed ≡ core_unsigned hash s (standing position w) i height (put_reveal puts reveals test next) =
         λ j. record { spends = spent_of script w ∷ put_deposits hash s puts; outputs = pays_right path (n + 1) value next below j ∷ []; lock = height } in
-        let here : standing path (record { place = output_outpoint hash (node_unsigned hash s script w height deed) 0; choice = n + 1; value = value })
+        let here : standing path (record { outpoint = output_outpoint hash (node_unsigned hash s script w height deed) 0; choice = n + 1; value = value })
         ≡ continued hash s path (core_unsigned hash s (standing position w) i height (put_reveal puts reveals test next)) value next =
-        λ j. record { position = path; output = record { place = output_outpoint hash (made j) 0; script = script_right path (n + 1) next below j; value = value } } in
-        let rest = branches_walk path 0 (n + 1 + 1) next (record { place = output_outpoint hash (node_unsigned hash s script w height deed) 0; choice = n + 1; value = value }) stack ys (choice_under path (n + 1) next below)
+        λ j. record { position = path; output = record { outpoint = output_outpoint hash (made j) 0; script = script_right path (n + 1) next below j; value = value } } in
+        let rest = branches_walk path 0 (n + 1 + 1) next (record { outpoint = output_outpoint hash (node_unsigned hash s script w height deed) 0; choice = n + 1; value = value }) stack ys (choice_under path (n + 1) next below)
         ∙ ap (λ x. choice_transactions hash s x 0 next ++ walk hash s script ys stack) here in
         λ j. (path, made j) ∷ rest j
     branch_walk position i n asked height (split parts) w stack ys b =
@@ -127,10 +127,10 @@ module _ (hash : List ℕ → List ℕ) (s : Instance) (ns : List Node) where
         let others = parts_nodes path (k + 1) (n + choice_count c) ps in
         let first = begins_left ns n nodes others b in
         let under = begins_right ns n (choice_count c) nodes others (length-choice_nodes position n c) b in
-        let w : Waiting = record { place = output_outpoint hash d k; choice = n; value = v } in
+        let w : Waiting = record { outpoint = output_outpoint hash d k; choice = n; value = v } in
         let more = parts_wait hash d (k + 1) (part_numbers (n + choice_count c) ps) ++ stack in
         let here : standing position w ≡ part_standing hash s path d k v c =
-        λ j. record { position = position; output = record { place = output_outpoint hash d k; script = script_right position n c first j; value = v } } in
+        λ j. record { position = position; output = record { outpoint = output_outpoint hash d k; script = script_right position n c first j; value = v } } in
         ap (λ l. walk hash s script l (w ∷ more)) (append_assoc nodes others ys)
         ∙ branches_walk position 0 (n + 1) c w more (others ++ ys) (choice_under position n c first)
         ∙ (λ j. choice_transactions hash s (here j) 0 c ++ parts_walk path d (k + 1) (n + choice_count c) ps stack ys under j)
@@ -232,7 +232,7 @@ transactions_walked hash s =
     let root = s.advert.root in
     let ns = nodes_of root in
     let here : standing hash s ns [] (root_waits hash s) ≡ root_standing hash s =
-    λ j. record { position = []; output = record { place = output_outpoint hash (initial_unsigned hash s) 0; script = script_right hash s ns [] 0 root (whole root) j; value = root_value s } } in
+    λ j. record { position = []; output = record { outpoint = output_outpoint hash (initial_unsigned hash s) 0; script = script_right hash s ns [] 0 root (whole root) j; value = root_value s } } in
     ap (λ l. walk hash s (script_of hash s ns) l (root_waits hash s ∷ [])) (sym (append-nil ns))
     ∙ choice_walk hash s ns [] 0 root (root_waits hash s) [] [] (whole root)
     ∙ append-nil (choice_transactions hash s (standing hash s ns [] (root_waits hash s)) 0 root)

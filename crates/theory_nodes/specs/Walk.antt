@@ -39,7 +39,7 @@ script_of hash s nodes n = node_script hash s nodes (slice_get nodes n)
 -- ---- the walk
 
 abbrev pub spent_of : (ℕ → List ℕ) → Waiting → Spent
-spent_of script w = record { place = w.place; script = script w.choice; value = w.value }
+spent_of script w = record { outpoint = w.outpoint; script = script w.choice; value = w.value }
 
 abbrev pub deed_puts : Deed → List (List ℕ)
 deed_puts (puts_reveals puts reveals test next) = puts
@@ -61,12 +61,12 @@ node_unsigned hash s script w height deed = record {
 
 abbrev pub parts_wait : (List ℕ → List ℕ) → Unsigned → ℕ → List (ℕ × ℕ) → List Waiting
 parts_wait hash d k [] = []
-parts_wait hash d k (p ∷ ps) = record { place = output_outpoint hash d k; choice = p.1; value = p.0 } ∷ parts_wait hash d (k + 1) ps
+parts_wait hash d k (p ∷ ps) = record { outpoint = output_outpoint hash d k; choice = p.1; value = p.0 } ∷ parts_wait hash d (k + 1) ps
 
 -- the choices that wait once the branch's transaction is made
 abbrev pub deed_waits : (List ℕ → List ℕ) → Instance → Unsigned → ℕ → Deed → List Waiting
 deed_waits hash s d balance (puts_reveals puts reveals test next) =
-    record { place = output_outpoint hash d 0; choice = next; value = continued_value s balance puts } ∷ []
+    record { outpoint = output_outpoint hash d 0; choice = next; value = continued_value s balance puts } ∷ []
 deed_waits hash s d balance (withdraws party) = []
 deed_waits hash s d balance (splits parts) = parts_wait hash d 0 parts
 
@@ -96,7 +96,7 @@ made_by hash s script (branch_node path asked height deed) (w ∷ stack) = (path
 
 -- the root, which waits from the initial transaction on
 abbrev pub root_waits : (List ℕ → List ℕ) → Instance → Waiting
-root_waits hash s = record { place = output_outpoint hash (initial_unsigned hash s) 0; choice = 0; value = root_value s }
+root_waits hash s = record { outpoint = output_outpoint hash (initial_unsigned hash s) 0; choice = 0; value = root_value s }
 
 -- ---- lists over the nodes
 

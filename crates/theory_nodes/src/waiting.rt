@@ -5,7 +5,7 @@ use spec_bitcoin::OutPoint;
 /// A choice whose branches are still to come: where its output lies, its number, and its value in satoshi.
 #[derive(Clone, Copy, Debug, PartialEq, Eq)]
 pub struct Waiting {
-    pub place: OutPoint,
+    pub outpoint: OutPoint,
     pub choice: u32,
     pub value: u64,
 }

@@ -12,7 +12,7 @@ use Rattle.spec_terms.specs.Term.{Contract, no_branch, branch, branches, auth, a
 use Rattle.spec_terms.specs.Core.{core}
 use Rattle.spec_terms.specs.Precondition.{Holding, volatile, persistent, total_of, value_of_puts}
 use Rattle.spec_terms.specs.Balance as terms
-use Rattle.spec_terms.specs.Balance.{after_put, root_balance, branches_funded, funded_under, parts_funded, all_funded, funded}
+use Rattle.spec_terms.specs.Balance.{after_put, root_balance, branches_funded, funded_under, parts_funded, all_funded, as_funded}
 use Rattle.spec_terms.specs.Faults.{IsWellFormed, sum_of_parts, at_core, is_uneven, is_short, first_place, place_if, place_of}
 use Rattle.spec_terms.specs.Paths.{Subterm, position, at_branch, contract_under}
 use Rattle.spec_terms.specs.Readable.{is_readable_contract, is_some_list, is_readable_split, is_readable_count, are_readable, is_readable_branch, are_readable_parts}

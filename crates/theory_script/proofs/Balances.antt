@@ -76,7 +76,7 @@ within v h = grind (arith, ints, h)
 
 -- what is kept at a position
 position_kept : (fee : ℕ) (q : List PathStep) (m f : ℕ) (c : Contract)
-    → is_kept fee (balance.funded q (pos m -ℤ pos f) (terms.position c)) ≡ true
+    → is_kept fee (balance.as_funded q (pos m -ℤ pos f) (terms.position c)) ≡ true
     → (pos m -ℤ pos f ≡ pos (m - f)) × (m - f ≤ max_money) × (f ≤ m)
 position_kept fee q m f c h =
     let p = and_parts (not (int_lt (pos m -ℤ pos f) (pos 0)) && true) (not (int_lt (pos max_money) (pos m -ℤ pos f))) h in
@@ -114,18 +114,18 @@ module _ (hash : List ℕ → List ℕ) (s : Instance) where
 
   -- what is kept at a branch and below it
   abbrev BranchFine : List PathStep → ℕ → term.Guarded → Type 0
-  BranchFine p v b = Good (balance.funded p (pos v) (terms.at_branch b)) × all_fine (below_branch p v b)
+  BranchFine p v b = Good (balance.as_funded p (pos v) (terms.at_branch b)) × all_fine (below_branch p v b)
 
   -- a position's value is its static balance and no more than all money, and what is below is kept
   abbrev PositionFine : List PathStep → ℕ → Contract → Type 0
-  PositionFine q v c = (v ≤ max_money) × Contains (all_funded s.advert) (balance.funded q (pos v) (terms.position c)) × all_fine (below_choice q v 0 c)
+  PositionFine q v c = (v ≤ max_money) × Contains (all_funded s.advert) (balance.as_funded q (pos v) (terms.position c)) × all_fine (below_choice q v 0 c)
 
   -- nothing is cut off where the position's stand is good
-  kept_position : (q : List PathStep) (m f : ℕ) (c : Contract) → Good (balance.funded q (pos m -ℤ pos f) (terms.position c))
+  kept_position : (q : List PathStep) (m f : ℕ) (c : Contract) → Good (balance.as_funded q (pos m -ℤ pos f) (terms.position c))
       → all_fine (branches_funded (volatile s.advert.pre) s.advert.fee q (pos m -ℤ pos f) 0 c) → PositionFine q (m - f) c × (f ≤ m)
   kept_position q m f c g r =
       let k = position_kept s.advert.fee q m f c g.0 in
-      let static = subst (λ z. Contains (all_funded s.advert) (balance.funded q z (terms.position c))) k.0 g.1 in
+      let static = subst (λ z. Contains (all_funded s.advert) (balance.as_funded q z (terms.position c))) k.0 g.1 in
       let below = subst (λ z. all_fine (branches_funded (volatile s.advert.pre) s.advert.fee q z 0 c)) k.0 r in
       ((k.1, static, below), k.2)
 
@@ -301,5 +301,5 @@ module _ (hash : List ℕ → List ℕ) (s : Instance) where
 
     -- each holds its static balance
     pub position_static : (q : List PathStep) (here : Standing) (choice : Contract) → position_at hash s q ≡ Some (here, choice)
-        → Contains (all_funded s.advert) (balance.funded here.position (pos here.output.value) (terms.position choice))
+        → Contains (all_funded s.advert) (balance.as_funded here.position (pos here.output.value) (terms.position choice))
     position_static q here choice h = (position_fine q here choice h).1

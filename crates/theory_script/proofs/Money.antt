@@ -133,7 +133,7 @@ module _ (hash : List ℕ → List ℕ) (s : Instance) where
 
     pub positions_static : (position : List PathStep) (here : Standing) (choice : Contract)
         → position_at hash s position ≡ Some (here, choice)
-        → Contains (all_funded s.advert) (balance.funded position (pos here.output.value) (terms.position choice))
+        → Contains (all_funded s.advert) (balance.as_funded position (pos here.output.value) (terms.position choice))
     positions_static position here choice h =
-        subst (λ q. Contains (all_funded s.advert) (balance.funded q (pos here.output.value) (terms.position choice)))
+        subst (λ q. Contains (all_funded s.advert) (balance.as_funded q (pos here.output.value) (terms.position choice)))
         (position_stands hash s position here choice h).path (position_static hash s well position here choice h)

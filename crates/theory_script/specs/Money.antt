@@ -2,7 +2,7 @@
 use Rattle.std.specs.Prelude.{◌≡◌, ℕ, ◌+◌, ◌≤◌, List, Some, slice_get, sum_by, pos}
 use Rattle.std.specs.List.{Contains}
 use Rattle.spec_terms.specs.Paths as spots
-use Rattle.spec_terms.specs.Balance.{funded, all_funded}
+use Rattle.spec_terms.specs.Balance.{as_funded, all_funded}
 use Rattle.spec_terms.specs.Term.{Guarded, auth, after, put_reveal, withdraw, split, Contract, branches}
 use Rattle.spec_terms.specs.Advert.{Advert}
 use Rattle.spec_terms.specs.Core.{core}
@@ -39,7 +39,7 @@ pub record KeepsMoney (hash : List ℕ → List ℕ) (s : Instance) : Type 0 whe
   pub initial : IsKept s.advert (initial_unsigned hash s)
   pub paths : (path : List PathStep) (d : Unsigned) → unsigned_at hash s path ≡ Some d → IsKept s.advert d
   pub static : (position : List PathStep) (here : Standing) (choice : Contract) → position_at hash s position ≡ Some (here, choice)
-      → Contains (all_funded s.advert) (funded position (pos here.output.value) (spots.position choice))
+      → Contains (all_funded s.advert) (as_funded position (pos here.output.value) (spots.position choice))
   pub positions : (position : List PathStep) (here : Standing) (choice : Contract) (i : ℕ) (b : Guarded)
       → position_at hash s position ≡ Some (here, choice) → slice_get (branches choice) i ≡ Some b
       → Pays s.advert here.output.value (core b)

@@ -1,6 +1,7 @@
 //! What follows of the program's answers: each theorem is the contract of a function that does nothing.
 #![tactic(auto)]
 
+ghost use Rattle.spec_tool.specs.Causes.{CausesTheorem};
 ghost use Rattle.spec_tool.specs.Reading.{TextsTheorem, CompletenessTheorem};
 
 /// Where the files of a command are there and no read fails, its answer is that to their texts,
@@ -12,4 +13,11 @@ pub fn commands_answer_texts()
 /// Well-formed contracts and a valid run without a guess and without a collision give the status 0.
 pub fn well_formed_files_end()
     ensures { CompletenessTheorem }
+{}
+
+/// Each status comes by its cause: 2 where the words are no command, 3 where a read failed, 6 where
+/// the run file is refused, 1 where no run file is and a contract file is, 9 where a partially signed
+/// transaction is, or two can't be combined.
+pub fn statuses_have_causes()
+    ensures { CausesTheorem }
 {}

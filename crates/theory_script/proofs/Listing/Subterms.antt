@@ -11,7 +11,7 @@ use Rattle.spec_terms.specs.Advert.{Advert}
 use Rattle.spec_terms.specs.Core.{core, continuation}
 use Rattle.spec_terms.specs.Paths.{Subterm, position, at_branch, below, next_subterm, subterm_from, as_contract, contract_under}
 use Rattle.spec_terms.specs.Precondition.{Holding, volatile}
-use Rattle.spec_terms.specs.Balance.{Funded, funded, after_put, branches_funded, funded_under, parts_funded, root_balance, all_funded}
+use Rattle.spec_terms.specs.Balance.{Funded, as_funded, after_put, branches_funded, funded_under, parts_funded, root_balance, all_funded}
 use Rattle.spec_terms.specs.Faults.{place_of, place_if, first_place}
 use Rattle.spec_terms.specs.declared.place.Place.{Place}
 use Rattle.spec_terms.specs.declared.path.PathStep.{PathStep}
@@ -141,13 +141,13 @@ module _ (f : Subterm → Bool) (t : Funded → Bool) (says : (s : Funded) → t
     each_of q balance i no_branch h = tt
     each_of q balance i (branch b bs) h =
         let p = none_of-append t (funded_under ds fee (q ++ To i ∷ []) balance b) (branches_funded ds fee q balance (i + 1) bs) h.1 in
-        (says (funded (q ++ To i ∷ []) balance (at_branch b)) h.0, each_under (q ++ To i ∷ []) balance b p.0, each_of q balance (i + 1) bs p.1)
+        (says (as_funded (q ++ To i ∷ []) balance (at_branch b)) h.0, each_under (q ++ To i ∷ []) balance b p.0, each_of q balance (i + 1) bs p.1)
 
     each_under : (p : List PathStep) (balance : ℤ) (b : term.Guarded) → NoneOf t (funded_under ds fee p balance b) → EachUnder f b
     each_under p balance (auth party body) h = each_under p balance body h
     each_under p balance (after height body) h = each_under p balance body h
     each_under p balance (put_reveal puts reveals test next) h =
-        (says (funded p (after_put ds fee balance puts) (position next)) h.0, each_of p (after_put ds fee balance puts) 0 next h.1)
+        (says (as_funded p (after_put ds fee balance puts) (position next)) h.0, each_of p (after_put ds fee balance puts) 0 next h.1)
     each_under p balance (withdraw party) h = tt
     each_under p balance (split parts) h = each_of_parts p 0 parts h
 
@@ -155,10 +155,10 @@ module _ (f : Subterm → Bool) (t : Funded → Bool) (says : (s : Funded) → t
     each_of_parts p k no_part h = tt
     each_of_parts p k (part v c ps) h =
         let q = none_of-append t (branches_funded ds fee (p ++ Into k ∷ []) (pos v) 0 c) (parts_funded ds fee p (k + 1) ps) h.1 in
-        (says (funded (p ++ Into k ∷ []) (pos v) (position c)) h.0, each_of (p ++ Into k ∷ []) (pos v) 0 c q.0, each_of_parts p (k + 1) ps q.1)
+        (says (as_funded (p ++ Into k ∷ []) (pos v) (position c)) h.0, each_of (p ++ Into k ∷ []) (pos v) 0 c q.0, each_of_parts p (k + 1) ps q.1)
 
 -- what no entry of an advert fails is true of the root and of all under it
 pub each_of_advert : (f : Subterm → Bool) (t : Funded → Bool) (a : Advert) → ((s : Funded) → t s ≡ false → f s.subterm ≡ true) → first_place t (all_funded a) ≡ None → EachChoice f a.root
 each_of_advert f t a says h =
     let n = none_of t (all_funded a) h in
-    (says (funded [] (root_balance a) (position a.root)) n.0, each_of f t says (volatile a.pre) a.fee [] (root_balance a) 0 a.root n.1)
+    (says (as_funded [] (root_balance a) (position a.root)) n.0, each_of f t says (volatile a.pre) a.fee [] (root_balance a) 0 a.root n.1)

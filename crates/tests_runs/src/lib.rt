@@ -1,0 +1,8 @@
+//! Tests of the crates on runs, of what no contract says: that calls succeed with ample memory, and that the
+//! definitions give what was worked out by hand. Whole runs are played by the built program, as .ci/run says.
+#![tactic(auto)]
+
+#[cfg(test)]
+mod calculus;
+#[cfg(test)]
+mod copies;

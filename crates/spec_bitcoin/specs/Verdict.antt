@@ -1,4 +1,4 @@
--- The verdict on a transaction: Bitcoin's conditions of acceptance in their order, for version 0 witness scripts (BIP 141, BIP 143) and lock times as heights; and the strings that are hashed to reach it.
+-- The verdict on a transaction: Bitcoin's conditions of acceptance in their order (BIP 141, BIP 143), and the strings hashed to reach it.
 use Rattle.std.specs.Prelude.{ℕ, ◌+◌, List, [], ◌∷◌, ◌++◌, length, drop, map, sum_by, Bool, false, not, ◌&&◌, ◌||◌, ◌==◌, nat_lt, nat_le}
 use Rattle.std.specs.Prelude.{if◌then◌else◌, Option, Some, None, is_some}
 use Rattle.std.specs.List.{list_any, position_from, flat_map}

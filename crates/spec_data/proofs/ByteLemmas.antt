@@ -1,5 +1,5 @@
 -- Lists whose elements are bytes.
-use Rattle.std.proofs.Common.{ℕ, ◌-◌, List, ◌++◌, length, inl, inr, refl, arith}
+use Rattle.std.proofs.Common.{ℕ, ◌-◌, List, ◌++◌, length, inl, inr, refl}
 use Rattle.std.proofs.lemmas.Bool.{cases_lt}
 use Rattle.std.proofs.lemmas.List.{get_or_append_left, get_or-append_right}
 use Rattle.spec_data.specs.Hashes.{IsBytes}

@@ -23,6 +23,6 @@ pub name_of-name_bytes : (a : Inside) → IsName a → name_of (name_bytes a) �
 name_of-name_bytes a h =
     let n : length (take a.len a.room) ≡ a.len = length-take-le a.len a.room (omega (arith, h.few, h.whole)) in
     let e : take a.len a.room ++ replicate (32 - a.len) 0 ≡ a.room =
-        ap (λ r. take a.len a.room ++ r) (sym h.rest) ∙ take-append-drop a.len a.room in
+    ap (λ r. take a.len a.room ++ r) (sym h.rest) ∙ take-append-drop a.len a.room in
     ap (λ (k : ℕ). let i : Inside = record { len = k; room = take a.len a.room ++ replicate (32 - k) 0 } in i) n
     ∙ ap (λ (r : List ℕ). let i : Inside = record { len = a.len; room = r } in i) e

@@ -114,5 +114,5 @@ has_leave s w before e tx party number (outcomes.Refused reason) = false
 abbrev pub SpendsWithLeave : Setup → List Record → World → Record → World → Type 0
 SpendsWithLeave s before w r next =
     (party : List ℕ) (number : ℕ) → is_honest s party ≡ true → owner_of s (output_at w number) ≡ Party party
-        → is_deposit (output_at next number) ≡ false
+    → is_deposit (output_at next number) ≡ false
     → has_leave s w before r.event r.tx party number r.outcome ≡ true

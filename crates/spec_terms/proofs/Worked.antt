@@ -191,7 +191,8 @@ unfolding is_name
 keyword_unreadable = refl
 
 -- a reveal of nothing has no test
-bare_test_unreadable : is_readable (advert (Persistent A 1 x ∷ []) 0 (one (reveal_if [] (less (constant 1) (constant 2)) (one (withdraw A))))) ≡ false
+bare_test_unreadable :
+    is_readable (advert (Persistent A 1 x ∷ []) 0 (one (reveal_if [] (less (constant 1) (constant 2)) (one (withdraw A))))) ≡ false
 unfolding is_name
 bare_test_unreadable = refl
 

@@ -11,7 +11,15 @@ use Rattle.spec_tool.specs.declared.which.Which.{Which}
 use Rattle.spec_tool.specs.Reads.{reads_in}
 use Rattle.spec_tool.specs.Commands.{Command, check, play, plan, psbt_of, weigh, files_of, Printed, check_answer}
 use Rattle.spec_tool.specs.Commands.{play_answer, plan_answer, contracts_from, both_judged, setup_of, ending_status}
-use Rattle.spec_tool.specs.PsbtText.{psbt_text}
+use Rattle.spec_run.specs.Translation.{last_world}
+use Rattle.spec_text.specs.Generator.{made_contract, made_run}
+use Rattle.spec_tool.specs.Sizes.{most_psbt_bytes, most_audit_bytes}
+use Rattle.spec_tool.specs.Psbt.{Psbt}
+use Rattle.spec_tool.specs.PsbtBytes.{combined}
+use Rattle.spec_tool.specs.PsbtText.{psbt_text, psbt_in}
+use Rattle.spec_tool.specs.Audit.{audit_collision}
+use Rattle.spec_tool.specs.Commands.{make, psbt_shown, psbt_joined, audit}
+use Rattle.std.specs.Prelude.{nat_le, length, true}
 use Rattle.spec_tool.specs.WeighText.{weigh_text}
 use Rattle.spec_tool.specs.Answers.{answer, if_whole, printed_of}
 
@@ -51,7 +59,7 @@ pub record TextsTheorem : Type 0 where
 
 -- ---- completeness
 
--- a well-formed contract, and a valid run of well-formed contracts without a guess or a collision, give the status 0
+-- well-formed contracts, a valid run and further files that are taken give the status 0, where nothing is guessed and nothing collides
 pub record CompletenessTheorem : Type 0 where
   pub check_ends : (hash : List ℕ → List ℕ) (there : Files) (contract text : List ℕ) (advert : Advert)
       → look_up contract there ≡ Some text → contract_of text ≡ Ok advert
@@ -78,3 +86,21 @@ pub record CompletenessTheorem : Type 0 where
       → run_of run_text ≡ Ok r → contracts_from 0 (text ∷ []) ≡ Ok adverts
       → ending_status (ending (setup_of hash r adverts) r.events) ≡ 0
       → (answer_there hash there (weigh run contract)).status ≡ 0
+  pub make_ends : (hash : List ℕ → List ℕ) (there : Files) (number size : ℕ)
+      → ending_status (ending (setup_of hash (made_run number size) (made_contract number size ∷ [])) ((made_run number size).events)) ≡ 0
+      → (answer_there hash there (make number size)).status ≡ 0
+  pub shown_ends : (hash : List ℕ → List ℕ) (there : Files) (file text : List ℕ) (p : Psbt)
+      → look_up file there ≡ Some text → nat_le (length text) most_psbt_bytes ≡ true → psbt_in (Some text) ≡ Ok p
+      → (answer_there hash there (psbt_shown file)).status ≡ 0
+  pub joined_ends : (hash : List ℕ → List ℕ) (there : Files) (file text other other_text : List ℕ) (p q joined : Psbt)
+      → look_up file there ≡ Some text → nat_le (length text) most_psbt_bytes ≡ true → psbt_in (Some text) ≡ Ok p
+      → look_up other there ≡ Some other_text → nat_le (length other_text) most_psbt_bytes ≡ true → psbt_in (Some other_text) ≡ Ok q
+      → combined p q ≡ Ok joined
+      → (answer_there hash there (psbt_joined file other)).status ≡ 0
+  pub audit_ends : (hash : List ℕ → List ℕ) (there : Files) (run run_text contract text file file_text : List ℕ) (r : Run)
+      (adverts : List Advert)
+      → look_up run there ≡ Some run_text → look_up contract there ≡ Some text → look_up file there ≡ Some file_text
+      → run_of run_text ≡ Ok r → contracts_from 0 (text ∷ []) ≡ Ok adverts → nat_le (length file_text) most_audit_bytes ≡ true
+      → ending_status (ending (setup_of hash r adverts) r.events) ≡ 0
+      → audit_collision (setup_of hash r adverts) (last_world (setup_of hash r adverts) r.events) file_text ≡ None
+      → (answer_there hash there (audit run contract file)).status ≡ 0

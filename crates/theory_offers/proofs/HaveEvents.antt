@@ -37,7 +37,7 @@ each_step (x ∷ xs) h =
     let a = one_step x p.0 in
     let ih = each_step xs p.1 in
     ap (map (λ (o : Offer). o.step)) (flat_map-cons offers_of x xs)
-        ∙ map-append (λ (o : Offer). o.step) (offers_of x) (flat_map offers_of xs) ∙ (λ i. a i ++ ih i)
+    ∙ map-append (λ (o : Offer). o.step) (offers_of x) (flat_map offers_of xs) ∙ (λ i. a i ++ ih i)
 
 own_event : (s : Step) (o : Offer) → Is_in o (offers_of s) → offers_of o.step ≡ o ∷ []
 own_event (steps.Init contract) o (inl e) = ap (λ (x : Offer). offers_of x.step) e ∙ ap (λ x. x ∷ []) (sym e)

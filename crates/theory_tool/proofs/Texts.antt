@@ -38,7 +38,7 @@ text_picked false text = refl
 text_within : (limit : ℕ) (text : List ℕ) → text_read (within limit (Some text)) ≡ some (bounded limit text)
 text_within limit text = text_picked (nat_le (length text) limit) text
 
-text_there : (there : Files) (limit : ℕ) (name text : List ℕ) → look_up name there ≡ Some text
+pub text_there : (there : Files) (limit : ℕ) (name text : List ℕ) → look_up name there ≡ Some text
     → text_read (within limit (look_up name there)) ≡ some (bounded limit text)
 text_there there limit name text h = ap (λ (o : Option (List ℕ)). text_read (within limit o)) h ∙ text_within limit text
 
@@ -47,13 +47,13 @@ text_there there limit name text h = ap (λ (o : Option (List ℕ)). text_read (
 onto_some : (a : Option Text) (b : Option (List Text)) (t : Text) (ts : List Text) → a ≡ some t → b ≡ some ts → onto a b ≡ some (t ∷ ts)
 onto_some a b t ts h k = ap (λ (x : Option Text). onto x b) h ∙ ap (λ (y : Option (List Text)). onto (some t) y) k
 
-texts_onto : (r : Read) (rest : List Read) (t : Text) (ts : List Text) → text_read r ≡ some t → texts_read rest ≡ some ts
+pub texts_onto : (r : Read) (rest : List Read) (t : Text) (ts : List Text) → text_read r ≡ some t → texts_read rest ≡ some ts
     → texts_read (onto_reads r rest) ≡ some (t ∷ ts)
 texts_onto (got bytes) rest t ts h k = onto_some (text_read (got bytes)) (texts_read rest) t ts h k
 texts_onto too_long rest t ts h k = onto_some (text_read too_long) (texts_read rest) t ts h k
 texts_onto failed rest t ts h k = absurd (none_some t h)
 
-contract_texts : (there : Files) (n : ℕ) (names texts : List (List ℕ)) → texts_there there names ≡ some texts
+pub contract_texts : (there : Files) (n : ℕ) (names texts : List (List ℕ)) → texts_there there names ≡ some texts
     → texts_read (reads_in there None n (map contract_file names)) ≡ some (map (bounded most_text_bytes) texts)
 contract_texts there n [] texts h = ap (λ (ts : List (List ℕ)). some (map (bounded most_text_bytes) ts)) (some_is [] texts h)
 contract_texts there n (name ∷ names) texts h =
@@ -95,7 +95,7 @@ contracts_bounded k (text ∷ texts) =
 -- ---- commands
 
 -- what is answered of a run and its contracts
-both_bounded : (of : Setup → List Event → Printed) (hash : List ℕ → List ℕ) (run_text : List ℕ) (texts : List (List ℕ))
+pub both_bounded : (of : Setup → List Event → Printed) (hash : List ℕ → List ℕ) (run_text : List ℕ) (texts : List (List ℕ))
     → both_judged of hash (run_in (bounded most_run_bytes run_text)) (contracts_in 0 (map (bounded most_text_bytes) texts))
     ≡ both_judged of hash (run_of run_text) (contracts_from 0 texts)
 both_bounded of hash run_text texts =
@@ -112,11 +112,11 @@ run_texts there run run_text contracts texts h k =
     (bounded most_run_bytes run_text) (map (bounded most_text_bytes) texts)
     (text_there there most_run_bytes run run_text h) (contract_texts there 1 contracts texts k)
 
-one_there : (there : Files) (name text : List ℕ) → look_up name there ≡ some text → texts_there there (name ∷ []) ≡ some (text ∷ [])
+pub one_there : (there : Files) (name text : List ℕ) → look_up name there ≡ some text → texts_there there (name ∷ []) ≡ some (text ∷ [])
 one_there there name text h = ap (λ (o : Option (List ℕ)). onto o (Some [])) h
 
 -- what a command answers to its texts
-by_texts : (hash : List ℕ → List ℕ) (command : Command) (reads : List Read) (texts : List Text) → texts_read reads ≡ some texts
+pub by_texts : (hash : List ℕ → List ℕ) (command : Command) (reads : List Read) (texts : List Text) → texts_read reads ≡ some texts
     → answer hash command reads ≡ read_answer hash command (Some texts)
 by_texts hash command reads texts h = ap (λ (o : Option (List Text)). read_answer hash command o) h
 

@@ -10,7 +10,8 @@ pub fn commands_answer_texts()
     ensures { TextsTheorem }
 {}
 
-/// Well-formed contracts and a valid run without a guess and without a collision give the status 0.
+/// Well-formed contracts, a valid run and further files that are taken give the status 0, where
+/// nothing is guessed and nothing collides.
 pub fn well_formed_files_end()
     ensures { CompletenessTheorem }
 {}

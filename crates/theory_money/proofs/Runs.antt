@@ -66,7 +66,7 @@ sound_runs s es run =
     let z = run_posts s es in
     let start : IsReached s z (opening_configuration s) _ = record { kept = opening_run s es run z; steps = []; legal = refl } in
     let keeps : Keeps s (sound_after s) (reached_by s z) z = record {
-      step = λ before g w r e is calm unguessed begins. (
+      step = λ before g w e r is calm unguessed begins. (
           let t = simulates s run.setup z g w r.kept e is calm unguessed begins in
           let l = longer (opening_configuration s) r.steps g _ r.legal t.legal in
           (sound s run.setup _ _ l, record { kept = run_after s run.setup z g w r.kept e is calm unguessed begins; steps = _; legal = l })

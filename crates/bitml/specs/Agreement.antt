@@ -1,4 +1,4 @@
--- When a configuration agrees with a world, and by which events honest parties authorise; of this project's profile of BitML.
+-- When a configuration agrees with a world, and by which events honest parties authorise.
 use Rattle.std.specs.Prelude.{◌≡◌, ℕ, ◌+◌, cond, List, [], ◌∷◌, length, Contains}
 use Rattle.spec_calculus.specs.Configuration.{Configuration}
 use Rattle.spec_calculus.specs.declared.step.Owner.TheVariants.{Party}

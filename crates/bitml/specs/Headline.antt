@@ -1,4 +1,4 @@
--- What the program promises, from its words to its status; of this project's profile.
+-- What the program promises, from its words to its status.
 use Rattle.std.specs.Prelude.{◌≡◌, ℕ, List, [], ◌∷◌, ◌++◌, take, ◌⊎◌, Option, Some, None, IsSome, Result, Ok, Err}
 use Rattle.std.specs.List.{AllByRecursion}
 use Rattle.bm_io.specs.Counts.{RoseBy}

@@ -1,4 +1,4 @@
--- What the code says of a contract's text, against how the text is judged; of this project, from no standard.
+-- What the code says of a contract's text, against how the text is judged.
 use Rattle.std.specs.Prelude.{◌≡◌, Result, Ok, Err}
 use Rattle.spec_terms.specs.Advert.{Advert}
 use Rattle.spec_text.specs.Refusals.{Judged}

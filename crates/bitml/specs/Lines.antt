@@ -1,4 +1,4 @@
--- Lines, words and numbers of a run file; of this project's profile.
+-- Lines, words and numbers of a run file.
 use Rattle.std.specs.Prelude.{ℕ, ◌+◌, ◌-◌, ◌*◌, Bool, true, false, ◌&&◌, ◌||◌, ◌==◌, cond, List, [], ◌∷◌, Option, Some, None, nat_le}
 use Rattle.std.specs.Prelude.{filter, not, length}
 use Rattle.std.specs.List.{slice_split}

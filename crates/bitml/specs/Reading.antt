@@ -1,4 +1,4 @@
--- What the lines of a run file spell, and the first that is bad; of this project's profile.
+-- What the lines of a run file spell, and the first that is bad.
 use Rattle.std.specs.Prelude.{◌≡◌, ℕ, ◌+◌, Bool, true, false, ◌&&◌, ◌||◌, ◌==◌, cond, List, [], ◌∷◌, ◌++◌, Option, Some, None, nat_le}
 use Rattle.std.specs.Prelude.{nat_lt, not, length, codes, sum_by, Result, Ok, Err}
 use Rattle.std.specs.List.{list_all, list_any}

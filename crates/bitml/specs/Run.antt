@@ -1,4 +1,4 @@
--- A run that was read: what is known of it, where it begins, and its whole text; of this project's profile.
+-- A run that was read: what is known of it, where it begins, and its whole text.
 use Rattle.std.specs.Prelude.{ℕ, ◌+◌, ◌≤◌, ◌<◌, List, [], ◌∷◌, ◌++◌, length}
 use Rattle.std.specs.List.{AllByRecursion}
 use Rattle.spec_calculus.specs.Configuration.{Configuration}

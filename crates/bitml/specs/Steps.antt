@@ -1,4 +1,4 @@
--- The steps of the calculus that each event makes; of this project's profile of BitML.
+-- The steps of the calculus that each event makes.
 use Rattle.std.specs.Prelude.{ℕ, List, [], ◌∷◌, ◌++◌, map, filter, not, Option, Some, None}
 use Rattle.std.specs.List.{slice_get}
 use Rattle.std.specs.Str.{bytes_eq}

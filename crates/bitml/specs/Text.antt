@@ -1,4 +1,4 @@
--- The text that is printed of a run; of this project's profile.
+-- The text that is printed of a run.
 use Rattle.std.specs.Prelude.{ℕ, ◌+◌, cond, List, [], ◌∷◌, ◌++◌, length, codes, Option, Some, None, suc, zero}
 use Rattle.std.specs.List.{flat_map}
 use Rattle.std.specs.Fmt.{decimal}

@@ -1,4 +1,4 @@
--- The command line, and the status and text that answer it; of this project's profile.
+-- The command line, and the status and text that answer it.
 use Rattle.std.specs.Prelude.{ℕ, List, [], ◌∷◌, ◌++◌, codes, cond, Option, Some, None, Result, Ok, Err}
 use Rattle.std.specs.Fmt.{decimal}
 use Rattle.std.specs.Borrow.{Bor}

@@ -1,4 +1,4 @@
--- The small world of deposits and heights, and what each event meets in it and makes of it; of this project's profile.
+-- The small world of deposits and heights, and what each event meets in it and makes of it.
 use Rattle.std.specs.Prelude.{ℕ, ◌+◌, Bool, true, false, ◌&&◌, not, cond, List, [], ◌∷◌, ◌++◌, map, find, sum_by, nat_lt, Option, Some}
 use Rattle.std.specs.Prelude.{None}
 use Rattle.std.specs.List.{slice_get}

@@ -1,4 +1,4 @@
--- A list of different pairs with an ordered set of the same pairs; of this project, from no standard.
+-- A list of different pairs with an ordered set of the same pairs.
 use Rattle.std.specs.Prelude.{◌≡◌, List, [], ◌∷◌, length, Bool, true, not, ◌&&◌, ◌==◌}
 use Rattle.std.specs.List.{list_all}
 use Rattle.std.specs.Ordering.{nat_cmp, ordering_then}

@@ -1,4 +1,4 @@
--- What the interpreter keeps: what is left to do of a script, resumed under the conditions of the open blocks; of this project, from no standard.
+-- What the interpreter keeps: what is left to do of a script, resumed under the conditions of the open blocks.
 use Rattle.std.specs.Prelude.{◌≡◌, List, [], ◌∷◌, Bool, true, false, ◌&&◌, if◌then◌else◌, Option, Some, None}
 use Rattle.std.specs.Option.{option_and_then}
 use Rattle.spec_bitcoin.specs.Trees.{Open, Outside, Inside, Unmatched, Section}

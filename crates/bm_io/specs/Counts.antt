@@ -1,4 +1,4 @@
--- Counts of 64 bits that stop at their last value; of this project's profile.
+-- Counts of 64 bits that stop at their last value.
 use Rattle.std.specs.Prelude.{ℕ, ◌+◌, ◌-◌, ◌^◌, ◌≤◌, min, Result, OnErr}
 
 -- the last value of a count

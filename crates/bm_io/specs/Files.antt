@@ -1,4 +1,4 @@
--- What reading a file by its name answers and leaves; of this project's profile.
+-- What reading a file by its name answers and leaves.
 use Rattle.std.specs.Prelude.{◌≡◌, ℕ, ◌+◌, ◌≤◌, Bool, false, ◌==◌, nat_le, if◌then◌else◌, List, [], ◌∷◌, ◌++◌, length, Option, Some, None}
 use Rattle.std.specs.Prelude.{Result, Ok, Err}
 use Rattle.std.specs.Str.{bytes_eq}

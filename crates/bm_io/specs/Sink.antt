@@ -1,4 +1,4 @@
--- What writing to a sink answers and leaves; of this project's profile.
+-- What writing to a sink answers and leaves.
 use Rattle.std.specs.Prelude.{◌≡◌, ℕ, ◌-◌, Bool, nat_le, if◌then◌else◌, List, [], ◌++◌, length, take, min, Option, Some, None, Result, Ok}
 use Rattle.std.specs.Prelude.{Err}
 use Rattle.bm_io.specs.Counts.{raised}

@@ -1,4 +1,4 @@
--- Which label a text is of; of this project's profile.
+-- Which label a text is of.
 use Rattle.std.specs.Prelude.{◌≡◌, ℕ, ◌<◌, ◌≤◌, ◌^◌, List, ◌∷◌, ◌++◌, length}
 use Rattle.std.specs.Fmt.{decimal}
 use Rattle.spec_bitcoin.specs.declared.label.Label.{Label}

@@ -1,4 +1,4 @@
--- The pieces of a label's text at the front of a text: numbers, steps and paths; of this project, from no standard.
+-- The pieces of a label's text at the front of a text: numbers, steps and paths.
 use Rattle.std.specs.Prelude.{◌≡◌, ℕ, ◌<◌, ◌+◌, ◌^◌, List, [], ◌∷◌, ◌++◌, flat_map, false, ◌==◌, if◌then◌else◌, Option, Some, None}
 use Rattle.std.specs.List.{AllByRecursion}
 use Rattle.std.specs.Fmt.{decimal}

@@ -1,4 +1,4 @@
--- Live outputs by birth number; of this project, from no standard.
+-- Live outputs by birth number.
 use Rattle.std.specs.Prelude.{ℕ, ◌+◌, ◌<◌, ◌≤◌, List, [], ◌∷◌, ◌==◌, if◌then◌else◌, Option, Some, None}
 use Rattle.std.specs.List.{find}
 use Rattle.spec_bitcoin.specs.Live.{Entry}

@@ -1,4 +1,4 @@
--- The answers of the lexer, and the token at the front of a list; of this project's profile.
+-- The answers of the lexer, and the token at the front of a list.
 use Rattle.std.specs.Prelude.{◌≡◌, ◌≤◌, ℕ, List, [], ◌∷◌, ◌++◌, Option, None, Result, Ok, Err}
 use Rattle.std.specs.Global.{Vec}
 use Rattle.spec_text.specs.declared.token.Token.{Token}

@@ -1,4 +1,4 @@
--- Where an operation stands at the front of a script's bytes; of this project, from no standard.
+-- Where an operation stands at the front of a script's bytes.
 use Rattle.std.specs.Prelude.{ℕ, ◌<◌, ◌≤◌, List, drop, slice_range}
 use Rattle.spec_bitcoin.specs.declared.script.Op.{Op}
 use Rattle.spec_bitcoin.specs.declared.script.Op.TheVariants.{Push, Code}

@@ -1,4 +1,4 @@
--- What entries of a precondition are read as in the code, and the room that they leave; of this project, from no standard.
+-- What entries of a precondition are read as in the code, and the room that they leave.
 use Rattle.std.specs.Prelude.{ℕ, List, [], ◌∷◌, ◌++◌, Result, Ok}
 use Rattle.spec_terms.specs.declared.pre.Pre.{Pre}
 use Rattle.spec_text.specs.declared.stop.Stop.{Stop}

@@ -1,4 +1,4 @@
--- What the readers of parts answer, against what reading gives; of this project, from no standard.
+-- What the readers of parts answer, against what reading gives.
 use Rattle.std.specs.Prelude.{◌≡◌, Bool, true, false, Result, Ok, Err}
 use Rattle.spec_terms.specs.Advert.{Advert}
 use Rattle.spec_text.specs.declared.stop.Stop.{Stop}

@@ -1,4 +1,4 @@
--- Why a text is refused; of this project, from no standard.
+-- Why a text is refused.
 use Rattle.std.specs.Prelude.{ℕ, List}
 use Rattle.spec_text.specs.declared.stop.TextFault.{TextFault}
 use Rattle.spec_text.specs.declared.stop.TextFault.TheVariants as faults

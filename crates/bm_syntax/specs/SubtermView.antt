@@ -1,4 +1,4 @@
--- What a walk along a path stands at; of this project, from no standard.
+-- What a walk along a path stands at.
 use Rattle.spec_terms.specs.Paths.{Subterm, position, at_branch}
 use Rattle.bm_syntax.specs.View.{guarded, contract}
 use Rattle.bm_syntax.specs.declared.walk.Standing.{Standing}

@@ -1,4 +1,4 @@
--- The terms of the definitions that contracts, predicates and expressions of the code are seen as; of this project, from no standard.
+-- The terms of the definitions that contracts, predicates and expressions of the code are seen as.
 use Rattle.std.specs.Prelude.{ℕ, List, [], ◌∷◌, map}
 use Rattle.spec_terms.specs.Term.{Expr as TermExpr, constant, length_of, plus, minus, Pred as TermPred, always, both, negation, equal, less}
 use Rattle.spec_terms.specs.Term.{Guarded as TermGuarded, auth, after, put_reveal, withdraw, split, Contract as TermContract, no_branch}

@@ -1,4 +1,4 @@
--- What a reader of code answers, by the reader of the definitions that it follows; of this project, from no standard.
+-- What a reader of code answers, by the reader of the definitions that it follows.
 use Rattle.std.specs.Prelude.{◌≡◌, ℕ, List, [], ◌∷◌, length, Bool, false, ◌||◌, Result, Ok, Err}
 use Rattle.bm_tx.specs.declared.fault.ReadError.{ReadError}
 use Rattle.bm_tx.specs.declared.fault.ReadError.TheVariants.{Memory, Bad}

@@ -1,4 +1,4 @@
--- What a refusal of the check says of the advert; of this project's profile.
+-- What a refusal of the check says of the advert.
 use Rattle.std.specs.Prelude.{◌≡◌, Some, None}
 use Rattle.spec_terms.specs.Advert.{Advert}
 use Rattle.spec_terms.specs.Faults.{first_fault, first_limit}

@@ -1,4 +1,4 @@
--- Where an advert shows a flaw first, as the code looks for it; of this project, from no standard.
+-- Where an advert shows a flaw first, as the code looks for it.
 use Rattle.std.specs.Prelude.{ℕ, ℤ, pos, ◌+◌, int_lt, Bool, false, ◌&&◌, List, [], ◌∷◌, ◌++◌, Option, Some, None, if◌then◌else◌}
 use Rattle.spec_data.specs.Lists.{or_else}
 use Rattle.spec_terms.specs.Term.{Guarded, auth, after, put_reveal, withdraw, split, Contract, no_branch, branch, Parts, no_part, part}

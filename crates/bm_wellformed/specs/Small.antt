@@ -1,4 +1,4 @@
--- What keeps the search through an advert within the numbers of the machine; of this project, from no standard.
+-- What keeps the search through an advert within the numbers of the machine.
 use Rattle.std.specs.Prelude.{ℕ, ℤ, pos, neg_ℤ, ◌≤ℤ◌, ◌≤◌, ◌<◌, ◌*◌, ◌^◌, length, All}
 use Rattle.spec_terms.specs.Term.{Guarded, auth, after, put_reveal, withdraw, split, Contract, no_branch, branch, branches, Parts, no_part}
 use Rattle.spec_terms.specs.Term.{part, parts_list}

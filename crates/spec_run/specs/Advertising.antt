@@ -1,4 +1,4 @@
--- Advertising a contract with the deposits that it binds; of this project's profile of BitML.
+-- Advertising a contract with the deposits that it binds.
 use Rattle.std.specs.Prelude.{ℕ, List, [], ◌∷◌, ◌++◌, Bool, not, ◌&&◌, if◌then◌else◌, Option, Some, None, is_some}
 use Rattle.std.specs.List.{list_all, list_any}
 use Rattle.spec_data.specs.Lists.{is_among, are_different, has_number, look_up, first_reason}

@@ -1,4 +1,4 @@
--- When a configuration of the calculus and a world agree; of this project's profile of BitML.
+-- When a configuration of the calculus and a world agree.
 use Rattle.std.specs.Prelude.{◌≡◌, ℕ, ◌+◌, List, [], ◌∷◌, map, length, Bool, true, false, if◌then◌else◌, Option, Some, None}
 use Rattle.std.specs.List.{list_all, cons_option}
 use Rattle.spec_terms.specs.declared.path.PathStep.{PathStep}

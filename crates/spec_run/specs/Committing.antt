@@ -1,4 +1,4 @@
--- Committing the digests of secrets, after the last of which the contract is compiled; of this project's profile of BitML.
+-- Committing the digests of secrets, after the last of which the contract is compiled.
 use Rattle.std.specs.Prelude.{ℕ, List, [], ◌∷◌, ◌++◌, map, length, Bool, not, ◌&&◌, ◌==◌, nat_le, if◌then◌else◌, Option, Some, None}
 use Rattle.std.specs.Prelude.{is_some}
 use Rattle.spec_data.specs.Ranges.{least_secret_bytes, most_item_bytes}

@@ -1,4 +1,4 @@
--- The contracts of a run that are compiled: those whose participants have all committed; of this project's profile of BitML.
+-- The contracts of a run that are compiled: those whose participants have all committed.
 use Rattle.std.specs.Prelude.{ℕ, List, [], ◌∷◌, Bool, ◌&&◌, if◌then◌else◌, Option, Some, None}
 use Rattle.spec_terms.specs.Advert.{Advert}
 use Rattle.spec_terms.specs.Parties.{participants}

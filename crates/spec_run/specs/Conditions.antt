@@ -1,4 +1,4 @@
--- The headers, contracts and events that a run may have; of this project's profile.
+-- The headers, contracts and events that a run may have.
 use Rattle.std.specs.Prelude.{◌≡◌, ℕ, ◌≤◌, List, [], ◌∷◌, map, length, sum_by, Bool, true, not, ◌&&◌}
 use Rattle.std.specs.List.{list_all, list_any, AllByRecursion}
 use Rattle.std.specs.Str.{bytes_eq}

@@ -1,4 +1,4 @@
--- What an event comes to where nothing collides and nothing is guessed, and what is left of it; of this project, from no standard.
+-- What an event comes to where nothing collides and nothing is guessed, and what is left of it.
 use Rattle.std.specs.Prelude.{ℕ, List, [], ◌∷◌, ◌++◌, Bool, false, not, ◌&&◌, Option, Some, None}
 use Rattle.std.specs.List.{find}
 use Rattle.std.specs.Str.{bytes_eq}

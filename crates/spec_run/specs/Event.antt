@@ -1,4 +1,4 @@
--- One event of a run: what it comes to, what it hashes and posts, and what is left of it; of this project's profile.
+-- One event of a run: what it comes to, what it hashes and posts, and what is left of it.
 use Rattle.std.specs.Prelude.{ℕ, ◌+◌, List, [], ◌∷◌, ◌++◌, map, Bool, not, nat_le, Option, Some, None, Result, Ok, Err}
 use Rattle.spec_data.specs.Lists.{first_reason}
 use Rattle.spec_bitcoin.specs.declared.tx.TxOut.{TxOut}

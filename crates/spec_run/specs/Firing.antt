@@ -1,4 +1,4 @@
--- Compiled transactions with the witnesses that anyone can fill in; of this project's profile of BitML.
+-- Compiled transactions with the witnesses that anyone can fill in.
 use Rattle.std.specs.Prelude.{ℕ, List, [], ◌∷◌, map, Bool, not, if◌then◌else◌, Option, Some, None, is_some}
 use Rattle.spec_data.specs.Lists.{first_reason}
 use Rattle.spec_terms.specs.Term as term

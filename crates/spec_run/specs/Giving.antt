@@ -1,4 +1,4 @@
--- A move of a party's deposits, signed and handed to the ledger; of this project's profile, over Bitcoin's transactions.
+-- A move of a party's deposits, signed and handed to the ledger, over Bitcoin's transactions.
 use Rattle.std.specs.Prelude.{ℕ, List, [], ◌∷◌, map, sum_by, Bool, not, nat_lt, if◌then◌else◌, Option, Some, None, is_some}
 use Rattle.spec_data.specs.Lists.{are_distinct, first_reason}
 use Rattle.spec_bitcoin.specs.declared.tx.TxIn.{TxIn}

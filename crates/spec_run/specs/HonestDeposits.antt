@@ -1,4 +1,4 @@
--- Whose event spent an honest party's deposit: its own gift, or a contract's transaction that the party had signed for; of this project's profile of BitML.
+-- Whose event spent an honest party's deposit: its own gift, or a contract's transaction that the party had signed for.
 use Rattle.std.specs.Prelude.{◌≡◌, ℕ, List, [], Bool, true, false, ◌&&◌, ◌||◌, ◌==◌, Option, Some, None}
 use Rattle.std.specs.List.{list_any}
 use Rattle.std.specs.Str.{bytes_eq}

@@ -1,4 +1,4 @@
--- The ledger of a run, and what an accepted transaction does to the world; of this project's profile, over Bitcoin's transactions (BIP 141, BIP 143, BIP 144).
+-- The ledger of a run, and what an accepted transaction does to the world, over Bitcoin's transactions (BIP 141, BIP 143, BIP 144).
 use Rattle.std.specs.Prelude.{ℕ, ◌+◌, List, [], ◌∷◌, ◌++◌, length, Bool, true, false, ◌&&◌, ◌==◌, if◌then◌else◌, Option, Some, None}
 use Rattle.std.specs.List.{flat_map}
 use Rattle.std.specs.Cmp.Lexicographic.{pointwise}

@@ -1,4 +1,4 @@
--- Which steps an event entitles an honest party to; of this project's profile of BitML.
+-- Which steps an event entitles an honest party to.
 use Rattle.std.specs.Prelude.{◌≡◌, ℕ, List, [], ◌∷◌, true}
 use Rattle.spec_calculus.specs.declared.step.Move.{Move}
 use Rattle.spec_calculus.specs.declared.step.Step.{Step}

@@ -1,4 +1,4 @@
--- The contract steps that may be taken now, with the event that each is taken by; of this project's profile of BitML.
+-- The contract steps that may be taken now, with the event that each is taken by.
 use Rattle.std.specs.Prelude.{ℕ, List, [], ◌∷◌}
 use Rattle.std.specs.List.{flat_map}
 use Rattle.spec_calculus.specs.declared.step.Step.{Step}

@@ -1,4 +1,4 @@
--- Whose an output is, by the script that it pays to; of this project's profile of BitML.
+-- Whose an output is, by the script that it pays to.
 use Rattle.std.specs.Prelude.{ℕ, List, [], ◌∷◌, Bool, false, ◌&&◌, ◌==◌, if◌then◌else◌, Option, Some, None}
 use Rattle.std.specs.Str.{bytes_eq}
 use Rattle.spec_terms.specs.Precondition.{Holding}

@@ -1,4 +1,4 @@
--- Posting secrets and other strings; of this project's profile of BitML.
+-- Posting secrets and other strings.
 use Rattle.std.specs.Prelude.{ℕ, List, [], ◌∷◌, Bool, not, ◌&&◌, Option, Some}
 use Rattle.std.specs.List.{find}
 use Rattle.std.specs.Str.{bytes_eq}

@@ -1,4 +1,4 @@
--- The secrets of the contracts of a run: which are shown by posted strings, and their lengths; of this project's profile of BitML.
+-- The secrets of the contracts of a run: which are shown by posted strings, and their lengths.
 use Rattle.std.specs.Prelude.{ℕ, ◌+◌, ◌-◌, List, [], ◌∷◌, ◌++◌, length, Bool, false, not, ◌&&◌, if◌then◌else◌, Option, Some, None}
 use Rattle.std.specs.Prelude.{option_map, is_some}
 use Rattle.std.specs.List.{filter}

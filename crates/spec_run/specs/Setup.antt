@@ -1,4 +1,4 @@
--- What never changes in a run: the hash, the header and the contracts; of this project, from no standard.
+-- What never changes in a run: the hash, the header and the contracts.
 use Rattle.std.specs.Prelude.{ℕ, List, [], ◌∷◌, Bool, ◌&&◌, if◌then◌else◌, Option, Some, None, slice_get}
 use Rattle.std.specs.Option.{is_some}
 use Rattle.std.specs.Str.{bytes_eq}

@@ -1,4 +1,4 @@
--- What parties sign: endorsements, deposits of an initial transaction, branches that ask them, and what a dishonest party likes; of this project's profile of BitML.
+-- What parties sign: endorsements, deposits of an initial transaction, branches that ask them, and what a dishonest party likes.
 use Rattle.std.specs.Prelude.{ℕ, List, [], ◌∷◌, ◌++◌, Bool, not, if◌then◌else◌, Option, Some, None, is_some}
 use Rattle.std.specs.Str.{bytes_eq}
 use Rattle.spec_data.specs.Lists.{is_among, first_reason}

@@ -1,4 +1,4 @@
--- The steps of the calculus that an event stands for; of this project's profile of BitML.
+-- The steps of the calculus that an event stands for.
 use Rattle.std.specs.Prelude.{ℕ, List, [], ◌∷◌, ◌++◌, map, Bool, false, not, ◌&&◌, Option, Some, None}
 use Rattle.std.specs.List.{filter}
 use Rattle.std.specs.Str.{bytes_eq}

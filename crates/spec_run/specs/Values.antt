@@ -1,4 +1,4 @@
--- What the live outputs of a world are worth, and what an event does to it and to all else; of this project, from no standard.
+-- What the live outputs of a world are worth, and what an event does to it and to all else.
 use Rattle.std.specs.Prelude.{◌≡◌, ℕ, ◌+◌, ◌≤◌, List, [], ◌∷◌, Bool, true, false, if◌then◌else◌}
 use Rattle.spec_run.specs.declared.outcome.Outcome.{Outcome}
 use Rattle.spec_run.specs.declared.outcome.Outcome.TheVariants as outcomes

@@ -1,4 +1,4 @@
--- The world of a run: the ledger with its contract outputs, what is signed, and what the parties have told each other; of this project, from no standard.
+-- The world of a run: the ledger with its contract outputs, what is signed, and what the parties have told each other.
 use Rattle.std.specs.Prelude.{ℕ, List, [], ◌∷◌, ◌++◌, Bool, false, ◌&&◌, ◌==◌, if◌then◌else◌, Option, Some, None, slice_get}
 use Rattle.std.specs.List.{list_any, list_all}
 use Rattle.std.specs.Option.{is_none}

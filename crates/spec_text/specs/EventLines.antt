@@ -1,4 +1,4 @@
--- The events that the lines of a run file spell; of this project's profile.
+-- The events that the lines of a run file spell.
 use Rattle.std.specs.Prelude.{ℕ, List, [], ◌∷◌, Bool, true, false, ◌&&◌, if◌then◌else◌, nat_le, Option, Some, None, codes}
 use Rattle.std.specs.Str.{bytes_eq}
 use Rattle.spec_run.specs.declared.event.Event.{Event}

@@ -1,4 +1,4 @@
--- A contract and a run that are made from a number; of this project's profile.
+-- A contract and a run that are made from a number.
 use Rattle.std.specs.Prelude.{ℕ, zero, suc, ◌+◌, ◌-◌, ◌*◌, ◌/◌, ◌%◌, ◌^◌, List, [], ◌∷◌, ◌++◌, codes}
 use Rattle.std.specs.Fmt.{decimal}
 use Rattle.spec_terms.specs.Term.{after, put_reveal, withdraw, Contract, no_branch, branch, equal, constant, length_of}

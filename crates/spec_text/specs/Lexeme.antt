@@ -1,4 +1,4 @@
--- What the tokens of a text say; of this project's profile.
+-- What the tokens of a text say.
 use Rattle.std.specs.Prelude.{ℕ, ◌-◌, List, [], ◌∷◌, length, take, drop, map, Bool, true, false, ◌&&◌, nat_le}
 use Rattle.spec_text.specs.declared.token.Token.{Token}
 use Rattle.spec_text.specs.declared.token.Kind.{Kind}

@@ -1,4 +1,4 @@
--- Lines of a text and words of a line; of this project's profile.
+-- Lines of a text and words of a line.
 use Rattle.std.specs.Prelude.{ℕ, List, [], ◌∷◌, Bool, true, false, ◌&&◌, ◌||◌, ◌==◌}
 
 -- ---- parts between bytes

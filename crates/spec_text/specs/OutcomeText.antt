@@ -1,4 +1,4 @@
--- How outcomes and their reasons are printed; of this project's profile.
+-- How outcomes and their reasons are printed.
 use Rattle.std.specs.Prelude.{ℕ, List, ◌++◌, flat_map, codes}
 use Rattle.std.specs.Fmt.{decimal}
 use Rattle.spec_bitcoin.specs.Keys.{path_text}

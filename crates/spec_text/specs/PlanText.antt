@@ -1,4 +1,4 @@
--- What `plan` prints of a run and its contract, and `make` of a run; of this project's profile.
+-- What `plan` prints of a run and its contract, and `make` of a run.
 use Rattle.std.specs.Prelude.{ℕ, ◌+◌, List, [], ◌∷◌, ◌++◌, flat_map, length, sum_by, reverse, Option, Some, None, codes}
 use Rattle.std.specs.Fmt.{decimal}
 use Rattle.spec_terms.specs.declared.path.PathStep.{PathStep}

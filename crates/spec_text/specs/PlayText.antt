@@ -1,4 +1,4 @@
--- What is printed of a run that is played; of this project's profile.
+-- What is printed of a run that is played.
 use Rattle.std.specs.Prelude.{ℕ, ◌+◌, List, [], ◌∷◌, ◌++◌, flat_map, length, Bool, true, false, Option, Some, None, codes}
 use Rattle.std.specs.Fmt.{decimal}
 use Rattle.spec_terms.specs.Advert.{Advert}

@@ -1,4 +1,4 @@
--- The text of a played run, by its setup and its events; of this project's profile.
+-- The text of a played run, by its setup and its events.
 use Rattle.std.specs.Prelude.{ℕ, ◌+◌, List, [], ◌∷◌, map, Bool, true, false, Option, Some, None}
 use Rattle.spec_calculus.specs.Configuration.{Configuration}
 use Rattle.spec_run.specs.declared.event.Event.{Event}

@@ -1,4 +1,4 @@
--- Reading of a whole contract text: its advert, or why it is none and where; of this project's profile.
+-- Reading of a whole contract text: its advert, or why it is none and where.
 use Rattle.std.specs.Prelude.{ℕ, zero, suc, ◌+◌, ◌-◌, List, [], ◌∷◌, length, drop, Bool, true, false, ◌==◌, Result, Ok, Err}
 use Rattle.spec_terms.specs.Term.{Contract}
 use Rattle.spec_terms.specs.Advert.{Advert}

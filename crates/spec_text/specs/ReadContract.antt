@@ -1,4 +1,4 @@
--- Reading of contracts, by cases on the next token; of this project's profile.
+-- Reading of contracts, by cases on the next token.
 use Rattle.std.specs.Prelude.{ℕ, zero, suc, ◌-◌, List, [], ◌∷◌, length, Bool, true, false, if◌then◌else◌, ◌==◌, Option, Some, None, Ok, Err}
 use Rattle.spec_terms.specs.Term.{Pred, always, Guarded, auth, after, put_reveal, withdraw, split, Contract, no_branch, branch, Parts}
 use Rattle.spec_terms.specs.Term.{no_part, part}

@@ -1,4 +1,4 @@
--- Reading of expressions and predicates, by cases on the next token; of this project's profile.
+-- Reading of expressions and predicates, by cases on the next token.
 use Rattle.std.specs.Prelude.{ℕ, zero, suc, List, [], ◌∷◌, length, Bool, true, false, Ok, Err}
 use Rattle.spec_terms.specs.Term.{Expr, constant, length_of, plus, minus, Pred, always, both, negation, equal, less}
 use Rattle.spec_terms.specs.declared.limit.Limit.TheVariants as limits

@@ -1,4 +1,4 @@
--- Reading of tokens from left to right: what is read with the tokens after it, or where reading stopped; of this project's profile.
+-- Reading of tokens from left to right: what is read with the tokens after it, or where reading stopped.
 use Rattle.std.specs.Prelude.{ℕ, suc, List, [], ◌∷◌, length, Bool, true, false, ◌&&◌, ◌==◌, nat_le, Option, Some, None, Result, Ok, Err}
 use Rattle.spec_terms.specs.declared.limit.Limit.{Limit}
 use Rattle.spec_terms.specs.declared.limit.Limit.TheVariants as limits

@@ -1,4 +1,4 @@
--- What is printed where a contract or a run file is refused; of this project's profile.
+-- What is printed where a contract or a run file is refused.
 use Rattle.std.specs.Prelude.{ℕ, List, [], ◌∷◌, ◌++◌, length, if◌then◌else◌, nat_lt, Option, Some, None, Result, Ok, Err, slice_get, codes}
 use Rattle.std.specs.Fmt.{decimal}
 use Rattle.spec_terms.specs.Advert.{Advert}

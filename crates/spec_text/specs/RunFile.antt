@@ -1,4 +1,4 @@
--- Run files: the run that the lines of a text spell, or the first line that is bad or one too many; of this project's profile.
+-- Run files: the run that the lines of a text spell, or the first line that is bad or one too many.
 use Rattle.std.specs.Prelude.{ℕ, ◌+◌, List, [], ◌∷◌, ◌++◌, length, Bool, true, false, ◌&&◌, ◌||◌, not, if◌then◌else◌, nat_le, nat_lt}
 use Rattle.std.specs.Prelude.{Option, Some, None, Result, Ok, Err, codes}
 use Rattle.std.specs.Str.{bytes_eq}

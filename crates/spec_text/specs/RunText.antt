@@ -1,4 +1,4 @@
--- The canonical lines of a run file: of each event, and of the header; of this project's profile.
+-- The canonical lines of a run file: of each event, and of the header.
 use Rattle.std.specs.Prelude.{ℕ, List, [], ◌∷◌, ◌++◌, flat_map, codes}
 use Rattle.std.specs.Fmt.{decimal}
 use Rattle.spec_bitcoin.specs.Keys.{label_text}

@@ -1,4 +1,4 @@
--- What is claimed of reading and printing; of this project's profile.
+-- What is claimed of reading and printing.
 use Rattle.std.specs.Prelude.{◌≡◌, ℕ, ◌+◌, ◌-◌, ◌<◌, ◌≤◌, List, [], length, take, true, Ok, Err}
 use Rattle.spec_terms.specs.Advert.{Advert}
 use Rattle.spec_terms.specs.Readable.{is_readable}

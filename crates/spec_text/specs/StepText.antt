@@ -1,4 +1,4 @@
--- How the steps of the calculus are printed; of this project's profile.
+-- How the steps of the calculus are printed.
 use Rattle.std.specs.Prelude.{ℕ, List, [], ◌++◌, flat_map, map, Option, Some, None, codes}
 use Rattle.std.specs.Fmt.{decimal}
 use Rattle.spec_calculus.specs.declared.step.Owner.{Owner}

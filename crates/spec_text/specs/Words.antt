@@ -1,4 +1,4 @@
--- What a word of a line says: numbers, outputs, names, digests, paths and labels; of this project's profile.
+-- What a word of a line says: numbers, outputs, names, digests, paths and labels.
 use Rattle.std.specs.Prelude.{ℕ, ◌^◌, List, [], ◌∷◌, ◌++◌, length, Bool, true, false, if◌then◌else◌, ◌==◌, Option, Some, None, codes}
 use Rattle.std.specs.Str.{bytes_eq}
 use Rattle.spec_data.specs.Lists.{is_among}

@@ -1,4 +1,4 @@
--- What an audit finds of the transactions in a file, after a run; of this project's profile.
+-- What an audit finds of the transactions in a file, after a run.
 use Rattle.std.specs.Prelude.{ℕ, ◌+◌, List, [], ◌∷◌, ◌++◌, filter, map, Bool, not, Option, Some, None, Result}
 use Rattle.std.specs.Prelude.{Ok, Err}
 use Rattle.std.specs.List.{flat_map, list_any}

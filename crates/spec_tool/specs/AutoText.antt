@@ -1,4 +1,4 @@
--- What `auto` prints: the run file that goes on by the rules of a strategy; of this project's profile.
+-- What `auto` prints: the run file that goes on by the rules of a strategy.
 use Rattle.std.specs.Prelude.{ℕ, ◌+◌, ◌*◌, List, ◌++◌, length, Bool, if◌then◌else◌, nat_lt, nat_le, Some}
 use Rattle.std.specs.Prelude.{None, Result, Ok, Err, codes}
 use Rattle.std.specs.Fmt.{decimal}

@@ -1,4 +1,4 @@
--- What is claimed of the statuses of answers: each comes by its cause; of this project's profile.
+-- What is claimed of the statuses of answers: each comes by its cause.
 use Rattle.std.specs.Prelude.{◌≡◌, ℕ, List, [], ◌∷◌, drop, Bool, true, false, ◌&&◌, Option, Some, None, Ok, Err, ◌↔◌, is_err}
 use Rattle.spec_data.specs.Lists.{has_number}
 use Rattle.spec_tool.specs.Reads.{Read, Text, text_at, texts_read}

@@ -1,4 +1,4 @@
--- The commands, and what each answers to the contents of its files: a status and a text; of this project's profile.
+-- The commands, and what each answers to the contents of its files: a status and a text.
 use Rattle.std.specs.Prelude.{ℕ, ◌+◌, List, [], ◌∷◌, ◌++◌, length, map, ◌&&◌, if◌then◌else◌, nat_le, Option, Some, None, Result, Ok, Err}
 use Rattle.std.specs.Prelude.{codes}
 use Rattle.std.specs.Str.{bytes_eq}

@@ -1,4 +1,4 @@
--- What the commands on partially signed transactions print; of this project's profile.
+-- What the commands on partially signed transactions print.
 use Rattle.std.specs.Prelude.{ℕ, ◌+◌, List, [], ◌∷◌, ◌++◌, Bool, true, false, ◌==◌, if◌then◌else◌}
 use Rattle.std.specs.Prelude.{Option, Some, None, is_some, Result, Ok, Err, codes}
 use Rattle.std.specs.Fmt.{decimal}

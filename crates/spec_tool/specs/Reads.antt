@@ -1,4 +1,4 @@
--- What the reads of a command's files answer, and what is taken of them; of this project's profile.
+-- What the reads of a command's files answer, and what is taken of them.
 use Rattle.std.specs.Prelude.{ℕ, ◌+◌, List, [], ◌∷◌, length, take, map, Bool, true, false, ◌==◌, nat_le, if◌then◌else◌, Option, Some}
 use Rattle.std.specs.Prelude.{None, slice_get}
 use Rattle.std.specs.Option.{option_and_then}

@@ -1,4 +1,4 @@
--- The greatest sizes of the files of the further commands; of this project's profile.
+-- The greatest sizes of the files of the further commands.
 use Rattle.std.specs.Prelude.{ℕ}
 
 -- bytes of a file with a partially signed transaction

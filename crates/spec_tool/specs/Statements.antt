@@ -1,4 +1,4 @@
--- What is claimed of valid run files and well-formed contracts; of this project's profile.
+-- What is claimed of valid run files and well-formed contracts.
 use Rattle.std.specs.Prelude.{◌≡◌, ℕ, ◌≤◌, List, length, None, Ok}
 use Rattle.spec_terms.specs.Advert.{Advert}
 use Rattle.spec_run.specs.declared.event.Run.{Run}

@@ -1,4 +1,4 @@
--- Strategy files: the rules that the lines of a text spell, or the first line that is bad or one too many; of this project's profile.
+-- Strategy files: the rules that the lines of a text spell, or the first line that is bad or one too many.
 use Rattle.std.specs.Prelude.{ℕ, ◌+◌, List, [], ◌∷◌, if◌then◌else◌, nat_lt, Option, Some, None, Result, Ok}
 use Rattle.std.specs.Prelude.{Err, codes}
 use Rattle.std.specs.Str.{bytes_eq}

@@ -1,4 +1,4 @@
--- How the rules of a strategy go on with a run; of this project's profile.
+-- How the rules of a strategy go on with a run.
 use Rattle.std.specs.Prelude.{ℕ, zero, suc, ◌+◌, List, [], ◌∷◌, ◌++◌, length, Bool, false, ◌&&◌, ◌==◌, if◌then◌else◌, Option, Some}
 use Rattle.std.specs.Prelude.{None, Result, Ok, Err, is_some}
 use Rattle.spec_terms.specs.Paths.{path_eq}

@@ -1,4 +1,4 @@
--- The weights of a contract's transactions, by BIP 141, with witnesses of ideal signatures; of this project's profile.
+-- The weights of a contract's transactions, by BIP 141, with witnesses of ideal signatures.
 use Rattle.std.specs.Prelude.{◌≡◌, ℕ, ◌+◌, ◌*◌, ◌≤◌, List, [], ◌∷◌, length, map, take, replicate, Bool}
 use Rattle.std.specs.Prelude.{if◌then◌else◌}
 use Rattle.std.specs.List.{AllByRecursion}

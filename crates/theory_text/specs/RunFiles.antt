@@ -1,4 +1,4 @@
--- What is claimed of the runs that run files spell; of this project's profile.
+-- What is claimed of the runs that run files spell.
 use Rattle.std.specs.Prelude.{◌≡◌, ℕ, List, Ok}
 use Rattle.std.specs.List.{AllByRecursion}
 use Rattle.spec_run.specs.Setup.{Setup}

@@ -1,5 +1,4 @@
--- The transactions of a compiled contract, each with what it spends and the labels whose keys sign its inputs, input by input
--- of BitML.
+-- The transactions of a compiled contract, each with what it spends and the labels whose keys sign its inputs, input by input.
 use Rattle.std.specs.Prelude.{ℕ, List, [], ◌∷◌, map, Bool, true, false, Option, Some}
 use Rattle.std.specs.Option.{option_map, option_map_or}
 use Rattle.spec_terms.specs.Term as term

@@ -12,12 +12,14 @@ use bm_calculus::{Config, Owner, Step};
 use spec_data::Name;
 use std::alloc::{AllocError, Global};
 
+/// Writes these bytes at the end of the text.
 pub fn put(out: &mut Vec<u8>, bytes: &[u8]) -> Result<(), AllocError>
     ensures { OnOk result (out.new.items ≡ out.old.items ++ bytes.now) }
 {
     out.extend_from_slice(bytes)
 }
 
+/// Writes the number in plain decimal digits.
 pub fn put_decimal(alloc: Global, out: &mut Vec<u8>, number: u64) -> Result<(), AllocError>
     ensures { OnOk result (out.new.items ≡ out.old.items ++ decimal number) }
 {

@@ -6,6 +6,7 @@ ghost use Rattle.spec_calculus.specs.Same as spec;
 
 use spec_calculus::{Move, Owner};
 
+/// Whether both are the same party, or both someone outside.
 pub fn owner_eq(first: &Owner, second: &Owner) -> bool
     ensures { result ≡ spec.owner_eq first.now second.now }
 {

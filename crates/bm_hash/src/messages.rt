@@ -97,6 +97,7 @@ impl<H: Hash32 + Drop> Trail<H> {
         }
     }
 
+    /// The hash function of the trail.
     pub fn hasher(&self) -> &H
         ensures { result.now ≡ self.now.hasher }
     {

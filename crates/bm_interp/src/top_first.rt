@@ -33,12 +33,14 @@ impl<T: Drop> Stack<T> {
         }
     }
 
+    /// How many items there are.
     pub fn len(&self) -> usize
         ensures { result ≡ length self.now }
     {
         self.items.len()
     }
 
+    /// Lays the item on top.
     pub fn push(&mut self, item: T) -> Result<(), OutOfMemory>
         ensures ok { OnOk result (self.new ≡ item ∷ self.old) }
         ensures err { OnErr result (self.new ≡ self.old) }
@@ -47,6 +49,7 @@ impl<T: Drop> Stack<T> {
         Ok(())
     }
 
+    /// Takes the top item off, where there is one.
     pub fn pop(&mut self) -> Option<T>
         ensures some { IfSome result (λ item. self.old ≡ item ∷ self.new) }
         ensures none { IfNone result (self.old ≡ []) }

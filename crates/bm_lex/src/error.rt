@@ -5,6 +5,7 @@ ghost use Rattle.bm_lex.specs.declared.error.LexError.TheVariants.{Memory};
 
 use std::alloc::{AllocError, AllocFailed};
 
+/// Why a text has no tokens.
 #[derive(Debug, Drop)]
 pub enum LexError {
     /// The place of the first byte that begins no token.

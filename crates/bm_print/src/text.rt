@@ -6,6 +6,7 @@ ghost use Rattle.std.specs.Fmt.{decimal};
 use bm_text::put_decimal;
 use spec_data::OutOfMemory;
 
+/// Writes the number in plain decimal digits.
 pub fn put_number(out: &mut Vec<u8>, number: u64) -> Result<(), OutOfMemory>
     ensures { OnOk result (out.new.items ≡ out.old.items ++ decimal number) }
 {

@@ -10,6 +10,7 @@ use bm_syntax::{Contract, Guarded, Name, Part};
 use spec_data::OutOfMemory;
 use std::alloc::{AllocError, Global};
 
+/// The branch, once the party has authorised it.
 pub fn boxed_auth(alloc: Global, party: &Name, body: Guarded) -> Result<Guarded, OutOfMemory>
     ensures { IfOk result (λ g. guarded g ≡ auth party.now (guarded body)) }
 {
@@ -20,6 +21,7 @@ pub fn boxed_auth(alloc: Global, party: &Name, body: Guarded) -> Result<Guarded,
     })
 }
 
+/// The branch, from the block height on.
 pub fn boxed_after(alloc: Global, height: u32, body: Guarded) -> Result<Guarded, OutOfMemory>
     ensures { IfOk result (λ g. guarded g ≡ after height (guarded body)) }
 {
@@ -27,6 +29,7 @@ pub fn boxed_after(alloc: Global, height: u32, body: Guarded) -> Result<Guarded,
     Ok(Guarded::After { height, body })
 }
 
+/// A branch that puts deposits, reveals secrets and goes on if the test is true of their lengths.
 pub fn boxed_put_reveal(
     alloc: Global,
     head: Heading,
@@ -43,6 +46,7 @@ pub fn boxed_put_reveal(
     })
 }
 
+/// A branch that divides the balance among these parts.
 pub fn split_among(parts: Vec<Part>) -> Guarded
     ensures { guarded result ≡ split (parts_view parts.items) }
 {

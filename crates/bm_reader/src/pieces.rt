@@ -23,6 +23,7 @@ pub fn above(limit: Limit, lexemes: &[Lexeme]) -> ReadError
     ReadError::Stop(Stop::Limit(limit, lexemes.len()))
 }
 
+/// The name that the tokens begin with, and those behind it.
 pub fn name_of(lexemes: &[Lexeme]) -> Result<(&Name, &[Lexeme]), ReadError>
     ensures { Gives (λ x. (x.0.now, x.1.now)) result (token_by a_name lexemes.now) }
 {
@@ -53,6 +54,7 @@ pub fn small_of(most: u32, lexemes: &[Lexeme]) -> Result<(u32, &[Lexeme]), ReadE
     Ok((number as u32, rest))
 }
 
+/// The tokens behind this symbol, which they begin with.
 pub fn symbol_of(symbol: Symbol, lexemes: &[Lexeme]) -> Result<&[Lexeme], ReadError>
     ensures { Gives (λ x. (tt, x.now)) result (token_by (a_symbol symbol) lexemes.now) }
 {
@@ -62,6 +64,7 @@ pub fn symbol_of(symbol: Symbol, lexemes: &[Lexeme]) -> Result<&[Lexeme], ReadEr
     }
 }
 
+/// The tokens behind this keyword, which they begin with.
 pub fn keyword_of(keyword: Keyword, lexemes: &[Lexeme]) -> Result<&[Lexeme], ReadError>
     ensures { Gives (λ x. (tt, x.now)) result (token_by (a_keyword keyword) lexemes.now) }
 {

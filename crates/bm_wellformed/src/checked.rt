@@ -43,6 +43,7 @@ impl Checked {
         Checked { advert, parties }
     }
 
+    /// The advert that passed the check.
     pub fn advert(&self) -> &Advert
         ensures value { result.now ≡ self.now }
         ensures well_formed { IsWellFormed self.now }

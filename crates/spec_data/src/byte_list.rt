@@ -35,6 +35,7 @@ impl Bytes {
         Ok(Bytes::of(Vec::from_slice(alloc, bytes)?))
     }
 
+    /// The bytes in order.
     pub fn as_slice(&self) -> &[u8]
         ensures { result.now ≡ self.now }
     {

@@ -62,6 +62,7 @@ impl Name {
         Some(Name { len, room })
     }
 
+    /// The 1 to 32 bytes of the name.
     pub fn bytes(&self) -> &[u8]
         ensures bytes { result.now ≡ self.now }
         ensures some { 0 < length self.now }

@@ -20,6 +20,7 @@ impl<T> Model for Seq<T> {
 }
 
 impl<T> Seq<T> {
+    /// The list of these elements.
     pub fn of(held: Vec<T>) -> Seq<T>
         ensures { result ≡ held.items }
     {
@@ -35,18 +36,21 @@ impl<T> Seq<T> {
         }
     }
 
+    /// The elements, taken out of the list.
     pub fn into_vec(self) -> Vec<T>
         ensures { result.items ≡ self }
     {
         self.held
     }
 
+    /// The elements in order.
     pub fn as_slice(&self) -> &[T]
         ensures { result.now ≡ self.now }
     {
         self.held.as_slice()
     }
 
+    /// Adds an element at the end.
     pub fn push(&mut self, value: T) -> Result<(), AllocError>
     where
         T: Drop,

@@ -48,6 +48,8 @@ unsuited s w contract (b ∷ bs) =
 abbrev pub deposit_names : Setup → ℕ → List (List ℕ)
 deposit_names s contract = names_of (deposits (pre_at s contract))
 
+-- `advertise K x=#n ..`: the contract is there and not advertised yet, the names are those of its deposits, no two bind one output,
+-- all are bound to live deposits of the owner and value that are wanted, and a participant is honest
 abbrev pub advertise_row : Setup → World → ℕ → List (List ℕ × ℕ) → List (Bool × Reason)
 advertise_row s w contract bindings =
     (not (has_contract s contract), reason.NoContract)

@@ -80,7 +80,8 @@ committed_digests s contract party digests = if is_honest s party then own_diges
 abbrev pub committed_strings : Setup → ℕ → List ℕ → List (List ℕ)
 committed_strings s contract party = if is_honest s party then own_strings s party (secrets_at s contract party) else []
 
--- the refusals before any string is hashed
+-- `commit K A ..`, before any string is hashed: the contract is there and advertised, the party takes part and hasn't committed, the line
+-- has the right names, and an honest party's secrets are held and of the size of one
 abbrev pub commit_row : Setup → World → ℕ → List ℕ → List (List ℕ × List ℕ) → List (Bool × Reason)
 commit_row s w contract party digests =
     (not (has_contract s contract), reason.NoContract)

@@ -11,6 +11,7 @@ pub mod Revealing
 pub mod Giving
 pub mod Firing
 pub mod Event
+pub mod Hashing
 pub mod Halting
 pub mod Secrets
 pub mod Steps

@@ -22,6 +22,8 @@ fitting s strings digest = find (fits s digest) strings
 abbrev pub own_secret : Setup → List ℕ → List ℕ → List ℕ
 own_secret s party name = bytes_or_none (held_secret s party name)
 
+-- `reveal K A a`: the contract is there, the party is honest, has this secret there and has committed, the contract has begun, and the
+-- string isn't posted yet
 abbrev pub reveal_row : Setup → World → ℕ → List ℕ → List ℕ → List (Bool × Reason)
 reveal_row s w contract party secret =
     (not (has_contract s contract), reason.NoContract)

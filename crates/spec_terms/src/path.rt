@@ -65,6 +65,7 @@ impl Path {
         Path { steps }
     }
 
+    /// The steps from the root on.
     pub fn steps(&self) -> &[PathStep]
         ensures { result.now ≡ self.now }
     {

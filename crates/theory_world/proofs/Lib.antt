@@ -2,6 +2,7 @@ pub mod Book
 pub mod Bookless
 pub mod Contracts
 pub mod Hashed
+mod Hashing
 pub mod Labels
 pub mod Later
 pub mod Ledger

@@ -2,6 +2,7 @@
 #![tactic(auto)]
 
 ghost use Rattle.spec_run.specs.Statements.{ValueTheorem, RefusalTheorem};
+ghost use Rattle.theory_world.specs.Hashing.{EventsHashRows};
 
 /// What the live outputs are worth never grows, and stays the same after every event that isn't
 /// accepted.
@@ -12,4 +13,9 @@ pub fn value_theorem()
 /// A refused event leaves all as it was, but for the messages that were hashed.
 pub fn refusal_theorem()
     ensures { RefusalTheorem }
+{}
+
+/// An event hashes the strings of its row in the table, or where it is refused a front of them.
+pub fn events_hash_rows()
+    ensures { EventsHashRows }
 {}

@@ -1,9 +1,11 @@
 -- What is claimed of the contract and the run that are made from a number; of this project's profile.
 use Rattle.std.specs.Prelude.{◌≡◌, ℕ, ◌≤◌, true, Ok}
+use Rattle.spec_terms.specs.Faults.{IsWellFormed}
 use Rattle.spec_terms.specs.Readable.{is_readable}
 use Rattle.spec_text.specs.Canonical.{advert_text}
 use Rattle.spec_text.specs.Generator.{made_contract}
 use Rattle.spec_text.specs.ReadAdvert.{read_answer}
+use Rattle.spec_text.specs.Refusals.{contract_of}
 use Rattle.spec_tool.specs.Commands.{most_size}
 
 -- ---- the contract
@@ -16,3 +18,11 @@ pub record IsReadAgain (number size : ℕ) : Type 0 where
 -- so it is for every number and each size that the command takes
 abbrev pub MadeContractReads : Type 0
 MadeContractReads = (number size : ℕ) → 1 ≤ size → size ≤ most_size → IsReadAgain number size
+
+-- it is well-formed, and its canonical text is taken as it
+pub record IsTaken (number size : ℕ) : Type 0 where
+  pub well_formed : IsWellFormed (made_contract number size)
+  pub taken : contract_of (advert_text (made_contract number size)) ≡ Ok (made_contract number size)
+
+abbrev pub MadeContractsTaken : Type 0
+MadeContractsTaken = (number size : ℕ) → 1 ≤ size → size ≤ most_size → IsTaken number size

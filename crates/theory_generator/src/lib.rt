@@ -1,9 +1,14 @@
 //! What follows of the generator: each theorem is the contract of a function that does nothing.
 #![tactic(auto)]
 
-ghost use Rattle.theory_generator.specs.Made.{MadeContractReads};
+ghost use Rattle.theory_generator.specs.Made.{MadeContractReads, MadeContractsTaken};
 
 /// The contract that is made from a number is within the limits of the reader, and read again from its canonical text.
 pub fn made_contracts_are_read()
     ensures { MadeContractReads }
+{}
+
+/// The contract that is made from a number is well-formed, and its canonical text is taken as it.
+pub fn made_contracts_are_taken()
+    ensures { MadeContractsTaken }
 {}

@@ -1,7 +1,12 @@
 pub mod ContractText
+pub mod HeaderLines
+pub mod MadeEvents
+pub mod MadeSecrets
 pub mod Names
+pub mod NumberWords
 pub mod Participants
 pub mod Readable
 pub mod Secrets
+pub mod SpelledEvents
 pub mod Stages
 pub mod WellFormed

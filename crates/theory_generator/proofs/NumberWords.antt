@@ -1,0 +1,71 @@
+-- Numbers are read again from their decimals, and which words may stand in a line, by a test.
+use Rattle.std.proofs.Common.{◌≡◌, ℕ, zero, suc, ◌<◌, ◌≤◌, ◌^◌, Bool, true, false, List, [], ◌∷◌, length, Option, Some, refl, sym, subst, arith, get_or}
+use Rattle.std.specs.Prelude.{◌==◌, ◌&&◌, not, nat_lt}
+use Rattle.std.specs.Fmt.{decimal}
+use Rattle.std.specs.List.{list_all, AllByRecursion}
+use Rattle.std.proofs.lemmas.Bool.Decides.{nat_tests}
+use Rattle.std.proofs.lemmas.Fmt.{decimal_digit, first_decimal}
+use Rattle.spec_data.specs.Digits.{is_plain, number_below}
+use Rattle.spec_text.specs.Lines.{is_space}
+use Rattle.spec_text.specs.Words.{small, amount}
+use Rattle.theory_text.proofs.ListFacts.{and_left, and_right, not_yes}
+use Rattle.theory_text.proofs.Lines.Decimals.{AllDigits, decimal-digits, decimal-value}
+use Rattle.theory_text.proofs.Lines.LineBytes.{ends_line, LineWord, decimal_line}
+use Rattle.theory_text.proofs.Lines.Separated.{Lacks}
+
+-- ---- numbers
+
+plain_zero : is_plain (48 ∷ []) ≡ true
+plain_zero = refl
+
+plain_digits : (digits : List ℕ) → AllDigits digits → 48 < get_or digits 0 0 → is_plain digits ≡ true
+plain_digits [] h first = absurd (omega arith)
+plain_digits (b ∷ bytes) h first = rw (above b first) h
+  where
+    above : (b : ℕ) → 48 < b → (b == 48) ≡ false
+    above b h = grind (arith, nat_tests)
+
+plain_decimal : (n : ℕ) → n < 2 ^ 64 → is_plain (decimal n) ≡ true
+plain_decimal zero h = subst (λ (digits : List ℕ). is_plain digits ≡ true) (sym (decimal_digit 0 (omega arith))) plain_zero
+plain_decimal (suc n) h = plain_digits (decimal (suc n)) (decimal-digits (suc n) h) (first_decimal (suc n) (omega arith) h)
+
+number_back : (bound n : ℕ) → n < bound → n < 2 ^ 64 → number_below bound (decimal n) ≡ Some n
+number_back bound n less small = rw (plain_decimal n small, decimal-value n small, below n bound less) refl
+  where
+    below : (n bound : ℕ) → n < bound → nat_lt n bound ≡ true
+    below n bound h = grind (arith, nat_tests)
+
+pub small_back : (n : ℕ) → n < 2 ^ 32 → small (decimal n) ≡ Some n
+small_back n h = number_back (2 ^ 32) n h (omega arith)
+
+pub amount_back : (n : ℕ) → n < 2 ^ 64 → amount (decimal n) ≡ Some n
+amount_back n h = number_back (2 ^ 64) n h h
+
+-- ---- words
+
+
+abbrev pub is_line_word : List ℕ → Bool
+is_line_word [] = false
+is_line_word (b ∷ bytes) = list_all (λ c. not (is_space c) && not (ends_line c)) (b ∷ bytes)
+
+no_space' : (bytes : List ℕ) → list_all (λ c. not (is_space c) && not (ends_line c)) bytes ≡ true → Lacks is_space bytes
+no_space' [] h = tt
+no_space' (b ∷ bytes) h = (not_yes _ (and_left _ _ (and_left _ _ h)), no_space' bytes (and_right (not (is_space b) && not (ends_line b)) _ h))
+
+no_end : (bytes : List ℕ) → list_all (λ c. not (is_space c) && not (ends_line c)) bytes ≡ true → Lacks ends_line bytes
+no_end [] h = tt
+no_end (b ∷ bytes) h = (not_yes _ (and_right (not (is_space b)) _ (and_left _ _ h)), no_end bytes (and_right (not (is_space b) && not (ends_line b)) _ h))
+
+pub line_word : (word : List ℕ) → is_line_word word ≡ true → LineWord word
+line_word [] h = absurd cc
+line_word (b ∷ bytes) h = record { is = record { some = omega arith; lacks = no_space' (b ∷ bytes) h }; ends = no_end (b ∷ bytes) h }
+
+pub all_line_words : (words : List (List ℕ)) → list_all is_line_word words ≡ true → AllByRecursion LineWord words
+all_line_words [] h = tt
+all_line_words (word ∷ words) h = (line_word word (and_left _ _ h), all_line_words words (and_right (is_line_word word) _ h))
+
+-- the number of an output
+pub output_word : (n : ℕ) → n < 2 ^ 64 → LineWord (35 ∷ decimal n)
+output_word n h =
+    let d = decimal_line n h in
+    record { is = record { some = omega arith; lacks = (refl, d.is.lacks) }; ends = (refl, d.ends) }

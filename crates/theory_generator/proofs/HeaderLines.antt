@@ -1,6 +1,6 @@
 -- The lines of the made header are read as it.
-use Rattle.std.proofs.Common.{◌≡◌, ℕ, suc, ◌+◌, ◌*◌, ◌<◌, ◌≤◌, Bool, true, false, not, List, [], ◌∷◌, ◌++◌, length, map, Some, Ok, Err, refl, sym, ap, ◌∙◌, arith, append_assoc}
-use Rattle.std.specs.Prelude.{◌&&◌, if◌then◌else◌, nat_lt, Result, codes}
+use Rattle.std.proofs.Common.{◌≡◌, ℕ, ◌+◌, ◌<◌, ◌≤◌, Bool, true, false, List, [], ◌∷◌, ◌++◌, length, map, Some, Ok, refl, sym, ap, ◌∙◌, arith, append_assoc}
+use Rattle.std.specs.Prelude.{if◌then◌else◌, nat_lt, codes}
 use Rattle.std.specs.List.{list_any, AllByRecursion}
 use Rattle.std.proofs.lemmas.Bool.Decides.{nat_tests}
 use Rattle.std.proofs.lemmas.List.{append-nil, length-append}
@@ -9,9 +9,8 @@ use Rattle.spec_terms.specs.Readable.{is_name}
 use Rattle.spec_run.specs.declared.header.Header.{Header}
 use Rattle.spec_run.specs.declared.header.HeldSecret.{HeldSecret}
 use Rattle.spec_text.specs.declared.run_fault.RunLimit.TheVariants as limits
-use Rattle.spec_text.specs.declared.run_fault.RunFault.{RunFault}
 use Rattle.spec_text.specs.Lines.{words_of}
-use Rattle.spec_text.specs.RunFile.{Line, over, says, is_long, no_header, is_taken, secret_of, header_words, header_line, kept, Headed, header_step, read_header}
+use Rattle.spec_text.specs.RunFile.{Line, over, says, is_long, no_header, is_taken, secret_of, header_words, header_line, kept, header_step, read_header}
 use Rattle.spec_text.specs.Generator.{Made, party_a, party_b, secret_name, held, held_from, made_header}
 use Rattle.theory_text.proofs.Lines.LineBytes.{LineWord, line_is}
 use Rattle.theory_text.proofs.Lines.ReadHeaders.{secret_words}
@@ -46,7 +45,6 @@ with_deposits ss = record { parties = both_parties; honest = both_parties; secre
 front_read : (lines : List (List ℕ)) → read_header no_header 1 (front_lines ++ lines) ≡ read_header (with_secrets []) 5 lines
 unfolding is_name
 front_read lines = refl
-
 
 back_read : (ss : List HeldSecret) (n : ℕ) (lines : List (List ℕ)) → read_header (with_secrets ss) n (back_lines ++ lines) ≡ Ok (with_deposits ss, lines, n + 1 + 1 + 1 + 1)
 back_read ss n lines = refl

@@ -6,6 +6,8 @@ pub mod Names
 pub mod NumberWords
 pub mod Participants
 pub mod Readable
+pub mod RunTexts
+pub mod RunsPlay
 pub mod Secrets
 pub mod SpelledEvents
 pub mod Stages

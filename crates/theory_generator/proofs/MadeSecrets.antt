@@ -1,16 +1,16 @@
 -- The secrets of the made header: each can be written in its line, and none has the name or the bytes of another.
-use Rattle.std.proofs.Common.{◌≡◌, ℕ, zero, suc, ◌+◌, ◌*◌, ◌<◌, ◌≤◌, Bool, true, false, List, [], ◌∷◌, ◌++◌, length, Some, refl, sym, ap, subst, ◌∙◌, arith}
-use Rattle.std.specs.Prelude.{◌==◌, ◌||◌, ◌&&◌, codes}
+use Rattle.std.proofs.Common.{◌≡◌, ℕ, zero, suc, ◌+◌, ◌<◌, ◌≤◌, false, List, [], ◌∷◌, ◌++◌, length, refl, sym, ap, subst, ◌∙◌, arith}
+use Rattle.std.specs.Prelude.{◌==◌, codes}
 use Rattle.std.specs.List.{list_any, AllByRecursion}
 use Rattle.std.specs.Str.{bytes_eq}
 use Rattle.std.proofs.lemmas.Bool.Decides.{nat_tests}
-use Rattle.std.proofs.lemmas.List.{append-nil, length-append}
+use Rattle.std.proofs.lemmas.List.{length-append}
 use Rattle.std.proofs.lemmas.List.Folds.{list_any-append}
 use Rattle.spec_data.specs.Hashes.{IsBytes}
 use Rattle.spec_data.specs.Digits.{hex_text, read_hex}
 use Rattle.spec_run.specs.declared.header.HeldSecret.{HeldSecret}
 use Rattle.spec_text.specs.RunFile.{is_taken}
-use Rattle.spec_text.specs.Generator.{Made, party_a, secret_name, held, held_from}
+use Rattle.spec_text.specs.Generator.{Made, party_a, secret_name, held}
 use Rattle.theory_text.proofs.ListFacts.{or_no}
 use Rattle.theory_text.proofs.Options.{some}
 use Rattle.theory_text.proofs.Lines.Hex.{read_hex_is}
@@ -20,7 +20,6 @@ use Rattle.theory_text.proofs.Lines.ReadHeaders.{secret_words}
 use Rattle.theory_text.proofs.Lines.Separated.{spaced}
 use Rattle.theory_generator.proofs.Names.{secret_named, secret_short, names_apart}
 use Rattle.theory_generator.proofs.NumberWords.{line_word}
-use Rattle.theory_generator.proofs.Readable.{a_named}
 use Rattle.theory_generator.proofs.Secrets.{IsMade}
 
 -- ---- its bytes

@@ -1,5 +1,5 @@
 -- Numbers are read again from their decimals, and which words may stand in a line, by a test.
-use Rattle.std.proofs.Common.{◌≡◌, ℕ, zero, suc, ◌<◌, ◌≤◌, ◌^◌, Bool, true, false, List, [], ◌∷◌, length, Option, Some, refl, sym, subst, arith, get_or}
+use Rattle.std.proofs.Common.{◌≡◌, ℕ, zero, suc, ◌<◌, ◌^◌, Bool, true, false, List, [], ◌∷◌, Some, refl, sym, subst, arith, get_or}
 use Rattle.std.specs.Prelude.{◌==◌, ◌&&◌, not, nat_lt}
 use Rattle.std.specs.Fmt.{decimal}
 use Rattle.std.specs.List.{list_all, AllByRecursion}
@@ -42,7 +42,6 @@ pub amount_back : (n : ℕ) → n < 2 ^ 64 → amount (decimal n) ≡ Some n
 amount_back n h = number_back (2 ^ 64) n h h
 
 -- ---- words
-
 
 abbrev pub is_line_word : List ℕ → Bool
 is_line_word [] = false

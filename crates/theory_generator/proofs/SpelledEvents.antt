@@ -1,5 +1,5 @@
 -- The events of the made run are read from their canonical lines.
-use Rattle.std.proofs.Common.{◌≡◌, ℕ, suc, ◌+◌, ◌<◌, ◌≤◌, ◌^◌, Bool, true, false, List, [], ◌∷◌, ◌++◌, length, Option, Some, refl, sym, ap, ◌∙◌, arith, append_assoc}
+use Rattle.std.proofs.Common.{◌≡◌, ℕ, ◌+◌, ◌<◌, ◌≤◌, ◌^◌, true, List, [], ◌∷◌, ◌++◌, length, Some, refl, sym, ap, arith, append_assoc}
 use Rattle.std.specs.Prelude.{codes, nat_le}
 use Rattle.std.specs.Fmt.{decimal, digits}
 use Rattle.std.specs.List.{list_all, AllByRecursion}
@@ -27,7 +27,6 @@ pub record IsSpelled (e : Event) : Type 0 where
   pub short : length (spaced words) ≤ 100
 
 -- ---- the events up to the beginning of the contract
-
 
 -- a line without variables
 fixed : (e : Event) (words : List (List ℕ)) → event_text e ≡ spaced words → list_all is_line_word words ≡ true → event_of both_parties words ≡ Some e

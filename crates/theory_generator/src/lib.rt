@@ -2,6 +2,7 @@
 #![tactic(auto)]
 
 ghost use Rattle.theory_generator.specs.Made.{MadeContractReads, MadeContractsTaken};
+ghost use Rattle.theory_generator.specs.MadeRuns.{MadeRunsTaken, MadeRunsPlay};
 
 /// The contract that is made from a number is within the limits of the reader, and read again from its canonical text.
 pub fn made_contracts_are_read()
@@ -11,4 +12,14 @@ pub fn made_contracts_are_read()
 /// The contract that is made from a number is well-formed, and its canonical text is taken as it.
 pub fn made_contracts_are_taken()
     ensures { MadeContractsTaken }
+{}
+
+/// The text of the run that is made from a number is valid and spells that run.
+pub fn made_runs_are_taken()
+    ensures { MadeRunsTaken }
+{}
+
+/// The made run, with the made contract, is one of which the theorems on runs speak.
+pub fn made_runs_are_runs()
+    ensures { MadeRunsPlay }
 {}

@@ -132,7 +132,7 @@ taken_by : (text : List ℕ) (a : Advert) → nat_lt most_text_bytes (length tex
 taken_by text a short read faultless limited = rw (short, read, faultless, limited) refl
 
 pub contract_taken : MadeContractsTaken
-contract_taken number size some few =
+contract_taken number size few =
     let well = made_well_formed number size few in
     let text = advert_text (made_contract number size) in
     let d = secrets_drawn size 1 number in

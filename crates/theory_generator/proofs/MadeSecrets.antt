@@ -20,13 +20,9 @@ use Rattle.theory_text.proofs.Lines.ReadHeaders.{secret_words}
 use Rattle.theory_text.proofs.Lines.Separated.{spaced}
 use Rattle.theory_generator.proofs.Names.{secret_named, secret_short, names_apart}
 use Rattle.theory_generator.proofs.NumberWords.{line_word}
-use Rattle.theory_generator.proofs.Secrets.{IsMade}
+use Rattle.theory_generator.proofs.Secrets.{bytes_cons, IsMade}
 
 -- ---- its bytes
-
-bytes_cons : (b : ℕ) (bytes : List ℕ) → b < 256 → IsBytes bytes → IsBytes (b ∷ bytes)
-bytes_cons b bytes h t zero = h
-bytes_cons b bytes h t (suc i) = t i
 
 -- bytes that are written in at most so many digits, and read again
 pub record IsWritten (bytes : List ℕ) : Type 0 where

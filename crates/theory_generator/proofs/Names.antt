@@ -13,6 +13,7 @@ use Rattle.spec_terms.specs.Readable.{is_name_byte, keywords, is_name}
 use Rattle.spec_text.specs.Generator.{secret_name}
 use Rattle.theory_text.proofs.ListFacts.{and_is, and_left, and_right, not_no}
 use Rattle.theory_text.proofs.Lines.Decimals.{decimal-digits}
+use Rattle.theory_text.proofs.Within.ReadWithin.{le_yes}
 
 -- ---- contract text may have them
 
@@ -32,10 +33,8 @@ no_keyword (b ∷ bytes) h = rw (no_letter b 102 (omega arith) (and_left _ _ h),
 
 name_of_digits : (digits : List ℕ) → list_all is_digit digits ≡ true → length digits ≤ 31 → is_name (97 ∷ digits) ≡ true
 unfolding is_name
-name_of_digits digits h few = and_is _ _ (digits_name digits h) (and_is _ _ (few_enough (length digits) few) (not_no _ (no_keyword digits h)))
-  where
-    few_enough : (n : ℕ) → n ≤ 31 → nat_le (suc n) 32 ≡ true
-    few_enough n h = grind (arith, nat_tests)
+name_of_digits digits h few =
+    and_is _ _ (digits_name digits h) (and_is _ _ (le_yes (suc (length digits)) 32 (omega (arith, few))) (not_no _ (no_keyword digits h)))
 
 pub secret_named : (j : ℕ) → j < 1000 → is_name (secret_name j) ≡ true
 secret_named j h =

@@ -1,8 +1,9 @@
 -- Numbers are read again from their decimals, and which words may stand in a line, by a test.
-use Rattle.std.proofs.Common.{◌≡◌, ℕ, zero, suc, ◌<◌, ◌^◌, Bool, true, false, List, [], ◌∷◌, Some, refl, sym, subst, arith, get_or}
-use Rattle.std.specs.Prelude.{◌==◌, ◌&&◌, not, nat_lt}
+use Rattle.std.proofs.Common.{◌≡◌, ℕ, zero, suc, ◌<◌, ◌^◌, Bool, true, false, List, [], ◌∷◌, length, Some, refl, sym, subst, arith, get_or}
+use Rattle.std.specs.Prelude.{◌==◌, ◌&&◌, not, nat_le}
 use Rattle.std.specs.Fmt.{decimal}
 use Rattle.std.specs.List.{list_all, AllByRecursion}
+use Rattle.std.proofs.lemmas.Bool.{lt-ltb}
 use Rattle.std.proofs.lemmas.Bool.Decides.{nat_tests}
 use Rattle.std.proofs.lemmas.Fmt.{decimal_digit, first_decimal}
 use Rattle.spec_data.specs.Digits.{is_plain, number_below}
@@ -12,6 +13,7 @@ use Rattle.theory_text.proofs.ListFacts.{and_left, and_right, not_yes}
 use Rattle.theory_text.proofs.Lines.Decimals.{AllDigits, decimal-digits, decimal-value}
 use Rattle.theory_text.proofs.Lines.LineBytes.{ends_line, LineWord, decimal_line}
 use Rattle.theory_text.proofs.Lines.Separated.{Lacks}
+use Rattle.theory_text.proofs.Printed.Tests.{le_is}
 
 -- ---- numbers
 
@@ -30,10 +32,7 @@ plain_decimal zero h = subst (λ (digits : List ℕ). is_plain digits ≡ true) 
 plain_decimal (suc n) h = plain_digits (decimal (suc n)) (decimal-digits (suc n) h) (first_decimal (suc n) (omega arith) h)
 
 number_back : (bound n : ℕ) → n < bound → n < 2 ^ 64 → number_below bound (decimal n) ≡ Some n
-number_back bound n less small = rw (plain_decimal n small, decimal-value n small, below n bound less) refl
-  where
-    below : (n bound : ℕ) → n < bound → nat_lt n bound ≡ true
-    below n bound h = grind (arith, nat_tests)
+number_back bound n less small = rw (plain_decimal n small, decimal-value n small, lt-ltb n bound less) refl
 
 pub small_back : (n : ℕ) → n < 2 ^ 32 → small (decimal n) ≡ Some n
 small_back n h = number_back (2 ^ 32) n h (omega arith)
@@ -43,21 +42,20 @@ amount_back n h = number_back (2 ^ 64) n h h
 
 -- ---- words
 
+pub lacks_by : (test : ℕ → Bool) (bytes : List ℕ) → list_all (λ b. not (test b)) bytes ≡ true → Lacks test bytes
+lacks_by test [] h = tt
+lacks_by test (b ∷ bytes) h = (not_yes _ (and_left _ _ h), lacks_by test bytes (and_right (not (test b)) _ h))
+
 abbrev pub is_line_word : List ℕ → Bool
-is_line_word [] = false
-is_line_word (b ∷ bytes) = list_all (λ c. not (is_space c) && not (ends_line c)) (b ∷ bytes)
-
-no_space' : (bytes : List ℕ) → list_all (λ c. not (is_space c) && not (ends_line c)) bytes ≡ true → Lacks is_space bytes
-no_space' [] h = tt
-no_space' (b ∷ bytes) h = (not_yes _ (and_left _ _ (and_left _ _ h)), no_space' bytes (and_right (not (is_space b) && not (ends_line b)) _ h))
-
-no_end : (bytes : List ℕ) → list_all (λ c. not (is_space c) && not (ends_line c)) bytes ≡ true → Lacks ends_line bytes
-no_end [] h = tt
-no_end (b ∷ bytes) h = (not_yes _ (and_right (not (is_space b)) _ (and_left _ _ h)), no_end bytes (and_right (not (is_space b) && not (ends_line b)) _ h))
+is_line_word word = nat_le 1 (length word) && (list_all (λ b. not (is_space b)) word && list_all (λ b. not (ends_line b)) word)
 
 pub line_word : (word : List ℕ) → is_line_word word ≡ true → LineWord word
-line_word [] h = absurd cc
-line_word (b ∷ bytes) h = record { is = record { some = omega arith; lacks = no_space' (b ∷ bytes) h }; ends = no_end (b ∷ bytes) h }
+line_word word h =
+    let bytes = and_right (nat_le 1 (length word)) _ h in
+    record {
+      is = record { some = le_is 1 (length word) (and_left _ _ h); lacks = lacks_by is_space word (and_left _ _ bytes) };
+      ends = lacks_by ends_line word (and_right (list_all (λ b. not (is_space b)) word) _ bytes);
+    }
 
 pub all_line_words : (words : List (List ℕ)) → list_all is_line_word words ≡ true → AllByRecursion LineWord words
 all_line_words [] h = tt

@@ -9,7 +9,7 @@ use Rattle.spec_terms.specs.Readable.{is_name, most_secrets, greatest_constant, 
 use Rattle.spec_text.specs.Generator.{Made, party_a, party_b, secret_name, stages, secret_entries, made_advert, made_contract, made_secrets}
 use Rattle.theory_text.proofs.ListFacts.{and_is}
 use Rattle.theory_text.proofs.Printed.Adverts.{printed_advert}
-use Rattle.theory_generator.specs.Made.{MadeContractReads}
+use Rattle.theory_generator.specs.Made.{MadeContractsRead}
 use Rattle.theory_generator.proofs.Names.{secret_named}
 use Rattle.theory_generator.proofs.Secrets.{AreMade, secrets_drawn}
 
@@ -93,7 +93,7 @@ advert_readable ms made h = and_is _ _ (pre_readable ms h) (and_is _ _ refl (roo
 pub made_readable : (number size : ℕ) → size ≤ 30 → is_readable (made_contract number size) ≡ true
 made_readable number size h = let d = secrets_drawn size 1 number in advert_readable ((made_secrets number size).0) d.made (omega (arith, d.count))
 
-pub contract_reads : MadeContractReads
-contract_reads number size some few =
+pub contract_reads : MadeContractsRead
+contract_reads number size few =
     let is = made_readable number size few in
     record { readable = is; read = printed_advert (made_contract number size) is }

@@ -184,7 +184,7 @@ taken_by : (text : List ℕ) (run : Run) → nat_lt most_run_bytes (length text)
 taken_by text run short read = rw (short, read) refl
 
 pub run_taken : MadeRunsTaken
-run_taken number size some few =
+run_taken number size few =
     let d = made_secrets number size in
     let made = secrets_drawn size 1 number in
     let es = made_events size (d.1) in

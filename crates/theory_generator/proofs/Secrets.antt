@@ -13,7 +13,7 @@ pub record AreBytes (n : ℕ) (bytes : List ℕ) : Type 0 where
 byte_of : (x : ℕ) → x % 256 < 256
 byte_of x = omega arith
 
-bytes_cons : (b : ℕ) (bytes : List ℕ) → b < 256 → IsBytes bytes → IsBytes (b ∷ bytes)
+pub bytes_cons : (b : ℕ) (bytes : List ℕ) → b < 256 → IsBytes bytes → IsBytes (b ∷ bytes)
 bytes_cons b bytes h t zero = h
 bytes_cons b bytes h t (suc i) = t i
 

@@ -10,10 +10,10 @@ use Rattle.spec_tool.specs.Commands.{most_size, setup_of}
 
 -- the text of the made run is valid and spells it
 abbrev pub MadeRunsTaken : Type 0
-MadeRunsTaken = (number size : ℕ) → 1 ≤ size → size ≤ most_size → run_of (run_text (made_run number size)) ≡ Ok (made_run number size)
+MadeRunsTaken = (number size : ℕ) → size ≤ most_size → run_of (run_text (made_run number size)) ≡ Ok (made_run number size)
 
 -- with the made contract it is a run of which the theorems on runs speak, where the strings that it begins with don't collide
 abbrev pub MadeRunsPlay : Type 0
-MadeRunsPlay = (hash : List ℕ → List ℕ) → HashesBytes hash → (number size : ℕ) → 1 ≤ size → size ≤ most_size
+MadeRunsPlay = (hash : List ℕ → List ℕ) → HashesBytes hash → (number size : ℕ) → size ≤ most_size
     → opening_collision (setup_of hash (made_run number size) (made_contract number size ∷ [])) ≡ None
     → IsRun (setup_of hash (made_run number size) (made_contract number size ∷ [])) (made_run number size).events

@@ -1,12 +1,12 @@
 //! What follows of the generator: each theorem is the contract of a function that does nothing.
 #![tactic(auto)]
 
-ghost use Rattle.theory_generator.specs.Made.{MadeContractReads, MadeContractsTaken};
+ghost use Rattle.theory_generator.specs.Made.{MadeContractsRead, MadeContractsTaken};
 ghost use Rattle.theory_generator.specs.MadeRuns.{MadeRunsTaken, MadeRunsPlay};
 
 /// The contract that is made from a number is within the limits of the reader, and read again from its canonical text.
 pub fn made_contracts_are_read()
-    ensures { MadeContractReads }
+    ensures { MadeContractsRead }
 {}
 
 /// The contract that is made from a number is well-formed, and its canonical text is taken as it.

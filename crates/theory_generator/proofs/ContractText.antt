@@ -2,16 +2,17 @@
 use Rattle.std.proofs.Common.{◌≡◌, ℕ, ◌+◌, ◌*◌, ◌<◌, ◌≤◌, false, List, [], ◌∷◌, ◌++◌, length, None, Ok, refl, arith}
 use Rattle.std.specs.Prelude.{nat_lt, codes}
 use Rattle.std.specs.Fmt.{decimal}
-use Rattle.std.proofs.lemmas.Bool.Decides.{nat_tests}
+use Rattle.std.proofs.lemmas.Bool.{le-ltb}
 use Rattle.std.proofs.lemmas.Fmt.{length-decimal-le}
 use Rattle.std.proofs.lemmas.List.{length-append}
 use Rattle.spec_terms.specs.Advert.{Advert}
-use Rattle.spec_terms.specs.Faults.{first_fault, first_limit}
+use Rattle.spec_terms.specs.Faults.{IsWellFormed}
 use Rattle.spec_text.specs.Canonical.{choice_text, rest_entries_text, advert_text}
 use Rattle.spec_text.specs.Limits.{most_text_bytes}
 use Rattle.spec_text.specs.ReadAdvert.{read_answer}
 use Rattle.spec_text.specs.Refusals.{Judged, contract_of}
-use Rattle.spec_text.specs.Generator.{Made, party_a, party_b, secret_name, stages, secret_entries, made_advert, made_contract, made_secrets}
+use Rattle.spec_text.specs.Generator.{made_contract, made_secrets}
+use Rattle.spec_text.specs.Generator.{Made, party_a, party_b, secret_name, stages, secret_entries, made_advert}
 use Rattle.theory_text.proofs.Printed.Adverts.{printed_advert}
 use Rattle.theory_generator.specs.Made.{MadeContractsTaken}
 use Rattle.theory_generator.proofs.Names.{secret_short}
@@ -38,7 +39,8 @@ abbrev late_text : List ℕ → List ℕ
 late_text height = codes " + " ++ ((codes "after " ++ (height ++ (codes " : " ++ (codes "withdraw " ++ party_b)))) ++ [])
 
 tested-length : (name digits : List ℕ) → length (tested_text name digits) ≡ length name + length digits + 9
-tested-length name digits = omega (arith, length-append (codes "|" ++ (name ++ codes "|")) (codes " = " ++ digits), length-append name (codes "|"))
+tested-length name digits =
+    omega (arith, length-append (codes "|" ++ (name ++ codes "|")) (codes " = " ++ digits), length-append name (codes "|"))
 
 reveal-length : (name digits next : List ℕ) → length (reveal_text name digits next) ≡ 2 * length name + length digits + length next + 19
 reveal-length name digits next =
@@ -58,7 +60,9 @@ late-length height =
       length-append height (codes " : " ++ (codes "withdraw " ++ party_b)),
     )
 
-stage-length : (name digits next height : List ℕ) → length (codes "(" ++ ((reveal_text name digits next ++ late_text height) ++ codes ")")) ≡ 2 * length name + length digits + length next + length height + 43
+stage-length : (name digits next height : List ℕ)
+    → length (codes "(" ++ ((reveal_text name digits next ++ late_text height) ++ codes ")"))
+    ≡ 2 * length name + length digits + length next + length height + 43
 stage-length name digits next height =
     omega (
       arith,
@@ -75,15 +79,22 @@ stages-length j (m ∷ ms) made h =
     let digits = three_digits m.0 (omega (arith, made.0.short)) in
     let height = five_digits (10 * j) (omega arith) in
     let later = stages-length (j + 1) ms made.1 (omega arith) in
-    omega (arith, stage-length (secret_name j) (decimal m.0) (choice_text (stages (j + 1) ms)) (decimal (10 * j)), name, digits, height, later)
+    let whole = stage-length (secret_name j) (decimal m.0) (choice_text (stages (j + 1) ms)) (decimal (10 * j)) in
+    omega (arith, whole, name, digits, height, later)
 
-entry-length : (name rest : List ℕ) → length (codes " | " ++ ((party_a ++ (codes ": secret " ++ name)) ++ rest)) ≡ length name + length rest + 13
+entry-length : (name rest : List ℕ)
+    → length (codes " | " ++ ((party_a ++ (codes ": secret " ++ name)) ++ rest)) ≡ length name + length rest + 13
 entry-length name rest = omega (arith, length-append (party_a ++ (codes ": secret " ++ name)) rest)
 
 entries-length : (j : ℕ) (ms : List Made) → j + length ms ≤ 1000 → length (rest_entries_text (secret_entries j ms)) ≤ 20 * length ms
 entries-length j [] h = omega arith
 entries-length j (m ∷ ms) h =
-    omega (arith, secret_short j (omega arith), entries-length (j + 1) ms (omega arith), entry-length (secret_name j) (rest_entries_text (secret_entries (j + 1) ms)))
+    omega (
+      arith,
+      secret_short j (omega arith),
+      entries-length (j + 1) ms (omega arith),
+      entry-length (secret_name j) (rest_entries_text (secret_entries (j + 1) ms)),
+    )
 
 -- a deposit of the precondition
 abbrev deposit_text : List ℕ → List ℕ → List ℕ → List ℕ
@@ -96,7 +107,8 @@ deposit-length party value name =
 abbrev whole_text : List ℕ → List ℕ → List ℕ → List ℕ → List ℕ
 whole_text first second entries root = codes "{" ++ ((first ++ (codes " | " ++ (second ++ entries))) ++ (codes "} " ++ ([] ++ root)))
 
-whole-length : (first second entries root : List ℕ) → length (whole_text first second entries root) ≡ length first + length second + length entries + length root + 6
+whole-length : (first second entries root : List ℕ)
+    → length (whole_text first second entries root) ≡ length first + length second + length entries + length root + 6
 whole-length first second entries root =
     omega (
       arith,
@@ -109,9 +121,11 @@ text-length : (ms : List Made) → AreMade 1 ms → length ms ≤ 30 → length 
 text-length ms made h =
     let all = decimal 1000000 in
     let none = decimal 0 in
+    let first = deposit_text party_a all (codes "x") in
+    let second = deposit_text party_b none (codes "y") in
     omega (
       arith,
-      whole-length (deposit_text party_a all (codes "x")) (deposit_text party_b none (codes "y")) (rest_entries_text (secret_entries 1 ms)) (choice_text (stages 1 ms)),
+      whole-length first second (rest_entries_text (secret_entries 1 ms)) (choice_text (stages 1 ms)),
       deposit-length party_a all (codes "x"),
       deposit-length party_b none (codes "y"),
       length-decimal-le 7 1000000 (omega arith) (omega arith) (omega arith),
@@ -122,22 +136,16 @@ text-length ms made h =
 
 -- ---- the text is taken
 
-abbrev judged_well : Advert → Judged Advert
-judged_well a = Ok a
-
-short_enough : (n : ℕ) → n ≤ 5000 → nat_lt most_text_bytes n ≡ false
-short_enough n h = grind (arith, nat_tests)
-
-taken_by : (text : List ℕ) (a : Advert) → nat_lt most_text_bytes (length text) ≡ false → read_answer text ≡ Ok a → first_fault a ≡ None → first_limit a ≡ None → contract_of text ≡ Ok a
-taken_by text a short read faultless limited = rw (short, read, faultless, limited) refl
+taken_by : (text : List ℕ) (a : Advert) → length text ≤ 5000 → read_answer text ≡ Ok a → IsWellFormed a → contract_of text ≡ Ok a
+taken_by text a short read well = rw (le-ltb most_text_bytes (length text) (omega (arith, short)), read, well.faultless, well.limited) refl
 
 pub contract_taken : MadeContractsTaken
 contract_taken number size few =
+    let contract = made_contract number size in
     let well = made_well_formed number size few in
-    let text = advert_text (made_contract number size) in
     let d = secrets_drawn size 1 number in
     let short = text-length ((made_secrets number size).0) d.made (omega (arith, d.count)) in
     record {
       well_formed = well;
-      taken = taken_by text (made_contract number size) (short_enough (length text) short) (printed_advert (made_contract number size) well.readable) well.faultless well.limited;
+      taken = taken_by (advert_text contract) contract short (printed_advert contract well.readable) well;
     }

@@ -37,7 +37,8 @@ some_written b bytes h few =
 
 pub secret_written : (j : ℕ) (m : Made) → IsMade j m → j < 256 → IsWritten m.1
 secret_written j m made small =
-    subst IsWritten (sym made.is) (some_written j made.rest (bytes_cons j made.rest small made.are.bytes') (omega (arith, made.are.size, made.short)))
+    let bytes = bytes_cons j made.rest small made.are.bytes' in
+    subst IsWritten (sym made.is) (some_written j made.rest bytes (omega (arith, made.are.size, made.short)))
 
 -- ---- its line
 
@@ -45,7 +46,8 @@ pub record IsSecretLine (words : List (List ℕ)) : Type 0 where
   pub all : AllByRecursion LineWord words
   pub short : length (spaced words) ≤ 100
 
-secret_line_of : (name hex : List ℕ) → LineWord name → LineWord hex → length name ≤ 4 → length hex ≤ 64 → IsSecretLine (codes "secret" ∷ party_a ∷ name ∷ hex ∷ [])
+secret_line_of : (name hex : List ℕ) → LineWord name → LineWord hex → length name ≤ 4 → length hex ≤ 64
+    → IsSecretLine (codes "secret" ∷ party_a ∷ name ∷ hex ∷ [])
 secret_line_of name hex n h few short = record {
   all = (line_word _ refl, (line_word _ refl, (n, (h, tt))));
   short = omega (arith, length-append name (32 ∷ (hex ++ [])), length-append hex [], few, short);
@@ -54,7 +56,8 @@ secret_line_of name hex n h few short = record {
 pub secret_line_is : (j : ℕ) (m : Made) → IsMade j m → j < 256 → IsSecretLine (secret_words (held j m))
 secret_line_is j m made small =
     let w = secret_written j m made small in
-    secret_line_of (secret_name j) (hex_text m.1) (name_line (secret_name j) (secret_named j (omega (arith, small)))) (hex_line m.1 w.are w.read) (secret_short j (omega (arith, small))) w.short
+    let name = name_line (secret_name j) (secret_named j (omega (arith, small))) in
+    secret_line_of (secret_name j) (hex_text m.1) name (hex_line m.1 w.are w.read) (secret_short j (omega (arith, small))) w.short
 
 -- ---- no other has its name or its bytes
 
@@ -70,10 +73,13 @@ other_bytes bytes j k rest more is h = ap (λ (xs : List ℕ). bytes_eq xs (k �
 
 pub untaken_more : (j : ℕ) (m : Made) (done : List HeldSecret) → IsMade j m → Untaken j done → Untaken (j + 1) (done ++ held j m ∷ [])
 untaken_more j m done made h k rest more less =
-    let name : bytes_eq (secret_name j) (secret_name k) ≡ false = names_apart j k (omega (arith, more, less)) less (λ same. absurd (omega (arith, same, more))) in
+    let name = names_apart j k (omega (arith, more, less)) less (λ same. absurd (omega (arith, same, more))) in
     let bytes : bytes_eq m.1 (k ∷ rest) ≡ false = other_bytes m.1 j k rest made.rest made.is (omega (arith, more)) in
     let one : is_taken party_a (secret_name k) (k ∷ rest) (held j m) ≡ false = or_no _ _ name bytes in
-    list_any-append (is_taken party_a (secret_name k) (k ∷ rest)) done (held j m ∷ []) ∙ or_no _ _ (h k rest (omega (arith, more)) less) (or_no _ _ one refl)
+    list_any-append (is_taken party_a (secret_name k) (k ∷ rest)) done (held j m ∷ [])
+    ∙ or_no _ _ (h k rest (omega (arith, more)) less) (or_no _ _ one refl)
 
-pub untaken_is : (j : ℕ) (m : Made) (done : List HeldSecret) → IsMade j m → j < 1000 → Untaken j done → list_any (is_taken party_a (secret_name j) m.1) done ≡ false
-untaken_is j m done made small h = ap (λ (xs : List ℕ). list_any (is_taken party_a (secret_name j) xs) done) made.is ∙ h j made.rest (omega arith) small
+pub untaken_is : (j : ℕ) (m : Made) (done : List HeldSecret) → IsMade j m → j < 1000 → Untaken j done
+    → list_any (is_taken party_a (secret_name j) m.1) done ≡ false
+untaken_is j m done made small h =
+    ap (λ (xs : List ℕ). list_any (is_taken party_a (secret_name j) xs) done) made.is ∙ h j made.rest (omega arith) small

@@ -1,13 +1,15 @@
 -- Numbers are read again from their decimals, and which words may stand in a line, by a test.
-use Rattle.std.proofs.Common.{◌≡◌, ℕ, zero, suc, ◌<◌, ◌^◌, Bool, true, false, List, [], ◌∷◌, length, Some, refl, sym, subst, arith, get_or}
-use Rattle.std.specs.Prelude.{◌==◌, ◌&&◌, not, nat_le}
+use Rattle.std.proofs.Common.{◌≡◌, ℕ, zero, suc, ◌<◌, ◌≤◌, ◌^◌, Bool, true, false, List, [], ◌∷◌, length, Some, refl, sym, subst, arith, get_or}
+use Rattle.std.specs.Prelude.{◌==◌, ◌&&◌, not, nat_le, if◌then◌else◌}
 use Rattle.std.specs.Fmt.{decimal}
 use Rattle.std.specs.List.{list_all, AllByRecursion}
-use Rattle.std.proofs.lemmas.Bool.{lt-ltb}
+use Rattle.std.proofs.lemmas.Bool.{lt-ltb, le-ltb}
 use Rattle.std.proofs.lemmas.Bool.Decides.{nat_tests}
 use Rattle.std.proofs.lemmas.Fmt.{decimal_digit, first_decimal}
 use Rattle.spec_data.specs.Digits.{is_plain, number_below}
+use Rattle.spec_text.specs.Limits.{most_line_bytes}
 use Rattle.spec_text.specs.Lines.{is_space}
+use Rattle.spec_text.specs.RunFile.{is_long}
 use Rattle.spec_text.specs.Words.{small, amount}
 use Rattle.theory_text.proofs.ListFacts.{and_left, and_right, not_yes}
 use Rattle.theory_text.proofs.Lines.Decimals.{AllDigits, decimal-digits, decimal-value}
@@ -60,6 +62,10 @@ line_word word h =
 pub all_line_words : (words : List (List ℕ)) → list_all is_line_word words ≡ true → AllByRecursion LineWord words
 all_line_words [] h = tt
 all_line_words (word ∷ words) h = (line_word word (and_left _ _ h), all_line_words words (and_right (is_line_word word) _ h))
+
+-- a short line is read by its words
+pub not_long : {A : Type 0} (line : List ℕ) (long said : A) → length line ≤ 100 → (if is_long line then long else said) ≡ said
+not_long line long said h = rw (le-ltb most_line_bytes (length line) (omega (arith, h))) refl
 
 -- the number of an output
 pub output_word : (n : ℕ) → n < 2 ^ 64 → LineWord (35 ∷ decimal n)

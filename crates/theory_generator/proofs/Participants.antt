@@ -30,4 +30,7 @@ stages_known j [] = (refl, tt)
 stages_known j (m ∷ ms) = known_append (choice_mentions (stages (j + 1) ms)) (party_b ∷ []) (stages_known (j + 1) ms) (refl, tt)
 
 pub participants-made : (ms : List Made) → participants (made_advert ms) ≡ both_parties
-participants-made ms = known_more both_parties (map party_of (secret_entries 1 ms) ++ choice_mentions (stages 1 ms)) (known_append _ _ (entries_known 1 ms) (stages_known 1 ms))
+participants-made ms =
+    let entries = map party_of (secret_entries 1 ms) in
+    let mentions = choice_mentions (stages 1 ms) in
+    known_more both_parties (entries ++ mentions) (known_append entries mentions (entries_known 1 ms) (stages_known 1 ms))

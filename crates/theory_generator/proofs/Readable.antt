@@ -5,16 +5,17 @@ use Rattle.std.specs.List.{list_all}
 use Rattle.std.proofs.lemmas.Bool.Decides.{nat_tests}
 use Rattle.spec_terms.specs.Term.{after, withdraw, equal, constant, length_of}
 use Rattle.spec_terms.specs.Precondition.{deposits, secrets}
-use Rattle.spec_terms.specs.Readable.{is_name, most_secrets, greatest_constant, is_readable_entry, is_readable_pre, is_readable_test, is_readable_count, are_readable, is_readable_branch, depth_of_choice, count_of, is_readable_contract, is_readable}
-use Rattle.spec_text.specs.Generator.{Made, party_a, party_b, secret_name, stages, secret_entries, made_advert, made_contract, made_secrets}
+use Rattle.spec_terms.specs.Readable.{is_name, most_secrets, greatest_constant, is_readable_entry, is_readable_pre, is_readable_test}
+use Rattle.spec_terms.specs.Readable.{is_readable_count, are_readable, is_readable_branch, depth_of_choice, count_of}
+use Rattle.spec_terms.specs.Readable.{is_readable_contract, is_readable}
+use Rattle.spec_text.specs.Generator.{Made, party_a, party_b, secret_name, stages, secret_entries, made_advert}
+use Rattle.spec_text.specs.Generator.{made_contract, made_secrets}
 use Rattle.theory_text.proofs.ListFacts.{and_is}
 use Rattle.theory_text.proofs.Printed.Adverts.{printed_advert}
+use Rattle.theory_text.proofs.Within.ReadWithin.{le_yes}
 use Rattle.theory_generator.specs.Made.{MadeContractsRead}
 use Rattle.theory_generator.proofs.Names.{secret_named}
 use Rattle.theory_generator.proofs.Secrets.{AreMade, secrets_drawn}
-
-pub le_yes : (m n : ℕ) → m ≤ n → nat_le m n ≡ true
-le_yes m n h = grind (arith, nat_tests)
 
 -- ---- the precondition
 
@@ -49,7 +50,8 @@ count-secrets j (m ∷ ms) = omega (arith, count-secrets (j + 1) ms)
 pre_readable : (ms : List Made) → length ms ≤ 30 → is_readable_pre (made_advert ms).pre ≡ true
 pre_readable ms h =
     let entries = entries_readable 1 ms (omega arith) in
-    let few : nat_le (length (secrets (secret_entries 1 ms))) most_secrets ≡ true = le_yes _ most_secrets (omega (arith, count-secrets 1 ms)) in
+    let few : nat_le (length (secrets (secret_entries 1 ms))) most_secrets ≡ true =
+    le_yes _ most_secrets (omega (arith, count-secrets 1 ms)) in
     rw (a_named, b_named, x_named, y_named, entries, no_deposits 1 ms, few) refl
 
 -- ---- the contract
@@ -82,8 +84,9 @@ count-stages j (m ∷ ms) = omega (arith, count-stages (j + 1) ms)
 
 pub root_readable : (ms : List Made) → AreMade 1 ms → length ms ≤ 30 → is_readable_contract (stages 1 ms) ≡ true
 root_readable ms made h =
-    and_is _ _ (and_is _ _ (count_readable 1 ms) (stages_readable 1 ms made (omega arith)))
-    (and_is _ _ (le_yes (depth_of_choice (stages 1 ms)) 64 (omega (arith, depth-stages 1 ms))) (le_yes (count_of (stages 1 ms)) 512 (omega (arith, count-stages 1 ms))))
+    let depth = le_yes (depth_of_choice (stages 1 ms)) 64 (omega (arith, depth-stages 1 ms)) in
+    let count = le_yes (count_of (stages 1 ms)) 512 (omega (arith, count-stages 1 ms)) in
+    and_is _ _ (and_is _ _ (count_readable 1 ms) (stages_readable 1 ms made (omega arith))) (and_is _ _ depth count)
 
 -- ---- the advert
 
@@ -91,7 +94,9 @@ pub advert_readable : (ms : List Made) → AreMade 1 ms → length ms ≤ 30 →
 advert_readable ms made h = and_is _ _ (pre_readable ms h) (and_is _ _ refl (root_readable ms made h))
 
 pub made_readable : (number size : ℕ) → size ≤ 30 → is_readable (made_contract number size) ≡ true
-made_readable number size h = let d = secrets_drawn size 1 number in advert_readable ((made_secrets number size).0) d.made (omega (arith, d.count))
+made_readable number size h =
+    let d = secrets_drawn size 1 number in
+    advert_readable ((made_secrets number size).0) d.made (omega (arith, d.count))
 
 pub contract_reads : MadeContractsRead
 contract_reads number size few =

@@ -49,10 +49,16 @@ length_of : (x : ℕ) → x % 17 ≤ 16
 length_of x = omega arith
 
 secret_of : (j length state : ℕ) → length ≤ 16 → IsMade j ((made_of j length (draw_bytes (15 + length) state)).0)
-secret_of j length state h = record { short = h; rest = (draw_bytes (15 + length) state).0; is = refl; are = bytes_drawn (15 + length) state }
+secret_of j length state h = record {
+  short = h;
+  rest = (draw_bytes (15 + length) state).0;
+  is = refl;
+  are = bytes_drawn (15 + length) state;
+}
 
 pub secrets_drawn : (n j state : ℕ) → AreDrawn n j ((draw_secrets n j state).0)
 secrets_drawn zero j state = record { count = refl; made = tt }
 secrets_drawn (suc n) j state =
     let t = secrets_drawn n (j + 1) ((draw_secret j state).1) in
-    record { count = omega (arith, t.count); made = (secret_of j (drawn (next_state state) % 17) (next_state state) (length_of (drawn (next_state state))), t.made) }
+    let first = secret_of j (drawn (next_state state) % 17) (next_state state) (length_of (drawn (next_state state))) in
+    record { count = omega (arith, t.count); made = (first, t.made) }

@@ -14,6 +14,7 @@ use Rattle.spec_text.specs.RunText.{event_text}
 use Rattle.spec_text.specs.Generator.{party_a, party_b, secret_name, first_events}
 use Rattle.theory_text.proofs.Lines.LineBytes.{LineWord, name_line, decimal_line}
 use Rattle.theory_text.proofs.Lines.Separated.{spaced}
+use Rattle.theory_text.proofs.Printed.Tests.{le_is}
 use Rattle.theory_generator.proofs.Names.{secret_named, secret_short}
 use Rattle.theory_generator.proofs.NumberWords.{is_line_word, small_back, amount_back, all_line_words, line_word, output_word}
 use Rattle.theory_generator.proofs.Participants.{both_parties}
@@ -29,16 +30,22 @@ pub record IsSpelled (e : Event) : Type 0 where
 -- ---- the events up to the beginning of the contract
 
 -- a line without variables
-fixed : (e : Event) (words : List (List ℕ)) → event_text e ≡ spaced words → list_all is_line_word words ≡ true → event_of both_parties words ≡ Some e
-    → nat_le (length (spaced words)) 100 ≡ true → IsSpelled e
-fixed e words text all read short = record { words = words; text = text; all = all_line_words words all; read = read; short = most (length (spaced words)) short }
-  where
-    most : (n : ℕ) → nat_le n 100 ≡ true → n ≤ 100
-    most n h = grind (arith, nat_tests)
+fixed : (e : Event) (words : List (List ℕ)) → event_text e ≡ spaced words → list_all is_line_word words ≡ true
+    → event_of both_parties words ≡ Some e → nat_le (length (spaced words)) 100 ≡ true → IsSpelled e
+fixed e words text all read short = record {
+  words = words;
+  text = text;
+  all = all_line_words words all;
+  read = read;
+  short = le_is (length (spaced words)) 100 short;
+}
 
-advertise_spelled : IsSpelled (events.Advertise 0 ((codes "x", 0) ∷ (codes "y", 1) ∷ []))
+abbrev advertise_words : List (List ℕ)
+advertise_words = codes "advertise" ∷ codes "0" ∷ codes "x=#0" ∷ codes "y=#1" ∷ []
+
+advertised : IsSpelled (events.Advertise 0 ((codes "x", 0) ∷ (codes "y", 1) ∷ []))
 unfolding is_name digits
-advertise_spelled = fixed (events.Advertise 0 ((codes "x", 0) ∷ (codes "y", 1) ∷ [])) (codes "advertise" ∷ codes "0" ∷ codes "x=#0" ∷ codes "y=#1" ∷ []) refl refl refl refl
+advertised = fixed (events.Advertise 0 ((codes "x", 0) ∷ (codes "y", 1) ∷ [])) advertise_words refl refl refl refl
 
 commit_a : IsSpelled (events.Commit 0 party_a [])
 unfolding digits
@@ -99,20 +106,44 @@ fire_spelled n h = record {
 }
 
 -- a gift's line
-give_text : (n d w : List ℕ) → codes "give B" ++ (((32 ∷ 35 ∷ n) ++ []) ++ (codes " ->" ++ ((codes " B " ++ d) ++ ((codes " B " ++ w) ++ []))))
-    ≡ codes "give B " ++ ((35 ∷ n) ++ (codes " -> B " ++ (d ++ (codes " B " ++ (w ++ [])))))
+abbrev give_line : List ℕ → List ℕ → List ℕ → List ℕ
+give_line n d w = codes "give B " ++ ((35 ∷ n) ++ (codes " -> B " ++ (d ++ (codes " B " ++ (w ++ [])))))
+
+give_text : (n d w : List ℕ)
+    → codes "give B" ++ (((32 ∷ 35 ∷ n) ++ []) ++ (codes " ->" ++ ((codes " B " ++ d) ++ ((codes " B " ++ w) ++ [])))) ≡ give_line n d w
 give_text n d w = rw (append-nil n) (simp (append_assoc, append-nil) refl)
 
-give-length : (n d w : List ℕ) → length (codes "give B " ++ ((35 ∷ n) ++ (codes " -> B " ++ (d ++ (codes " B " ++ (w ++ [])))))) ≡ length n + length d + length w + 17
-give-length n d w = omega (arith, length-append n (codes " -> B " ++ (d ++ (codes " B " ++ (w ++ [])))), length-append d (codes " B " ++ (w ++ [])), length-append w [])
+give-length : (n d w : List ℕ) → length (give_line n d w) ≡ length n + length d + length w + 17
+give-length n d w =
+    omega (
+      arith,
+      length-append n (codes " -> B " ++ (d ++ (codes " B " ++ (w ++ [])))),
+      length-append d (codes " B " ++ (w ++ [])),
+      length-append w [],
+    )
 
-pub give_spelled : (n d w : ℕ) → n < 2 ^ 32 → d ≤ 1000000000 → w ≤ 1000000000 → IsSpelled (events.Give party_b (n ∷ []) ((party_b, d) ∷ (party_b, w) ∷ []))
+abbrev give_words : List ℕ → List ℕ → List ℕ → List (List ℕ)
+give_words n d w = codes "give" ∷ codes "B" ∷ (35 ∷ n) ∷ codes "->" ∷ codes "B" ∷ d ∷ codes "B" ∷ w ∷ []
+
+words_stand : (n d w : List ℕ) → LineWord (35 ∷ n) → LineWord d → LineWord w → AllByRecursion LineWord (give_words n d w)
+words_stand n d w p q r =
+    let b = line_word (codes "B") refl in
+    (line_word _ refl, (b, (p, (line_word _ refl, (b, (q, (b, (r, tt))))))))
+
+pub give_spelled : (n d w : ℕ) → n < 2 ^ 32 → d ≤ 1000000000 → w ≤ 1000000000
+    → IsSpelled (events.Give party_b (n ∷ []) ((party_b, d) ∷ (party_b, w) ∷ []))
 give_spelled n d w h hd hw = record {
-  words = codes "give" ∷ codes "B" ∷ (35 ∷ decimal n) ∷ codes "->" ∷ codes "B" ∷ decimal d ∷ codes "B" ∷ decimal w ∷ [];
+  words = give_words (decimal n) (decimal d) (decimal w);
   text = give_text (decimal n) (decimal d) (decimal w);
-  all = (line_word _ refl, (line_word _ refl, (output_word n (omega arith), (line_word _ refl, (line_word _ refl, (decimal_line d (omega arith), (line_word _ refl, (decimal_line w (omega arith), tt))))))));
+  all = words_stand _ _ _ (output_word n (omega arith)) (decimal_line d (omega arith)) (decimal_line w (omega arith));
   read = rw (small_back n h, amount_back d (omega arith), amount_back w (omega arith)) refl;
-  short = omega (arith, give-length (decimal n) (decimal d) (decimal w), ten_digits n h, ten_digits d (omega arith), ten_digits w (omega arith));
+  short = omega (
+    arith,
+    give-length (decimal n) (decimal d) (decimal w),
+    ten_digits n h,
+    ten_digits d (omega arith),
+    ten_digits w (omega arith),
+  );
 }
 
 -- all of these
@@ -120,4 +151,4 @@ abbrev pub AllSpelled : List Event → Type 0
 AllSpelled es = AllByRecursion IsSpelled es
 
 pub first_spelled : AllSpelled first_events
-first_spelled = (advertise_spelled, (commit_a, (commit_b, (endorse_a, (endorse_b, (init_a, (init_b, (fire_init, tt))))))))
+first_spelled = (advertised, (commit_a, (commit_b, (endorse_a, (endorse_b, (init_a, (init_b, (fire_init, tt))))))))

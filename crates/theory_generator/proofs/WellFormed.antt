@@ -6,11 +6,14 @@ use Rattle.std.proofs.lemmas.List.Folds.{list_any-append}
 use Rattle.spec_data.specs.Lists.{is_among}
 use Rattle.spec_terms.specs.Precondition.{secrets, names_of, name_in}
 use Rattle.spec_terms.specs.Parties.{participants}
-use Rattle.spec_terms.specs.Faults.{at_core, at_position, first_repeated, name_repeated, puts_unknown, reveals_unknown, repeats, tests_hidden, no_persistent, is_uneven, is_short, too_many_participants, is_too_much, is_unbounded, is_too_large, first_fault, first_limit, IsWellFormed}
+use Rattle.spec_terms.specs.Faults.{at_core, at_position, first_repeated, name_repeated, puts_unknown, reveals_unknown, repeats, tests_hidden}
+use Rattle.spec_terms.specs.Faults.{no_persistent, is_uneven, is_short, first_fault, IsWellFormed}
+use Rattle.spec_terms.specs.Faults.{too_many_participants, is_too_much, is_unbounded, is_too_large, first_limit}
 use Rattle.spec_text.specs.Generator.{Made, secret_name, stages, secret_entries, made_advert, made_contract, made_secrets}
 use Rattle.theory_text.proofs.ListFacts.{or_no}
+use Rattle.theory_text.proofs.Within.ReadWithin.{le_yes}
 use Rattle.theory_generator.proofs.Names.{names_apart, same_name}
-use Rattle.theory_generator.proofs.Readable.{le_yes, advert_readable}
+use Rattle.theory_generator.proofs.Readable.{advert_readable}
 use Rattle.theory_generator.proofs.Participants.{participants-made}
 use Rattle.theory_generator.proofs.Secrets.{AreMade, secrets_drawn}
 use Rattle.theory_generator.proofs.Stages.{ClearsStages, no_place}
@@ -23,22 +26,28 @@ Fresh j names = (k : ℕ) → j ≤ k → k < 1000 → is_among (secret_name k) 
 
 fresh_more : (j : ℕ) (names : List (List ℕ)) → j < 1000 → Fresh j names → Fresh (j + 1) (names ++ secret_name j ∷ [])
 fresh_more j names small h k more less =
-    let apart : bytes_eq (secret_name j) (secret_name k) ≡ false = names_apart j k small less (λ same. absurd (omega (arith, same))) in
-    list_any-append (λ t. bytes_eq t (secret_name k)) names (secret_name j ∷ []) ∙ or_no _ _ (h k (omega arith) less) (or_no _ _ apart refl)
+    let apart = names_apart j k small less (λ same. absurd (omega (arith, same))) in
+    list_any-append (λ t. bytes_eq t (secret_name k)) names (secret_name j ∷ [])
+    ∙ or_no _ _ (h k (omega arith) less) (or_no _ _ apart refl)
 
-none_repeated : (j : ℕ) (ms : List Made) (n : ℕ) (before : List (List ℕ)) → j + length ms ≤ 1000 → Fresh j before → first_repeated n before (map name_in (secret_entries j ms)) ≡ None
+none_repeated : (j : ℕ) (ms : List Made) (n : ℕ) (before : List (List ℕ)) → j + length ms ≤ 1000 → Fresh j before
+    → first_repeated n before (map name_in (secret_entries j ms)) ≡ None
 none_repeated j [] n before h fresh = refl
-none_repeated j (m ∷ ms) n before h fresh = rw (fresh j (omega arith) (omega arith)) (none_repeated (j + 1) ms (n + 1) (before ++ secret_name j ∷ []) (omega arith) (fresh_more j before (omega arith) fresh))
+none_repeated j (m ∷ ms) n before h fresh =
+    let later = none_repeated (j + 1) ms (n + 1) (before ++ secret_name j ∷ []) (omega arith) (fresh_more j before (omega arith) fresh) in
+    rw (fresh j (omega arith) (omega arith)) later
 
 names_new : (ms : List Made) → length ms ≤ 30 → name_repeated (made_advert ms) ≡ None
 names_new ms h = rw (none_repeated 1 ms 2 ((120 ∷ []) ∷ (121 ∷ []) ∷ []) (omega arith) (λ k more less. refl)) refl
 
--- a secret is among those of the precondition
 known_by : (j k : ℕ) (t later : Bool) → bytes_eq (secret_name j) (secret_name k) ≡ t → ((j ≡ k → ⊥) → later ≡ true) → (t || later) ≡ true
 known_by j k true later e f = refl
-known_by j k false later e f = f (λ same. let yes = subst (λ (i : ℕ). bytes_eq (secret_name j) (secret_name i) ≡ true) same (same_name (secret_name j)) in absurd cc)
+known_by j k false later e f =
+    f (λ same. let yes = subst (λ (i : ℕ). bytes_eq (secret_name j) (secret_name i) ≡ true) same (same_name (secret_name j)) in absurd cc)
 
-entry_known : (j k : ℕ) (ms : List Made) → j ≤ k → k < j + length ms → is_among (secret_name k) (names_of (secrets (secret_entries j ms))) ≡ true
+-- a secret is among those of the precondition
+entry_known : (j k : ℕ) (ms : List Made) → j ≤ k → k < j + length ms
+    → is_among (secret_name k) (names_of (secrets (secret_entries j ms))) ≡ true
 entry_known j k [] more less = absurd (omega arith)
 entry_known j k (m ∷ ms) more less =
     known_by j k (bytes_eq (secret_name j) (secret_name k)) _ refl (λ other. entry_known (j + 1) k ms (above j k more other) (omega arith))
@@ -118,7 +127,8 @@ small_stages : (j : ℕ) (ms : List Made) → AreMade j ms → is_too_large 2 (s
 small_stages j [] made = refl
 small_stages j (m ∷ ms) made = rw (le_yes m.0 16 made.0.short, same_name (secret_name j)) refl
 
-all_small : (ms : List Made) → ClearsStages (length ms) (λ s. at_position (is_too_large (length (participants (made_advert ms)))) s.subterm)
+all_small : (ms : List Made)
+    → ClearsStages (length ms) (λ s. at_position (is_too_large (length (participants (made_advert ms)))) s.subterm)
 all_small ms = record {
   positions = λ path j rest made. rw (participants-made ms) (small_stages j rest made);
   reveals = λ path j n next some few short. refl;
@@ -148,10 +158,18 @@ faultless ms made h =
     ) refl
 
 pub limited : (ms : List Made) → AreMade 1 ms → first_limit (made_advert ms) ≡ None
-limited ms made = rw (two_participants ms, no_place ms _ made (not_too_much ms), no_place ms _ made (all_bounded ms), no_place ms _ made (all_small ms)) refl
+limited ms made =
+    rw (
+      two_participants ms,
+      no_place ms _ made (not_too_much ms),
+      no_place ms _ made (all_bounded ms),
+      no_place ms _ made (all_small ms),
+    ) refl
 
 pub well_formed : (ms : List Made) → AreMade 1 ms → length ms ≤ 30 → IsWellFormed (made_advert ms)
 well_formed ms made h = record { readable = advert_readable ms made h; faultless = faultless ms made h; limited = limited ms made }
 
 pub made_well_formed : (number size : ℕ) → size ≤ 30 → IsWellFormed (made_contract number size)
-made_well_formed number size h = let d = secrets_drawn size 1 number in well_formed ((made_secrets number size).0) d.made (omega (arith, d.count))
+made_well_formed number size h =
+    let d = secrets_drawn size 1 number in
+    well_formed ((made_secrets number size).0) d.made (omega (arith, d.count))

@@ -1,6 +1,6 @@
 -- The canonical text of the made contract is no longer than a contract text may be, so it is taken.
-use Rattle.std.proofs.Common.{◌≡◌, ℕ, ◌+◌, ◌*◌, ◌<◌, ◌≤◌, false, List, [], ◌∷◌, ◌++◌, length, None, Ok, refl, arith}
-use Rattle.std.specs.Prelude.{nat_lt, codes}
+use Rattle.std.proofs.Common.{◌≡◌, ℕ, ◌+◌, ◌*◌, ◌<◌, ◌≤◌, List, [], ◌∷◌, ◌++◌, length, Ok, refl, arith}
+use Rattle.std.specs.Prelude.{codes}
 use Rattle.std.specs.Fmt.{decimal}
 use Rattle.std.proofs.lemmas.Bool.{le-ltb}
 use Rattle.std.proofs.lemmas.Fmt.{length-decimal-le}
@@ -10,7 +10,7 @@ use Rattle.spec_terms.specs.Faults.{IsWellFormed}
 use Rattle.spec_text.specs.Canonical.{choice_text, rest_entries_text, advert_text}
 use Rattle.spec_text.specs.Limits.{most_text_bytes}
 use Rattle.spec_text.specs.ReadAdvert.{read_answer}
-use Rattle.spec_text.specs.Refusals.{Judged, contract_of}
+use Rattle.spec_text.specs.Refusals.{contract_of}
 use Rattle.spec_text.specs.Generator.{made_contract, made_secrets}
 use Rattle.spec_text.specs.Generator.{Made, party_a, party_b, secret_name, stages, secret_entries, made_advert}
 use Rattle.theory_text.proofs.Printed.Adverts.{printed_advert}

@@ -2,7 +2,6 @@
 use Rattle.std.proofs.Common.{◌≡◌, ℕ, ◌+◌, ◌*◌, ◌≤◌, true, List, [], ◌∷◌, length, refl, arith}
 use Rattle.std.specs.Prelude.{nat_le}
 use Rattle.std.specs.List.{list_all}
-use Rattle.std.proofs.lemmas.Bool.Decides.{nat_tests}
 use Rattle.spec_terms.specs.Term.{after, withdraw, equal, constant, length_of}
 use Rattle.spec_terms.specs.Precondition.{deposits, secrets}
 use Rattle.spec_terms.specs.Readable.{is_name, most_secrets, greatest_constant, is_readable_entry, is_readable_pre, is_readable_test}

@@ -11,7 +11,7 @@ use Rattle.theory_generator.proofs.WellFormed.{made_well_formed}
 pub run_plays : MadeRunsPlay
 run_plays hash bytes number size few opens =
     let run = made_run number size in
-    let is = run_file_is (run_text run) run (run_taken number size few) in
+    let is = run_file_is (run_text run) run (run_taken number size few).taken in
     record {
       setup = record { hash = bytes; header = is.header; few_contracts = omega arith; contracts = (made_well_formed number size few, tt) };
       opens = opens;

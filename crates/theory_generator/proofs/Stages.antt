@@ -4,7 +4,7 @@ use Rattle.std.specs.Prelude.{ℤ, pos}
 use Rattle.std.specs.List.{AllByRecursion}
 use Rattle.spec_terms.specs.Term.{Pred, Contract, after, put_reveal, withdraw, equal, constant, length_of}
 use Rattle.spec_terms.specs.Paths.{position, at_branch}
-use Rattle.spec_terms.specs.Precondition.{Holding, holding, persistent, volatile}
+use Rattle.spec_terms.specs.Precondition.{persistent, volatile}
 use Rattle.spec_terms.specs.Balance.{Funded, funded, branches_funded, root_balance, all_funded}
 use Rattle.spec_terms.specs.Faults.{first_place}
 use Rattle.spec_terms.specs.declared.path.PathStep.{PathStep}

@@ -1,5 +1,5 @@
 -- What is claimed of the runs that are made from a number; of this project's profile.
-use Rattle.std.specs.Prelude.{◌≡◌, ℕ, ◌≤◌, List, [], ◌∷◌, None, Ok}
+use Rattle.std.specs.Prelude.{◌≡◌, ℕ, ◌+◌, ◌*◌, ◌≤◌, List, [], ◌∷◌, length, None, Ok}
 use Rattle.spec_run.specs.Event.{opening_collision}
 use Rattle.spec_run.specs.Conditions.{HashesBytes}
 use Rattle.spec_run.specs.Statements.{IsRun}
@@ -8,9 +8,14 @@ use Rattle.spec_text.specs.Refusals.{run_of}
 use Rattle.spec_text.specs.RunText.{run_text}
 use Rattle.spec_tool.specs.Commands.{most_size, setup_of}
 
--- the text of the made run is valid and spells it
+-- the text of the made run is valid and spells it; each of its stages has 302 events
+pub record IsRunTaken (number size : ℕ) : Type 0 where
+  pub taken : run_of (run_text (made_run number size)) ≡ Ok (made_run number size)
+  pub count : length (made_run number size).events ≡ 302 * size + 9
+
+-- so it is for every number and each size that the command takes
 abbrev pub MadeRunsTaken : Type 0
-MadeRunsTaken = (number size : ℕ) → size ≤ most_size → run_of (run_text (made_run number size)) ≡ Ok (made_run number size)
+MadeRunsTaken = (number size : ℕ) → size ≤ most_size → IsRunTaken number size
 
 -- with the made contract it is a run of which the theorems on runs speak, where the strings that it begins with don't collide
 abbrev pub MadeRunsPlay : Type 0

@@ -1,5 +1,6 @@
 -- The lines of the made header are read as it.
-use Rattle.std.proofs.Common.{◌≡◌, ℕ, ◌+◌, ◌<◌, ◌≤◌, true, false, List, [], ◌∷◌, ◌++◌, length, map, Some, Ok, refl, sym, ap, ◌∙◌, arith, append_assoc}
+use Rattle.std.proofs.Common.{◌≡◌, ℕ, ◌+◌, ◌<◌, ◌≤◌, true, false, List, [], ◌∷◌, ◌++◌, length, map, Some, Ok}
+use Rattle.std.proofs.Common.{refl, sym, ap, ◌∙◌, arith, append_assoc}
 use Rattle.std.specs.Prelude.{codes}
 use Rattle.std.specs.List.{list_any, AllByRecursion}
 use Rattle.std.proofs.lemmas.Bool.{lt-ltb}
@@ -66,7 +67,8 @@ line_words h words all short =
     ∙ ap (header_words h) (spaced_words words (line_is words all))
 
 secret_read : (done : List HeldSecret) (name bytes : List ℕ) → is_name name ≡ true → list_any (is_taken party_a name bytes) done ≡ false
-    → length done < 1000 → secret_of (with_secrets done) party_a name (Some bytes) ≡ says (with_secrets (done ++ held_secret party_a name bytes ∷ []))
+    → length done < 1000
+    → secret_of (with_secrets done) party_a name (Some bytes) ≡ says (with_secrets (done ++ held_secret party_a name bytes ∷ []))
 secret_read done name bytes named new few = rw (named, new, lt-ltb (length done) most_header_secrets few) refl
 
 secret_says : (j : ℕ) (m : Made) (done : List HeldSecret) → IsMade j m → j < 256 → length done < 1000 → Untaken j done

@@ -1,5 +1,6 @@
 -- The text of the made run is valid and spells it.
-use Rattle.std.proofs.Common.{◌≡◌, ℕ, ◌+◌, ◌*◌, ◌<◌, ◌≤◌, Bool, true, not, List, [], ◌∷◌, ◌++◌, length, map, Some, Ok, refl, sym, ap, subst, ◌∙◌, arith, append_assoc}
+use Rattle.std.proofs.Common.{◌≡◌, ℕ, ◌+◌, ◌*◌, ◌<◌, ◌≤◌, Bool, true, not, List, [], ◌∷◌, ◌++◌, length, map, Some, Ok}
+use Rattle.std.proofs.Common.{refl, sym, ap, subst, ◌∙◌, arith, append_assoc}
 use Rattle.std.specs.Prelude.{◌&&◌, nat_le, flat_map, codes}
 use Rattle.std.specs.Fmt.{digits}
 use Rattle.std.specs.List.{list_all, AllByRecursion}
@@ -14,7 +15,8 @@ use Rattle.spec_text.specs.Limits.{most_events, most_run_bytes}
 use Rattle.spec_text.specs.Lines.{words_of, lines_of}
 use Rattle.spec_text.specs.EventLines.{event_of}
 use Rattle.spec_text.specs.RunText.{newline, event_text, secret_text, deposit_text, run_text}
-use Rattle.spec_text.specs.RunFile.{Line, over, says, event_within, event_words, event_of_line, with_event, counted, event_step, read_events}
+use Rattle.spec_text.specs.RunFile.{Line, over, says, event_within, event_words, event_of_line}
+use Rattle.spec_text.specs.RunFile.{with_event, counted, event_step, read_events}
 use Rattle.spec_text.specs.RunFile.{no_header, read_header, with_header, read_rest, read_run}
 use Rattle.spec_text.specs.Refusals.{run_of}
 use Rattle.spec_text.specs.Generator.{Made, party_a, party_b, held, held_from, made_header, made_events, made_secrets}

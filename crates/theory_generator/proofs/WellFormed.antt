@@ -6,7 +6,8 @@ use Rattle.std.proofs.lemmas.List.Folds.{list_any-append}
 use Rattle.spec_data.specs.Lists.{is_among}
 use Rattle.spec_terms.specs.Precondition.{secrets, names_of, name_in}
 use Rattle.spec_terms.specs.Parties.{participants}
-use Rattle.spec_terms.specs.Faults.{at_core, at_position, first_repeated, name_repeated, puts_unknown, reveals_unknown, repeats, tests_hidden}
+use Rattle.spec_terms.specs.Faults.{at_core, at_position, first_repeated, name_repeated, puts_unknown, reveals_unknown}
+use Rattle.spec_terms.specs.Faults.{repeats, tests_hidden}
 use Rattle.spec_terms.specs.Faults.{no_persistent, is_uneven, is_short, first_fault, IsWellFormed}
 use Rattle.spec_terms.specs.Faults.{too_many_participants, is_too_much, is_unbounded, is_too_large, first_limit}
 use Rattle.spec_text.specs.Generator.{Made, secret_name, stages, secret_entries, made_advert, made_contract, made_secrets}

@@ -2,7 +2,7 @@
 #![tactic(auto)]
 
 ghost use Rattle.theory_generator.specs.Made.{MadeContractsRead, MadeContractsTaken};
-ghost use Rattle.theory_generator.specs.MadeRuns.{MadeRunsTaken, MadeRunsPlay};
+ghost use Rattle.theory_generator.specs.MadeRuns.{MadeRunsTaken, MadeRunsPlay, MadeTextsPlayed};
 
 /// The contract that is made from a number is within the limits of the reader, and read again from its canonical text.
 pub fn made_contracts_are_read()
@@ -22,4 +22,9 @@ pub fn made_runs_are_taken()
 /// The made run, with the made contract, is one of which the theorems on runs speak.
 pub fn made_runs_are_runs()
     ensures { MadeRunsPlay }
+{}
+
+/// What `play` answers to the texts of the made run and the made contract is that of the run that `make` plays.
+pub fn made_texts_are_played()
+    ensures { MadeTextsPlayed }
 {}

@@ -1,0 +1,14 @@
+pub mod ContractText
+pub mod HeaderLines
+pub mod MadeEvents
+pub mod MadeSecrets
+pub mod Names
+pub mod NumberWords
+pub mod Participants
+pub mod Readable
+pub mod RunTexts
+pub mod RunsPlay
+pub mod Secrets
+pub mod SpelledEvents
+pub mod Stages
+pub mod WellFormed

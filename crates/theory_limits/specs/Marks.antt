@@ -1,0 +1,114 @@
+-- The limits that the tokens of a contract text exceed, in order, and where its grammar ends; of this project's profile.
+use Rattle.std.specs.Prelude.{ℕ, suc, ◌+◌, List, [], ◌∷◌, ◌++◌, length, if◌then◌else◌, nat_le, Option, Some, None}
+use Rattle.spec_data.specs.Ranges.{max_money}
+use Rattle.spec_terms.specs.Readable.{greatest_constant, most_depth, most_branches, most_choices, most_parts, most_deposits, most_secrets}
+use Rattle.spec_terms.specs.declared.limit.Limit.{Limit}
+use Rattle.spec_terms.specs.declared.limit.Limit.TheVariants as limits
+use Rattle.spec_text.specs.declared.token.Keyword.TheVariants as word
+use Rattle.spec_text.specs.declared.token.Symbol.TheVariants as mark
+use Rattle.spec_text.specs.declared.lexeme.Lexeme.{Lexeme}
+use Rattle.spec_text.specs.declared.lexeme.Lexeme.TheVariants.{Keyword as keyword, Symbol as symbol, Number as number, LongName as long_name, HugeNumber as huge_number}
+use Rattle.theory_limits.specs.Awaited.{Awaited, a_name, a_number, formula, test, wrapped, branch, contract, part, entry_kind, fee_or_contract, next, an_advert}
+
+-- ---- what one token exceeds
+
+-- a quantity that has reached this number, where at most so much may be
+abbrev pub over : Limit → ℕ → ℕ → List Limit
+over w most n = if nat_le n most then [] else w ∷ []
+
+-- the length of a name
+abbrev pub long : Lexeme → List Limit
+long long_name = limits.Name ∷ []
+long _ = []
+
+-- the size of a number
+abbrev pub great : ℕ → Lexeme → List Limit
+great most (number n) = over limits.Number most n
+great most huge_number = limits.Number ∷ []
+great most _ = []
+
+-- A predicate: a comparison is a node and its first expression, which begins with the same token, a node under it.
+abbrev pub over_test : ℕ → Lexeme → List Limit
+over_test d (keyword k) = over limits.Depth most_depth d
+over_test d (symbol mark.LeftBracket) = over limits.Depth most_depth d
+over_test d t = great greatest_constant t ++ over limits.Depth most_depth (suc d)
+
+-- a branch of this depth and number, where so many came in the whole contract before
+abbrev pub over_branch : ℕ → ℕ → ℕ → Lexeme → List Limit
+over_branch d k before t = long t ++ (over limits.Depth most_depth d ++ (over limits.Branches most_branches (suc before) ++ over limits.Choice most_choices k))
+
+-- a contract without brackets is a branch
+abbrev pub over_contract : ℕ → ℕ → Lexeme → List Limit
+over_contract d before (symbol s) = []
+over_contract d before t = over_branch d 1 before t
+
+-- The quantities that are exceeded with a token, in their order, by what is awaited and how many branches came in the
+-- whole contract before.
+abbrev pub exceeded : Awaited → ℕ → Lexeme → List Limit
+exceeded a_name before t = long t
+exceeded (a_number most) before t = great most t
+exceeded (formula d) before t = great greatest_constant t ++ over limits.Depth most_depth d
+exceeded (test d) before t = over_test d t
+exceeded (wrapped d) before t = long t ++ over limits.Depth most_depth d
+exceeded (branch d k) before t = over_branch d k before t
+exceeded (contract d) before t = over_contract d before t
+exceeded (part d k) before t = great max_money t ++ over limits.Split most_parts k
+exceeded (entry_kind deposits secrets) before (keyword k) = over limits.Secrets most_secrets (suc secrets)
+exceeded (entry_kind deposits secrets) before t = over limits.Deposits most_deposits (suc deposits)
+exceeded fee_or_contract before (keyword word.Fee) = []
+exceeded fee_or_contract before t = over_contract 1 before t
+exceeded _ before t = []
+
+-- a branch that begins without a bracket
+abbrev pub bare : Lexeme → ℕ
+bare (symbol s) = 0
+bare t = 1
+
+-- how many branches begin with a token
+abbrev pub begun : Awaited → Lexeme → ℕ
+begun (branch d k) t = 1
+begun (contract d) t = bare t
+begun fee_or_contract (keyword word.Fee) = 0
+begun fee_or_contract t = bare t
+begun _ t = 0
+
+-- ---- the marks of a text
+
+-- a quantity, and how many tokens are left from that on with which it is exceeded, itself included
+pub record Mark : Type 0 where
+  pub quantity : Limit
+  pub left : ℕ
+
+abbrev pub marks_at : ℕ → List Limit → List Mark
+marks_at left [] = []
+marks_at left (w ∷ ws) = record { quantity = w; left = left } ∷ marks_at left ws
+
+-- the token to which a mark is put: an entry is marked at its first token, two before that which tells what it is
+abbrev pub mark_place : Awaited → ℕ → ℕ
+mark_place (entry_kind deposits secrets) left = suc (suc left)
+mark_place _ left = left
+
+-- the marks of tokens in order, as long as they are awaited
+abbrev pub marks_from : List Awaited → ℕ → List Lexeme → List Mark
+marks_from awaited before [] = []
+marks_from [] before (t ∷ ts) = []
+marks_from (a ∷ as') before (t ∷ ts) =
+    elim (next a t) [
+      | None ↦ []
+      | Some new ↦ marks_at (mark_place a (suc (length ts))) (exceeded a before t) ++ marks_from (new ++ as') (before + begun a t) ts
+    ]
+
+abbrev pub marks : List Lexeme → List Mark
+marks t = marks_from an_advert 0 t
+
+-- ---- where the grammar ends
+
+-- how many tokens are left from the first that isn't awaited on; none where all are and nothing more is
+abbrev pub end_from : List Awaited → List Lexeme → Option ℕ
+end_from [] [] = None
+end_from (a ∷ as') [] = Some 0
+end_from [] (t ∷ ts) = Some (suc (length ts))
+end_from (a ∷ as') (t ∷ ts) = elim (next a t) [ None ↦ Some (suc (length ts)) | Some new ↦ end_from (new ++ as') ts ]
+
+abbrev pub grammar_end : List Lexeme → Option ℕ
+grammar_end t = end_from an_advert t

@@ -1,5 +1,5 @@
 -- The limits that the tokens of a contract text exceed, in order, and where its grammar ends; of this project's profile.
-use Rattle.std.specs.Prelude.{ℕ, suc, ◌+◌, List, [], ◌∷◌, ◌++◌, length, if◌then◌else◌, nat_le, Option, Some, None}
+use Rattle.std.specs.Prelude.{ℕ, suc, List, [], ◌∷◌, ◌++◌, length, if◌then◌else◌, nat_le, Option, Some, None}
 use Rattle.spec_data.specs.Ranges.{max_money}
 use Rattle.spec_terms.specs.Readable.{greatest_constant, most_depth, most_branches, most_choices, most_parts, most_deposits, most_secrets}
 use Rattle.spec_terms.specs.declared.limit.Limit.{Limit}
@@ -33,9 +33,12 @@ over_test d (keyword k) = over limits.Depth most_depth d
 over_test d (symbol mark.LeftBracket) = over limits.Depth most_depth d
 over_test d t = great greatest_constant t ++ over limits.Depth most_depth (suc d)
 
--- a branch of this depth and number, where so many came in the whole contract before
+-- the counts of a branch of this depth and number, where so many came in the whole contract before
+abbrev pub over_counts : ℕ → ℕ → ℕ → List Limit
+over_counts d k before = over limits.Depth most_depth d ++ (over limits.Branches most_branches (suc before) ++ over limits.Choice most_choices k)
+
 abbrev pub over_branch : ℕ → ℕ → ℕ → Lexeme → List Limit
-over_branch d k before t = long t ++ (over limits.Depth most_depth d ++ (over limits.Branches most_branches (suc before) ++ over limits.Choice most_choices k))
+over_branch d k before t = long t ++ over_counts d k before
 
 -- a contract without brackets is a branch
 abbrev pub over_contract : ℕ → ℕ → Lexeme → List Limit
@@ -59,18 +62,18 @@ exceeded fee_or_contract before (keyword word.Fee) = []
 exceeded fee_or_contract before t = over_contract 1 before t
 exceeded _ before t = []
 
--- a branch that begins without a bracket
-abbrev pub bare : Lexeme → ℕ
-bare (symbol s) = 0
-bare t = 1
+-- how many branches came, with a contract that begins with this token, where so many came before
+abbrev pub came_bare : Lexeme → ℕ → ℕ
+came_bare (symbol s) before = before
+came_bare t before = suc before
 
--- how many branches begin with a token
-abbrev pub begun : Awaited → Lexeme → ℕ
-begun (branch d k) t = 1
-begun (contract d) t = bare t
-begun fee_or_contract (keyword word.Fee) = 0
-begun fee_or_contract t = bare t
-begun _ t = 0
+-- how many branches came with a token, where so many came before
+abbrev pub came : Awaited → Lexeme → ℕ → ℕ
+came (branch d k) t before = suc before
+came (contract d) t before = came_bare t before
+came fee_or_contract (keyword word.Fee) before = before
+came fee_or_contract t before = came_bare t before
+came _ t before = before
 
 -- ---- the marks of a text
 
@@ -95,7 +98,7 @@ marks_from [] before (t ∷ ts) = []
 marks_from (a ∷ as') before (t ∷ ts) =
     elim (next a t) [
       | None ↦ []
-      | Some new ↦ marks_at (mark_place a (suc (length ts))) (exceeded a before t) ++ marks_from (new ++ as') (before + begun a t) ts
+      | Some new ↦ marks_at (mark_place a (suc (length ts))) (exceeded a before t) ++ marks_from (new ++ as') (came a t before) ts
     ]
 
 abbrev pub marks : List Lexeme → List Mark

@@ -1,20 +1,19 @@
 -- The walk over contracts.
-use Rattle.std.proofs.Common.{◌≡◌, ℕ, zero, suc, ◌+◌, ◌-◌, ◌≤◌, inl, inr, ◌⊎◌, Bool, true, false, List, [], ◌∷◌, ◌++◌, length, Option, Some, None, Ok, Err, refl, ap, sym, ◌∙◌, arith}
+use Rattle.std.proofs.Common.{◌≡◌, ℕ, zero, suc, ◌+◌, inl, inr, ◌⊎◌, Bool, true, false, List, [], ◌∷◌, Ok, Err, refl, arith}
 use Rattle.std.specs.Prelude.{nat_le}
 use Rattle.spec_data.specs.Ranges.{max_money, last_height}
 use Rattle.spec_terms.specs.Term.{Guarded, auth, after, put_reveal, withdraw, split, Contract, no_branch, branch, Parts, no_part, part}
 use Rattle.spec_terms.specs.Readable.{most_depth, most_branches, most_choices, most_parts}
-use Rattle.spec_terms.specs.declared.limit.Limit.{Limit}
 use Rattle.spec_terms.specs.declared.limit.Limit.TheVariants as limits
 use Rattle.spec_text.specs.declared.token.Keyword.TheVariants as word
 use Rattle.spec_text.specs.declared.token.Symbol.TheVariants as mark
 use Rattle.spec_text.specs.declared.lexeme.Lexeme.{Lexeme}
-use Rattle.spec_text.specs.declared.lexeme.Lexeme.TheVariants.{Keyword as keyword, Symbol as symbol, Name as name, Number as number, LongName as long_name, HugeNumber as huge_number}
-use Rattle.spec_text.specs.Reading.{Reads, ◌>>=◌, token_by, too_many, a_symbol}
-use Rattle.spec_text.specs.ReadContract.{Heading, begins_branch, branch_limit, BranchReader, ChoiceReader, allowed_branch, goes_on, branches_at, one_branch_at, choice_with, a_value, parts_go_on, parts_at, auth_at, after_at, headed_at, put_at, reveal_at, withdraw_at, split_at, branch_at}
+use Rattle.spec_text.specs.declared.lexeme.Lexeme.TheVariants.{Keyword as keyword, Symbol as symbol, Name as name, Number as number}
+use Rattle.spec_text.specs.Reading.{Reads, ◌>>=◌, token_by, too_many}
+use Rattle.spec_text.specs.ReadContract.{Heading, begins_branch, ChoiceReader, goes_on, branches_at, one_branch_at, choice_with, a_value, parts_go_on, parts_at, auth_at, after_at, headed_at, put_at, reveal_at, withdraw_at, split_at, branch_at}
 use Rattle.theory_limits.specs.Awaited.{Awaited, this_symbol, wrapped, behind_branch, contract, behind_part, behind_put, behind_reveal}
 use Rattle.theory_limits.specs.Awaited.{a_name as some_name, a_number as some_number, branch as a_branch, part as a_part}
-use Rattle.theory_limits.proofs.Judged.{Judgement, judged, followed, Walks, Counts, Walks_on, Leaves, counts_as, on_none, on_seq, then_on, left_on}
+use Rattle.theory_limits.proofs.Judged.{judged, followed, Counts, Walks_on, Leaves, on_none, on_seq, then_on, left_on}
 use Rattle.theory_limits.proofs.Tokens.{walks_symbol, walks_name, walks_number}
 use Rattle.theory_limits.proofs.Formulas.{within, above}
 use Rattle.theory_limits.proofs.Headings.{walks_reveals, walks_puts}

@@ -1,19 +1,18 @@
 -- The counts of a branch, and the limit that the reader finds by what is left.
-use Rattle.std.proofs.Common.{◌≡◌, ℕ, zero, suc, ◌+◌, ◌-◌, ◌≤◌, inl, inr, ◌⊎◌, true, false, List, [], ◌∷◌, ◌++◌, length, Option, Some, None, Ok, Err, refl, ap, sym, ◌∙◌, arith}
-use Rattle.std.specs.Prelude.{nat_le, ◌==◌}
+use Rattle.std.proofs.Common.{◌≡◌, ℕ, zero, suc, ◌+◌, ◌-◌, ◌≤◌, inl, inr, ◌⊎◌, true, List, [], ◌∷◌, ◌++◌, Some, None, Err, refl, arith}
+use Rattle.std.specs.Prelude.{nat_le}
 use Rattle.spec_terms.specs.Readable.{most_depth, most_branches, most_choices}
 use Rattle.spec_terms.specs.declared.limit.Limit.{Limit}
 use Rattle.spec_terms.specs.declared.limit.Limit.TheVariants as limits
 use Rattle.spec_text.specs.declared.token.Keyword.TheVariants as word
-use Rattle.spec_text.specs.declared.token.Symbol.TheVariants as mark
 use Rattle.spec_text.specs.declared.lexeme.Lexeme.{Lexeme}
-use Rattle.spec_text.specs.declared.lexeme.Lexeme.TheVariants.{Keyword as keyword, Symbol as symbol, Name as name, Number as number, LongName as long_name, HugeNumber as huge_number}
+use Rattle.spec_text.specs.declared.lexeme.Lexeme.TheVariants.{Keyword as keyword, Name as name}
 use Rattle.spec_text.specs.Reading.{too_many}
-use Rattle.spec_text.specs.ReadContract.{begins_branch, branch_limit, BranchReader, allowed_branch, branch_at}
+use Rattle.spec_text.specs.ReadContract.{begins_branch, branch_limit, allowed_branch, branch_at}
 use Rattle.theory_text.proofs.Again.Steps.{not_zero, no_limit}
 use Rattle.theory_limits.specs.Awaited.{Awaited, branch, wrapped}
 use Rattle.theory_limits.specs.Marks.{over, over_counts}
-use Rattle.theory_limits.proofs.Judged.{Judgement, judged, Counts, Walks_on, counts_as}
+use Rattle.theory_limits.proofs.Judged.{judged, Counts, Walks_on, counts_as}
 use Rattle.theory_limits.proofs.Formulas.{within, above}
 
 -- ---- what is over

@@ -1,22 +1,18 @@
 -- The walk over expressions and predicates.
-use Rattle.std.proofs.Common.{◌≡◌, ℕ, zero, suc, ◌+◌, ◌≤◌, Bool, true, false, List, [], ◌∷◌, ◌++◌, Option, None, Ok, refl, ap, sym, ◌∙◌, arith, inl, inr}
+use Rattle.std.proofs.Common.{◌≡◌, ℕ, zero, suc, ◌+◌, ◌≤◌, Bool, true, false, List, [], ◌∷◌, None, refl, ◌∙◌, arith, inl, inr}
 use Rattle.std.specs.Prelude.{nat_le}
 use Rattle.std.proofs.lemmas.Bool.Decides.{leb_tells}
-use Rattle.spec_terms.specs.Term.{Expr, constant, length_of, Pred, always, both, negation}
+use Rattle.spec_terms.specs.Term.{length_of, both, negation}
 use Rattle.spec_terms.specs.Readable.{greatest_constant, most_depth}
-use Rattle.spec_terms.specs.declared.limit.Limit.{Limit}
-use Rattle.spec_terms.specs.declared.limit.Limit.TheVariants as limits
 use Rattle.spec_text.specs.declared.token.Keyword.{Keyword}
 use Rattle.spec_text.specs.declared.token.Symbol.{Symbol}
 use Rattle.spec_text.specs.declared.token.Keyword.TheVariants as word
 use Rattle.spec_text.specs.declared.token.Symbol.TheVariants as mark
 use Rattle.spec_text.specs.declared.lexeme.Lexeme.{Lexeme}
-use Rattle.spec_text.specs.declared.lexeme.Lexeme.TheVariants.{Keyword as keyword, Symbol as symbol, Name as name, Number as number, LongName as long_name, HugeNumber as huge_number}
-use Rattle.spec_text.specs.Reading.{Reads, ◌>>=◌, token_by, a_symbol, a_keyword}
-use Rattle.spec_text.specs.ReadTest.{a_sign, signed, constant_at, length_at, formula_at, a_relation, related, comparison_at, test_at}
+use Rattle.spec_text.specs.declared.lexeme.Lexeme.TheVariants.{Keyword as keyword, Symbol as symbol, Number as number}
+use Rattle.spec_text.specs.ReadTest.{signed, constant_at, length_at, formula_at, related, comparison_at, test_at}
 use Rattle.theory_limits.specs.Awaited.{Awaited, next_test, this_symbol, this_word, operator, relation, formula, test}
-use Rattle.theory_limits.specs.Awaited.{a_name as some_name, a_number as some_number}
-use Rattle.theory_limits.specs.Marks.{over}
+use Rattle.theory_limits.specs.Awaited.{a_name as some_name}
 use Rattle.theory_limits.proofs.Judged.{judged, followed, Walks, walks_none, walks_seq}
 use Rattle.theory_limits.proofs.Tokens.{walks_symbol, walks_word, walks_name, walks_operator, walks_relation}
 

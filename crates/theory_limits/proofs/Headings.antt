@@ -1,12 +1,12 @@
 -- The walk over what stands before the point of a put or reveal.
-use Rattle.std.proofs.Common.{◌≡◌, ℕ, suc, Bool, true, false, List, [], ◌∷◌, ◌++◌, length, Option, Some, None, Ok, Err, refl, ap, sym, ◌∙◌}
+use Rattle.std.proofs.Common.{◌≡◌, ℕ, suc, Bool, true, false, List, [], ◌∷◌, ◌++◌, length, Option, Some, None, Ok, Err, refl, ◌∙◌}
 use Rattle.spec_terms.specs.Term.{always}
 use Rattle.spec_text.specs.declared.stop.Stop.TheVariants as stops
 use Rattle.spec_text.specs.declared.token.Keyword.TheVariants as word
 use Rattle.spec_text.specs.declared.token.Symbol.TheVariants as mark
 use Rattle.spec_text.specs.declared.lexeme.Lexeme.{Lexeme}
-use Rattle.spec_text.specs.declared.lexeme.Lexeme.TheVariants.{Keyword as keyword, Symbol as symbol, Name as name, Number as number, LongName as long_name, HugeNumber as huge_number}
-use Rattle.spec_text.specs.Reading.{Reads, ◌>>=◌, Seen, taken, wrong, above, take_seen, token_by, a_symbol, a_keyword, comma_or, names_from}
+use Rattle.spec_text.specs.declared.lexeme.Lexeme.TheVariants.{Keyword as keyword, Symbol as symbol, Name as name, LongName as long_name}
+use Rattle.spec_text.specs.Reading.{Reads, ◌>>=◌, Seen, taken, wrong, above, take_seen, comma_or, names_from}
 use Rattle.spec_text.specs.ReadContract.{ends_put, ends_reveal, Heading, condition_at, reveals_at, put_reveals_at, puts_at}
 use Rattle.theory_limits.specs.Awaited.{Awaited, this_symbol, this_word, test, behind_put, behind_reveal}
 use Rattle.theory_limits.specs.Awaited.{a_name as some_name}

@@ -1,5 +1,5 @@
 -- A walk over the tokens that stops at the first limit, and readers that answer as it does.
-use Rattle.std.proofs.Common.{◌≡◌, ℕ, suc, ◌+◌, ◌≤◌, Bool, true, false, List, [], ◌∷◌, ◌++◌, length, Option, Some, None, Result, Ok, Err, refl, sym, ap, ◌∙◌, append_assoc}
+use Rattle.std.proofs.Common.{◌≡◌, ℕ, suc, ◌+◌, List, [], ◌∷◌, ◌++◌, length, Some, None, Result, Ok, Err, refl, ap, ◌∙◌, append_assoc}
 use Rattle.spec_terms.specs.Readable.{most_branches}
 use Rattle.spec_terms.specs.declared.limit.Limit.{Limit}
 use Rattle.spec_text.specs.declared.stop.Stop.{Stop}
@@ -42,7 +42,7 @@ pub record Walks {A : Type 0} (parts : List Awaited) (read : List Lexeme → Rea
 pub walks_none : {A : Type 0} (a : A) → Walks [] (λ ts. Ok (a, ts))
 walks_none a = record { goes = λ more before ts. refl }
 
-followed_by : {A B : Type 0} (r : Reads A) (k : A → List Lexeme → Reads B) (f g : List Lexeme → Judgement) → ((a : A) (ts : List Lexeme) → f ts ≡ followed (k a ts) g) → followed r f ≡ followed (r >>= λ x. k (x.0) (x.1)) g
+pub followed_by : {A B : Type 0} (r : Reads A) (k : A → List Lexeme → Reads B) (f g : List Lexeme → Judgement) → ((a : A) (ts : List Lexeme) → f ts ≡ followed (k a ts) g) → followed r f ≡ followed (r >>= λ x. k (x.0) (x.1)) g
 followed_by (Ok x) k f g h = h (x.0) (x.1)
 followed_by (Err e) k f g h = refl
 
@@ -80,8 +80,8 @@ pub on_seq : {A B : Type 0} {ps qs : List Awaited} {read : ℕ → List Lexeme �
 on_seq {ps = ps} {qs = qs} {read = read} {k = k} w v = record {
   goes = λ more before b ts h.
       on_by (judged ((ps ++ qs) ++ more) before ts) (qs ++ more) more (read b ts) k
-          (counts_as (judged ((ps ++ qs) ++ more) before ts) (judged (ps ++ (qs ++ more)) before ts) (qs ++ more) (read b ts) (ap (λ (z : List Awaited). judged z before ts) (append_assoc ps qs more)) (w.goes (qs ++ more) before b ts h))
-          (λ a c d u e. (v a).goes more c d u e);
+      (counts_as (judged ((ps ++ qs) ++ more) before ts) (judged (ps ++ (qs ++ more)) before ts) (qs ++ more) (read b ts) (ap (λ (z : List Awaited). judged z before ts) (append_assoc ps qs more)) (w.goes (qs ++ more) before b ts h))
+      (λ a c d u e. (v a).goes more c d u e);
 }
 
 then_by : {A B : Type 0} (j : Judgement) (rest more : List Awaited) (before b : ℕ) (r : Reads A) (k : A → ℕ → List Lexeme → Reads (B × ℕ)) → j ≡ followed r (judged rest before)
@@ -94,8 +94,8 @@ pub then_on : {A B : Type 0} {ps qs : List Awaited} {read : List Lexeme → Read
 then_on {ps = ps} {qs = qs} {read = read} {k = k} w v = record {
   goes = λ more before b ts h.
       then_by (judged ((ps ++ qs) ++ more) before ts) (qs ++ more) more before b (read ts) k
-          (ap (λ (z : List Awaited). judged z before ts) (append_assoc ps qs more) ∙ w.goes (qs ++ more) before ts)
-          (λ a u. (v a).goes more before b u h);
+      (ap (λ (z : List Awaited). judged z before ts) (append_assoc ps qs more) ∙ w.goes (qs ++ more) before ts)
+      (λ a u. (v a).goes more before b u h);
 }
 
 -- a reader that counts no branches and leaves these parts to the next one, which does

@@ -5,3 +5,5 @@ pub mod Formulas
 pub mod Headings
 pub mod Counts
 pub mod Contracts
+pub mod Adverts
+pub mod Verdicts

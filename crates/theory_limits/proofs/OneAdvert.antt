@@ -1,8 +1,5 @@
 -- A text spells at most one advert.
-use Rattle.std.proofs.Common.{◌≡◌, List, [], refl}
-use Rattle.spec_terms.specs.Advert.{Advert}
-use Rattle.spec_text.specs.declared.lexeme.Lexeme.{Lexeme}
-use Rattle.spec_text.specs.Grammar.{Spells}
+use Rattle.std.proofs.Common.{[], refl}
 use Rattle.theory_limits.specs.Statements.{OneAdvertTheorem}
 use Rattle.theory_text.proofs.Told.AdvertReaders.{advert_clear}
 

@@ -1,12 +1,11 @@
 -- The walk over one token.
-use Rattle.std.proofs.Common.{◌≡◌, ℕ, suc, ◌≤◌, Bool, true, false, List, [], ◌∷◌, ◌++◌, refl}
+use Rattle.std.proofs.Common.{◌≡◌, ℕ, Bool, true, false, List, [], ◌∷◌, refl}
 use Rattle.std.specs.Prelude.{nat_le}
 use Rattle.spec_text.specs.declared.token.Keyword.{Keyword}
-use Rattle.spec_text.specs.declared.token.Keyword.TheVariants as word
 use Rattle.spec_text.specs.declared.token.Symbol.{Symbol}
 use Rattle.spec_text.specs.declared.token.Symbol.TheVariants as mark
 use Rattle.spec_text.specs.declared.lexeme.Lexeme.{Lexeme}
-use Rattle.spec_text.specs.declared.lexeme.Lexeme.TheVariants.{Keyword as keyword, Symbol as symbol, Name as name, Number as number, LongName as long_name, HugeNumber as huge_number}
+use Rattle.spec_text.specs.declared.lexeme.Lexeme.TheVariants.{Keyword as keyword, Symbol as symbol, Name as name, Number as number, LongName as long_name}
 use Rattle.spec_text.specs.Reading.{token_by, is_symbol, is_keyword, a_symbol, a_keyword, a_name, a_number}
 use Rattle.spec_text.specs.ReadTest.{a_sign, a_relation}
 use Rattle.theory_limits.specs.Awaited.{Awaited, this_symbol, this_word, operator, relation}

@@ -1,7 +1,6 @@
 -- What may still come in a contract text, token by token and without any limit; of this project's profile.
 use Rattle.std.specs.Prelude.{ℕ, suc, List, [], ◌∷◌, ◌++◌, if◌then◌else◌, Option, Some, None}
 use Rattle.spec_data.specs.Ranges.{max_money, last_height}
-use Rattle.spec_terms.specs.Readable.{greatest_constant}
 use Rattle.spec_text.specs.declared.token.Keyword.{Keyword}
 use Rattle.spec_text.specs.declared.token.Keyword.TheVariants as word
 use Rattle.spec_text.specs.declared.token.Symbol.{Symbol}

@@ -8,7 +8,7 @@ use Rattle.spec_text.specs.declared.token.Keyword.TheVariants as word
 use Rattle.spec_text.specs.declared.token.Symbol.TheVariants as mark
 use Rattle.spec_text.specs.declared.lexeme.Lexeme.{Lexeme}
 use Rattle.spec_text.specs.declared.lexeme.Lexeme.TheVariants.{Keyword as keyword, Symbol as symbol, Number as number, LongName as long_name, HugeNumber as huge_number}
-use Rattle.theory_limits.specs.Awaited.{Awaited, a_name, a_number, formula, test, wrapped, branch, contract, part, entry_kind, fee_or_contract, next, an_advert}
+use Rattle.theory_limits.specs.Awaited.{Awaited, a_name, a_number, formula, test, wrapped, branch, contract, part, entry_kind, fee_or_contract, Next, next, an_advert}
 
 -- ---- what one token exceeds
 
@@ -91,27 +91,36 @@ abbrev pub mark_place : Awaited → ℕ → ℕ
 mark_place (entry_kind deposits secrets) left = suc (suc left)
 mark_place _ left = left
 
--- the marks of tokens in order, as long as they are awaited
+-- the marks of a token and of those behind it, by what it lets await; none from a token on that can't come
+abbrev pub marks_here : Next → List Mark → (List Awaited → List Mark) → List Mark
+marks_here None here behind = []
+marks_here (Some new) here behind = here ++ behind new
+
+-- the marks of tokens in order, where so many branches came before
 abbrev pub marks_from : List Awaited → ℕ → List Lexeme → List Mark
 marks_from awaited before [] = []
 marks_from [] before (t ∷ ts) = []
 marks_from (a ∷ as') before (t ∷ ts) =
-    elim (next a t) [
-      | None ↦ []
-      | Some new ↦ marks_at (mark_place a (suc (length ts))) (exceeded a before t) ++ marks_from (new ++ as') (came a t before) ts
-    ]
+    marks_here (next a t) (marks_at (mark_place a (suc (length ts))) (exceeded a before t)) (λ new. marks_from (new ++ as') (came a t before) ts)
 
+-- the marks of a contract text
 abbrev pub marks : List Lexeme → List Mark
 marks t = marks_from an_advert 0 t
 
 -- ---- where the grammar ends
 
--- how many tokens are left from the first that isn't awaited on; none where all are and nothing more is
+-- where the grammar ends from a token on, of which so many are left, by what it lets await
+abbrev pub end_here : Next → ℕ → (List Awaited → Option ℕ) → Option ℕ
+end_here None left behind = Some left
+end_here (Some new) left behind = behind new
+
+-- how many tokens are left from the first on that can't come; none where all can and nothing more is awaited
 abbrev pub end_from : List Awaited → List Lexeme → Option ℕ
 end_from [] [] = None
 end_from (a ∷ as') [] = Some 0
 end_from [] (t ∷ ts) = Some (suc (length ts))
-end_from (a ∷ as') (t ∷ ts) = elim (next a t) [ None ↦ Some (suc (length ts)) | Some new ↦ end_from (new ++ as') ts ]
+end_from (a ∷ as') (t ∷ ts) = end_here (next a t) (suc (length ts)) (λ new. end_from (new ++ as') ts)
 
+-- where the grammar ends in a contract text
 abbrev pub grammar_end : List Lexeme → Option ℕ
 grammar_end t = end_from an_advert t

@@ -1,9 +1,36 @@
 -- What is claimed of the limits of contract text; of this project's profile.
-use Rattle.std.specs.Prelude.{◌≡◌, ℕ, List}
+use Rattle.std.specs.Prelude.{◌≡◌, ℕ, ◌-◌, ◌≤◌, List, [], ◌∷◌, length, Ok, Err}
 use Rattle.spec_terms.specs.Advert.{Advert}
+use Rattle.spec_terms.specs.declared.limit.Limit.{Limit}
+use Rattle.spec_text.specs.declared.stop.Stop.TheVariants as stops
 use Rattle.spec_text.specs.declared.lexeme.Lexeme.{Lexeme}
 use Rattle.spec_text.specs.Grammar.{Spells}
+use Rattle.spec_text.specs.ReadAdvert.{advert_of_all}
+use Rattle.spec_text.specs.Statements.{IsSyntaxAt, IsLimitAt}
+use Rattle.theory_limits.specs.Marks.{Mark, marks}
 
 -- tokens spell at most one advert
 abbrev pub OneAdvertTheorem : Type 0
 OneAdvertTheorem = (t : List Lexeme) (a b : Advert) → Spells t a → Spells t b → a ≡ b
+
+-- the first mark of these tokens has this quantity, and so many tokens are left from its token on
+pub record IsFirstMark (t : List Lexeme) (w : Limit) (left : ℕ) : Type 0 where
+  pub others : List Mark
+  pub first : marks t ≡ record { quantity = w; left = left } ∷ others
+
+-- each of these marks of so many tokens stands at token p or behind it
+abbrev pub StandFrom : ℕ → ℕ → List Mark → Type 0
+StandFrom p total [] = Unit {0}
+StandFrom p total (m ∷ ms) = (p ≤ total - m.left) × StandFrom p total ms
+
+-- the reader of contract text stops at the first limit that is exceeded, or where the grammar ends, whichever is first
+pub record LimitsTheorem : Type 0 where
+  -- A limit is answered exactly where it is the first mark; the tokens up to and with that begin some advert.
+  pub limit : (t : List Lexeme) (w : Limit) (left : ℕ) → advert_of_all t ≡ Err (stops.Limit w left) → IsFirstMark t w left × IsLimitAt t (length t - left)
+  pub limit_only : (t : List Lexeme) (w : Limit) (left : ℕ) → IsFirstMark t w left → advert_of_all t ≡ Err (stops.Limit w left)
+  -- A syntax error is answered exactly where the grammar ends and no mark stands before.
+  pub syntax : (t : List Lexeme) (left : ℕ) → advert_of_all t ≡ Err (stops.Syntax left) → IsSyntaxAt t (length t - left) × StandFrom (length t - left) (length t) (marks t)
+  pub syntax_only : (t : List Lexeme) (p : ℕ) → IsSyntaxAt t p → StandFrom p (length t) (marks t) → advert_of_all t ≡ Err (stops.Syntax (length t - p))
+  -- An advert is answered exactly where the tokens spell it and none is marked.
+  pub read : (t : List Lexeme) (advert : Advert) → advert_of_all t ≡ Ok advert → Spells t advert × (marks t ≡ [])
+  pub read_only : (t : List Lexeme) (advert : Advert) → Spells t advert → marks t ≡ [] → advert_of_all t ≡ Ok advert

@@ -1,9 +1,15 @@
 //! Where the limits of contract text are met: each theorem is the contract of a function that does nothing.
 #![tactic(auto)]
 
-ghost use Rattle.theory_limits.specs.Statements.{OneAdvertTheorem};
+ghost use Rattle.theory_limits.specs.Statements.{OneAdvertTheorem, LimitsTheorem};
 
 /// A text spells at most one advert.
 pub fn texts_spell_one_advert()
     ensures { OneAdvertTheorem }
+{}
+
+/// The reader of contract text stops with the quantity that is exceeded first, at the token with which it is, or where the
+/// grammar ends; it gives an advert exactly where neither is.
+pub fn first_limits_are_answered()
+    ensures { LimitsTheorem }
 {}

@@ -7,3 +7,6 @@ pub mod Counts
 pub mod Contracts
 pub mod Adverts
 pub mod Verdicts
+pub mod Plain
+pub mod SpelledTests
+pub mod SpelledAdverts

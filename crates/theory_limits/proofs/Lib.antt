@@ -10,3 +10,5 @@ pub mod Verdicts
 pub mod Plain
 pub mod SpelledTests
 pub mod SpelledAdverts
+pub mod Texts
+pub mod BegunTests

@@ -24,14 +24,14 @@ one c t u v e f = e ∙ ap (λ (z : List Lexeme). z ++ v) f
 pub last : (t u v : List Lexeme) → t ≡ u ++ v → v ≡ [] → t ≡ u
 last t u v e n = e ∙ ap (λ (z : List Lexeme). u ++ z) n ∙ append-nil u
 
-number_same : (n : ℕ) → (n == n) ≡ true
+pub number_same : (n : ℕ) → (n == n) ≡ true
 number_same n = elim (eqb_tells n n) [ inl w ↦ w.0 | inr w ↦ absurd (w.1 refl) ]
 
-begun_symbol : (s t : Symbol) (b : Bool) → is_symbol t s ≡ b → Begun (Text (this_symbol s)) (symbol t) (if b then Some [] else None)
+pub begun_symbol : (s t : Symbol) (b : Bool) → is_symbol t s ≡ b → Begun (Text (this_symbol s)) (symbol t) (if b then Some [] else None)
 begun_symbol s t true e = λ u n. (symbol t, refl, ap (λ (z : List Lexeme). symbol t ∷ z) n ∙ ap (λ (z : Lexeme). z ∷ []) ((the_symbol s (number_same (symbol_number s))).takes (symbol t) tt (rw e refl)))
 begun_symbol s t false e = tt
 
-begun_word : (k w : Keyword) (b : Bool) → is_keyword w k ≡ b → Begun (Text (this_word k)) (keyword w) (if b then Some [] else None)
+pub begun_word : (k w : Keyword) (b : Bool) → is_keyword w k ≡ b → Begun (Text (this_word k)) (keyword w) (if b then Some [] else None)
 begun_word k w true e = λ u n. (keyword w, refl, ap (λ (z : List Lexeme). keyword w ∷ z) n ∙ ap (λ (z : Lexeme). z ∷ []) ((the_keyword k (number_same (keyword_number k))).takes (keyword w) tt (rw e refl)))
 begun_word k w false e = tt
 
@@ -114,13 +114,16 @@ begun_put (symbol mark.Ampersand) = λ t h.
     let p = b.front in
     let a = n.front.0 in
     let is : t ≡ (keyword word.Reveal ∷ name a ∷ p.text) ++ symbol mark.Dot ∷ [] = one (keyword word.Reveal) t h.first h.second h.parts h.front ∙ ap (λ (z : List Lexeme). keyword word.Reveal ∷ z) (named a h.second n.first n.second b.first b.second p.text n.parts n.front.1 b.parts b.back p.parts) in
-    let spelled : SpellsReveals (keyword word.Reveal ∷ name a ∷ p.text) a p.names p.condition = (p.test, ap (λ (z : List Lexeme). keyword word.Reveal ∷ name a ∷ z) p.named, p.spelled) in
-    (symbol mark.Ampersand, refl, record {
-      text = symbol mark.Ampersand ∷ keyword word.Reveal ∷ name a ∷ p.text;
-      parts = ap (λ (z : List Lexeme). symbol mark.Ampersand ∷ z) is;
-      names = [];
-      kind = inr (record { reveal = keyword word.Reveal ∷ name a ∷ p.text; first = a; others = p.names; condition = p.condition; parts = refl; spelled = spelled });
-    })
+    let spelled : SpellsReveals (keyword word.Reveal ∷ name a ∷ p.text) a p.names p.condition = (p.test, ap (λ (z : List Lexeme). keyword word.Reveal ∷ name a ∷ z) p.named, p.spelled) in (
+      symbol mark.Ampersand,
+      refl,
+      record {
+        text = symbol mark.Ampersand ∷ keyword word.Reveal ∷ name a ∷ p.text;
+        parts = ap (λ (z : List Lexeme). symbol mark.Ampersand ∷ z) is;
+        names = [];
+        kind = inr (record { reveal = keyword word.Reveal ∷ name a ∷ p.text; first = a; others = p.names; condition = p.condition; parts = refl; spelled = spelled });
+      },
+    )
 begun_put (symbol mark.Dot) = λ t e. (symbol mark.Dot, refl, record { text = []; parts = ap (λ (z : List Lexeme). symbol mark.Dot ∷ z) e; names = []; kind = inl refl })
 begun_put c = tt
 
@@ -129,26 +132,32 @@ begun_reveal (symbol mark.Comma) = λ t h.
     let b = h.back in
     let p = b.front in
     let x = h.front.0 in
-    let is = named x t h.first h.second b.first b.second p.text h.parts h.front.1 b.parts b.back p.parts in
-    (symbol mark.Comma, refl, record {
-      text = symbol mark.Comma ∷ name x ∷ p.text;
-      parts = ap (λ (z : List Lexeme). symbol mark.Comma ∷ z) is;
-      names = x ∷ p.names;
-      test = p.test;
-      condition = p.condition;
-      named = ap (λ (z : List Lexeme). symbol mark.Comma ∷ name x ∷ z) p.named;
-      spelled = p.spelled;
-    })
+    let is = named x t h.first h.second b.first b.second p.text h.parts h.front.1 b.parts b.back p.parts in (
+      symbol mark.Comma,
+      refl,
+      record {
+        text = symbol mark.Comma ∷ name x ∷ p.text;
+        parts = ap (λ (z : List Lexeme). symbol mark.Comma ∷ z) is;
+        names = x ∷ p.names;
+        test = p.test;
+        condition = p.condition;
+        named = ap (λ (z : List Lexeme). symbol mark.Comma ∷ name x ∷ z) p.named;
+        spelled = p.spelled;
+      },
+    )
 begun_reveal (keyword word.If) = λ t h.
-    let is : t ≡ h.first ++ symbol mark.Dot ∷ [] = h.parts ∙ ap (λ (z : List Lexeme). h.first ++ z) (one (symbol mark.Dot) h.second h.back.first h.back.second h.back.parts h.back.front ∙ ap (λ (z : List Lexeme). symbol mark.Dot ∷ z) h.back.back) in
-    (keyword word.If, refl, record {
-      text = keyword word.If ∷ h.first;
-      parts = ap (λ (z : List Lexeme). keyword word.If ∷ z) is;
-      names = [];
-      test = keyword word.If ∷ h.first;
-      condition = h.front.value;
-      named = refl;
-      spelled = inr (h.first, refl, h.front.spelled);
-    })
+    let is : t ≡ h.first ++ symbol mark.Dot ∷ [] = h.parts ∙ ap (λ (z : List Lexeme). h.first ++ z) (one (symbol mark.Dot) h.second h.back.first h.back.second h.back.parts h.back.front ∙ ap (λ (z : List Lexeme). symbol mark.Dot ∷ z) h.back.back) in (
+      keyword word.If,
+      refl,
+      record {
+        text = keyword word.If ∷ h.first;
+        parts = ap (λ (z : List Lexeme). keyword word.If ∷ z) is;
+        names = [];
+        test = keyword word.If ∷ h.first;
+        condition = h.front.value;
+        named = refl;
+        spelled = inr (h.first, refl, h.front.spelled);
+      },
+    )
 begun_reveal (symbol mark.Dot) = λ t e. (symbol mark.Dot, refl, record { text = []; parts = ap (λ (z : List Lexeme). symbol mark.Dot ∷ z) e; names = []; test = []; condition = always; named = refl; spelled = inl (refl, refl) })
 begun_reveal c = tt

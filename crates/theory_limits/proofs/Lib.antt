@@ -12,3 +12,5 @@ pub mod SpelledTests
 pub mod SpelledAdverts
 pub mod Texts
 pub mod BegunTests
+pub mod BegunAdverts
+pub mod Ends

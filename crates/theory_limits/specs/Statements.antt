@@ -1,13 +1,13 @@
 -- What is claimed of the limits of contract text; of this project's profile.
-use Rattle.std.specs.Prelude.{◌≡◌, ℕ, ◌-◌, ◌≤◌, List, [], ◌∷◌, length, Ok, Err}
+use Rattle.std.specs.Prelude.{◌≡◌, ℕ, ◌-◌, ◌≤◌, List, [], ◌∷◌, length, Option, Some, None, Ok, Err}
 use Rattle.spec_terms.specs.Advert.{Advert}
 use Rattle.spec_terms.specs.declared.limit.Limit.{Limit}
 use Rattle.spec_text.specs.declared.stop.Stop.TheVariants as stops
 use Rattle.spec_text.specs.declared.lexeme.Lexeme.{Lexeme}
-use Rattle.spec_text.specs.Grammar.{Spells}
+use Rattle.spec_text.specs.Grammar.{Spells, StandFor}
 use Rattle.spec_text.specs.ReadAdvert.{advert_of_all}
 use Rattle.spec_text.specs.Statements.{IsSyntaxAt, IsLimitAt}
-use Rattle.theory_limits.specs.Marks.{Mark, marks}
+use Rattle.theory_limits.specs.Marks.{Mark, marks, grammar_end}
 
 -- tokens spell at most one advert
 abbrev pub OneAdvertTheorem : Type 0
@@ -34,3 +34,18 @@ pub record LimitsTheorem : Type 0 where
   -- An advert is answered exactly where the tokens spell it and none is marked.
   pub read : (t : List Lexeme) (advert : Advert) → advert_of_all t ≡ Ok advert → Spells t advert × (marks t ≡ [])
   pub read_only : (t : List Lexeme) (advert : Advert) → Spells t advert → marks t ≡ [] → advert_of_all t ≡ Ok advert
+
+-- tokens stand for a text that spells some advert
+pub record MeansAdvert (t : List Lexeme) : Type 0 where
+  pub meant : List Lexeme
+  pub stand : StandFor t meant
+  pub advert : Advert
+  pub spelled : Spells meant advert
+
+-- the parts that are awaited without any limit are those of the grammar
+pub record GrammarTheorem : Type 0 where
+  -- All tokens can come, and nothing more is awaited, exactly where they stand for a text that spells an advert.
+  pub whole : (t : List Lexeme) → grammar_end t ≡ None → MeansAdvert t
+  pub whole_only : (t : List Lexeme) → MeansAdvert t → grammar_end t ≡ None
+  -- Else the first token that can't come is that from which on no advert goes on.
+  pub ends : (t : List Lexeme) (left : ℕ) → grammar_end t ≡ Some left → IsSyntaxAt t (length t - left)

@@ -1,7 +1,7 @@
 //! Where the limits of contract text are met: each theorem is the contract of a function that does nothing.
 #![tactic(auto)]
 
-ghost use Rattle.theory_limits.specs.Statements.{OneAdvertTheorem, LimitsTheorem};
+ghost use Rattle.theory_limits.specs.Statements.{OneAdvertTheorem, LimitsTheorem, GrammarTheorem};
 
 /// A text spells at most one advert.
 pub fn texts_spell_one_advert()
@@ -12,4 +12,9 @@ pub fn texts_spell_one_advert()
 /// grammar ends; it gives an advert exactly where neither is.
 pub fn first_limits_are_answered()
     ensures { LimitsTheorem }
+{}
+
+/// What is awaited token by token, without any limit, is what the grammar of contract text lets come.
+pub fn awaited_parts_are_the_grammar()
+    ensures { GrammarTheorem }
 {}

@@ -14,7 +14,7 @@ use Rattle.spec_text.specs.Reading.{Reads, ◌>>=◌, token_by, a_symbol, a_numb
 use Rattle.spec_text.specs.ReadContract.{choice_with, branch_at}
 use Rattle.spec_text.specs.ReadAdvert.{EntryKind, persistent, volatile, secret, head_at, deposit_at, secret_at, entry_rest_at, Room, room_after, room_for, is_full, entry_at, entries_go_on, entries_at, fee_at, advert_of, advert_at, if_last, advert_of_all}
 use Rattle.theory_text.proofs.Again.Steps.{not_zero}
-use Rattle.theory_limits.specs.Awaited.{Awaited, this_symbol, contract, entry_kind, behind_entry, fee_or_contract, an_advert}
+use Rattle.theory_limits.specs.Awaited.{Awaited, this_symbol, contract, entry, behind_entry, fee_or_contract, an_advert}
 use Rattle.theory_limits.specs.Awaited.{a_name as some_name, a_number as some_number}
 use Rattle.theory_limits.proofs.Judged.{Judgement, judged, followed, followed_by, Walks, walks_none, walks_seq, Counts}
 use Rattle.theory_limits.proofs.Tokens.{walks_symbol, walks_name, walks_number}
@@ -44,22 +44,22 @@ secret_walks party = walks_seq walks_name (λ x. walks_none _)
 abbrev told_at : EntryKind → List ℕ → Room → ℕ → List Lexeme → Reads (Pre × Room)
 told_at k party room left ts = room_for k (is_full k room) left >>= λ r. entry_rest_at k party ts >>= λ p. Ok ((p.0, room_after k room), p.1)
 
-persistent_goes : (party : List ℕ) (more : List Awaited) (before ds ss p q : ℕ) (ts : List Lexeme) → ds + p ≡ most_deposits → ss + q ≡ most_secrets → Roomed (judged (entry_kind ds ss ∷ more) before (symbol mark.Bang ∷ ts)) more before (p + q) (told_at persistent party (p, q) (suc (suc (suc (length ts)))) ts)
+persistent_goes : (party : List ℕ) (more : List Awaited) (before ds ss p q : ℕ) (ts : List Lexeme) → ds + p ≡ most_deposits → ss + q ≡ most_secrets → Roomed (judged (entry ds ss ∷ more) before (name party ∷ symbol mark.Colon ∷ symbol mark.Bang ∷ ts)) more before (p + q) (told_at persistent party (p, q) (suc (suc (suc (length ts)))) ts)
 persistent_goes party more before ds ss zero q ts d s = rw (above (suc ds) most_deposits (omega arith)) refl
 persistent_goes party more before ds ss (suc p) q ts d s =
     rw (within (suc ds) most_deposits (omega arith), not_zero (suc p) (omega arith)) (roomed (judged (some_number max_money ∷ this_symbol mark.At ∷ some_name ∷ behind_entry (suc ds) ss ∷ more) before ts) more before (suc p + q) (suc ds) ss (suc p - 1, q) (deposit_at true party ts) ((deposit_walks true party).goes (behind_entry (suc ds) ss ∷ more) before ts) (omega arith) s (omega arith))
 
-volatile_goes : (party : List ℕ) (more : List Awaited) (before ds ss p q : ℕ) (ts : List Lexeme) → ds + p ≡ most_deposits → ss + q ≡ most_secrets → Roomed (judged (entry_kind ds ss ∷ more) before (symbol mark.Question ∷ ts)) more before (p + q) (told_at volatile party (p, q) (suc (suc (suc (length ts)))) ts)
+volatile_goes : (party : List ℕ) (more : List Awaited) (before ds ss p q : ℕ) (ts : List Lexeme) → ds + p ≡ most_deposits → ss + q ≡ most_secrets → Roomed (judged (entry ds ss ∷ more) before (name party ∷ symbol mark.Colon ∷ symbol mark.Question ∷ ts)) more before (p + q) (told_at volatile party (p, q) (suc (suc (suc (length ts)))) ts)
 volatile_goes party more before ds ss zero q ts d s = rw (above (suc ds) most_deposits (omega arith)) refl
 volatile_goes party more before ds ss (suc p) q ts d s =
     rw (within (suc ds) most_deposits (omega arith), not_zero (suc p) (omega arith)) (roomed (judged (some_number max_money ∷ this_symbol mark.At ∷ some_name ∷ behind_entry (suc ds) ss ∷ more) before ts) more before (suc p + q) (suc ds) ss (suc p - 1, q) (deposit_at false party ts) ((deposit_walks false party).goes (behind_entry (suc ds) ss ∷ more) before ts) (omega arith) s (omega arith))
 
-secret_goes : (party : List ℕ) (more : List Awaited) (before ds ss p q : ℕ) (ts : List Lexeme) → ds + p ≡ most_deposits → ss + q ≡ most_secrets → Roomed (judged (entry_kind ds ss ∷ more) before (keyword word.Secret ∷ ts)) more before (p + q) (told_at secret party (p, q) (suc (suc (suc (length ts)))) ts)
+secret_goes : (party : List ℕ) (more : List Awaited) (before ds ss p q : ℕ) (ts : List Lexeme) → ds + p ≡ most_deposits → ss + q ≡ most_secrets → Roomed (judged (entry ds ss ∷ more) before (name party ∷ symbol mark.Colon ∷ keyword word.Secret ∷ ts)) more before (p + q) (told_at secret party (p, q) (suc (suc (suc (length ts)))) ts)
 secret_goes party more before ds ss p zero ts d s = rw (above (suc ss) most_secrets (omega arith)) refl
 secret_goes party more before ds ss p (suc q) ts d s =
     rw (within (suc ss) most_secrets (omega arith), not_zero (suc q) (omega arith)) (roomed (judged (some_name ∷ behind_entry ds (suc ss) ∷ more) before ts) more before (p + suc q) ds (suc ss) (p, suc q - 1) (secret_at party ts) ((secret_walks party).goes (behind_entry ds (suc ss) ∷ more) before ts) d (omega arith) (omega arith))
 
-entry_goes : (more : List Awaited) (before ds ss p q : ℕ) (ts : List Lexeme) → ds + p ≡ most_deposits → ss + q ≡ most_secrets → Roomed (judged (some_name ∷ this_symbol mark.Colon ∷ entry_kind ds ss ∷ more) before ts) more before (p + q) (entry_at (p, q) ts)
+entry_goes : (more : List Awaited) (before ds ss p q : ℕ) (ts : List Lexeme) → ds + p ≡ most_deposits → ss + q ≡ most_secrets → Roomed (judged (entry ds ss ∷ more) before ts) more before (p + q) (entry_at (p, q) ts)
 unfolding entry_at head_at
 entry_goes more before ds ss p q [] d s = refl
 entry_goes more before ds ss p q (name x ∷ []) d s = refl
@@ -82,26 +82,26 @@ entries_by j more before sum (Err f) k e h = e
 abbrev behind_at : ℕ → Pre → Room → List Lexeme → Reads (List Pre)
 behind_at n x room ts = token_by entries_go_on ts >>= λ o. elim (o.0) [ true ↦ entries_at n room (o.1) >>= λ r. Ok (x ∷ r.0, r.1) | false ↦ Ok (x ∷ [], o.1) ]
 
-behind_goes : (n : ℕ) (x : Pre) (room : Room) (ds ss : ℕ) (more : List Awaited) (before : ℕ) (ts : List Lexeme) → Walks (some_name ∷ this_symbol mark.Colon ∷ entry_kind ds ss ∷ []) (entries_at n room) → judged (behind_entry ds ss ∷ more) before ts ≡ followed (behind_at n x room ts) (judged more before)
+behind_goes : (n : ℕ) (x : Pre) (room : Room) (ds ss : ℕ) (more : List Awaited) (before : ℕ) (ts : List Lexeme) → Walks (entry ds ss ∷ []) (entries_at n room) → judged (behind_entry ds ss ∷ more) before ts ≡ followed (behind_at n x room ts) (judged more before)
 behind_goes n x room ds ss more before [] w = refl
 behind_goes n x room ds ss more before (symbol mark.Bar ∷ ts) w = (walks_seq w (λ r. walks_none (x ∷ r))).goes more before ts
 behind_goes n x room ds ss more before (symbol mark.RightBrace ∷ ts) w = refl
 behind_goes n x room ds ss more before (t ∷ ts) w = refl
 
 entries_go : (n ds ss : ℕ) (room : Room) (more : List Awaited) (before : ℕ) (ts : List Lexeme) → ds + room.0 ≡ most_deposits → ss + room.1 ≡ most_secrets → room.0 + room.1 ≡ n
-    → judged (some_name ∷ this_symbol mark.Colon ∷ entry_kind ds ss ∷ more) before ts ≡ followed (entries_at n room ts) (judged more before)
+    → judged (entry ds ss ∷ more) before ts ≡ followed (entries_at n room ts) (judged more before)
 unfolding entries_at
 entries_go zero ds ss room more before ts d s e =
     let p : room.0 ≡ 0 = omega arith in
     let q : room.1 ≡ 0 = omega arith in
-    entries_by (judged (some_name ∷ this_symbol mark.Colon ∷ entry_kind ds ss ∷ more) before ts) more before 0 (entry_at (0, 0) ts) (λ x room ts. Ok (x ∷ [], ts))
+    entries_by (judged (entry ds ss ∷ more) before ts) more before 0 (entry_at (0, 0) ts) (λ x room ts. Ok (x ∷ [], ts))
     (entry_goes more before ds ss 0 0 ts (omega arith) (omega arith)) (λ x room ds ss ts d s k. absurd (omega (arith, k)))
 entries_go (suc n) ds ss room more before ts d s e =
-    entries_by (judged (some_name ∷ this_symbol mark.Colon ∷ entry_kind ds ss ∷ more) before ts) more before (room.0 + room.1) (entry_at room ts) (behind_at n)
+    entries_by (judged (entry ds ss ∷ more) before ts) more before (room.0 + room.1) (entry_at room ts) (behind_at n)
     (entry_goes more before ds ss (room.0) (room.1) ts d s)
     (λ x r es us ts f g k. behind_goes n x r es us more before ts (record { goes = λ m b u. entries_go n es us r m b u f g (omega (arith, k)) }))
 
-walks_entries : Walks (some_name ∷ this_symbol mark.Colon ∷ entry_kind 0 0 ∷ []) (entries_at (most_deposits + most_secrets) (most_deposits, most_secrets))
+walks_entries : Walks (entry 0 0 ∷ []) (entries_at (most_deposits + most_secrets) (most_deposits, most_secrets))
 walks_entries = record { goes = λ more before ts. entries_go (most_deposits + most_secrets) 0 0 (most_deposits, most_secrets) more before ts refl refl refl }
 
 -- ---- the fee and the contract
@@ -133,14 +133,14 @@ fee_root_goes pre (t ∷ ts) = root_goes pre 0 (t ∷ ts)
 abbrev all_entries : List Lexeme → Reads (List Pre)
 all_entries ts = entries_at (most_deposits + most_secrets) (most_deposits, most_secrets) ts
 
-entries_and_root : (ts : List Lexeme) → judged (some_name ∷ this_symbol mark.Colon ∷ entry_kind 0 0 ∷ fee_or_contract ∷ []) 0 ts ≡ followed (all_entries ts >>= λ p. fee_root_at (p.0) (p.1)) (judged [] 0)
+entries_and_root : (ts : List Lexeme) → judged (entry 0 0 ∷ fee_or_contract ∷ []) 0 ts ≡ followed (all_entries ts >>= λ p. fee_root_at (p.0) (p.1)) (judged [] 0)
 entries_and_root ts = walks_entries.goes (fee_or_contract ∷ []) 0 ts ∙ followed_by (all_entries ts) (λ p u. fee_root_at p u) (judged (fee_or_contract ∷ []) 0) (judged [] 0) (λ p u. fee_root_goes p u)
 
 advert_goes : (ts : List Lexeme) → judged an_advert 0 ts ≡ followed (advert_at ts) (judged [] 0)
 unfolding advert_at
 advert_goes ts =
-    (walks_symbol mark.LeftBrace).goes (some_name ∷ this_symbol mark.Colon ∷ entry_kind 0 0 ∷ fee_or_contract ∷ []) 0 ts
-    ∙ followed_by (token_by (a_symbol mark.LeftBrace) ts) (λ b u. all_entries u >>= λ p. fee_root_at (p.0) (p.1)) (judged (some_name ∷ this_symbol mark.Colon ∷ entry_kind 0 0 ∷ fee_or_contract ∷ []) 0) (judged [] 0) (λ b u. entries_and_root u)
+    (walks_symbol mark.LeftBrace).goes (entry 0 0 ∷ fee_or_contract ∷ []) 0 ts
+    ∙ followed_by (token_by (a_symbol mark.LeftBrace) ts) (λ b u. all_entries u >>= λ p. fee_root_at (p.0) (p.1)) (judged (entry 0 0 ∷ fee_or_contract ∷ []) 0) (judged [] 0) (λ b u. entries_and_root u)
 
 -- the answer without the advert
 abbrev pub bare_answer : Result Advert Stop → Judgement

@@ -1,20 +1,17 @@
 -- With the first token: contracts, preconditions and adverts.
-use Rattle.std.proofs.Common.{◌≡◌, ℕ, suc, Bool, true, false, List, [], ◌∷◌, ◌++◌, refl, ap, sym, ◌∙◌, append_assoc, inl, inr, ◌⊎◌}
-use Rattle.std.proofs.lemmas.List.{append-nil}
-use Rattle.std.specs.Prelude.{Option, Some, None}
-use Rattle.spec_terms.specs.Term.{Pred, always, Guarded, auth, after, put_reveal, withdraw, split, Contract, no_branch, branch, Parts, no_part, part}
+use Rattle.std.proofs.Common.{◌≡◌, ℕ, suc, List, [], ◌∷◌, ◌++◌, refl, ap, sym, ◌∙◌, append_assoc, inl, inr, ◌⊎◌}
+use Rattle.spec_terms.specs.Term.{always, auth, after, put_reveal, withdraw, split, no_branch, branch, Parts, no_part, part}
 use Rattle.spec_data.specs.Ranges.{max_money, last_height}
 use Rattle.spec_terms.specs.Advert.{Advert}
-use Rattle.spec_terms.specs.declared.pre.Pre.{Pre}
 use Rattle.spec_terms.specs.declared.pre.Pre.TheVariants.{Persistent, Volatile, Secret}
 use Rattle.spec_text.specs.declared.token.Keyword.TheVariants as word
 use Rattle.spec_text.specs.declared.token.Symbol.TheVariants as mark
 use Rattle.spec_text.specs.declared.lexeme.Lexeme.{Lexeme}
 use Rattle.spec_text.specs.declared.lexeme.Lexeme.TheVariants.{Keyword as keyword, Symbol as symbol, Name as name, Number as number, LongName as long_name, HugeNumber as huge_number}
 use Rattle.spec_text.specs.Grammar.{more_names, SpellsHeading, SpellsBranch, SpellsChoice, SpellsMore, SpellsParts, SpellsMoreParts, entry, more_entries, Spells}
-use Rattle.theory_limits.specs.Awaited.{Awaited, this_symbol, a_name, a_number, behind_put, behind_reveal, wrapped, behind_branch, contract, behind_part, entry_kind, behind_entry, fee_or_contract, an_advert, Next, next, next_branch, next_contract}
-use Rattle.theory_limits.specs.Awaited.{branch as a_branch, part as a_part, this_word, operator, relation, formula, test}
-use Rattle.theory_limits.proofs.Texts.{Has, Closed, With_reveal, PutText, RevealText, EntryText, FeeText, Text, Joined, Texts, Begun, begun_as}
+use Rattle.theory_limits.specs.Awaited.{Awaited, this_symbol, a_name, a_number, behind_put, behind_reveal, wrapped, behind_branch, contract, behind_part, entry_kind, behind_entry, fee_or_contract, an_advert, next, next_branch, next_contract}
+use Rattle.theory_limits.specs.Awaited.{branch as a_branch, part as a_part, entry as an_entry, this_word, operator, relation, formula, test}
+use Rattle.theory_limits.proofs.Texts.{Has, Closed, With_reveal, EntryText, EntriesText, FeeText, Text, Texts, Begun, begun_as}
 use Rattle.theory_limits.proofs.BegunTests.{one, last, begun_symbol, begun_word, begun_formula, begun_test, begun_put, begun_reveal}
 use Rattle.spec_text.specs.Reading.{is_symbol, is_keyword}
 
@@ -207,24 +204,26 @@ begun_entry ds ss (keyword word.Secret) = λ t h.
     (keyword word.Secret, refl, record { own = keyword word.Secret ∷ name x ∷ []; others = e.front.0; parts = ap (λ (z : List Lexeme). keyword word.Secret ∷ z) is; entry_of = λ party. (Secret party x, refl) })
 begun_entry ds ss c = tt
 
--- an entry and those behind it, by its party, its colon and the rest
-whole_entry : (ds ss : ℕ) (rest : List Awaited) (t : List Lexeme) → Texts (a_name ∷ this_symbol mark.Colon ∷ entry_kind ds ss ∷ rest) t → (p : Pre) × (ps : List Pre) × (u : List Lexeme) × (t ≡ entry p ++ (more_entries ps ++ symbol mark.RightBrace ∷ u)) × Texts rest u
-whole_entry ds ss rest t h =
-    let x = h.front.0 in
-    let c = h.back in
-    let e = c.back in
+-- an entry and those behind it, behind its party
+entries_by : (x : List ℕ) (ds ss : ℕ) (t : List Lexeme) → Texts (this_symbol mark.Colon ∷ entry_kind ds ss ∷ []) t → EntriesText (name x ∷ t)
+entries_by x ds ss t h =
+    let e = h.back in
     let k = e.front in
     let p = k.entry_of x in
-    let u = e.second in
-    let own : e.first ++ u ≡ k.own ++ (more_entries k.others ++ symbol mark.RightBrace ∷ u) = ap (λ (z : List Lexeme). z ++ u) k.parts ∙ append_assoc k.own (more_entries k.others ++ symbol mark.RightBrace ∷ []) u ∙ ap (λ (z : List Lexeme). k.own ++ z) (append_assoc (more_entries k.others) (symbol mark.RightBrace ∷ []) u) in
-    let is : t ≡ name x ∷ symbol mark.Colon ∷ (k.own ++ (more_entries k.others ++ symbol mark.RightBrace ∷ u)) = one (name x) t h.first h.second h.parts h.front.1 ∙ ap (λ (z : List Lexeme). name x ∷ z) (one (symbol mark.Colon) h.second c.first c.second c.parts c.front ∙ ap (λ (z : List Lexeme). symbol mark.Colon ∷ z) (e.parts ∙ own)) in
-    (p.0, k.others, u, is ∙ ap (λ (z : List Lexeme). z ++ (more_entries k.others ++ symbol mark.RightBrace ∷ u)) (sym p.1), e.back)
+    let rest = more_entries k.others ++ symbol mark.RightBrace ∷ [] in
+    let is : t ≡ symbol mark.Colon ∷ (k.own ++ rest) = one (symbol mark.Colon) t h.first h.second h.parts h.front ∙ ap (λ (z : List Lexeme). symbol mark.Colon ∷ z) (last h.second e.first e.second e.parts e.back ∙ k.parts) in
+    record { first = p.0; others = k.others; parts = ap (λ (z : List Lexeme). name x ∷ z) is ∙ ap (λ (z : List Lexeme). z ++ rest) (sym p.1) }
+
+begun_first : (ds ss : ℕ) (c : Lexeme) → Begun EntriesText c (next (an_entry ds ss) c)
+begun_first ds ss (name x) = λ t h. (name x, refl, entries_by x ds ss t h)
+begun_first ds ss long_name = λ t h. (name [], tt, entries_by [] ds ss t h)
+begun_first ds ss c = tt
 
 begun_entries : (ds ss : ℕ) (c : Lexeme) → Begun (Text (behind_entry ds ss)) c (next (behind_entry ds ss) c)
 begun_entries ds ss (symbol mark.Bar) = λ t h.
-    let w = whole_entry ds ss [] t h in
-    let is : t ≡ (entry w.0 ++ more_entries w.1) ++ symbol mark.RightBrace ∷ [] = w.3 ∙ ap (λ (z : List Lexeme). entry w.0 ++ (more_entries w.1 ++ symbol mark.RightBrace ∷ z)) w.4 ∙ sym (append_assoc (entry w.0) (more_entries w.1) (symbol mark.RightBrace ∷ [])) in
-    (symbol mark.Bar, refl, (w.0 ∷ w.1, ap (λ (z : List Lexeme). symbol mark.Bar ∷ z) is))
+    let e = h.front in
+    let is : t ≡ (entry e.first ++ more_entries e.others) ++ symbol mark.RightBrace ∷ [] = last t h.first h.second h.parts h.back ∙ e.parts ∙ sym (append_assoc (entry e.first) (more_entries e.others) (symbol mark.RightBrace ∷ [])) in
+    (symbol mark.Bar, refl, (e.first ∷ e.others, ap (λ (z : List Lexeme). symbol mark.Bar ∷ z) is))
 begun_entries ds ss (symbol mark.RightBrace) = λ t e. (symbol mark.RightBrace, refl, ([], ap (λ (z : List Lexeme). symbol mark.RightBrace ∷ z) e))
 begun_entries ds ss c = tt
 
@@ -244,14 +243,23 @@ begun_root c = begun_as (Has SpellsChoice) FeeText no_fee c (next_contract 1 c) 
 -- what is awaited spells an advert
 pub advert_by : (t : List Lexeme) → Texts an_advert t → (advert : Advert) × Spells t advert
 advert_by t h =
-    let w = whole_entry 0 0 (fee_or_contract ∷ []) h.second h.back in
-    let r = w.4 in
+    let b = h.back in
+    let e = b.front in
+    let r = b.back in
     let f = r.front in
-    let pre = symbol mark.LeftBrace ∷ (entry w.0 ++ (more_entries w.1 ++ symbol mark.RightBrace ∷ [])) in
-    let root : w.2 ≡ f.fee_part ++ f.root_part = last w.2 r.first r.second r.parts r.back ∙ f.parts in
-    let is : t ≡ symbol mark.LeftBrace ∷ (entry w.0 ++ (more_entries w.1 ++ symbol mark.RightBrace ∷ (f.fee_part ++ f.root_part))) = one (symbol mark.LeftBrace) t h.first h.second h.parts h.front ∙ ap (λ (z : List Lexeme). symbol mark.LeftBrace ∷ z) (w.3 ∙ ap (λ (z : List Lexeme). entry w.0 ++ (more_entries w.1 ++ symbol mark.RightBrace ∷ z)) root) in
-    let back : symbol mark.LeftBrace ∷ (entry w.0 ++ (more_entries w.1 ++ symbol mark.RightBrace ∷ (f.fee_part ++ f.root_part))) ≡ pre ++ (f.fee_part ++ f.root_part) = sym (ap (λ (z : List Lexeme). symbol mark.LeftBrace ∷ z) (append_assoc (entry w.0) (more_entries w.1 ++ symbol mark.RightBrace ∷ []) (f.fee_part ++ f.root_part) ∙ ap (λ (z : List Lexeme). entry w.0 ++ z) (append_assoc (more_entries w.1) (symbol mark.RightBrace ∷ []) (f.fee_part ++ f.root_part)))) in
-    (record { pre = w.0 ∷ w.1; fee = f.fee; root = f.root }, record { pre_part = pre; fee_part = f.fee_part; root_part = f.root_part; parts = is ∙ back; pre = refl; fee = f.fee_spelled; root = f.root_spelled })
+    let root : b.second ≡ f.fee_part ++ f.root_part = last b.second r.first r.second r.parts r.back ∙ f.parts in
+    let is : t ≡ (symbol mark.LeftBrace ∷ b.first) ++ (f.fee_part ++ f.root_part) = one (symbol mark.LeftBrace) t h.first h.second h.parts h.front ∙ ap (λ (z : List Lexeme). symbol mark.LeftBrace ∷ z) (b.parts ∙ ap (λ (z : List Lexeme). b.first ++ z) root) in (
+      record { pre = e.first ∷ e.others; fee = f.fee; root = f.root },
+      record {
+        pre_part = symbol mark.LeftBrace ∷ b.first;
+        fee_part = f.fee_part;
+        root_part = f.root_part;
+        parts = is;
+        pre = ap (λ (z : List Lexeme). symbol mark.LeftBrace ∷ z) e.parts;
+        fee = f.fee_spelled;
+        root = f.root_spelled;
+      },
+    )
 
 -- ---- all parts
 
@@ -276,6 +284,7 @@ begun (behind_branch d k) c = begun_more d k c
 begun (contract d) c = begun_contract d c
 begun (a_part d k) c = begun_part d k c
 begun (behind_part d k) c = begun_more_parts d k c
+begun (an_entry ds ss) c = begun_first ds ss c
 begun (entry_kind ds ss) c = begun_entry ds ss c
 begun (behind_entry ds ss) c = begun_entries ds ss c
 begun fee_or_contract c = begun_root c

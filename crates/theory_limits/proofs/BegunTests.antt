@@ -1,20 +1,20 @@
 -- With the first token: expressions, predicates and headings.
-use Rattle.std.proofs.Common.{◌≡◌, ℕ, suc, Bool, true, false, List, [], ◌∷◌, ◌++◌, refl, ap, sym, ◌∙◌, append_assoc, inl, inr, ◌⊎◌}
+use Rattle.std.proofs.Common.{◌≡◌, ℕ, suc, Bool, true, false, List, [], ◌∷◌, ◌++◌, refl, ap, ◌∙◌, inl, inr, ◌⊎◌}
 use Rattle.std.proofs.lemmas.List.{append-nil}
-use Rattle.std.specs.Prelude.{Option, Some, None, if◌then◌else◌, ◌==◌}
+use Rattle.std.specs.Prelude.{Some, None, if◌then◌else◌, ◌==◌}
 use Rattle.std.proofs.lemmas.Bool.Decides.{eqb_tells}
-use Rattle.spec_terms.specs.Term.{Expr, constant, length_of, plus, minus, Pred, always, both, negation, equal, less}
+use Rattle.spec_terms.specs.Term.{Expr, constant, length_of, plus, minus, always, both, negation, equal, less}
 use Rattle.spec_text.specs.declared.token.Keyword.{Keyword}
 use Rattle.spec_text.specs.declared.token.Symbol.{Symbol}
 use Rattle.spec_text.specs.declared.token.Keyword.TheVariants as word
 use Rattle.spec_text.specs.declared.token.Symbol.TheVariants as mark
 use Rattle.spec_text.specs.declared.lexeme.Lexeme.{Lexeme}
-use Rattle.spec_text.specs.declared.lexeme.Lexeme.TheVariants.{Keyword as keyword, Symbol as symbol, Name as name, Number as number, LongName as long_name, HugeNumber as huge_number}
-use Rattle.spec_text.specs.Grammar.{SpellsFormula, SpellsTest, more_names, names, SpellsCondition, SpellsReveals, StandsFor}
+use Rattle.spec_text.specs.declared.lexeme.Lexeme.TheVariants.{Keyword as keyword, Symbol as symbol, Name as name, Number as number, HugeNumber as huge_number}
+use Rattle.spec_text.specs.Grammar.{SpellsFormula, SpellsTest, more_names, SpellsReveals}
 use Rattle.spec_text.specs.Reading.{is_symbol, is_keyword, symbol_number, keyword_number}
 use Rattle.theory_text.proofs.Told.Sees.{the_symbol, the_keyword}
-use Rattle.theory_limits.specs.Awaited.{Awaited, this_symbol, this_word, a_name, a_number, operator, relation, formula, test, behind_put, behind_reveal, Next, next, next_formula, compared, next_test}
-use Rattle.theory_limits.proofs.Texts.{Has, With_reveal, PutText, RevealText, Text, Joined, Texts, divided, Begun}
+use Rattle.theory_limits.specs.Awaited.{this_symbol, this_word, operator, relation, formula, behind_put, behind_reveal, Next, next, next_formula, compared, next_test}
+use Rattle.theory_limits.proofs.Texts.{Has, With_reveal, PutText, RevealText, Text, Texts, divided, Begun}
 
 -- ---- one token
 

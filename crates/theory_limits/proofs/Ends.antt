@@ -1,25 +1,24 @@
 -- The walk without limits ends where the grammar does.
-use Rattle.std.proofs.Common.{◌≡◌, ℕ, zero, suc, ◌+◌, ◌-◌, ◌<◌, ◌≤◌, List, [], ◌∷◌, ◌++◌, length, take, refl, ap, sym, subst, ◌∙◌, append_assoc, arith, inl, inr, ◌⊎◌}
-use Rattle.std.proofs.lemmas.List.{append-nil, length-append, take_at}
+use Rattle.std.proofs.Common.{◌≡◌, ℕ, suc, ◌+◌, ◌-◌, ◌<◌, ◌≤◌, List, [], ◌∷◌, ◌++◌, length, take, refl, ap, sym, subst, ◌∙◌, append_assoc, arith}
+use Rattle.std.proofs.lemmas.List.{length-append, take_at}
+use Rattle.std.proofs.Math.Seq.{take-append-add}
 use Rattle.std.specs.Prelude.{Option, Some, None}
-use Rattle.spec_terms.specs.Advert.{Advert}
 use Rattle.spec_text.specs.declared.token.Keyword.TheVariants as word
 use Rattle.spec_text.specs.declared.token.Symbol.{Symbol}
 use Rattle.spec_text.specs.declared.token.Symbol.TheVariants as mark
 use Rattle.spec_text.specs.declared.token.Keyword.{Keyword}
 use Rattle.spec_text.specs.declared.lexeme.Lexeme.{Lexeme}
 use Rattle.spec_text.specs.declared.lexeme.Lexeme.TheVariants.{Keyword as keyword, Symbol as symbol, Name as name, Number as number}
-use Rattle.spec_text.specs.Grammar.{Spells, StandsFor, StandFor, Begins}
+use Rattle.spec_text.specs.Grammar.{Spells, StandFor, Begins}
 use Rattle.spec_text.specs.Statements.{IsSyntaxAt}
 use Rattle.spec_text.specs.Reading.{symbol_number, keyword_number}
-use Rattle.theory_text.proofs.Told.FirstToken.{stands_itself}
 use Rattle.theory_text.proofs.Told.PlainTexts.{stand_themselves}
-use Rattle.theory_limits.specs.Awaited.{Awaited, this_symbol, this_word, a_name, a_number, operator, relation, formula, test, behind_put, behind_reveal, wrapped, branch, behind_branch, contract, part, behind_part, entry_kind, behind_entry, fee_or_contract, an_advert, Next, next}
+use Rattle.theory_limits.specs.Awaited.{Awaited, this_symbol, this_word, a_name, a_number, operator, relation, formula, test, behind_put, behind_reveal, wrapped, branch, behind_branch, contract, part, behind_part, entry, entry_kind, behind_entry, fee_or_contract, an_advert, Next, next}
 use Rattle.theory_limits.specs.Marks.{end_here, end_from, grammar_end}
 use Rattle.theory_limits.specs.Statements.{MeansAdvert, GrammarTheorem}
 use Rattle.theory_limits.proofs.Plain.{stand_end}
 use Rattle.theory_limits.proofs.SpelledAdverts.{spelled_advert}
-use Rattle.theory_limits.proofs.Texts.{Text, Texts, Joined, divided, Begun}
+use Rattle.theory_limits.proofs.Texts.{Text, Texts, divided, Begun}
 use Rattle.theory_limits.proofs.BegunTests.{number_same}
 use Rattle.theory_limits.proofs.BegunAdverts.{begun, advert_by}
 
@@ -97,6 +96,7 @@ filled (behind_branch d k) as' f = record { text = symbol mark.RightParen ∷ f.
 filled (contract d) as' f = record { text = keyword word.Withdraw ∷ name [] ∷ f.text; all = f.all }
 filled (part d k) as' f = record { text = number 0 ∷ symbol mark.Arrow ∷ keyword word.Withdraw ∷ name [] ∷ symbol mark.RightBracket ∷ f.text; all = f.all }
 filled (behind_part d k) as' f = record { text = symbol mark.RightBracket ∷ f.text; all = f.all }
+filled (entry ds ss) as' f = record { text = name [] ∷ symbol mark.Colon ∷ keyword word.Secret ∷ name [] ∷ symbol mark.RightBrace ∷ f.text; all = f.all }
 filled (entry_kind ds ss) as' f = record { text = keyword word.Secret ∷ name [] ∷ symbol mark.RightBrace ∷ f.text; all = f.all }
 filled (behind_entry ds ss) as' f = record { text = symbol mark.RightBrace ∷ f.text; all = f.all }
 filled fee_or_contract as' f = record { text = keyword word.Withdraw ∷ name [] ∷ f.text; all = f.all }
@@ -174,22 +174,17 @@ begins_is t u e =
 begins_comes : (t : List Lexeme) → Begins t → (more : List Lexeme) × (grammar_end (t ++ more) ≡ None)
 begins_comes t b = (b.more, stand_end an_advert (t ++ b.more) (b.meant ++ b.more) (stand_more t b.meant b.more b.stand) ∙ spelled_advert (b.meant ++ b.more) b.advert b.spelled)
 
--- a longer front goes past the next token
-longer : (front rest : List Lexeme) (q : ℕ) → length front < q → q ≤ length (front ++ rest) → (c : Lexeme) × (after : List Lexeme) × (within : List Lexeme) × (rest ≡ c ∷ after) × (take q (front ++ rest) ≡ front ++ c ∷ within)
-longer [] [] q lt le = absurd (omega arith)
-longer [] (c ∷ after) zero lt le = absurd (omega arith)
-longer [] (c ∷ after) (suc q) lt le = (c, after, take q after, refl, refl)
-longer (x ∷ front) rest zero lt le = absurd (omega arith)
-longer (x ∷ front) rest (suc q) lt le =
-    let w = longer front rest q (omega arith) (omega arith) in
-    (w.0, w.1, w.2, w.3, ap (λ (l : List Lexeme). x ∷ l) w.4)
-
-not_longer : (t : List Lexeme) (left q : ℕ) (h : Halts an_advert t left) → length h.front < q → q ≤ length t → Begins (take q t) → ⊥
-not_longer t left q h lt le b =
-    let w = longer h.front h.rest q lt (subst (λ (z : List Lexeme). q ≤ length z) h.parts le) in
-    let k = begins_comes (take q t) b in
-    let text : take q t ++ k.0 ≡ h.front ++ w.0 ∷ (w.2 ++ k.0) = ap (λ (z : List Lexeme). z ++ k.0) (ap (take q) h.parts ∙ w.4) ∙ append_assoc h.front (w.0 ∷ w.2) k.0 in
-    some_end (suc (length (w.2 ++ k.0))) (sym (h.stops w.0 w.1 (w.2 ++ k.0) w.3) ∙ sym (h.goes (w.0 ∷ (w.2 ++ k.0))) ∙ sym (ap grammar_end text) ∙ k.1)
+-- no front begins an advert that goes past the next token
+not_past : (t front rest : List Lexeme) (awaited : List Awaited) (q : ℕ) → t ≡ front ++ rest → ((u : List Lexeme) → end_from an_advert (front ++ u) ≡ end_from awaited u)
+    → ((c : Lexeme) (after u : List Lexeme) → rest ≡ c ∷ after → end_from awaited (c ∷ u) ≡ an_end (suc (length u))) → length front < q → q ≤ length t → Begins (take q t) → ⊥
+not_past t front [] awaited q parts goes stops lt le b = let len : length t ≡ length front + 0 = ap length parts ∙ length-append front [] in absurd (omega arith)
+not_past t front (c ∷ after) awaited q parts goes stops lt le b =
+    let k : ℕ = q - suc (length front) in
+    let n : q ≡ length front + suc k = omega arith in
+    let fronts : take q t ≡ front ++ c ∷ take k after = ap (take q) parts ∙ ap (λ (m : ℕ). take m (front ++ c ∷ after)) n ∙ take-append-add front (c ∷ after) (suc k) in
+    let m = begins_comes (take q t) b in
+    let text : take q t ++ m.0 ≡ front ++ c ∷ (take k after ++ m.0) = ap (λ (z : List Lexeme). z ++ m.0) fronts ∙ append_assoc front (c ∷ take k after) m.0 in
+    some_end (suc (length (take k after ++ m.0))) (sym (stops c after (take k after ++ m.0) refl) ∙ sym (goes (c ∷ (take k after ++ m.0))) ∙ sym (ap grammar_end text) ∙ m.1)
 
 ends_at : (t : List Lexeme) (left : ℕ) → grammar_end t ≡ an_end left → Halts an_advert t left → IsSyntaxAt t (length t - left)
 ends_at t left e h =
@@ -201,7 +196,7 @@ ends_at t left e h =
     rw place (record {
       within = omega arith;
       begins = subst Begins (sym fronts) front;
-      longest = λ q lt le b. not_longer t left q h lt le b;
+      longest = λ q lt le b. not_past t h.front h.rest h.awaited q h.parts h.goes h.stops lt le b;
       none = λ advert s. some_end left (sym e ∙ spelled_advert t advert s);
     })
 

@@ -7,18 +7,18 @@ use Rattle.spec_text.specs.declared.stop.Stop.TheVariants as stops
 use Rattle.spec_text.specs.declared.lexeme.Lexeme.{Lexeme}
 use Rattle.spec_text.specs.Reading.{Reads, ◌>>=◌}
 use Rattle.theory_limits.specs.Awaited.{Awaited, Next, next}
-use Rattle.theory_limits.specs.Marks.{exceeded, came, mark_place}
+use Rattle.theory_limits.specs.Marks.{exceeded, came}
 
 -- ---- the walk
 
 abbrev pub Judgement : Type 0
 Judgement = Result (Unit {0}) Stop
 
--- what is answered at a token, by what it lets await, what it exceeds, where that is marked, and how the walk goes on
-abbrev pub stepped : Next → List Limit → ℕ → ℕ → (List Awaited → Judgement) → Judgement
-stepped None ws left place on = Err (stops.Syntax left)
-stepped (Some new) [] left place on = on new
-stepped (Some new) (w ∷ ws) left place on = Err (stops.Limit w place)
+-- what is answered at a token, by what it lets await, what it exceeds, and how the walk goes on
+abbrev pub stepped : Next → List Limit → ℕ → (List Awaited → Judgement) → Judgement
+stepped None ws left on = Err (stops.Syntax left)
+stepped (Some new) [] left on = on new
+stepped (Some new) (w ∷ ws) left on = Err (stops.Limit w left)
 
 -- what is answered of tokens of which these parts are awaited, where so many branches came before
 abbrev pub judged : List Awaited → ℕ → List Lexeme → Judgement
@@ -26,7 +26,7 @@ judged [] before [] = Ok tt
 judged (a ∷ as') before [] = Err (stops.Syntax 0)
 judged [] before (t ∷ ts) = Err (stops.Syntax (suc (length ts)))
 judged (a ∷ as') before (t ∷ ts) =
-    stepped (next a t) (exceeded a before t) (suc (length ts)) (mark_place a (suc (length ts))) (λ new. judged (new ++ as') (came a t before) ts)
+    stepped (next a t) (exceeded a before t ts) (suc (length ts)) (λ new. judged (new ++ as') (came a t before) ts)
 
 -- ---- readers that count no branches
 

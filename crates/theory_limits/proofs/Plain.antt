@@ -1,9 +1,9 @@
 -- What the walk without limits sees of a token, and where it ends.
-use Rattle.std.proofs.Common.{◌≡◌, ℕ, suc, ◌+◌, ◌≤◌, ◌<◌, Bool, true, false, List, [], ◌∷◌, ◌++◌, length, Option, Some, None, refl, ap, sym, ◌∙◌, arith}
+use Rattle.std.proofs.Common.{◌≡◌, ℕ, suc, List, [], ◌∷◌, ◌++◌, length, Option, Some, None, refl, ap, ◌∙◌}
 use Rattle.spec_text.specs.declared.lexeme.Lexeme.{Lexeme}
-use Rattle.spec_text.specs.declared.lexeme.Lexeme.TheVariants.{Keyword as keyword, Symbol as symbol, Name as name, Number as number, LongName as long_name, HugeNumber as huge_number}
+use Rattle.spec_text.specs.declared.lexeme.Lexeme.TheVariants.{Name as name, Number as number, LongName as long_name, HugeNumber as huge_number}
 use Rattle.spec_text.specs.Grammar.{StandsFor, StandFor}
-use Rattle.theory_limits.specs.Awaited.{Awaited, this_symbol, this_word, a_name, a_number, operator, relation, formula, test, behind_put, behind_reveal, wrapped, branch, behind_branch, contract, part, behind_part, entry_kind, behind_entry, fee_or_contract, Next, next}
+use Rattle.theory_limits.specs.Awaited.{Awaited, this_symbol, Next, next}
 use Rattle.theory_limits.specs.Marks.{end_here, end_from}
 
 -- a long name and a huge number come as what they stand for does

@@ -1,5 +1,5 @@
 -- The walk goes through what spells a contract or an advert.
-use Rattle.std.proofs.Common.{◌≡◌, ℕ, suc, List, [], ◌∷◌, ◌++◌, Option, None, refl, ap, sym, subst, ◌∙◌, append_assoc, inl, inr, ◌⊎◌}
+use Rattle.std.proofs.Common.{◌≡◌, ℕ, suc, List, [], ◌∷◌, ◌++◌, None, refl, ap, sym, ◌∙◌, append_assoc, inl, inr}
 use Rattle.std.proofs.lemmas.List.{append-nil}
 use Rattle.spec_terms.specs.Term.{Pred, Guarded, auth, after, put_reveal, withdraw, split, Contract, no_branch, branch, Parts, no_part, part}
 use Rattle.spec_terms.specs.Advert.{Advert}
@@ -8,13 +8,13 @@ use Rattle.spec_terms.specs.declared.pre.Pre.TheVariants.{Persistent, Volatile, 
 use Rattle.spec_text.specs.declared.token.Keyword.TheVariants as word
 use Rattle.spec_text.specs.declared.token.Symbol.TheVariants as mark
 use Rattle.spec_text.specs.declared.lexeme.Lexeme.{Lexeme}
-use Rattle.spec_text.specs.declared.lexeme.Lexeme.TheVariants.{Keyword as keyword, Symbol as symbol, Name as name, Number as number}
+use Rattle.spec_text.specs.declared.lexeme.Lexeme.TheVariants.{Keyword as keyword, Symbol as symbol}
 use Rattle.spec_text.specs.Grammar.{SpellsHeading, SpellsBranch, SpellsChoice, SpellsMore, SpellsParts, SpellsMoreParts, entry, more_entries, SpellsPre, SpellsFee, Spells}
 use Rattle.theory_text.proofs.Told.BranchTexts.{branch_nothing, branch_first}
 use Rattle.theory_text.proofs.Told.BranchEnds.{choice_nothing}
 use Rattle.theory_text.proofs.Told.AdvertReaders.{fee_contract}
-use Rattle.theory_limits.specs.Awaited.{Awaited, this_symbol, a_name, wrapped, behind_branch, contract, behind_part, entry_kind, behind_entry, fee_or_contract, an_advert}
-use Rattle.theory_limits.specs.Awaited.{branch as a_branch, part as a_part}
+use Rattle.theory_limits.specs.Awaited.{Awaited, wrapped, behind_branch, contract, behind_part, behind_entry, fee_or_contract, an_advert}
+use Rattle.theory_limits.specs.Awaited.{branch as a_branch, part as a_part, entry as an_entry}
 use Rattle.theory_limits.specs.Marks.{end_from, grammar_end}
 use Rattle.theory_limits.proofs.SpelledTests.{Goes, spelled_reveals, spelled_puts, spelled_both}
 
@@ -87,7 +87,7 @@ mutual
 
 -- ---- preconditions
 
-entry_goes : (p : Pre) (ds ss : ℕ) (more : List Awaited) (rest : List Lexeme) → (es : ℕ) × (us : ℕ) × Goes (a_name ∷ this_symbol mark.Colon ∷ entry_kind ds ss ∷ more) (entry p ++ rest) (behind_entry es us ∷ more) rest
+entry_goes : (p : Pre) (ds ss : ℕ) (more : List Awaited) (rest : List Lexeme) → (es : ℕ) × (us : ℕ) × Goes (an_entry ds ss ∷ more) (entry p ++ rest) (behind_entry es us ∷ more) rest
 entry_goes (Persistent party value deposit) ds ss more rest = (suc ds, ss, refl)
 entry_goes (Volatile party value deposit) ds ss more rest = (suc ds, ss, refl)
 entry_goes (Secret party secret) ds ss more rest = (ds, suc ss, refl)
@@ -96,10 +96,10 @@ more_entries_go : (ps : List Pre) (ds ss : ℕ) (more : List Awaited) (rest : Li
 more_entries_go [] ds ss more rest = refl
 more_entries_go (p ∷ ps) ds ss more rest =
     let w = entry_goes p ds ss more (more_entries ps ++ symbol mark.RightBrace ∷ rest) in
-    ap (end_from (a_name ∷ this_symbol mark.Colon ∷ entry_kind ds ss ∷ more)) (append_assoc (entry p) (more_entries ps) (symbol mark.RightBrace ∷ rest)) ∙ w.2 ∙ more_entries_go ps w.0 w.1 more rest
+    ap (end_from (an_entry ds ss ∷ more)) (append_assoc (entry p) (more_entries ps) (symbol mark.RightBrace ∷ rest)) ∙ w.2 ∙ more_entries_go ps w.0 w.1 more rest
 
 -- an entry and those behind it
-entries_go : (p : Pre) (ps : List Pre) (ds ss : ℕ) (more : List Awaited) (rest : List Lexeme) → Goes (a_name ∷ this_symbol mark.Colon ∷ entry_kind ds ss ∷ more) (entry p ++ (more_entries ps ++ symbol mark.RightBrace ∷ rest)) more rest
+entries_go : (p : Pre) (ps : List Pre) (ds ss : ℕ) (more : List Awaited) (rest : List Lexeme) → Goes (an_entry ds ss ∷ more) (entry p ++ (more_entries ps ++ symbol mark.RightBrace ∷ rest)) more rest
 entries_go p ps ds ss more rest =
     let w = entry_goes p ds ss more (more_entries ps ++ symbol mark.RightBrace ∷ rest) in
     w.2 ∙ more_entries_go ps w.0 w.1 more rest
@@ -108,7 +108,7 @@ spelled_pre : (pre : List Pre) (t : List Lexeme) → SpellsPre t pre → (rest :
 spelled_pre [] t l rest = absurd l
 spelled_pre (p ∷ ps) t l rest =
     ap (λ (z : List Lexeme). end_from an_advert (z ++ rest)) l
-    ∙ ap (end_from (a_name ∷ this_symbol mark.Colon ∷ entry_kind 0 0 ∷ fee_or_contract ∷ [])) (append_assoc (entry p) (more_entries ps ++ symbol mark.RightBrace ∷ []) rest ∙ ap (λ (z : List Lexeme). entry p ++ z) (append_assoc (more_entries ps) (symbol mark.RightBrace ∷ []) rest))
+    ∙ ap (end_from (an_entry 0 0 ∷ fee_or_contract ∷ [])) (append_assoc (entry p) (more_entries ps ++ symbol mark.RightBrace ∷ []) rest ∙ ap (λ (z : List Lexeme). entry p ++ z) (append_assoc (more_entries ps) (symbol mark.RightBrace ∷ []) rest))
     ∙ entries_go p ps 0 0 (fee_or_contract ∷ []) rest
 
 -- ---- adverts

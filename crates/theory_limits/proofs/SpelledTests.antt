@@ -1,12 +1,11 @@
 -- The walk goes through what spells an expression, a predicate or a heading.
-use Rattle.std.proofs.Common.{◌≡◌, ℕ, suc, List, [], ◌∷◌, ◌++◌, Option, refl, ap, sym, ◌∙◌, append_assoc, inl, inr}
-use Rattle.std.proofs.lemmas.List.{append-nil}
+use Rattle.std.proofs.Common.{◌≡◌, ℕ, suc, List, [], ◌∷◌, ◌++◌, refl, ap, ◌∙◌, append_assoc, inl, inr}
 use Rattle.spec_terms.specs.Term.{Expr, constant, length_of, plus, minus, Pred, always, both, negation, equal, less}
 use Rattle.spec_text.specs.declared.token.Keyword.TheVariants as word
 use Rattle.spec_text.specs.declared.token.Symbol.TheVariants as mark
 use Rattle.spec_text.specs.declared.lexeme.Lexeme.{Lexeme}
-use Rattle.spec_text.specs.declared.lexeme.Lexeme.TheVariants.{Keyword as keyword, Symbol as symbol, Name as name, Number as number}
-use Rattle.spec_text.specs.Grammar.{SpellsFormula, SpellsTest, more_names, names, SpellsCondition, SpellsReveals, SpellsHeading}
+use Rattle.spec_text.specs.declared.lexeme.Lexeme.TheVariants.{Keyword as keyword, Symbol as symbol}
+use Rattle.spec_text.specs.Grammar.{SpellsFormula, SpellsTest, more_names, names, SpellsCondition, SpellsReveals}
 use Rattle.theory_limits.specs.Awaited.{Awaited, this_symbol, this_word, a_name, operator, relation, formula, test, behind_put, behind_reveal}
 use Rattle.theory_limits.specs.Marks.{end_from}
 

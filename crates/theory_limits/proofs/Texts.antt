@@ -1,14 +1,13 @@
 -- What spells the parts that are awaited.
-use Rattle.std.proofs.Common.{◌≡◌, ℕ, suc, List, [], ◌∷◌, ◌++◌, refl, ap, sym, ◌∙◌, append_assoc, inl, inr, ◌⊎◌}
-use Rattle.std.proofs.lemmas.List.{append-nil}
-use Rattle.std.specs.Prelude.{Option, Some, None}
-use Rattle.spec_terms.specs.Term.{Expr, Pred, Guarded, Contract, Parts}
+use Rattle.std.proofs.Common.{◌≡◌, ℕ, List, [], ◌∷◌, ◌++◌, refl, ap, sym, ◌∙◌, append_assoc, ◌⊎◌}
+use Rattle.std.specs.Prelude.{Some, None}
+use Rattle.spec_terms.specs.Term.{Pred, Contract}
 use Rattle.spec_terms.specs.declared.pre.Pre.{Pre}
-use Rattle.spec_text.specs.declared.token.Keyword.TheVariants as word
 use Rattle.spec_text.specs.declared.token.Symbol.TheVariants as mark
 use Rattle.spec_text.specs.declared.lexeme.Lexeme.{Lexeme}
 use Rattle.spec_text.specs.declared.lexeme.Lexeme.TheVariants.{Keyword as keyword, Symbol as symbol, Name as name, Number as number}
 use Rattle.spec_text.specs.Grammar.{SpellsFormula, SpellsTest, more_names, SpellsCondition, SpellsReveals, SpellsBranch, SpellsChoice, SpellsMore, SpellsParts, SpellsMoreParts, entry, more_entries, SpellsFee, StandsFor}
+use Rattle.theory_limits.specs.Awaited.{entry as an_entry}
 use Rattle.theory_limits.specs.Awaited.{Awaited, this_symbol, this_word, a_name, a_number, operator, relation, formula, test, behind_put, behind_reveal, wrapped, branch, behind_branch, contract, part, behind_part, entry_kind, behind_entry, fee_or_contract, Next}
 
 -- ---- texts of parts
@@ -58,6 +57,12 @@ pub record EntryText (t : List Lexeme) : Type 0 where
   pub parts : t ≡ own ++ (more_entries others ++ symbol mark.RightBrace ∷ [])
   pub entry_of : (party : List ℕ) → (p : Pre) × (entry p ≡ name party ∷ symbol mark.Colon ∷ own)
 
+-- an entry and those behind it, up to the brace that closes
+pub record EntriesText (t : List Lexeme) : Type 0 where
+  pub first : Pre
+  pub others : List Pre
+  pub parts : t ≡ entry first ++ (more_entries others ++ symbol mark.RightBrace ∷ [])
+
 -- a fee, if there is one, and a contract
 pub record FeeText (t : List Lexeme) : Type 0 where
   pub fee_part : List Lexeme
@@ -86,6 +91,7 @@ Text (behind_branch d k) t = Closed (symbol mark.RightParen) SpellsMore t
 Text (contract d) t = Has SpellsChoice t
 Text (part d k) t = Closed (symbol mark.RightBracket) SpellsParts t
 Text (behind_part d k) t = Closed (symbol mark.RightBracket) SpellsMoreParts t
+Text (an_entry ds ss) t = EntriesText t
 Text (entry_kind ds ss) t = EntryText t
 Text (behind_entry ds ss) t = (ps : List Pre) × (t ≡ more_entries ps ++ symbol mark.RightBrace ∷ [])
 Text fee_or_contract t = FeeText t

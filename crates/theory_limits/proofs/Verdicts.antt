@@ -11,7 +11,7 @@ use Rattle.spec_text.specs.ReadAdvert.{advert_of_all}
 use Rattle.spec_text.specs.Statements.{IsSyntaxAt, IsLimitAt}
 use Rattle.theory_text.proofs.Told.StopPlaces.{syntax_is, limit_is, found_is}
 use Rattle.theory_limits.specs.Awaited.{Awaited, Next, next, an_advert}
-use Rattle.theory_limits.specs.Marks.{exceeded, came, mark_place, Mark, marks_at, marks_here, marks_from, marks, end_here, end_from, grammar_end}
+use Rattle.theory_limits.specs.Marks.{exceeded, came, Mark, marks_at, marks_here, marks_from, marks, end_here, end_from, grammar_end}
 use Rattle.theory_limits.specs.Statements.{IsFirstMark, StandFrom, LimitsTheorem}
 use Rattle.theory_limits.proofs.Judged.{Judgement, stepped, judged}
 use Rattle.theory_limits.proofs.Adverts.{bare_answer, judged_is}
@@ -25,18 +25,18 @@ verdict (m ∷ ms) end = Err (stops.Limit m.quantity m.left)
 verdict [] None = Ok tt
 verdict [] (Some left) = Err (stops.Syntax left)
 
-step_is : (n : Next) (ws : List Limit) (left place : ℕ) (on : List Awaited → Judgement) (behind : List Awaited → List Mark) (end : List Awaited → Option ℕ) → ((new : List Awaited) → on new ≡ verdict (behind new) (end new))
-    → stepped n ws left place on ≡ verdict (marks_here n (marks_at place ws) behind) (end_here n left end)
-step_is None ws left place on behind end h = refl
-step_is (Some new) [] left place on behind end h = h new
-step_is (Some new) (w ∷ ws) left place on behind end h = refl
+step_is : (n : Next) (ws : List Limit) (left : ℕ) (on : List Awaited → Judgement) (behind : List Awaited → List Mark) (end : List Awaited → Option ℕ) → ((new : List Awaited) → on new ≡ verdict (behind new) (end new))
+    → stepped n ws left on ≡ verdict (marks_here n (marks_at left ws) behind) (end_here n left end)
+step_is None ws left on behind end h = refl
+step_is (Some new) [] left on behind end h = h new
+step_is (Some new) (w ∷ ws) left on behind end h = refl
 
 walk_is : (awaited : List Awaited) (before : ℕ) (ts : List Lexeme) → judged awaited before ts ≡ verdict (marks_from awaited before ts) (end_from awaited ts)
 walk_is [] before [] = refl
 walk_is (a ∷ as') before [] = refl
 walk_is [] before (t ∷ ts) = refl
 walk_is (a ∷ as') before (t ∷ ts) =
-    step_is (next a t) (exceeded a before t) (suc (length ts)) (mark_place a (suc (length ts))) (λ new. judged (new ++ as') (came a t before) ts) (λ new. marks_from (new ++ as') (came a t before) ts) (λ new. end_from (new ++ as') ts)
+    step_is (next a t) (exceeded a before t ts) (suc (length ts)) (λ new. judged (new ++ as') (came a t before) ts) (λ new. marks_from (new ++ as') (came a t before) ts) (λ new. end_from (new ++ as') ts)
     (λ new. walk_is (new ++ as') (came a t before) ts)
 
 answer_is : (t : List Lexeme) → bare_answer (advert_of_all t) ≡ verdict (marks t) (grammar_end t)

@@ -41,7 +41,9 @@ pub data Awaited : Type 0 where
   part : ℕ → ℕ → Awaited
   -- what follows a part: a comma and a part, or the bracket that closes
   behind_part : ℕ → ℕ → Awaited
-  -- what an entry is, behind its party and colon, and the rest of the precondition: how many deposits and secrets came
+  -- an entry and the rest of the precondition: how many deposits and secrets came before it
+  entry : ℕ → ℕ → Awaited
+  -- what the entry is, behind its party and colon
   entry_kind : ℕ → ℕ → Awaited
   -- what follows an entry: a bar and an entry, or the brace that closes
   behind_entry : ℕ → ℕ → Awaited
@@ -119,10 +121,12 @@ next (part d k) (number n) = Some (this_symbol mark.Arrow ∷ contract d ∷ beh
 next (part d k) huge_number = Some (this_symbol mark.Arrow ∷ contract d ∷ behind_part d k ∷ [])
 next (behind_part d k) (symbol mark.Comma) = Some (part d (suc k) ∷ [])
 next (behind_part d k) (symbol mark.RightBracket) = Some []
+next (entry deposits secrets) (name party) = Some (this_symbol mark.Colon ∷ entry_kind deposits secrets ∷ [])
+next (entry deposits secrets) long_name = Some (this_symbol mark.Colon ∷ entry_kind deposits secrets ∷ [])
 next (entry_kind deposits secrets) (symbol mark.Bang) = Some (a_number max_money ∷ this_symbol mark.At ∷ a_name ∷ behind_entry (suc deposits) secrets ∷ [])
 next (entry_kind deposits secrets) (symbol mark.Question) = Some (a_number max_money ∷ this_symbol mark.At ∷ a_name ∷ behind_entry (suc deposits) secrets ∷ [])
 next (entry_kind deposits secrets) (keyword word.Secret) = Some (a_name ∷ behind_entry deposits (suc secrets) ∷ [])
-next (behind_entry deposits secrets) (symbol mark.Bar) = Some (a_name ∷ this_symbol mark.Colon ∷ entry_kind deposits secrets ∷ [])
+next (behind_entry deposits secrets) (symbol mark.Bar) = Some (entry deposits secrets ∷ [])
 next (behind_entry deposits secrets) (symbol mark.RightBrace) = Some []
 next fee_or_contract (keyword word.Fee) = Some (a_number max_money ∷ contract 1 ∷ [])
 next fee_or_contract t = next_contract 1 t
@@ -130,4 +134,4 @@ next _ _ = None
 
 -- an advert
 abbrev pub an_advert : List Awaited
-an_advert = this_symbol mark.LeftBrace ∷ a_name ∷ this_symbol mark.Colon ∷ entry_kind 0 0 ∷ fee_or_contract ∷ []
+an_advert = this_symbol mark.LeftBrace ∷ entry 0 0 ∷ fee_or_contract ∷ []

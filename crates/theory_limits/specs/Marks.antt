@@ -8,7 +8,7 @@ use Rattle.spec_text.specs.declared.token.Keyword.TheVariants as word
 use Rattle.spec_text.specs.declared.token.Symbol.TheVariants as mark
 use Rattle.spec_text.specs.declared.lexeme.Lexeme.{Lexeme}
 use Rattle.spec_text.specs.declared.lexeme.Lexeme.TheVariants.{Keyword as keyword, Symbol as symbol, Number as number, LongName as long_name, HugeNumber as huge_number}
-use Rattle.theory_limits.specs.Awaited.{Awaited, a_name, a_number, formula, test, wrapped, branch, contract, part, entry_kind, fee_or_contract, Next, next, an_advert}
+use Rattle.theory_limits.specs.Awaited.{Awaited, a_name, a_number, formula, test, wrapped, branch, contract, part, entry, fee_or_contract, Next, next, an_advert}
 
 -- ---- what one token exceeds
 
@@ -45,22 +45,28 @@ abbrev pub over_contract : ℕ → ℕ → Lexeme → List Limit
 over_contract d before (symbol s) = []
 over_contract d before t = over_branch d 1 before t
 
+-- An entry, which is a deposit or a secret as soon as its party and colon are followed by what tells so, whole or not.
+abbrev pub over_entry : ℕ → ℕ → List Lexeme → List Limit
+over_entry deposits secrets (symbol mark.Colon ∷ symbol mark.Bang ∷ ts) = over limits.Deposits most_deposits (suc deposits)
+over_entry deposits secrets (symbol mark.Colon ∷ symbol mark.Question ∷ ts) = over limits.Deposits most_deposits (suc deposits)
+over_entry deposits secrets (symbol mark.Colon ∷ keyword word.Secret ∷ ts) = over limits.Secrets most_secrets (suc secrets)
+over_entry deposits secrets _ = []
+
 -- The quantities that are exceeded with a token, in their order, by what is awaited and how many branches came in the
 -- whole contract before.
-abbrev pub exceeded : Awaited → ℕ → Lexeme → List Limit
-exceeded a_name before t = long t
-exceeded (a_number most) before t = great most t
-exceeded (formula d) before t = great greatest_constant t ++ over limits.Depth most_depth d
-exceeded (test d) before t = over_test d t
-exceeded (wrapped d) before t = long t ++ over limits.Depth most_depth d
-exceeded (branch d k) before t = over_branch d k before t
-exceeded (contract d) before t = over_contract d before t
-exceeded (part d k) before t = great max_money t ++ over limits.Split most_parts k
-exceeded (entry_kind deposits secrets) before (keyword k) = over limits.Secrets most_secrets (suc secrets)
-exceeded (entry_kind deposits secrets) before t = over limits.Deposits most_deposits (suc deposits)
-exceeded fee_or_contract before (keyword word.Fee) = []
-exceeded fee_or_contract before t = over_contract 1 before t
-exceeded _ before t = []
+abbrev pub exceeded : Awaited → ℕ → Lexeme → List Lexeme → List Limit
+exceeded a_name before t ts = long t
+exceeded (a_number most) before t ts = great most t
+exceeded (formula d) before t ts = great greatest_constant t ++ over limits.Depth most_depth d
+exceeded (test d) before t ts = over_test d t
+exceeded (wrapped d) before t ts = long t ++ over limits.Depth most_depth d
+exceeded (branch d k) before t ts = over_branch d k before t
+exceeded (contract d) before t ts = over_contract d before t
+exceeded (part d k) before t ts = great max_money t ++ over limits.Split most_parts k
+exceeded (entry deposits secrets) before t ts = long t ++ over_entry deposits secrets ts
+exceeded fee_or_contract before (keyword word.Fee) ts = []
+exceeded fee_or_contract before t ts = over_contract 1 before t
+exceeded _ before t ts = []
 
 -- how many branches came, with a contract that begins with this token, where so many came before
 abbrev pub came_bare : Lexeme → ℕ → ℕ
@@ -86,11 +92,6 @@ abbrev pub marks_at : ℕ → List Limit → List Mark
 marks_at left [] = []
 marks_at left (w ∷ ws) = record { quantity = w; left = left } ∷ marks_at left ws
 
--- the token to which a mark is put: an entry is marked at its first token, two before that which tells what it is
-abbrev pub mark_place : Awaited → ℕ → ℕ
-mark_place (entry_kind deposits secrets) left = suc (suc left)
-mark_place _ left = left
-
 -- the marks of a token and of those behind it, by what it lets await; none from a token on that can't come
 abbrev pub marks_here : Next → List Mark → (List Awaited → List Mark) → List Mark
 marks_here None here behind = []
@@ -101,7 +102,7 @@ abbrev pub marks_from : List Awaited → ℕ → List Lexeme → List Mark
 marks_from awaited before [] = []
 marks_from [] before (t ∷ ts) = []
 marks_from (a ∷ as') before (t ∷ ts) =
-    marks_here (next a t) (marks_at (mark_place a (suc (length ts))) (exceeded a before t)) (λ new. marks_from (new ++ as') (came a t before) ts)
+    marks_here (next a t) (marks_at (suc (length ts)) (exceeded a before t ts)) (λ new. marks_from (new ++ as') (came a t before) ts)
 
 -- the marks of a contract text
 abbrev pub marks : List Lexeme → List Mark

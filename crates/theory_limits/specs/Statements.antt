@@ -1,5 +1,5 @@
 -- What is claimed of the limits of contract text; of this project's profile.
-use Rattle.std.specs.Prelude.{◌≡◌, ℕ, ◌-◌, ◌≤◌, List, [], ◌∷◌, length, Option, Some, None, Ok, Err}
+use Rattle.std.specs.Prelude.{◌≡◌, ℕ, ◌-◌, ◌≤◌, List, [], ◌∷◌, length, Some, None, Ok, Err}
 use Rattle.spec_terms.specs.Advert.{Advert}
 use Rattle.spec_terms.specs.declared.limit.Limit.{Limit}
 use Rattle.spec_text.specs.declared.stop.Stop.TheVariants as stops

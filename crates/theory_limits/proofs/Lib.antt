@@ -14,3 +14,5 @@ pub mod Texts
 pub mod BegunTests
 pub mod BegunAdverts
 pub mod Ends
+pub mod TextPlaces
+pub mod Worked

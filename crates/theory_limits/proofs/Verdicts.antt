@@ -139,7 +139,7 @@ end_by t left (m ∷ ms) end e h = absurd cc
 end_is : (t : List Lexeme) (left : ℕ) → advert_of_all t ≡ Err (stops.Syntax left) → grammar_end t ≡ Some left
 end_is t left h = end_by t left (marks t) (grammar_end t) (unmarked t left h) (sym (ap bare_answer h) ∙ answer_is t)
 
-left_within : (t : List Lexeme) (left : ℕ) → advert_of_all t ≡ Err (stops.Syntax left) → left ≤ length t
+pub left_within : (t : List Lexeme) (left : ℕ) → advert_of_all t ≡ Err (stops.Syntax left) → left ≤ length t
 left_within t left h = end_within an_advert t left (end_is t left h)
 
 syntax_both : (t : List Lexeme) (left : ℕ) → advert_of_all t ≡ Err (stops.Syntax left) → IsSyntaxAt t (length t - left) × StandFrom (length t - left) (length t) (marks t)

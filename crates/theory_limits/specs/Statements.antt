@@ -3,9 +3,13 @@ use Rattle.std.specs.Prelude.{◌≡◌, ℕ, ◌-◌, ◌≤◌, List, [], ◌�
 use Rattle.spec_terms.specs.Advert.{Advert}
 use Rattle.spec_terms.specs.declared.limit.Limit.{Limit}
 use Rattle.spec_text.specs.declared.stop.Stop.TheVariants as stops
+use Rattle.spec_text.specs.declared.stop.TextFault.TheVariants as faults
+use Rattle.spec_text.specs.declared.token.Token.{Token}
+use Rattle.spec_text.specs.Lexis.{tokens_of}
 use Rattle.spec_text.specs.declared.lexeme.Lexeme.{Lexeme}
+use Rattle.spec_text.specs.Lexeme.{lexemes}
 use Rattle.spec_text.specs.Grammar.{Spells, StandFor}
-use Rattle.spec_text.specs.ReadAdvert.{advert_of_all}
+use Rattle.spec_text.specs.ReadAdvert.{advert_of_all, place_of, read_answer}
 use Rattle.spec_text.specs.Statements.{IsSyntaxAt, IsLimitAt}
 use Rattle.theory_limits.specs.Marks.{Mark, marks, grammar_end}
 
@@ -49,3 +53,27 @@ pub record GrammarTheorem : Type 0 where
   pub whole_only : (t : List Lexeme) → MeansAdvert t → grammar_end t ≡ None
   -- Else the first token that can't come is that from which on no advert goes on.
   pub ends : (t : List Lexeme) (left : ℕ) → grammar_end t ≡ Some left → IsSyntaxAt t (length t - left)
+
+-- a text whose first mark has this quantity and is put to the token that begins at this byte
+pub record IsMarkedText (text : List ℕ) (w : Limit) (place : ℕ) : Type 0 where
+  pub tokens : List Token
+  pub cut : tokens_of text ≡ Ok tokens
+  pub left : ℕ
+  pub first : IsFirstMark (lexemes text tokens) w left
+  pub place_is : place ≡ place_of text tokens left
+
+-- a text whose grammar ends at the token that begins at this byte, or at its end, and no token before is marked
+pub record IsEndedText (text : List ℕ) (place : ℕ) : Type 0 where
+  pub tokens : List Token
+  pub cut : tokens_of text ≡ Ok tokens
+  pub number : ℕ
+  pub ends : IsSyntaxAt (lexemes text tokens) number
+  pub unmarked : StandFrom number (length (lexemes text tokens)) (marks (lexemes text tokens))
+  pub place_is : place ≡ place_of text tokens (length (lexemes text tokens) - number)
+
+-- the same of texts, with places in bytes
+pub record TextLimitsTheorem : Type 0 where
+  pub limit : (text : List ℕ) (w : Limit) (place : ℕ) → read_answer text ≡ Err (faults.Limit w place) → IsMarkedText text w place
+  pub limit_only : (text : List ℕ) (w : Limit) (place : ℕ) → IsMarkedText text w place → read_answer text ≡ Err (faults.Limit w place)
+  pub syntax : (text : List ℕ) (place : ℕ) → read_answer text ≡ Err (faults.Syntax place) → IsEndedText text place
+  pub syntax_only : (text : List ℕ) (place : ℕ) → IsEndedText text place → read_answer text ≡ Err (faults.Syntax place)

@@ -1,7 +1,7 @@
 //! Where the limits of contract text are met: each theorem is the contract of a function that does nothing.
 #![tactic(auto)]
 
-ghost use Rattle.theory_limits.specs.Statements.{OneAdvertTheorem, LimitsTheorem, GrammarTheorem};
+ghost use Rattle.theory_limits.specs.Statements.{OneAdvertTheorem, LimitsTheorem, GrammarTheorem, TextLimitsTheorem};
 
 /// A text spells at most one advert.
 pub fn texts_spell_one_advert()
@@ -17,4 +17,9 @@ pub fn first_limits_are_answered()
 /// What is awaited token by token, without any limit, is what the grammar of contract text lets come.
 pub fn awaited_parts_are_the_grammar()
     ensures { GrammarTheorem }
+{}
+
+/// The same of texts: which answer comes, and at which byte.
+pub fn texts_stop_at_bytes()
+    ensures { TextLimitsTheorem }
 {}

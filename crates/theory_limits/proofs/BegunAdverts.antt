@@ -18,11 +18,14 @@ use Rattle.spec_text.specs.Reading.{is_symbol, is_keyword}
 -- ---- guarded terms
 
 -- a name, a text up to its point, and what follows
-headed : (x : List ℕ) (t u v b w text c n : List Lexeme) → t ≡ u ++ v → u ≡ name x ∷ [] → v ≡ b ++ w → b ≡ text ++ symbol mark.Dot ∷ [] → w ≡ c ++ n → n ≡ [] → t ≡ name x ∷ (text ++ symbol mark.Dot ∷ c)
+headed : (x : List ℕ) (t u v b w text c n : List Lexeme) → t ≡ u ++ v → u ≡ name x ∷ [] → v ≡ b ++ w → b ≡ text ++ symbol mark.Dot ∷ []
+    → w ≡ c ++ n → n ≡ [] → t ≡ name x ∷ (text ++ symbol mark.Dot ∷ c)
 headed x t u v b w text c n e f g k l m =
     one (name x) t u v e f ∙ ap (λ (z : List Lexeme). name x ∷ z) (g ∙ ap (λ (z : List Lexeme). z ++ w) k ∙ append_assoc text (symbol mark.Dot ∷ []) w ∙ ap (λ (z : List Lexeme). text ++ symbol mark.Dot ∷ z) (last w c n l m))
 
-put_by : (d : ℕ) (t : List Lexeme) (h : Texts (a_name ∷ behind_put ∷ contract d ∷ []) t) → ((h.back.front.text ≡ more_names (h.back.front.names)) ⊎ With_reveal (h.back.front.names) (h.back.front.text)) → Has SpellsBranch (keyword word.Put ∷ t)
+put_by : (d : ℕ) (t : List Lexeme) (h : Texts (a_name ∷ behind_put ∷ contract d ∷ []) t)
+    → ((h.back.front.text ≡ more_names (h.back.front.names)) ⊎ With_reveal (h.back.front.names) (h.back.front.text))
+    → Has SpellsBranch (keyword word.Put ∷ t)
 put_by d t h (inl w) =
     let x = h.front.0 in
     let b = h.back in
@@ -49,13 +52,15 @@ reveal_by d t h =
     record { value = put_reveal [] (a ∷ r.names) r.condition c.front.value; spelled = (keyword word.Reveal ∷ name a ∷ r.text, c.first, ap (λ (z : List Lexeme). keyword word.Reveal ∷ z) is, heading, c.front.spelled) }
 
 -- a guarded term behind a colon
-wrapped_by : (d : ℕ) (party : List ℕ) (t : List Lexeme) → Texts (this_symbol mark.Colon ∷ wrapped d ∷ []) t → Has SpellsBranch (name party ∷ t)
+wrapped_by : (d : ℕ) (party : List ℕ) (t : List Lexeme) → Texts (this_symbol mark.Colon ∷ wrapped d ∷ []) t
+    → Has SpellsBranch (name party ∷ t)
 wrapped_by d party t h =
     let b = h.back in
     let is : t ≡ symbol mark.Colon ∷ b.first = one (symbol mark.Colon) t h.first h.second h.parts h.front ∙ ap (λ (z : List Lexeme). symbol mark.Colon ∷ z) (last h.second b.first b.second b.parts b.back) in
     record { value = auth party b.front.value; spelled = (b.first, ap (λ (z : List Lexeme). name party ∷ z) is, b.front.spelled) }
 
-after_by : (d most : ℕ) (t : List Lexeme) → Texts (a_number most ∷ this_symbol mark.Colon ∷ wrapped d ∷ []) t → Has SpellsBranch (keyword word.After ∷ t)
+after_by : (d most : ℕ) (t : List Lexeme) → Texts (a_number most ∷ this_symbol mark.Colon ∷ wrapped d ∷ []) t
+    → Has SpellsBranch (keyword word.After ∷ t)
 after_by d most t h =
     let n = h.front.0 in
     let k = h.back in
@@ -63,7 +68,8 @@ after_by d most t h =
     let is : t ≡ number n ∷ symbol mark.Colon ∷ b.first = one (number n) t h.first h.second h.parts h.front.1 ∙ ap (λ (z : List Lexeme). number n ∷ z) (one (symbol mark.Colon) h.second k.first k.second k.parts k.front ∙ ap (λ (z : List Lexeme). symbol mark.Colon ∷ z) (last k.second b.first b.second b.parts b.back)) in
     record { value = after n b.front.value; spelled = (b.first, ap (λ (z : List Lexeme). keyword word.After ∷ z) is, b.front.spelled) }
 
-split_by : (d k : ℕ) (t : List Lexeme) → Texts (this_symbol mark.LeftBracket ∷ a_part d k ∷ []) t → Has SpellsBranch (keyword word.Split ∷ t)
+split_by : (d k : ℕ) (t : List Lexeme) → Texts (this_symbol mark.LeftBracket ∷ a_part d k ∷ []) t
+    → Has SpellsBranch (keyword word.Split ∷ t)
 split_by d k t h =
     let b = h.back in
     let p = b.front in
@@ -105,28 +111,33 @@ begun_contract : (d : ℕ) (c : Lexeme) → Begun (Has SpellsChoice) c (next_con
 begun_contract d (symbol mark.LeftParen) = λ t h. (symbol mark.LeftParen, refl, choice_by d 1 t h)
 begun_contract d c = begun_as (Has SpellsBranch) (Has SpellsChoice) bare c (next_branch d c) (begun_branch d c)
 
-more_by : (d k : ℕ) (t : List Lexeme) → Texts (a_branch d k ∷ behind_branch d k ∷ []) t → Closed (symbol mark.RightParen) SpellsMore (symbol mark.Plus ∷ t)
+more_by : (d k : ℕ) (t : List Lexeme) → Texts (a_branch d k ∷ behind_branch d k ∷ []) t
+    → Closed (symbol mark.RightParen) SpellsMore (symbol mark.Plus ∷ t)
 more_by d k t h =
     let b = h.back in
     let m = b.front in
     record {
       text = symbol mark.Plus ∷ (h.first ++ m.text);
       value = branch h.front.value m.value;
-      parts = ap (λ (z : List Lexeme). symbol mark.Plus ∷ z) (both_closed (symbol mark.RightParen) t h.first h.second b.first b.second m.text h.parts b.parts m.parts b.back);
+      parts =
+          ap (λ (z : List Lexeme). symbol mark.Plus ∷ z) (both_closed (symbol mark.RightParen) t h.first h.second b.first b.second m.text h.parts b.parts m.parts b.back);
       spelled = (h.first, m.text, refl, h.front.spelled, m.spelled);
     }
 
 begun_more : (d k : ℕ) (c : Lexeme) → Begun (Closed (symbol mark.RightParen) SpellsMore) c (next (behind_branch d k) c)
 begun_more d k (symbol mark.Plus) = λ t h. (symbol mark.Plus, refl, more_by d (suc k) t h)
-begun_more d k (symbol mark.RightParen) = λ t e. (symbol mark.RightParen, refl, record { text = []; value = no_branch; parts = ap (λ (z : List Lexeme). symbol mark.RightParen ∷ z) e; spelled = refl })
+begun_more d k (symbol mark.RightParen) =
+    λ t e. (symbol mark.RightParen, refl, record { text = []; value = no_branch; parts = ap (λ (z : List Lexeme). symbol mark.RightParen ∷ z) e; spelled = refl })
 begun_more d k c = tt
 
-part_by : (d k v : ℕ) (t : List Lexeme) → Texts (this_symbol mark.Arrow ∷ contract d ∷ behind_part d k ∷ []) t → Closed (symbol mark.RightBracket) SpellsParts (number v ∷ t)
+part_by : (d k v : ℕ) (t : List Lexeme) → Texts (this_symbol mark.Arrow ∷ contract d ∷ behind_part d k ∷ []) t
+    → Closed (symbol mark.RightBracket) SpellsParts (number v ∷ t)
 part_by d k v t h =
     let n = h.back in
     let b = n.back in
     let m = b.front in
-    let is = one (symbol mark.Arrow) t h.first h.second h.parts h.front ∙ ap (λ (z : List Lexeme). symbol mark.Arrow ∷ z) (both_closed (symbol mark.RightBracket) h.second n.first n.second b.first b.second m.text n.parts b.parts m.parts b.back) in
+    let is = one (symbol mark.Arrow) t h.first h.second h.parts h.front
+        ∙ ap (λ (z : List Lexeme). symbol mark.Arrow ∷ z) (both_closed (symbol mark.RightBracket) h.second n.first n.second b.first b.second m.text n.parts b.parts m.parts b.back) in
     record {
       text = number v ∷ symbol mark.Arrow ∷ (n.first ++ m.text);
       value = part v n.front.value m.value;
@@ -155,13 +166,15 @@ begun_more_parts d k (symbol mark.Comma) = λ t h.
         spelled = more_parts p.value p.text p.spelled;
       },
     )
-begun_more_parts d k (symbol mark.RightBracket) = λ t e. (symbol mark.RightBracket, refl, record { text = []; value = no_part; parts = ap (λ (z : List Lexeme). symbol mark.RightBracket ∷ z) e; spelled = refl })
+begun_more_parts d k (symbol mark.RightBracket) =
+    λ t e. (symbol mark.RightBracket, refl, record { text = []; value = no_part; parts = ap (λ (z : List Lexeme). symbol mark.RightBracket ∷ z) e; spelled = refl })
 begun_more_parts d k c = tt
 
 -- ---- preconditions
 
 -- what follows the token that tells which deposit an entry is
-deposit_by : (most ds ss : ℕ) (t : List Lexeme) → (h : Texts (a_number most ∷ this_symbol mark.At ∷ a_name ∷ behind_entry ds ss ∷ []) t) → t ≡ number (h.front.0) ∷ symbol mark.At ∷ name (h.back.back.front.0) ∷ (more_entries (h.back.back.back.front.0) ++ symbol mark.RightBrace ∷ [])
+deposit_by : (most ds ss : ℕ) (t : List Lexeme) → (h : Texts (a_number most ∷ this_symbol mark.At ∷ a_name ∷ behind_entry ds ss ∷ []) t)
+    → t ≡ number (h.front.0) ∷ symbol mark.At ∷ name (h.back.back.front.0) ∷ (more_entries (h.back.back.back.front.0) ++ symbol mark.RightBrace ∷ [])
 deposit_by most ds ss t h =
     let a = h.back in
     let n = a.back in
@@ -205,7 +218,8 @@ begun_entry ds ss (keyword word.Secret) = λ t h.
 begun_entry ds ss c = tt
 
 -- an entry and those behind it, behind its party
-entries_by : (x : List ℕ) (ds ss : ℕ) (t : List Lexeme) → Texts (this_symbol mark.Colon ∷ entry_kind ds ss ∷ []) t → EntriesText (name x ∷ t)
+entries_by : (x : List ℕ) (ds ss : ℕ) (t : List Lexeme) → Texts (this_symbol mark.Colon ∷ entry_kind ds ss ∷ []) t
+    → EntriesText (name x ∷ t)
 entries_by x ds ss t h =
     let e = h.back in
     let k = e.front in
@@ -224,13 +238,15 @@ begun_entries ds ss (symbol mark.Bar) = λ t h.
     let e = h.front in
     let is : t ≡ (entry e.first ++ more_entries e.others) ++ symbol mark.RightBrace ∷ [] = last t h.first h.second h.parts h.back ∙ e.parts ∙ sym (append_assoc (entry e.first) (more_entries e.others) (symbol mark.RightBrace ∷ [])) in
     (symbol mark.Bar, refl, (e.first ∷ e.others, ap (λ (z : List Lexeme). symbol mark.Bar ∷ z) is))
-begun_entries ds ss (symbol mark.RightBrace) = λ t e. (symbol mark.RightBrace, refl, ([], ap (λ (z : List Lexeme). symbol mark.RightBrace ∷ z) e))
+begun_entries ds ss (symbol mark.RightBrace) =
+    λ t e. (symbol mark.RightBrace, refl, ([], ap (λ (z : List Lexeme). symbol mark.RightBrace ∷ z) e))
 begun_entries ds ss c = tt
 
 -- ---- adverts
 
 no_fee : (t : List Lexeme) → Has SpellsChoice t → FeeText t
-no_fee t h = record { fee_part = []; root_part = t; fee = 0; root = h.value; parts = refl; fee_spelled = inl (refl, refl); root_spelled = h.spelled }
+no_fee t h =
+    record { fee_part = []; root_part = t; fee = 0; root = h.value; parts = refl; fee_spelled = inl (refl, refl); root_spelled = h.spelled }
 
 begun_root : (c : Lexeme) → Begun FeeText c (next fee_or_contract c)
 begun_root (keyword word.Fee) = λ t h.

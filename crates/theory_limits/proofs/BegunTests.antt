@@ -28,21 +28,25 @@ pub number_same : (n : ℕ) → (n == n) ≡ true
 number_same n = elim (eqb_tells n n) [ inl w ↦ w.0 | inr w ↦ absurd (w.1 refl) ]
 
 pub begun_symbol : (s t : Symbol) (b : Bool) → is_symbol t s ≡ b → Begun (Text (this_symbol s)) (symbol t) (if b then Some [] else None)
-begun_symbol s t true e = λ u n. (symbol t, refl, ap (λ (z : List Lexeme). symbol t ∷ z) n ∙ ap (λ (z : Lexeme). z ∷ []) ((the_symbol s (number_same (symbol_number s))).takes (symbol t) tt (rw e refl)))
+begun_symbol s t true e =
+    λ u n. (symbol t, refl, ap (λ (z : List Lexeme). symbol t ∷ z) n ∙ ap (λ (z : Lexeme). z ∷ []) ((the_symbol s (number_same (symbol_number s))).takes (symbol t) tt (rw e refl)))
 begun_symbol s t false e = tt
 
 pub begun_word : (k w : Keyword) (b : Bool) → is_keyword w k ≡ b → Begun (Text (this_word k)) (keyword w) (if b then Some [] else None)
-begun_word k w true e = λ u n. (keyword w, refl, ap (λ (z : List Lexeme). keyword w ∷ z) n ∙ ap (λ (z : Lexeme). z ∷ []) ((the_keyword k (number_same (keyword_number k))).takes (keyword w) tt (rw e refl)))
+begun_word k w true e =
+    λ u n. (keyword w, refl, ap (λ (z : List Lexeme). keyword w ∷ z) n ∙ ap (λ (z : Lexeme). z ∷ []) ((the_keyword k (number_same (keyword_number k))).takes (keyword w) tt (rw e refl)))
 begun_word k w false e = tt
 
 -- ---- expressions
 
 -- two texts, a token between them and one behind
-middle : (c d : Lexeme) (t te v1 uo v2 tf v3 uc v4 : List Lexeme) → t ≡ te ++ v1 → v1 ≡ uo ++ v2 → uo ≡ c ∷ [] → v2 ≡ tf ++ v3 → v3 ≡ uc ++ v4 → uc ≡ d ∷ [] → v4 ≡ [] → t ≡ te ++ c ∷ (tf ++ d ∷ [])
+middle : (c d : Lexeme) (t te v1 uo v2 tf v3 uc v4 : List Lexeme) → t ≡ te ++ v1 → v1 ≡ uo ++ v2 → uo ≡ c ∷ [] → v2 ≡ tf ++ v3
+    → v3 ≡ uc ++ v4 → uc ≡ d ∷ [] → v4 ≡ [] → t ≡ te ++ c ∷ (tf ++ d ∷ [])
 middle c d t te v1 uo v2 tf v3 uc v4 e1 e2 f e3 e4 g n =
     e1 ∙ ap (λ (z : List Lexeme). te ++ z) (one c v1 uo v2 e2 f) ∙ ap (λ (z : List Lexeme). te ++ c ∷ z) e3 ∙ ap (λ (z : List Lexeme). te ++ c ∷ (tf ++ z)) (one d v3 uc v4 e4 g ∙ ap (λ (z : List Lexeme). d ∷ z) n)
 
-signed_by : (d : ℕ) (t : List Lexeme) → (h : Texts (formula (suc d) ∷ operator ∷ formula (suc d) ∷ this_symbol mark.RightParen ∷ []) t) → Text operator (h.back.first) → Has SpellsFormula (symbol mark.LeftParen ∷ t)
+signed_by : (d : ℕ) (t : List Lexeme) → (h : Texts (formula (suc d) ∷ operator ∷ formula (suc d) ∷ this_symbol mark.RightParen ∷ []) t)
+    → Text operator (h.back.first) → Has SpellsFormula (symbol mark.LeftParen ∷ t)
 signed_by d t h (inl w) =
     let f = h.back.back in
     let is = middle (symbol mark.Plus) (symbol mark.RightParen) t h.first h.second h.back.first h.back.second f.first f.second f.back.first f.back.second h.parts h.back.parts w f.parts f.back.parts f.back.front f.back.back in
@@ -64,7 +68,8 @@ begun_formula d c = tt
 
 -- ---- predicates
 
-related_by : (d : ℕ) (c : Lexeme) (u v t : List Lexeme) (e : Expr) → SpellsFormula (c ∷ u) e → t ≡ u ++ v → (h : Texts (relation ∷ formula (suc d) ∷ []) v) → Text relation (h.first) → Has SpellsTest (c ∷ t)
+related_by : (d : ℕ) (c : Lexeme) (u v t : List Lexeme) (e : Expr) → SpellsFormula (c ∷ u) e → t ≡ u ++ v
+    → (h : Texts (relation ∷ formula (suc d) ∷ []) v) → Text relation (h.first) → Has SpellsTest (c ∷ t)
 related_by d c u v t e l is h (inl w) =
     let f = h.back in
     let text : t ≡ u ++ symbol mark.Equal ∷ f.first = is ∙ ap (λ (z : List Lexeme). u ++ z) (one (symbol mark.Equal) v h.first h.second h.parts w ∙ ap (λ (z : List Lexeme). symbol mark.Equal ∷ z) (last h.second f.first f.second f.parts f.back)) in
@@ -82,8 +87,10 @@ begun_compared d c (Some new) h = λ t ts.
     (r.0, r.1, related_by d r.0 w.first w.second t r.2.value r.2.spelled w.parts w.back w.back.front)
 
 pub begun_test : (d : ℕ) (c : Lexeme) → Begun (Has SpellsTest) c (next_test d c)
-begun_test d (keyword word.True) = λ t e. (keyword word.True, refl, record { value = always; spelled = ap (λ (z : List Lexeme). keyword word.True ∷ z) e })
-begun_test d (keyword word.Not) = λ t h. (keyword word.Not, refl, record { value = negation h.front.value; spelled = (h.first, ap (λ (z : List Lexeme). keyword word.Not ∷ z) (last t h.first h.second h.parts h.back), h.front.spelled) })
+begun_test d (keyword word.True) =
+    λ t e. (keyword word.True, refl, record { value = always; spelled = ap (λ (z : List Lexeme). keyword word.True ∷ z) e })
+begun_test d (keyword word.Not) =
+    λ t h. (keyword word.Not, refl, record { value = negation h.front.value; spelled = (h.first, ap (λ (z : List Lexeme). keyword word.Not ∷ z) (last t h.first h.second h.parts h.back), h.front.spelled) })
 begun_test d (symbol mark.LeftBracket) = λ t h.
     let f = h.back.back in
     let is = middle (keyword word.And) (symbol mark.RightBracket) t h.first h.second h.back.first h.back.second f.first f.second f.back.first f.back.second h.parts h.back.parts h.back.front f.parts f.back.parts f.back.front f.back.back in
@@ -93,12 +100,15 @@ begun_test d c = begun_compared d c (next_formula (suc d) c) (begun_formula (suc
 -- ---- headings
 
 -- a comma and a name before further names that are put
-comma_put : (x : List ℕ) (xs : List (List ℕ)) (t : List Lexeme) → (t ≡ more_names xs) ⊎ With_reveal xs t → (symbol mark.Comma ∷ name x ∷ t ≡ more_names (x ∷ xs)) ⊎ With_reveal (x ∷ xs) (symbol mark.Comma ∷ name x ∷ t)
+comma_put : (x : List ℕ) (xs : List (List ℕ)) (t : List Lexeme) → (t ≡ more_names xs) ⊎ With_reveal xs t
+    → (symbol mark.Comma ∷ name x ∷ t ≡ more_names (x ∷ xs)) ⊎ With_reveal (x ∷ xs) (symbol mark.Comma ∷ name x ∷ t)
 comma_put x xs t (inl e) = inl (ap (λ (z : List Lexeme). symbol mark.Comma ∷ name x ∷ z) e)
-comma_put x xs t (inr r) = inr (record { reveal = r.reveal; first = r.first; others = r.others; condition = r.condition; parts = ap (λ (z : List Lexeme). symbol mark.Comma ∷ name x ∷ z) r.parts; spelled = r.spelled })
+comma_put x xs t (inr r) =
+    inr (record { reveal = r.reveal; first = r.first; others = r.others; condition = r.condition; parts = ap (λ (z : List Lexeme). symbol mark.Comma ∷ name x ∷ z) r.parts; spelled = r.spelled })
 
 -- a token, a name and a text up to its point
-named : (x : List ℕ) (t u v b w text : List Lexeme) → t ≡ u ++ v → u ≡ name x ∷ [] → v ≡ b ++ w → w ≡ [] → b ≡ text ++ symbol mark.Dot ∷ [] → t ≡ (name x ∷ text) ++ symbol mark.Dot ∷ []
+named : (x : List ℕ) (t u v b w text : List Lexeme) → t ≡ u ++ v → u ≡ name x ∷ [] → v ≡ b ++ w → w ≡ [] → b ≡ text ++ symbol mark.Dot ∷ []
+    → t ≡ (name x ∷ text) ++ symbol mark.Dot ∷ []
 named x t u v b w text e f g n k = one (name x) t u v e f ∙ ap (λ (z : List Lexeme). name x ∷ z) (last v b w g n ∙ k)
 
 pub begun_put : (c : Lexeme) → Begun PutText c (next behind_put c)
@@ -121,10 +131,12 @@ begun_put (symbol mark.Ampersand) = λ t h.
         text = symbol mark.Ampersand ∷ keyword word.Reveal ∷ name a ∷ p.text;
         parts = ap (λ (z : List Lexeme). symbol mark.Ampersand ∷ z) is;
         names = [];
-        kind = inr (record { reveal = keyword word.Reveal ∷ name a ∷ p.text; first = a; others = p.names; condition = p.condition; parts = refl; spelled = spelled });
+        kind =
+            inr (record { reveal = keyword word.Reveal ∷ name a ∷ p.text; first = a; others = p.names; condition = p.condition; parts = refl; spelled = spelled });
       },
     )
-begun_put (symbol mark.Dot) = λ t e. (symbol mark.Dot, refl, record { text = []; parts = ap (λ (z : List Lexeme). symbol mark.Dot ∷ z) e; names = []; kind = inl refl })
+begun_put (symbol mark.Dot) =
+    λ t e. (symbol mark.Dot, refl, record { text = []; parts = ap (λ (z : List Lexeme). symbol mark.Dot ∷ z) e; names = []; kind = inl refl })
 begun_put c = tt
 
 pub begun_reveal : (c : Lexeme) → Begun RevealText c (next behind_reveal c)
@@ -159,5 +171,6 @@ begun_reveal (keyword word.If) = λ t h.
         spelled = inr (h.first, refl, h.front.spelled);
       },
     )
-begun_reveal (symbol mark.Dot) = λ t e. (symbol mark.Dot, refl, record { text = []; parts = ap (λ (z : List Lexeme). symbol mark.Dot ∷ z) e; names = []; test = []; condition = always; named = refl; spelled = inl (refl, refl) })
+begun_reveal (symbol mark.Dot) =
+    λ t e. (symbol mark.Dot, refl, record { text = []; parts = ap (λ (z : List Lexeme). symbol mark.Dot ∷ z) e; names = []; test = []; condition = always; named = refl; spelled = inl (refl, refl) })
 begun_reveal c = tt

@@ -39,7 +39,9 @@ record Meant (as' : List Awaited) (t : List Lexeme) : Type 0 where
   stand : StandFor t meant
   texts : Texts as' meant
 
-meant_by : (a : Awaited) (as' : List Awaited) (c : Lexeme) (t : List Lexeme) (n : Next) (left : ℕ) → Begun (Text a) c n → ((new : List Awaited) → end_from (new ++ as') t ≡ None → Meant (new ++ as') t) → end_here n left (λ new. end_from (new ++ as') t) ≡ None → Meant (a ∷ as') (c ∷ t)
+meant_by : (a : Awaited) (as' : List Awaited) (c : Lexeme) (t : List Lexeme) (n : Next) (left : ℕ) → Begun (Text a) c n
+    → ((new : List Awaited) → end_from (new ++ as') t ≡ None → Meant (new ++ as') t)
+    → end_here n left (λ new. end_from (new ++ as') t) ≡ None → Meant (a ∷ as') (c ∷ t)
 meant_by a as' c t None left b h e = absurd (some_end left e)
 meant_by a as' c t (Some new) left b h e =
     let m = h new e in
@@ -48,7 +50,8 @@ meant_by a as' c t (Some new) left b h e =
     record {
       meant = r.0 ∷ m.meant;
       stand = (r.1, m.stand);
-      texts = record { first = r.0 ∷ d.first; second = d.second; parts = ap (λ (z : List Lexeme). r.0 ∷ z) d.parts; front = r.2; back = d.back };
+      texts =
+          record { first = r.0 ∷ d.first; second = d.second; parts = ap (λ (z : List Lexeme). r.0 ∷ z) d.parts; front = r.2; back = d.back };
     }
 
 meant_is : (as' : List Awaited) (t : List Lexeme) → end_from as' t ≡ None → Meant as' t
@@ -94,9 +97,11 @@ filled (wrapped d) as' f = record { text = keyword word.Withdraw ∷ name [] ∷
 filled (branch d k) as' f = record { text = keyword word.Withdraw ∷ name [] ∷ f.text; all = f.all }
 filled (behind_branch d k) as' f = record { text = symbol mark.RightParen ∷ f.text; all = f.all }
 filled (contract d) as' f = record { text = keyword word.Withdraw ∷ name [] ∷ f.text; all = f.all }
-filled (part d k) as' f = record { text = number 0 ∷ symbol mark.Arrow ∷ keyword word.Withdraw ∷ name [] ∷ symbol mark.RightBracket ∷ f.text; all = f.all }
+filled (part d k) as' f =
+    record { text = number 0 ∷ symbol mark.Arrow ∷ keyword word.Withdraw ∷ name [] ∷ symbol mark.RightBracket ∷ f.text; all = f.all }
 filled (behind_part d k) as' f = record { text = symbol mark.RightBracket ∷ f.text; all = f.all }
-filled (entry ds ss) as' f = record { text = name [] ∷ symbol mark.Colon ∷ keyword word.Secret ∷ name [] ∷ symbol mark.RightBrace ∷ f.text; all = f.all }
+filled (entry ds ss) as' f =
+    record { text = name [] ∷ symbol mark.Colon ∷ keyword word.Secret ∷ name [] ∷ symbol mark.RightBrace ∷ f.text; all = f.all }
 filled (entry_kind ds ss) as' f = record { text = keyword word.Secret ∷ name [] ∷ symbol mark.RightBrace ∷ f.text; all = f.all }
 filled (behind_entry ds ss) as' f = record { text = symbol mark.RightBrace ∷ f.text; all = f.all }
 filled fee_or_contract as' f = record { text = keyword word.Withdraw ∷ name [] ∷ f.text; all = f.all }
@@ -120,10 +125,13 @@ record Halts (as' : List Awaited) (t : List Lexeme) (left : ℕ) : Type 0 where
 end_is : (m n : ℕ) → an_end m ≡ an_end n → m ≡ n
 end_is m n h = cc
 
-at_none : (a : Awaited) (as' : List Awaited) (c : Lexeme) (n : Next) (u : List Lexeme) → next a c ≡ n → n ≡ None → end_from (a ∷ as') (c ∷ u) ≡ an_end (suc (length u))
+at_none : (a : Awaited) (as' : List Awaited) (c : Lexeme) (n : Next) (u : List Lexeme) → next a c ≡ n → n ≡ None
+    → end_from (a ∷ as') (c ∷ u) ≡ an_end (suc (length u))
 at_none a as' c n u e f = ap (λ (z : Next). end_here z (suc (length u)) (λ new. end_from (new ++ as') u)) (e ∙ f)
 
-halts_by : (a : Awaited) (as' : List Awaited) (c : Lexeme) (t : List Lexeme) (left : ℕ) (n : Next) → next a c ≡ n → ((new : List Awaited) → end_from (new ++ as') t ≡ an_end left → Halts (new ++ as') t left) → end_here n (suc (length t)) (λ new. end_from (new ++ as') t) ≡ an_end left → Halts (a ∷ as') (c ∷ t) left
+halts_by : (a : Awaited) (as' : List Awaited) (c : Lexeme) (t : List Lexeme) (left : ℕ) (n : Next) → next a c ≡ n
+    → ((new : List Awaited) → end_from (new ++ as') t ≡ an_end left → Halts (new ++ as') t left)
+    → end_here n (suc (length t)) (λ new. end_from (new ++ as') t) ≡ an_end left → Halts (a ∷ as') (c ∷ t) left
 halts_by a as' c t left None e h k = record {
   front = [];
   rest = c ∷ t;
@@ -131,7 +139,8 @@ halts_by a as' c t left None e h k = record {
   parts = refl;
   left_is = end_is (suc (length t)) left k;
   goes = λ u. refl;
-  stops = λ d after u m. let same : c ≡ d = cc in subst (λ (z : Lexeme). end_from (a ∷ as') (z ∷ u) ≡ an_end (suc (length u))) same (at_none a as' c None u e refl);
+  stops =
+      λ d after u m. let same : c ≡ d = cc in subst (λ (z : Lexeme). end_from (a ∷ as') (z ∷ u) ≡ an_end (suc (length u))) same (at_none a as' c None u e refl);
 }
 halts_by a as' c t left (Some new) e h k =
     let r = h new k in
@@ -147,8 +156,10 @@ halts_by a as' c t left (Some new) e h k =
 
 halts_is : (as' : List Awaited) (t : List Lexeme) (left : ℕ) → end_from as' t ≡ an_end left → Halts as' t left
 halts_is [] [] left e = absurd (some_end left (sym e))
-halts_is (a ∷ as') [] left e = record { front = []; rest = []; awaited = a ∷ as'; parts = refl; left_is = end_is 0 left e; goes = λ u. refl; stops = λ c after u m. absurd cc }
-halts_is [] (c ∷ t) left e = record { front = []; rest = c ∷ t; awaited = []; parts = refl; left_is = end_is (suc (length t)) left e; goes = λ u. refl; stops = λ d after u m. refl }
+halts_is (a ∷ as') [] left e =
+    record { front = []; rest = []; awaited = a ∷ as'; parts = refl; left_is = end_is 0 left e; goes = λ u. refl; stops = λ c after u m. absurd cc }
+halts_is [] (c ∷ t) left e =
+    record { front = []; rest = c ∷ t; awaited = []; parts = refl; left_is = end_is (suc (length t)) left e; goes = λ u. refl; stops = λ d after u m. refl }
 halts_is (a ∷ as') (c ∷ t) left e = halts_by a as' c t left (next a c) refl (λ new k. halts_is (new ++ as') t left k) e
 
 -- ---- what stands before begins an advert
@@ -172,12 +183,16 @@ begins_is t u e =
 
 -- what begins an advert comes, with what follows
 begins_comes : (t : List Lexeme) → Begins t → (more : List Lexeme) × (grammar_end (t ++ more) ≡ None)
-begins_comes t b = (b.more, stand_end an_advert (t ++ b.more) (b.meant ++ b.more) (stand_more t b.meant b.more b.stand) ∙ spelled_advert (b.meant ++ b.more) b.advert b.spelled)
+begins_comes t b =
+    (b.more, stand_end an_advert (t ++ b.more) (b.meant ++ b.more) (stand_more t b.meant b.more b.stand) ∙ spelled_advert (b.meant ++ b.more) b.advert b.spelled)
 
 -- no front begins an advert that goes past the next token
-not_past : (t front rest : List Lexeme) (awaited : List Awaited) (q : ℕ) → t ≡ front ++ rest → ((u : List Lexeme) → end_from an_advert (front ++ u) ≡ end_from awaited u)
-    → ((c : Lexeme) (after u : List Lexeme) → rest ≡ c ∷ after → end_from awaited (c ∷ u) ≡ an_end (suc (length u))) → length front < q → q ≤ length t → Begins (take q t) → ⊥
-not_past t front [] awaited q parts goes stops lt le b = let len : length t ≡ length front + 0 = ap length parts ∙ length-append front [] in absurd (omega arith)
+not_past : (t front rest : List Lexeme) (awaited : List Awaited) (q : ℕ) → t ≡ front ++ rest
+    → ((u : List Lexeme) → end_from an_advert (front ++ u) ≡ end_from awaited u)
+    → ((c : Lexeme) (after u : List Lexeme) → rest ≡ c ∷ after → end_from awaited (c ∷ u) ≡ an_end (suc (length u))) → length front < q
+    → q ≤ length t → Begins (take q t) → ⊥
+not_past t front [] awaited q parts goes stops lt le b = let len : length t ≡ length front + 0 = ap length parts
+    ∙ length-append front [] in absurd (omega arith)
 not_past t front (c ∷ after) awaited q parts goes stops lt le b =
     let k : ℕ = q - suc (length front) in
     let n : q ≡ length front + suc k = omega arith in

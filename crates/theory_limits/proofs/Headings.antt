@@ -30,31 +30,38 @@ seen_behind behind rest more before (above w) ts = Err (stops.Limit w (suc (leng
 
 -- what is awaited behind a name takes the tokens that end names
 record Ends (behind : Awaited) (rest : Bool → List Awaited) (ends : Lexeme → Seen Bool) : Type 0 where
-  at : (more : List Awaited) (before : ℕ) (t : Lexeme) (ts : List Lexeme) → judged (behind ∷ more) before (t ∷ ts) ≡ seen_behind behind rest more before (comma_or ends t) ts
+  at : (more : List Awaited) (before : ℕ) (t : Lexeme) (ts : List Lexeme)
+      → judged (behind ∷ more) before (t ∷ ts) ≡ seen_behind behind rest more before (comma_or ends t) ts
 
 abbrev waiting : Awaited → Bool → List Awaited → List Awaited
 waiting behind true more = some_name ∷ behind ∷ more
 waiting behind false more = behind ∷ more
 
-one_more : (rest : Bool → List Awaited) (more : List Awaited) (before : ℕ) (x : List ℕ) (r : Reads (List (List ℕ) × Bool)) → ended rest more before r ≡ ended rest more before (r >>= λ r. Ok ((x ∷ r.0.0, r.0.1), r.1))
+one_more : (rest : Bool → List Awaited) (more : List Awaited) (before : ℕ) (x : List ℕ) (r : Reads (List (List ℕ) × Bool))
+    → ended rest more before r ≡ ended rest more before (r >>= λ r. Ok ((x ∷ r.0.0, r.0.1), r.1))
 one_more rest more before x (Ok y) = refl
 one_more rest more before x (Err e) = refl
 
 behind_by : (behind : Awaited) (rest : Bool → List Awaited) (ends : Lexeme → Seen Bool) (more : List Awaited) (before : ℕ) (ts : List Lexeme) → judged (some_name ∷ behind ∷ more) before ts ≡ ended rest more before (names_from ends true ts)
-    → (s : Seen (Option Bool)) → seen_behind behind rest more before s ts ≡ ended rest more before (take_seen s ts >>= λ o. elim (o.0) [ None ↦ names_from ends true ts | Some e ↦ Ok (([], e), ts) ])
+    → (s : Seen (Option Bool))
+    → seen_behind behind rest more before s ts ≡ ended rest more before (take_seen s ts >>= λ o. elim (o.0) [ None ↦ names_from ends true ts | Some e ↦ Ok (([], e), ts) ])
 behind_by behind rest ends more before ts h (taken None) = h
 behind_by behind rest ends more before ts h (taken (Some e)) = refl
 behind_by behind rest ends more before ts h wrong = refl
 behind_by behind rest ends more before ts h (above w) = refl
 
-names_go : (behind : Awaited) (rest : Bool → List Awaited) (ends : Lexeme → Seen Bool) → Ends behind rest ends → (awaited : Bool) (more : List Awaited) (before : ℕ) (ts : List Lexeme) → judged (waiting behind awaited more) before ts ≡ ended rest more before (names_from ends awaited ts)
+names_go : (behind : Awaited) (rest : Bool → List Awaited) (ends : Lexeme → Seen Bool) → Ends behind rest ends
+    → (awaited : Bool) (more : List Awaited) (before : ℕ) (ts : List Lexeme)
+    → judged (waiting behind awaited more) before ts ≡ ended rest more before (names_from ends awaited ts)
 unfolding names_from
 names_go behind rest ends e true more before [] = refl
 names_go behind rest ends e false more before [] = refl
-names_go behind rest ends e true more before (name x ∷ ts) = names_go behind rest ends e false more before ts ∙ one_more rest more before x (names_from ends false ts)
+names_go behind rest ends e true more before (name x ∷ ts) = names_go behind rest ends e false more before ts
+    ∙ one_more rest more before x (names_from ends false ts)
 names_go behind rest ends e true more before (long_name ∷ ts) = refl
 names_go behind rest ends e true more before (t ∷ ts) = refl
-names_go behind rest ends e false more before (t ∷ ts) = e.at more before t ts ∙ behind_by behind rest ends more before ts (names_go behind rest ends e true more before ts) (comma_or ends t)
+names_go behind rest ends e false more before (t ∷ ts) = e.at more before t ts
+    ∙ behind_by behind rest ends more before ts (names_go behind rest ends e true more before ts) (comma_or ends t)
 
 -- ---- reveals
 
@@ -62,7 +69,8 @@ abbrev behind_names : Bool → List Awaited
 behind_names true = test 1 ∷ this_symbol mark.Dot ∷ []
 behind_names false = []
 
-reveal_ends : (more : List Awaited) (before : ℕ) (t : Lexeme) (ts : List Lexeme) → judged (behind_reveal ∷ more) before (t ∷ ts) ≡ seen_behind behind_reveal behind_names more before (comma_or ends_reveal t) ts
+reveal_ends : (more : List Awaited) (before : ℕ) (t : Lexeme) (ts : List Lexeme)
+    → judged (behind_reveal ∷ more) before (t ∷ ts) ≡ seen_behind behind_reveal behind_names more before (comma_or ends_reveal t) ts
 reveal_ends more before (symbol mark.Comma) ts = refl
 reveal_ends more before (symbol mark.Dot) ts = refl
 reveal_ends more before (keyword word.If) ts = refl
@@ -76,17 +84,23 @@ unfolding condition_at
 condition_walks true = walks_seq walks_test (λ p. walks_seq (walks_symbol mark.Dot) (λ o. walks_none p))
 condition_walks false = walks_none always
 
-reveals_end : (puts names : List (List ℕ)) (e : Bool) (more : List Awaited) (before : ℕ) (ts : List Lexeme) → judged (behind_names e ++ more) before ts ≡ followed {A = Heading} (condition_at e ts >>= λ p. Ok ((puts, names, p.0), p.1)) (judged more before)
-reveals_end puts names true more before ts = (walks_seq (condition_walks true) (λ p. walks_none {A = Heading} (puts, names, p))).goes more before ts
-reveals_end puts names false more before ts = (walks_seq (condition_walks false) (λ p. walks_none {A = Heading} (puts, names, p))).goes more before ts
+reveals_end : (puts names : List (List ℕ)) (e : Bool) (more : List Awaited) (before : ℕ) (ts : List Lexeme)
+    → judged (behind_names e ++ more) before ts ≡ followed {A = Heading} (condition_at e ts >>= λ p. Ok ((puts, names, p.0), p.1)) (judged more before)
+reveals_end puts names true more before ts =
+    (walks_seq (condition_walks true) (λ p. walks_none {A = Heading} (puts, names, p))).goes more before ts
+reveals_end puts names false more before ts =
+    (walks_seq (condition_walks false) (λ p. walks_none {A = Heading} (puts, names, p))).goes more before ts
 
-reveals_by : (puts : List (List ℕ)) (more : List Awaited) (before : ℕ) (r : Reads (List (List ℕ) × Bool)) → ended behind_names more before r ≡ followed {A = Heading} (r >>= λ a. condition_at (a.0.1) (a.1) >>= λ p. Ok ((puts, a.0.0, p.0), p.1)) (judged more before)
+reveals_by : (puts : List (List ℕ)) (more : List Awaited) (before : ℕ) (r : Reads (List (List ℕ) × Bool))
+    → ended behind_names more before r ≡ followed {A = Heading} (r >>= λ a. condition_at (a.0.1) (a.1) >>= λ p. Ok ((puts, a.0.0, p.0), p.1)) (judged more before)
 reveals_by puts more before (Ok x) = reveals_end puts (x.0.0) (x.0.1) more before (x.1)
 reveals_by puts more before (Err e) = refl
 
-reveals_go : (puts : List (List ℕ)) (more : List Awaited) (before : ℕ) (ts : List Lexeme) → judged (some_name ∷ behind_reveal ∷ more) before ts ≡ followed (reveals_at puts ts) (judged more before)
+reveals_go : (puts : List (List ℕ)) (more : List Awaited) (before : ℕ) (ts : List Lexeme)
+    → judged (some_name ∷ behind_reveal ∷ more) before ts ≡ followed (reveals_at puts ts) (judged more before)
 unfolding reveals_at
-reveals_go puts more before ts = names_go behind_reveal behind_names ends_reveal ends_reveals true more before ts ∙ reveals_by puts more before (names_from ends_reveal true ts)
+reveals_go puts more before ts = names_go behind_reveal behind_names ends_reveal ends_reveals true more before ts
+    ∙ reveals_by puts more before (names_from ends_reveal true ts)
 
 pub walks_reveals : (puts : List (List ℕ)) → Walks (some_name ∷ behind_reveal ∷ []) (reveals_at puts)
 walks_reveals puts = record { goes = reveals_go puts }
@@ -97,7 +111,8 @@ abbrev behind_puts : Bool → List Awaited
 behind_puts true = this_word word.Reveal ∷ some_name ∷ behind_reveal ∷ []
 behind_puts false = []
 
-put_ends : (more : List Awaited) (before : ℕ) (t : Lexeme) (ts : List Lexeme) → judged (behind_put ∷ more) before (t ∷ ts) ≡ seen_behind behind_put behind_puts more before (comma_or ends_put t) ts
+put_ends : (more : List Awaited) (before : ℕ) (t : Lexeme) (ts : List Lexeme)
+    → judged (behind_put ∷ more) before (t ∷ ts) ≡ seen_behind behind_put behind_puts more before (comma_or ends_put t) ts
 put_ends more before (symbol mark.Comma) ts = refl
 put_ends more before (symbol mark.Dot) ts = refl
 put_ends more before (symbol mark.Ampersand) ts = refl
@@ -111,13 +126,16 @@ unfolding put_reveals_at
 put_reveals_walk true puts = walks_seq (walks_word word.Reveal) (λ w. walks_reveals puts)
 put_reveals_walk false puts = walks_none (puts, [], always)
 
-puts_by : (more : List Awaited) (before : ℕ) (r : Reads (List (List ℕ) × Bool)) → ended behind_puts more before r ≡ followed (r >>= λ x. put_reveals_at (x.0.1) (x.0.0) (x.1)) (judged more before)
+puts_by : (more : List Awaited) (before : ℕ) (r : Reads (List (List ℕ) × Bool))
+    → ended behind_puts more before r ≡ followed (r >>= λ x. put_reveals_at (x.0.1) (x.0.0) (x.1)) (judged more before)
 puts_by more before (Ok x) = (put_reveals_walk (x.0.1) (x.0.0)).goes more before (x.1)
 puts_by more before (Err e) = refl
 
-puts_go : (more : List Awaited) (before : ℕ) (ts : List Lexeme) → judged (some_name ∷ behind_put ∷ more) before ts ≡ followed (puts_at ts) (judged more before)
+puts_go : (more : List Awaited) (before : ℕ) (ts : List Lexeme)
+    → judged (some_name ∷ behind_put ∷ more) before ts ≡ followed (puts_at ts) (judged more before)
 unfolding puts_at
-puts_go more before ts = names_go behind_put behind_puts ends_put ends_puts true more before ts ∙ puts_by more before (names_from ends_put true ts)
+puts_go more before ts = names_go behind_put behind_puts ends_put ends_puts true more before ts
+    ∙ puts_by more before (names_from ends_put true ts)
 
 pub walks_puts : Walks (some_name ∷ behind_put ∷ []) puts_at
 walks_puts = record { goes = puts_go }

@@ -37,16 +37,19 @@ followed (Err e) k = Err e
 
 -- a reader reads what is awaited, and stops where the walk does
 pub record Walks {A : Type 0} (parts : List Awaited) (read : List Lexeme → Reads A) : Type 0 where
-  pub goes : (more : List Awaited) (before : ℕ) (ts : List Lexeme) → judged (parts ++ more) before ts ≡ followed (read ts) (judged more before)
+  pub goes : (more : List Awaited) (before : ℕ) (ts : List Lexeme)
+      → judged (parts ++ more) before ts ≡ followed (read ts) (judged more before)
 
 pub walks_none : {A : Type 0} (a : A) → Walks [] (λ ts. Ok (a, ts))
 walks_none a = record { goes = λ more before ts. refl }
 
-pub followed_by : {A B : Type 0} (r : Reads A) (k : A → List Lexeme → Reads B) (f g : List Lexeme → Judgement) → ((a : A) (ts : List Lexeme) → f ts ≡ followed (k a ts) g) → followed r f ≡ followed (r >>= λ x. k (x.0) (x.1)) g
+pub followed_by : {A B : Type 0} (r : Reads A) (k : A → List Lexeme → Reads B) (f g : List Lexeme → Judgement)
+    → ((a : A) (ts : List Lexeme) → f ts ≡ followed (k a ts) g) → followed r f ≡ followed (r >>= λ x. k (x.0) (x.1)) g
 followed_by (Ok x) k f g h = h (x.0) (x.1)
 followed_by (Err e) k f g h = refl
 
-pub walks_seq : {A B : Type 0} {ps qs : List Awaited} {read : List Lexeme → Reads A} {k : A → List Lexeme → Reads B} → Walks ps read → ((a : A) → Walks qs (k a)) → Walks (ps ++ qs) (λ ts. read ts >>= λ x. k (x.0) (x.1))
+pub walks_seq : {A B : Type 0} {ps qs : List Awaited} {read : List Lexeme → Reads A} {k : A → List Lexeme → Reads B} → Walks ps read
+    → ((a : A) → Walks qs (k a)) → Walks (ps ++ qs) (λ ts. read ts >>= λ x. k (x.0) (x.1))
 walks_seq {ps = ps} {qs = qs} {read = read} {k = k} w v = record {
   goes = λ more before ts.
       ap (λ (z : List Awaited). judged z before ts) (append_assoc ps qs more) ∙ w.goes (qs ++ more) before ts
@@ -61,7 +64,8 @@ Counts j more (Ok x) = (before : ℕ) × (before + x.0.1 ≡ most_branches) × (
 Counts j more (Err e) = j ≡ Err e
 
 pub record Walks_on {A : Type 0} (parts : List Awaited) (read : ℕ → List Lexeme → Reads (A × ℕ)) : Type 0 where
-  pub goes : (more : List Awaited) (before b : ℕ) (ts : List Lexeme) → before + b ≡ most_branches → Counts (judged (parts ++ more) before ts) more (read b ts)
+  pub goes : (more : List Awaited) (before b : ℕ) (ts : List Lexeme) → before + b ≡ most_branches
+      → Counts (judged (parts ++ more) before ts) more (read b ts)
 
 -- another judgement that is the same
 pub counts_as : {A : Type 0} (i j : Judgement) (more : List Awaited) (r : Reads (A × ℕ)) → i ≡ j → Counts j more r → Counts i more r
@@ -71,12 +75,16 @@ counts_as i j more (Err s) e c = e ∙ c
 pub on_none : {A : Type 0} (a : A) → Walks_on [] (λ b ts. Ok ((a, b), ts))
 on_none a = record { goes = λ more before b ts h. (before, h, refl) }
 
-on_by : {A B : Type 0} (j : Judgement) (rest more : List Awaited) (r : Reads (A × ℕ)) (k : A → ℕ → List Lexeme → Reads (B × ℕ)) → Counts j rest r
-    → ((a : A) (before b : ℕ) (ts : List Lexeme) → before + b ≡ most_branches → Counts (judged rest before ts) more (k a b ts)) → Counts j more (r >>= λ x. k (x.0.0) (x.0.1) (x.1))
-on_by j rest more (Ok x) k c h = counts_as j (judged rest (c.0) (x.1)) more (k (x.0.0) (x.0.1) (x.1)) c.2 (h (x.0.0) (c.0) (x.0.1) (x.1) c.1)
+on_by : {A B : Type 0} (j : Judgement) (rest more : List Awaited) (r : Reads (A × ℕ)) (k : A → ℕ → List Lexeme → Reads (B × ℕ))
+    → Counts j rest r
+    → ((a : A) (before b : ℕ) (ts : List Lexeme) → before + b ≡ most_branches → Counts (judged rest before ts) more (k a b ts))
+    → Counts j more (r >>= λ x. k (x.0.0) (x.0.1) (x.1))
+on_by j rest more (Ok x) k c h =
+    counts_as j (judged rest (c.0) (x.1)) more (k (x.0.0) (x.0.1) (x.1)) c.2 (h (x.0.0) (c.0) (x.0.1) (x.1) c.1)
 on_by j rest more (Err e) k c h = c
 
-pub on_seq : {A B : Type 0} {ps qs : List Awaited} {read : ℕ → List Lexeme → Reads (A × ℕ)} {k : A → ℕ → List Lexeme → Reads (B × ℕ)} → Walks_on ps read → ((a : A) → Walks_on qs (k a)) → Walks_on (ps ++ qs) (λ b ts. read b ts >>= λ x. k (x.0.0) (x.0.1) (x.1))
+pub on_seq : {A B : Type 0} {ps qs : List Awaited} {read : ℕ → List Lexeme → Reads (A × ℕ)} {k : A → ℕ → List Lexeme → Reads (B × ℕ)}
+    → Walks_on ps read → ((a : A) → Walks_on qs (k a)) → Walks_on (ps ++ qs) (λ b ts. read b ts >>= λ x. k (x.0.0) (x.0.1) (x.1))
 on_seq {ps = ps} {qs = qs} {read = read} {k = k} w v = record {
   goes = λ more before b ts h.
       on_by (judged ((ps ++ qs) ++ more) before ts) (qs ++ more) more (read b ts) k
@@ -84,13 +92,15 @@ on_seq {ps = ps} {qs = qs} {read = read} {k = k} w v = record {
       (λ a c d u e. (v a).goes more c d u e);
 }
 
-then_by : {A B : Type 0} (j : Judgement) (rest more : List Awaited) (before b : ℕ) (r : Reads A) (k : A → ℕ → List Lexeme → Reads (B × ℕ)) → j ≡ followed r (judged rest before)
+then_by : {A B : Type 0} (j : Judgement) (rest more : List Awaited) (before b : ℕ) (r : Reads A) (k : A → ℕ → List Lexeme → Reads (B × ℕ))
+    → j ≡ followed r (judged rest before)
     → ((a : A) (ts : List Lexeme) → Counts (judged rest before ts) more (k a b ts)) → Counts j more (r >>= λ x. k (x.0) b (x.1))
 then_by j rest more before b (Ok x) k e h = counts_as j (judged rest before (x.1)) more (k (x.0) b (x.1)) e (h (x.0) (x.1))
 then_by j rest more before b (Err s) k e h = e
 
 -- a reader that counts no branches, and then one that does
-pub then_on : {A B : Type 0} {ps qs : List Awaited} {read : List Lexeme → Reads A} {k : A → ℕ → List Lexeme → Reads (B × ℕ)} → Walks ps read → ((a : A) → Walks_on qs (k a)) → Walks_on (ps ++ qs) (λ b ts. read ts >>= λ x. k (x.0) b (x.1))
+pub then_on : {A B : Type 0} {ps qs : List Awaited} {read : List Lexeme → Reads A} {k : A → ℕ → List Lexeme → Reads (B × ℕ)} → Walks ps read
+    → ((a : A) → Walks_on qs (k a)) → Walks_on (ps ++ qs) (λ b ts. read ts >>= λ x. k (x.0) b (x.1))
 then_on {ps = ps} {qs = qs} {read = read} {k = k} w v = record {
   goes = λ more before b ts h.
       then_by (judged ((ps ++ qs) ++ more) before ts) (qs ++ more) more before b (read ts) k
@@ -100,9 +110,12 @@ then_on {ps = ps} {qs = qs} {read = read} {k = k} w v = record {
 
 -- a reader that counts no branches and leaves these parts to the next one, which does
 pub record Leaves {A : Type 0} (parts : List Awaited) (read : List Lexeme → Reads A) (rest : List Awaited) : Type 0 where
-  pub goes : (more : List Awaited) (before : ℕ) (ts : List Lexeme) → judged (parts ++ more) before ts ≡ followed (read ts) (judged (rest ++ more) before)
+  pub goes : (more : List Awaited) (before : ℕ) (ts : List Lexeme)
+      → judged (parts ++ more) before ts ≡ followed (read ts) (judged (rest ++ more) before)
 
-pub left_on : {A B : Type 0} {ps qs : List Awaited} {read : List Lexeme → Reads A} {k : A → ℕ → List Lexeme → Reads (B × ℕ)} → Leaves ps read qs → ((a : A) → Walks_on qs (k a)) → Walks_on ps (λ b ts. read ts >>= λ x. k (x.0) b (x.1))
+pub left_on : {A B : Type 0} {ps qs : List Awaited} {read : List Lexeme → Reads A} {k : A → ℕ → List Lexeme → Reads (B × ℕ)}
+    → Leaves ps read qs → ((a : A) → Walks_on qs (k a)) → Walks_on ps (λ b ts. read ts >>= λ x. k (x.0) b (x.1))
 left_on {ps = ps} {qs = qs} {read = read} {k = k} w v = record {
-  goes = λ more before b ts h. then_by (judged (ps ++ more) before ts) (qs ++ more) more before b (read ts) k (w.goes more before ts) (λ a u. (v a).goes more before b u h);
+  goes =
+      λ more before b ts h. then_by (judged (ps ++ more) before ts) (qs ++ more) more before b (read ts) k (w.goes more before ts) (λ a u. (v a).goes more before b u h);
 }

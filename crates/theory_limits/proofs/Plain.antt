@@ -29,7 +29,8 @@ stand_length (c ∷ t) (d ∷ m) st = ap (λ (n : ℕ). suc n) (stand_length t m
 abbrev an_end : ℕ → Option ℕ
 an_end n = Some n
 
-ends_same : (n : Next) (left : ℕ) (f g : List Awaited → Option ℕ) → ((new : List Awaited) → f new ≡ g new) → end_here n left f ≡ end_here n left g
+ends_same : (n : Next) (left : ℕ) (f g : List Awaited → Option ℕ) → ((new : List Awaited) → f new ≡ g new)
+    → end_here n left f ≡ end_here n left g
 ends_same None left f g h = refl
 ends_same (Some new) left f g h = h new
 

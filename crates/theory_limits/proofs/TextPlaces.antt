@@ -42,7 +42,8 @@ bad_syntax m n h = absurd cc
 
 -- ---- limits
 
-limit_by : (text : List ℕ) (tokens : List Token) (w : Limit) (place : ℕ) (r : Result Advert Stop) → tokens_of text ≡ Ok tokens → advert_of_all (lexemes text tokens) ≡ r
+limit_by : (text : List ℕ) (tokens : List Token) (w : Limit) (place : ℕ) (r : Result Advert Stop) → tokens_of text ≡ Ok tokens
+    → advert_of_all (lexemes text tokens) ≡ r
     → answer_of text tokens r ≡ failing (faults.Limit w place) → IsMarkedText text w place
 limit_by text tokens w place (Ok a) cut is h = absurd (found_fails a (faults.Limit w place) h)
 limit_by text tokens w place (Err (stops.Syntax left)) cut is h =
@@ -57,7 +58,8 @@ limit_by text tokens w place (Err (stops.Limit v left)) cut is h =
       place_is = sym e.1;
     }
 
-limit_from : (text : List ℕ) (cut : Tokens) (w : Limit) (place : ℕ) → tokens_of text ≡ cut → answer_from text cut ≡ failing (faults.Limit w place) → IsMarkedText text w place
+limit_from : (text : List ℕ) (cut : Tokens) (w : Limit) (place : ℕ) → tokens_of text ≡ cut
+    → answer_from text cut ≡ failing (faults.Limit w place) → IsMarkedText text w place
 limit_from text (Err byte) w place is h = absurd (bad_limit byte place w (failing_is (faults.BadByte byte) (faults.Limit w place) h))
 limit_from text (Ok tokens) w place is h = limit_by text tokens w place (advert_of_all (lexemes text tokens)) is refl h
 
@@ -76,7 +78,8 @@ limit_only_text text w place m =
 twice : (n left : ℕ) → left ≤ n → left ≡ n - (n - left)
 twice n left h = omega arith
 
-syntax_by : (text : List ℕ) (tokens : List Token) (place : ℕ) (r : Result Advert Stop) → tokens_of text ≡ Ok tokens → advert_of_all (lexemes text tokens) ≡ r
+syntax_by : (text : List ℕ) (tokens : List Token) (place : ℕ) (r : Result Advert Stop) → tokens_of text ≡ Ok tokens
+    → advert_of_all (lexemes text tokens) ≡ r
     → answer_of text tokens r ≡ failing (faults.Syntax place) → IsEndedText text place
 syntax_by text tokens place (Ok a) cut is h = absurd (found_fails a (faults.Syntax place) h)
 syntax_by text tokens place (Err (stops.Limit w left)) cut is h =
@@ -94,7 +97,8 @@ syntax_by text tokens place (Err (stops.Syntax left)) cut is h =
       place_is = sym e ∙ ap (place_of text tokens) (twice (length t) left (left_within t left is));
     }
 
-syntax_from : (text : List ℕ) (cut : Tokens) (place : ℕ) → tokens_of text ≡ cut → answer_from text cut ≡ failing (faults.Syntax place) → IsEndedText text place
+syntax_from : (text : List ℕ) (cut : Tokens) (place : ℕ) → tokens_of text ≡ cut → answer_from text cut ≡ failing (faults.Syntax place)
+    → IsEndedText text place
 syntax_from text (Err byte) place is h = absurd (bad_syntax byte place (failing_is (faults.BadByte byte) (faults.Syntax place) h))
 syntax_from text (Ok tokens) place is h = syntax_by text tokens place (advert_of_all (lexemes text tokens)) is refl h
 

@@ -31,7 +31,8 @@ step_is None ws left on behind end h = refl
 step_is (Some new) [] left on behind end h = h new
 step_is (Some new) (w ∷ ws) left on behind end h = refl
 
-walk_is : (awaited : List Awaited) (before : ℕ) (ts : List Lexeme) → judged awaited before ts ≡ verdict (marks_from awaited before ts) (end_from awaited ts)
+walk_is : (awaited : List Awaited) (before : ℕ) (ts : List Lexeme)
+    → judged awaited before ts ≡ verdict (marks_from awaited before ts) (end_from awaited ts)
 walk_is [] before [] = refl
 walk_is (a ∷ as') before [] = refl
 walk_is [] before (t ∷ ts) = refl
@@ -56,7 +57,8 @@ some_is m n h = cc
 no_place : (n : ℕ) → no_end ≡ some_place n → ⊥
 no_place n h = absurd cc
 
-here_within : (n : Next) (here left most : ℕ) (behind : List Awaited → Option ℕ) → here ≤ most → ((new : List Awaited) → behind new ≡ Some left → left ≤ most) → end_here n here behind ≡ Some left → left ≤ most
+here_within : (n : Next) (here left most : ℕ) (behind : List Awaited → Option ℕ) → here ≤ most
+    → ((new : List Awaited) → behind new ≡ Some left → left ≤ most) → end_here n here behind ≡ Some left → left ≤ most
 here_within None here left most behind le h e = let i = some_is here left e in omega (arith, i)
 here_within (Some new) here left most behind le h e = h new e
 
@@ -64,7 +66,8 @@ end_within : (awaited : List Awaited) (ts : List Lexeme) (left : ℕ) → end_fr
 end_within [] [] left e = absurd (no_place left e)
 end_within (a ∷ as') [] left e = let i = some_is 0 left e in omega (arith, i)
 end_within [] (t ∷ ts) left e = let i = some_is (suc (length ts)) left e in omega (arith, i)
-end_within (a ∷ as') (t ∷ ts) left e = here_within (next a t) (suc (length ts)) left (suc (length ts)) (λ new. end_from (new ++ as') ts) (omega arith) (λ new k. let i = end_within (new ++ as') ts left k in omega (arith, i)) e
+end_within (a ∷ as') (t ∷ ts) left e =
+    here_within (next a t) (suc (length ts)) left (suc (length ts)) (λ new. end_from (new ++ as') ts) (omega arith) (λ new k. let i = end_within (new ++ as') ts left k in omega (arith, i)) e
 
 -- ---- what an answer tells
 
@@ -96,7 +99,8 @@ limit_syntax : (w : Limit) (m n : ℕ) → stops.Limit w m ≡ stops.Syntax n �
 limit_syntax w m n h = absurd cc
 
 -- a limit is the first mark
-first_by : (t : List Lexeme) (w : Limit) (left : ℕ) (ms : List Mark) (end : Option ℕ) → marks t ≡ ms → failed (stops.Limit w left) ≡ verdict ms end → IsFirstMark t w left
+first_by : (t : List Lexeme) (w : Limit) (left : ℕ) (ms : List Mark) (end : Option ℕ) → marks t ≡ ms
+    → failed (stops.Limit w left) ≡ verdict ms end → IsFirstMark t w left
 first_by t w left (m ∷ ms) end e h =
     let f = failed_is (stops.Limit w left) (stops.Limit m.quantity m.left) h in
     let q = limit_quantity w m.quantity left m.left f in
@@ -106,7 +110,8 @@ first_by t w left [] None e h = absurd (not_passed (stops.Limit w left) h)
 first_by t w left [] (Some n) e h = absurd (limit_syntax w left n (failed_is (stops.Limit w left) (stops.Syntax n) h))
 
 -- no mark stands where none is answered
-none_by : (j : Judgement) (ms : List Mark) (end : Option ℕ) → ((w : Limit) (left : ℕ) → j ≡ failed (stops.Limit w left) → ⊥) → j ≡ verdict ms end → ms ≡ []
+none_by : (j : Judgement) (ms : List Mark) (end : Option ℕ) → ((w : Limit) (left : ℕ) → j ≡ failed (stops.Limit w left) → ⊥)
+    → j ≡ verdict ms end → ms ≡ []
 none_by j [] end never h = refl
 none_by j (m ∷ ms) end never h = absurd (never m.quantity m.left h)
 
@@ -121,7 +126,8 @@ stop_by (Ok a) e h = absurd (not_passed e (sym h))
 stop_by (Err f) e h = ap stopped (failed_is f e h)
 
 limit_only_is : (t : List Lexeme) (w : Limit) (left : ℕ) → IsFirstMark t w left → advert_of_all t ≡ Err (stops.Limit w left)
-limit_only_is t w left m = stop_by (advert_of_all t) (stops.Limit w left) (answer_is t ∙ ap (λ (z : List Mark). verdict z (grammar_end t)) m.first)
+limit_only_is t w left m =
+    stop_by (advert_of_all t) (stops.Limit w left) (answer_is t ∙ ap (λ (z : List Mark). verdict z (grammar_end t)) m.first)
 
 -- ---- syntax errors
 
@@ -130,7 +136,8 @@ unmarked t left h =
     let is : failed (stops.Syntax left) ≡ verdict (marks t) (grammar_end t) = sym (ap bare_answer h) ∙ answer_is t in
     none_by (failed (stops.Syntax left)) (marks t) (grammar_end t) (λ w n e. limit_syntax w n left (sym (failed_is (stops.Syntax left) (stops.Limit w n) e))) is
 
-end_by : (t : List Lexeme) (left : ℕ) (ms : List Mark) (end : Option ℕ) → ms ≡ [] → failed (stops.Syntax left) ≡ verdict ms end → end ≡ Some left
+end_by : (t : List Lexeme) (left : ℕ) (ms : List Mark) (end : Option ℕ) → ms ≡ [] → failed (stops.Syntax left) ≡ verdict ms end
+    → end ≡ Some left
 end_by t left [] None e h = absurd (not_passed (stops.Syntax left) h)
 end_by t left [] (Some n) e h = ap some_place (sym (syntax_left left n (failed_is (stops.Syntax left) (stops.Syntax n) h)))
 end_by t left (m ∷ ms) end e h = absurd cc
@@ -142,14 +149,16 @@ end_is t left h = end_by t left (marks t) (grammar_end t) (unmarked t left h) (s
 pub left_within : (t : List Lexeme) (left : ℕ) → advert_of_all t ≡ Err (stops.Syntax left) → left ≤ length t
 left_within t left h = end_within an_advert t left (end_is t left h)
 
-syntax_both : (t : List Lexeme) (left : ℕ) → advert_of_all t ≡ Err (stops.Syntax left) → IsSyntaxAt t (length t - left) × StandFrom (length t - left) (length t) (marks t)
+syntax_both : (t : List Lexeme) (left : ℕ) → advert_of_all t ≡ Err (stops.Syntax left)
+    → IsSyntaxAt t (length t - left) × StandFrom (length t - left) (length t) (marks t)
 syntax_both t left h = (syntax_is t left h, subst (StandFrom (length t - left) (length t)) (sym (unmarked t left h)) tt)
 
 -- the grammar ends at one place
 one_end : (t : List Lexeme) (p q : ℕ) → IsSyntaxAt t p → IsSyntaxAt t q → p ≤ q
 one_end t p q s u = elim (leb_tells p q) [ inl w ↦ w.1 | inr w ↦ absurd (u.longest p w.1 s.within s.begins) ]
 
-first_from : (t : List Lexeme) (p : ℕ) (w : Limit) (left : ℕ) → IsFirstMark t w left → StandFrom p (length t) (marks t) → p ≤ length t - left
+first_from : (t : List Lexeme) (p : ℕ) (w : Limit) (left : ℕ) → IsFirstMark t w left → StandFrom p (length t) (marks t)
+    → p ≤ length t - left
 first_from t p w left m s = (subst (StandFrom p (length t)) m.first s).0
 
 limit_later : (t : List Lexeme) (p q : ℕ) → IsSyntaxAt t p → IsLimitAt t q → p ≤ q → ⊥
@@ -158,16 +167,19 @@ limit_later t p q s l le = let k = l.within in s.longest (q + 1) (omega arith) (
 places : (n p left : ℕ) → p ≤ n - left → n - left ≤ p → left ≤ n → left ≡ n - p
 places n p left a b c = omega arith
 
-syntax_at : (t : List Lexeme) (p : ℕ) → IsSyntaxAt t p → StandFrom p (length t) (marks t) → (r : Result Advert Stop) → advert_of_all t ≡ r → r ≡ stopped (stops.Syntax (length t - p))
+syntax_at : (t : List Lexeme) (p : ℕ) → IsSyntaxAt t p → StandFrom p (length t) (marks t) → (r : Result Advert Stop) → advert_of_all t ≡ r
+    → r ≡ stopped (stops.Syntax (length t - p))
 syntax_at t p s m (Ok a) h = absurd (s.none a (found_is t a h))
-syntax_at t p s m (Err (stops.Limit w left)) h = absurd (limit_later t p (length t - left) s (limit_is t w left h) (first_from t p w left (first_is t w left h) m))
+syntax_at t p s m (Err (stops.Limit w left)) h =
+    absurd (limit_later t p (length t - left) s (limit_is t w left h) (first_from t p w left (first_is t w left h) m))
 syntax_at t p s m (Err (stops.Syntax left)) h =
     let u = syntax_is t left h in
     let a = one_end t p (length t - left) s u in
     let b = one_end t (length t - left) p u s in
     ap (λ (n : ℕ). stopped (stops.Syntax n)) (places (length t) p left a b (left_within t left h))
 
-syntax_only_is : (t : List Lexeme) (p : ℕ) → IsSyntaxAt t p → StandFrom p (length t) (marks t) → advert_of_all t ≡ Err (stops.Syntax (length t - p))
+syntax_only_is : (t : List Lexeme) (p : ℕ) → IsSyntaxAt t p → StandFrom p (length t) (marks t)
+    → advert_of_all t ≡ Err (stops.Syntax (length t - p))
 syntax_only_is t p s m = syntax_at t p s m (advert_of_all t) refl
 
 -- ---- adverts
@@ -183,7 +195,8 @@ found a = Ok a
 none_first : (t : List Lexeme) (w : Limit) (left : ℕ) → marks t ≡ [] → IsFirstMark t w left → ⊥
 none_first t w left h m = let k = m.first in absurd cc
 
-read_at : (t : List Lexeme) (advert : Advert) → Spells t advert → marks t ≡ [] → (r : Result Advert Stop) → advert_of_all t ≡ r → r ≡ found advert
+read_at : (t : List Lexeme) (advert : Advert) → Spells t advert → marks t ≡ [] → (r : Result Advert Stop) → advert_of_all t ≡ r
+    → r ≡ found advert
 read_at t advert l m (Ok a) h = ap found (one_advert t a advert (found_is t a h) l)
 read_at t advert l m (Err (stops.Syntax left)) h = absurd ((syntax_is t left h).none advert l)
 read_at t advert l m (Err (stops.Limit w left)) h = absurd (none_first t w left m (first_is t w left h))

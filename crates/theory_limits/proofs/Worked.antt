@@ -48,7 +48,8 @@ long_and_deep = refl
 
 -- `reveal a if not not .. P . withdraw A`
 abbrev revealed : ℕ → List Lexeme → List Lexeme
-revealed n t = with_secret (keyword word.Reveal ∷ name (codes "a") ∷ keyword word.If ∷ (times n (keyword word.Not ∷ []) ++ (t ++ symbol mark.Dot ∷ payment)))
+revealed n t =
+    with_secret (keyword word.Reveal ∷ name (codes "a") ∷ keyword word.If ∷ (times n (keyword word.Not ∷ []) ++ (t ++ symbol mark.Dot ∷ payment)))
 
 pub deepest_true : marks (revealed 63 (keyword word.True ∷ [])) ≡ []
 deepest_true = refl
@@ -77,7 +78,8 @@ too_many_parts = refl
 
 -- a split of 64 parts with eight branches each: with the split itself the last of them is the 513th
 abbrev eight : List Lexeme
-eight = number 1 ∷ symbol mark.Arrow ∷ symbol mark.LeftParen ∷ (payment ++ (times 7 (symbol mark.Plus ∷ payment) ++ symbol mark.RightParen ∷ []))
+eight =
+    number 1 ∷ symbol mark.Arrow ∷ symbol mark.LeftParen ∷ (payment ++ (times 7 (symbol mark.Plus ∷ payment) ++ symbol mark.RightParen ∷ []))
 
 pub too_many_branches : marks (with_secret (keyword word.Split ∷ symbol mark.LeftBracket ∷ (eight ++ (times 63 (symbol mark.Comma ∷ eight) ++ symbol mark.RightBracket ∷ [])))) ≡ at limits.Branches 4 ∷ []
 too_many_branches = refl

@@ -123,8 +123,10 @@ next (behind_part d k) (symbol mark.Comma) = Some (part d (suc k) ∷ [])
 next (behind_part d k) (symbol mark.RightBracket) = Some []
 next (entry deposits secrets) (name party) = Some (this_symbol mark.Colon ∷ entry_kind deposits secrets ∷ [])
 next (entry deposits secrets) long_name = Some (this_symbol mark.Colon ∷ entry_kind deposits secrets ∷ [])
-next (entry_kind deposits secrets) (symbol mark.Bang) = Some (a_number max_money ∷ this_symbol mark.At ∷ a_name ∷ behind_entry (suc deposits) secrets ∷ [])
-next (entry_kind deposits secrets) (symbol mark.Question) = Some (a_number max_money ∷ this_symbol mark.At ∷ a_name ∷ behind_entry (suc deposits) secrets ∷ [])
+next (entry_kind deposits secrets) (symbol mark.Bang) =
+    Some (a_number max_money ∷ this_symbol mark.At ∷ a_name ∷ behind_entry (suc deposits) secrets ∷ [])
+next (entry_kind deposits secrets) (symbol mark.Question) =
+    Some (a_number max_money ∷ this_symbol mark.At ∷ a_name ∷ behind_entry (suc deposits) secrets ∷ [])
 next (entry_kind deposits secrets) (keyword word.Secret) = Some (a_name ∷ behind_entry deposits (suc secrets) ∷ [])
 next (behind_entry deposits secrets) (symbol mark.Bar) = Some (entry deposits secrets ∷ [])
 next (behind_entry deposits secrets) (symbol mark.RightBrace) = Some []

@@ -35,7 +35,8 @@ over_test d t = great greatest_constant t ++ over limits.Depth most_depth (suc d
 
 -- the counts of a branch of this depth and number, where so many came in the whole contract before
 abbrev pub over_counts : ℕ → ℕ → ℕ → List Limit
-over_counts d k before = over limits.Depth most_depth d ++ (over limits.Branches most_branches (suc before) ++ over limits.Choice most_choices k)
+over_counts d k before =
+    over limits.Depth most_depth d ++ (over limits.Branches most_branches (suc before) ++ over limits.Choice most_choices k)
 
 abbrev pub over_branch : ℕ → ℕ → ℕ → Lexeme → List Limit
 over_branch d k before t = long t ++ over_counts d k before

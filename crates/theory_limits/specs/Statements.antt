@@ -30,11 +30,14 @@ StandFrom p total (m ∷ ms) = (p ≤ total - m.left) × StandFrom p total ms
 -- the reader of contract text stops at the first limit that is exceeded, or where the grammar ends, whichever is first
 pub record LimitsTheorem : Type 0 where
   -- A limit is answered exactly where it is the first mark; the tokens up to and with that begin some advert.
-  pub limit : (t : List Lexeme) (w : Limit) (left : ℕ) → advert_of_all t ≡ Err (stops.Limit w left) → IsFirstMark t w left × IsLimitAt t (length t - left)
+  pub limit : (t : List Lexeme) (w : Limit) (left : ℕ) → advert_of_all t ≡ Err (stops.Limit w left)
+      → IsFirstMark t w left × IsLimitAt t (length t - left)
   pub limit_only : (t : List Lexeme) (w : Limit) (left : ℕ) → IsFirstMark t w left → advert_of_all t ≡ Err (stops.Limit w left)
   -- A syntax error is answered exactly where the grammar ends and no mark stands before.
-  pub syntax : (t : List Lexeme) (left : ℕ) → advert_of_all t ≡ Err (stops.Syntax left) → IsSyntaxAt t (length t - left) × StandFrom (length t - left) (length t) (marks t)
-  pub syntax_only : (t : List Lexeme) (p : ℕ) → IsSyntaxAt t p → StandFrom p (length t) (marks t) → advert_of_all t ≡ Err (stops.Syntax (length t - p))
+  pub syntax : (t : List Lexeme) (left : ℕ) → advert_of_all t ≡ Err (stops.Syntax left)
+      → IsSyntaxAt t (length t - left) × StandFrom (length t - left) (length t) (marks t)
+  pub syntax_only : (t : List Lexeme) (p : ℕ) → IsSyntaxAt t p → StandFrom p (length t) (marks t)
+      → advert_of_all t ≡ Err (stops.Syntax (length t - p))
   -- An advert is answered exactly where the tokens spell it and none is marked.
   pub read : (t : List Lexeme) (advert : Advert) → advert_of_all t ≡ Ok advert → Spells t advert × (marks t ≡ [])
   pub read_only : (t : List Lexeme) (advert : Advert) → Spells t advert → marks t ≡ [] → advert_of_all t ≡ Ok advert

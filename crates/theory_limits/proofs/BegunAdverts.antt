@@ -11,7 +11,7 @@ use Rattle.spec_text.specs.declared.lexeme.Lexeme.TheVariants.{Keyword as keywor
 use Rattle.spec_text.specs.Grammar.{more_names, SpellsHeading, SpellsBranch, SpellsChoice, SpellsMore, SpellsParts, SpellsMoreParts, entry, more_entries, Spells}
 use Rattle.theory_limits.specs.Awaited.{Awaited, this_symbol, a_name, a_number, behind_put, behind_reveal, wrapped, behind_branch, contract, behind_part, entry_kind, behind_entry, fee_or_contract, an_advert, next, next_branch, next_contract}
 use Rattle.theory_limits.specs.Awaited.{branch as a_branch, part as a_part, entry as an_entry, this_word, operator, relation, formula, test}
-use Rattle.theory_limits.proofs.Texts.{Has, Closed, With_reveal, EntryText, EntriesText, FeeText, Text, Texts, Begun, begun_as}
+use Rattle.theory_limits.proofs.Texts.{add, Has, Closed, With_reveal, EntryText, EntriesText, FeeText, Text, Texts, Begun, begun_as}
 use Rattle.theory_limits.proofs.BegunTests.{one, last, begun_symbol, begun_word, begun_formula, begun_test, begun_put, begun_reveal}
 use Rattle.spec_text.specs.Reading.{is_symbol, is_keyword}
 
@@ -21,7 +21,7 @@ use Rattle.spec_text.specs.Reading.{is_symbol, is_keyword}
 headed : (x : List ℕ) (t u v b w text c n : List Lexeme) → t ≡ u ++ v → u ≡ name x ∷ [] → v ≡ b ++ w → b ≡ text ++ symbol mark.Dot ∷ []
     → w ≡ c ++ n → n ≡ [] → t ≡ name x ∷ (text ++ symbol mark.Dot ∷ c)
 headed x t u v b w text c n e f g k l m =
-    one (name x) t u v e f ∙ ap (λ (z : List Lexeme). name x ∷ z) (g ∙ ap (λ (z : List Lexeme). z ++ w) k ∙ append_assoc text (symbol mark.Dot ∷ []) w ∙ ap (λ (z : List Lexeme). text ++ symbol mark.Dot ∷ z) (last w c n l m))
+    one (name x) t u v e f ∙ add (name x) (g ∙ ap (λ (z : List Lexeme). z ++ w) k ∙ append_assoc text (symbol mark.Dot ∷ []) w ∙ ap (λ (z : List Lexeme). text ++ symbol mark.Dot ∷ z) (last w c n l m))
 
 put_by : (d : ℕ) (t : List Lexeme) (h : Texts (a_name ∷ behind_put ∷ contract d ∷ []) t)
     → ((h.back.front.text ≡ more_names (h.back.front.names)) ⊎ With_reveal (h.back.front.names) (h.back.front.text))
@@ -30,16 +30,26 @@ put_by d t h (inl w) =
     let x = h.front.0 in
     let b = h.back in
     let c = b.back in
-    let is = headed x t h.first h.second b.first b.second b.front.text c.first c.second h.parts h.front.1 b.parts b.front.parts c.parts c.back in
-    let heading : SpellsHeading (keyword word.Put ∷ name x ∷ b.front.text) (x ∷ b.front.names) [] always = (ap (λ (z : List Lexeme). keyword word.Put ∷ name x ∷ z) w, refl) in
-    record { value = put_reveal (x ∷ b.front.names) [] always c.front.value; spelled = (keyword word.Put ∷ name x ∷ b.front.text, c.first, ap (λ (z : List Lexeme). keyword word.Put ∷ z) is, heading, c.front.spelled) }
+    let is =
+    headed x t h.first h.second b.first b.second b.front.text c.first c.second h.parts h.front.1 b.parts b.front.parts c.parts c.back in
+    let heading : SpellsHeading (keyword word.Put ∷ name x ∷ b.front.text) (x ∷ b.front.names) [] always =
+    (ap (λ (z : List Lexeme). keyword word.Put ∷ name x ∷ z) w, refl) in
+    record {
+      value = put_reveal (x ∷ b.front.names) [] always c.front.value;
+      spelled = (keyword word.Put ∷ name x ∷ b.front.text, c.first, add (keyword word.Put) is, heading, c.front.spelled);
+    }
 put_by d t h (inr r) =
     let x = h.front.0 in
     let b = h.back in
     let c = b.back in
-    let is = headed x t h.first h.second b.first b.second b.front.text c.first c.second h.parts h.front.1 b.parts b.front.parts c.parts c.back in
-    let heading : SpellsHeading (keyword word.Put ∷ name x ∷ b.front.text) (x ∷ b.front.names) (r.first ∷ r.others) r.condition = (r.reveal, ap (λ (z : List Lexeme). keyword word.Put ∷ name x ∷ z) r.parts, r.spelled) in
-    record { value = put_reveal (x ∷ b.front.names) (r.first ∷ r.others) r.condition c.front.value; spelled = (keyword word.Put ∷ name x ∷ b.front.text, c.first, ap (λ (z : List Lexeme). keyword word.Put ∷ z) is, heading, c.front.spelled) }
+    let is =
+    headed x t h.first h.second b.first b.second b.front.text c.first c.second h.parts h.front.1 b.parts b.front.parts c.parts c.back in
+    let heading : SpellsHeading (keyword word.Put ∷ name x ∷ b.front.text) (x ∷ b.front.names) (r.first ∷ r.others) r.condition =
+    (r.reveal, ap (λ (z : List Lexeme). keyword word.Put ∷ name x ∷ z) r.parts, r.spelled) in
+    record {
+      value = put_reveal (x ∷ b.front.names) (r.first ∷ r.others) r.condition c.front.value;
+      spelled = (keyword word.Put ∷ name x ∷ b.front.text, c.first, add (keyword word.Put) is, heading, c.front.spelled);
+    }
 
 reveal_by : (d : ℕ) (t : List Lexeme) → Texts (a_name ∷ behind_reveal ∷ contract d ∷ []) t → Has SpellsBranch (keyword word.Reveal ∷ t)
 reveal_by d t h =
@@ -48,16 +58,22 @@ reveal_by d t h =
     let r = b.front in
     let c = b.back in
     let is = headed a t h.first h.second b.first b.second r.text c.first c.second h.parts h.front.1 b.parts r.parts c.parts c.back in
-    let heading : SpellsHeading (keyword word.Reveal ∷ name a ∷ r.text) [] (a ∷ r.names) r.condition = (r.test, ap (λ (z : List Lexeme). keyword word.Reveal ∷ name a ∷ z) r.named, r.spelled) in
-    record { value = put_reveal [] (a ∷ r.names) r.condition c.front.value; spelled = (keyword word.Reveal ∷ name a ∷ r.text, c.first, ap (λ (z : List Lexeme). keyword word.Reveal ∷ z) is, heading, c.front.spelled) }
+    let heading : SpellsHeading (keyword word.Reveal ∷ name a ∷ r.text) [] (a ∷ r.names) r.condition =
+    (r.test, ap (λ (z : List Lexeme). keyword word.Reveal ∷ name a ∷ z) r.named, r.spelled) in
+    record {
+      value = put_reveal [] (a ∷ r.names) r.condition c.front.value;
+      spelled = (keyword word.Reveal ∷ name a ∷ r.text, c.first, add (keyword word.Reveal) is, heading, c.front.spelled);
+    }
 
 -- a guarded term behind a colon
 wrapped_by : (d : ℕ) (party : List ℕ) (t : List Lexeme) → Texts (this_symbol mark.Colon ∷ wrapped d ∷ []) t
     → Has SpellsBranch (name party ∷ t)
 wrapped_by d party t h =
     let b = h.back in
-    let is : t ≡ symbol mark.Colon ∷ b.first = one (symbol mark.Colon) t h.first h.second h.parts h.front ∙ ap (λ (z : List Lexeme). symbol mark.Colon ∷ z) (last h.second b.first b.second b.parts b.back) in
-    record { value = auth party b.front.value; spelled = (b.first, ap (λ (z : List Lexeme). name party ∷ z) is, b.front.spelled) }
+    let is : t ≡ symbol mark.Colon ∷ b.first =
+    one (symbol mark.Colon) t h.first h.second h.parts h.front
+    ∙ add (symbol mark.Colon) (last h.second b.first b.second b.parts b.back) in
+    record { value = auth party b.front.value; spelled = (b.first, add (name party) is, b.front.spelled) }
 
 after_by : (d most : ℕ) (t : List Lexeme) → Texts (a_number most ∷ this_symbol mark.Colon ∷ wrapped d ∷ []) t
     → Has SpellsBranch (keyword word.After ∷ t)
@@ -65,21 +81,28 @@ after_by d most t h =
     let n = h.front.0 in
     let k = h.back in
     let b = k.back in
-    let is : t ≡ number n ∷ symbol mark.Colon ∷ b.first = one (number n) t h.first h.second h.parts h.front.1 ∙ ap (λ (z : List Lexeme). number n ∷ z) (one (symbol mark.Colon) h.second k.first k.second k.parts k.front ∙ ap (λ (z : List Lexeme). symbol mark.Colon ∷ z) (last k.second b.first b.second b.parts b.back)) in
-    record { value = after n b.front.value; spelled = (b.first, ap (λ (z : List Lexeme). keyword word.After ∷ z) is, b.front.spelled) }
+    let is : t ≡ number n ∷ symbol mark.Colon ∷ b.first =
+    one (number n) t h.first h.second h.parts h.front.1
+    ∙ add (number n) (one (symbol mark.Colon) h.second k.first k.second k.parts k.front ∙ add (symbol mark.Colon) (last k.second b.first b.second b.parts b.back)) in
+    record { value = after n b.front.value; spelled = (b.first, add (keyword word.After) is, b.front.spelled) }
 
 split_by : (d k : ℕ) (t : List Lexeme) → Texts (this_symbol mark.LeftBracket ∷ a_part d k ∷ []) t
     → Has SpellsBranch (keyword word.Split ∷ t)
 split_by d k t h =
     let b = h.back in
     let p = b.front in
-    let is : t ≡ symbol mark.LeftBracket ∷ (p.text ++ symbol mark.RightBracket ∷ []) = one (symbol mark.LeftBracket) t h.first h.second h.parts h.front ∙ ap (λ (z : List Lexeme). symbol mark.LeftBracket ∷ z) (last h.second b.first b.second b.parts b.back ∙ p.parts) in
-    record { value = split p.value; spelled = (p.text, ap (λ (z : List Lexeme). keyword word.Split ∷ z) is, p.spelled) }
+    let is : t ≡ symbol mark.LeftBracket ∷ (p.text ++ symbol mark.RightBracket ∷ []) =
+    one (symbol mark.LeftBracket) t h.first h.second h.parts h.front
+    ∙ add (symbol mark.LeftBracket) (last h.second b.first b.second b.parts b.back ∙ p.parts) in
+    record { value = split p.value; spelled = (p.text, add (keyword word.Split) is, p.spelled) }
 
 withdraw_by : (t : List Lexeme) → Texts (a_name ∷ []) t → Has SpellsBranch (keyword word.Withdraw ∷ t)
 withdraw_by t h =
     let x = h.front.0 in
-    record { value = withdraw x; spelled = ap (λ (z : List Lexeme). keyword word.Withdraw ∷ z) (one (name x) t h.first h.second h.parts h.front.1 ∙ ap (λ (z : List Lexeme). name x ∷ z) h.back) }
+    record {
+      value = withdraw x;
+      spelled = add (keyword word.Withdraw) (one (name x) t h.first h.second h.parts h.front.1 ∙ add (name x) h.back);
+    }
 
 begun_branch : (d : ℕ) (c : Lexeme) → Begun (Has SpellsBranch) c (next_branch d c)
 begun_branch d (name party) = λ t h. (name party, refl, wrapped_by (suc d) party t h)
@@ -101,8 +124,12 @@ choice_by : (d k : ℕ) (t : List Lexeme) → Texts (a_branch d k ∷ behind_bra
 choice_by d k t h =
     let b = h.back in
     let m = b.front in
-    let is : t ≡ h.first ++ (m.text ++ symbol mark.RightParen ∷ []) = h.parts ∙ ap (λ (z : List Lexeme). h.first ++ z) (last h.second b.first b.second b.parts b.back ∙ m.parts) in
-    record { value = branch h.front.value m.value; spelled = inr (h.first, m.text, ap (λ (z : List Lexeme). symbol mark.LeftParen ∷ z) is, h.front.spelled, m.spelled) }
+    let is : t ≡ h.first ++ (m.text ++ symbol mark.RightParen ∷ []) =
+    h.parts ∙ ap (λ (z : List Lexeme). h.first ++ z) (last h.second b.first b.second b.parts b.back ∙ m.parts) in
+    record {
+      value = branch h.front.value m.value;
+      spelled = inr (h.first, m.text, add (symbol mark.LeftParen) is, h.front.spelled, m.spelled);
+    }
 
 bare : (t : List Lexeme) → Has SpellsBranch t → Has SpellsChoice t
 bare t h = record { value = branch h.value no_branch; spelled = inl (h.spelled, refl) }
@@ -120,14 +147,14 @@ more_by d k t h =
       text = symbol mark.Plus ∷ (h.first ++ m.text);
       value = branch h.front.value m.value;
       parts =
-          ap (λ (z : List Lexeme). symbol mark.Plus ∷ z) (both_closed (symbol mark.RightParen) t h.first h.second b.first b.second m.text h.parts b.parts m.parts b.back);
+          add (symbol mark.Plus) (both_closed (symbol mark.RightParen) t h.first h.second b.first b.second m.text h.parts b.parts m.parts b.back);
       spelled = (h.first, m.text, refl, h.front.spelled, m.spelled);
     }
 
 begun_more : (d k : ℕ) (c : Lexeme) → Begun (Closed (symbol mark.RightParen) SpellsMore) c (next (behind_branch d k) c)
 begun_more d k (symbol mark.Plus) = λ t h. (symbol mark.Plus, refl, more_by d (suc k) t h)
 begun_more d k (symbol mark.RightParen) =
-    λ t e. (symbol mark.RightParen, refl, record { text = []; value = no_branch; parts = ap (λ (z : List Lexeme). symbol mark.RightParen ∷ z) e; spelled = refl })
+    λ t e. (symbol mark.RightParen, refl, record { text = []; value = no_branch; parts = add (symbol mark.RightParen) e; spelled = refl })
 begun_more d k c = tt
 
 part_by : (d k v : ℕ) (t : List Lexeme) → Texts (this_symbol mark.Arrow ∷ contract d ∷ behind_part d k ∷ []) t
@@ -137,11 +164,11 @@ part_by d k v t h =
     let b = n.back in
     let m = b.front in
     let is = one (symbol mark.Arrow) t h.first h.second h.parts h.front
-        ∙ ap (λ (z : List Lexeme). symbol mark.Arrow ∷ z) (both_closed (symbol mark.RightBracket) h.second n.first n.second b.first b.second m.text n.parts b.parts m.parts b.back) in
+    ∙ add (symbol mark.Arrow) (both_closed (symbol mark.RightBracket) h.second n.first n.second b.first b.second m.text n.parts b.parts m.parts b.back) in
     record {
       text = number v ∷ symbol mark.Arrow ∷ (n.first ++ m.text);
       value = part v n.front.value m.value;
-      parts = ap (λ (z : List Lexeme). number v ∷ z) is;
+      parts = add (number v) is;
       spelled = (n.first, m.text, refl, n.front.spelled, m.spelled);
     }
 
@@ -152,7 +179,7 @@ begun_part d k c = tt
 
 more_parts : (ps : Parts) (t : List Lexeme) → SpellsParts t ps → SpellsMoreParts (symbol mark.Comma ∷ t) ps
 more_parts no_part t l = absurd l
-more_parts (part v c ps) t l = (l.0, l.1, ap (λ (z : List Lexeme). symbol mark.Comma ∷ z) l.2, l.3, l.4)
+more_parts (part v c ps) t l = (l.0, l.1, add (symbol mark.Comma) l.2, l.3, l.4)
 
 begun_more_parts : (d k : ℕ) (c : Lexeme) → Begun (Closed (symbol mark.RightBracket) SpellsMoreParts) c (next (behind_part d k) c)
 begun_more_parts d k (symbol mark.Comma) = λ t h.
@@ -162,12 +189,12 @@ begun_more_parts d k (symbol mark.Comma) = λ t h.
       record {
         text = symbol mark.Comma ∷ p.text;
         value = p.value;
-        parts = ap (λ (z : List Lexeme). symbol mark.Comma ∷ z) (last t h.first h.second h.parts h.back ∙ p.parts);
+        parts = add (symbol mark.Comma) (last t h.first h.second h.parts h.back ∙ p.parts);
         spelled = more_parts p.value p.text p.spelled;
       },
     )
 begun_more_parts d k (symbol mark.RightBracket) =
-    λ t e. (symbol mark.RightBracket, refl, record { text = []; value = no_part; parts = ap (λ (z : List Lexeme). symbol mark.RightBracket ∷ z) e; spelled = refl })
+    λ t e. (symbol mark.RightBracket, refl, record { text = []; value = no_part; parts = add (symbol mark.RightBracket) e; spelled = refl })
 begun_more_parts d k c = tt
 
 -- ---- preconditions
@@ -182,8 +209,8 @@ deposit_by most ds ss t h =
     let v = h.front.0 in
     let x = n.front.0 in
     one (number v) t h.first h.second h.parts h.front.1
-    ∙ ap (λ (z : List Lexeme). number v ∷ z) (one (symbol mark.At) h.second a.first a.second a.parts a.front
-    ∙ ap (λ (z : List Lexeme). symbol mark.At ∷ z) (one (name x) a.second n.first n.second n.parts n.front.1 ∙ ap (λ (z : List Lexeme). name x ∷ z) (last n.second e.first e.second e.parts e.back ∙ e.front.1)))
+    ∙ add (number v) (one (symbol mark.At) h.second a.first a.second a.parts a.front
+    ∙ add (symbol mark.At) (one (name x) a.second n.first n.second n.parts n.front.1 ∙ add (name x) (last n.second e.first e.second e.parts e.back ∙ e.front.1)))
 
 begun_entry : (ds ss : ℕ) (c : Lexeme) → Begun EntryText c (next (entry_kind ds ss) c)
 begun_entry ds ss (symbol mark.Bang) = λ t h.
@@ -194,7 +221,7 @@ begun_entry ds ss (symbol mark.Bang) = λ t h.
       record {
         own = symbol mark.Bang ∷ number v ∷ symbol mark.At ∷ name x ∷ [];
         others = h.back.back.back.front.0;
-        parts = ap (λ (z : List Lexeme). symbol mark.Bang ∷ z) (deposit_by max_money (suc ds) ss t h);
+        parts = add (symbol mark.Bang) (deposit_by max_money (suc ds) ss t h);
         entry_of = λ party. (Persistent party v x, refl);
       },
     )
@@ -206,15 +233,24 @@ begun_entry ds ss (symbol mark.Question) = λ t h.
       record {
         own = symbol mark.Question ∷ number v ∷ symbol mark.At ∷ name x ∷ [];
         others = h.back.back.back.front.0;
-        parts = ap (λ (z : List Lexeme). symbol mark.Question ∷ z) (deposit_by max_money (suc ds) ss t h);
+        parts = add (symbol mark.Question) (deposit_by max_money (suc ds) ss t h);
         entry_of = λ party. (Volatile party v x, refl);
       },
     )
 begun_entry ds ss (keyword word.Secret) = λ t h.
     let x = h.front.0 in
     let e = h.back in
-    let is : t ≡ name x ∷ (more_entries (e.front.0) ++ symbol mark.RightBrace ∷ []) = one (name x) t h.first h.second h.parts h.front.1 ∙ ap (λ (z : List Lexeme). name x ∷ z) (last h.second e.first e.second e.parts e.back ∙ e.front.1) in
-    (keyword word.Secret, refl, record { own = keyword word.Secret ∷ name x ∷ []; others = e.front.0; parts = ap (λ (z : List Lexeme). keyword word.Secret ∷ z) is; entry_of = λ party. (Secret party x, refl) })
+    let is : t ≡ name x ∷ (more_entries (e.front.0) ++ symbol mark.RightBrace ∷ []) =
+    one (name x) t h.first h.second h.parts h.front.1 ∙ add (name x) (last h.second e.first e.second e.parts e.back ∙ e.front.1) in (
+      keyword word.Secret,
+      refl,
+      record {
+        own = keyword word.Secret ∷ name x ∷ [];
+        others = e.front.0;
+        parts = add (keyword word.Secret) is;
+        entry_of = λ party. (Secret party x, refl);
+      },
+    )
 begun_entry ds ss c = tt
 
 -- an entry and those behind it, behind its party
@@ -225,8 +261,10 @@ entries_by x ds ss t h =
     let k = e.front in
     let p = k.entry_of x in
     let rest = more_entries k.others ++ symbol mark.RightBrace ∷ [] in
-    let is : t ≡ symbol mark.Colon ∷ (k.own ++ rest) = one (symbol mark.Colon) t h.first h.second h.parts h.front ∙ ap (λ (z : List Lexeme). symbol mark.Colon ∷ z) (last h.second e.first e.second e.parts e.back ∙ k.parts) in
-    record { first = p.0; others = k.others; parts = ap (λ (z : List Lexeme). name x ∷ z) is ∙ ap (λ (z : List Lexeme). z ++ rest) (sym p.1) }
+    let is : t ≡ symbol mark.Colon ∷ (k.own ++ rest) =
+    one (symbol mark.Colon) t h.first h.second h.parts h.front
+    ∙ add (symbol mark.Colon) (last h.second e.first e.second e.parts e.back ∙ k.parts) in
+    record { first = p.0; others = k.others; parts = add (name x) is ∙ ap (λ (z : List Lexeme). z ++ rest) (sym p.1) }
 
 begun_first : (ds ss : ℕ) (c : Lexeme) → Begun EntriesText c (next (an_entry ds ss) c)
 begun_first ds ss (name x) = λ t h. (name x, refl, entries_by x ds ss t h)
@@ -236,10 +274,12 @@ begun_first ds ss c = tt
 begun_entries : (ds ss : ℕ) (c : Lexeme) → Begun (Text (behind_entry ds ss)) c (next (behind_entry ds ss) c)
 begun_entries ds ss (symbol mark.Bar) = λ t h.
     let e = h.front in
-    let is : t ≡ (entry e.first ++ more_entries e.others) ++ symbol mark.RightBrace ∷ [] = last t h.first h.second h.parts h.back ∙ e.parts ∙ sym (append_assoc (entry e.first) (more_entries e.others) (symbol mark.RightBrace ∷ [])) in
-    (symbol mark.Bar, refl, (e.first ∷ e.others, ap (λ (z : List Lexeme). symbol mark.Bar ∷ z) is))
+    let is : t ≡ (entry e.first ++ more_entries e.others) ++ symbol mark.RightBrace ∷ [] =
+    last t h.first h.second h.parts h.back ∙ e.parts
+    ∙ sym (append_assoc (entry e.first) (more_entries e.others) (symbol mark.RightBrace ∷ [])) in
+    (symbol mark.Bar, refl, (e.first ∷ e.others, add (symbol mark.Bar) is))
 begun_entries ds ss (symbol mark.RightBrace) =
-    λ t e. (symbol mark.RightBrace, refl, ([], ap (λ (z : List Lexeme). symbol mark.RightBrace ∷ z) e))
+    λ t e. (symbol mark.RightBrace, refl, ([], add (symbol mark.RightBrace) e))
 begun_entries ds ss c = tt
 
 -- ---- adverts
@@ -252,8 +292,20 @@ begun_root : (c : Lexeme) → Begun FeeText c (next fee_or_contract c)
 begun_root (keyword word.Fee) = λ t h.
     let n = h.front.0 in
     let b = h.back in
-    let is : t ≡ number n ∷ b.first = one (number n) t h.first h.second h.parts h.front.1 ∙ ap (λ (z : List Lexeme). number n ∷ z) (last h.second b.first b.second b.parts b.back) in
-    (keyword word.Fee, refl, record { fee_part = keyword word.Fee ∷ number n ∷ []; root_part = b.first; fee = n; root = b.front.value; parts = ap (λ (z : List Lexeme). keyword word.Fee ∷ z) is; fee_spelled = inr refl; root_spelled = b.front.spelled })
+    let is : t ≡ number n ∷ b.first =
+    one (number n) t h.first h.second h.parts h.front.1 ∙ add (number n) (last h.second b.first b.second b.parts b.back) in (
+      keyword word.Fee,
+      refl,
+      record {
+        fee_part = keyword word.Fee ∷ number n ∷ [];
+        root_part = b.first;
+        fee = n;
+        root = b.front.value;
+        parts = add (keyword word.Fee) is;
+        fee_spelled = inr refl;
+        root_spelled = b.front.spelled;
+      },
+    )
 begun_root c = begun_as (Has SpellsChoice) FeeText no_fee c (next_contract 1 c) (begun_contract 1 c)
 
 -- what is awaited spells an advert
@@ -264,14 +316,14 @@ advert_by t h =
     let r = b.back in
     let f = r.front in
     let root : b.second ≡ f.fee_part ++ f.root_part = last b.second r.first r.second r.parts r.back ∙ f.parts in
-    let is : t ≡ (symbol mark.LeftBrace ∷ b.first) ++ (f.fee_part ++ f.root_part) = one (symbol mark.LeftBrace) t h.first h.second h.parts h.front ∙ ap (λ (z : List Lexeme). symbol mark.LeftBrace ∷ z) (b.parts ∙ ap (λ (z : List Lexeme). b.first ++ z) root) in (
+    let is : t ≡ (symbol mark.LeftBrace ∷ b.first) ++ (f.fee_part ++ f.root_part) = one (symbol mark.LeftBrace) t h.first h.second h.parts h.front ∙ add (symbol mark.LeftBrace) (b.parts ∙ ap (λ (z : List Lexeme). b.first ++ z) root) in (
       record { pre = e.first ∷ e.others; fee = f.fee; root = f.root },
       record {
         pre_part = symbol mark.LeftBrace ∷ b.first;
         fee_part = f.fee_part;
         root_part = f.root_part;
         parts = is;
-        pre = ap (λ (z : List Lexeme). symbol mark.LeftBrace ∷ z) e.parts;
+        pre = add (symbol mark.LeftBrace) e.parts;
         fee = f.fee_spelled;
         root = f.root_spelled;
       },
@@ -282,14 +334,14 @@ advert_by t h =
 pub begun : (a : Awaited) (c : Lexeme) → Begun (Text a) c (next a c)
 begun (this_symbol s) (symbol t) = begun_symbol s t (is_symbol t s) refl
 begun (this_word k) (keyword w) = begun_word k w (is_keyword w k) refl
-begun a_name (name x) = λ t e. (name x, refl, (x, ap (λ (z : List Lexeme). name x ∷ z) e))
-begun a_name long_name = λ t e. (name [], tt, ([], ap (λ (z : List Lexeme). name [] ∷ z) e))
-begun (a_number most) (number n) = λ t e. (number n, refl, (n, ap (λ (z : List Lexeme). number n ∷ z) e))
-begun (a_number most) huge_number = λ t e. (number 0, tt, (0, ap (λ (z : List Lexeme). number 0 ∷ z) e))
-begun operator (symbol mark.Plus) = λ t e. (symbol mark.Plus, refl, inl (ap (λ (z : List Lexeme). symbol mark.Plus ∷ z) e))
-begun operator (symbol mark.Minus) = λ t e. (symbol mark.Minus, refl, inr (ap (λ (z : List Lexeme). symbol mark.Minus ∷ z) e))
-begun relation (symbol mark.Equal) = λ t e. (symbol mark.Equal, refl, inl (ap (λ (z : List Lexeme). symbol mark.Equal ∷ z) e))
-begun relation (symbol mark.Less) = λ t e. (symbol mark.Less, refl, inr (ap (λ (z : List Lexeme). symbol mark.Less ∷ z) e))
+begun a_name (name x) = λ t e. (name x, refl, (x, add (name x) e))
+begun a_name long_name = λ t e. (name [], tt, ([], add (name []) e))
+begun (a_number most) (number n) = λ t e. (number n, refl, (n, add (number n) e))
+begun (a_number most) huge_number = λ t e. (number 0, tt, (0, add (number 0) e))
+begun operator (symbol mark.Plus) = λ t e. (symbol mark.Plus, refl, inl (add (symbol mark.Plus) e))
+begun operator (symbol mark.Minus) = λ t e. (symbol mark.Minus, refl, inr (add (symbol mark.Minus) e))
+begun relation (symbol mark.Equal) = λ t e. (symbol mark.Equal, refl, inl (add (symbol mark.Equal) e))
+begun relation (symbol mark.Less) = λ t e. (symbol mark.Less, refl, inr (add (symbol mark.Less) e))
 begun (formula d) c = begun_formula d c
 begun (test d) c = begun_test d c
 begun behind_put c = begun_put c

@@ -14,7 +14,7 @@ use Rattle.spec_text.specs.Grammar.{SpellsFormula, SpellsTest, more_names, Spell
 use Rattle.spec_text.specs.Reading.{is_symbol, is_keyword, symbol_number, keyword_number}
 use Rattle.theory_text.proofs.Told.Sees.{the_symbol, the_keyword}
 use Rattle.theory_limits.specs.Awaited.{this_symbol, this_word, operator, relation, formula, behind_put, behind_reveal, Next, next, next_formula, compared, next_test}
-use Rattle.theory_limits.proofs.Texts.{Has, With_reveal, PutText, RevealText, Text, Texts, divided, Begun}
+use Rattle.theory_limits.proofs.Texts.{add, Has, With_reveal, PutText, RevealText, Text, Texts, divided, Begun}
 
 -- ---- one token
 
@@ -29,12 +29,12 @@ number_same n = elim (eqb_tells n n) [ inl w ↦ w.0 | inr w ↦ absurd (w.1 ref
 
 pub begun_symbol : (s t : Symbol) (b : Bool) → is_symbol t s ≡ b → Begun (Text (this_symbol s)) (symbol t) (if b then Some [] else None)
 begun_symbol s t true e =
-    λ u n. (symbol t, refl, ap (λ (z : List Lexeme). symbol t ∷ z) n ∙ ap (λ (z : Lexeme). z ∷ []) ((the_symbol s (number_same (symbol_number s))).takes (symbol t) tt (rw e refl)))
+    λ u n. (symbol t, refl, add (symbol t) n ∙ ap (λ (z : Lexeme). z ∷ []) ((the_symbol s (number_same (symbol_number s))).takes (symbol t) tt (rw e refl)))
 begun_symbol s t false e = tt
 
 pub begun_word : (k w : Keyword) (b : Bool) → is_keyword w k ≡ b → Begun (Text (this_word k)) (keyword w) (if b then Some [] else None)
 begun_word k w true e =
-    λ u n. (keyword w, refl, ap (λ (z : List Lexeme). keyword w ∷ z) n ∙ ap (λ (z : Lexeme). z ∷ []) ((the_keyword k (number_same (keyword_number k))).takes (keyword w) tt (rw e refl)))
+    λ u n. (keyword w, refl, add (keyword w) n ∙ ap (λ (z : Lexeme). z ∷ []) ((the_keyword k (number_same (keyword_number k))).takes (keyword w) tt (rw e refl)))
 begun_word k w false e = tt
 
 -- ---- expressions
@@ -43,26 +43,36 @@ begun_word k w false e = tt
 middle : (c d : Lexeme) (t te v1 uo v2 tf v3 uc v4 : List Lexeme) → t ≡ te ++ v1 → v1 ≡ uo ++ v2 → uo ≡ c ∷ [] → v2 ≡ tf ++ v3
     → v3 ≡ uc ++ v4 → uc ≡ d ∷ [] → v4 ≡ [] → t ≡ te ++ c ∷ (tf ++ d ∷ [])
 middle c d t te v1 uo v2 tf v3 uc v4 e1 e2 f e3 e4 g n =
-    e1 ∙ ap (λ (z : List Lexeme). te ++ z) (one c v1 uo v2 e2 f) ∙ ap (λ (z : List Lexeme). te ++ c ∷ z) e3 ∙ ap (λ (z : List Lexeme). te ++ c ∷ (tf ++ z)) (one d v3 uc v4 e4 g ∙ ap (λ (z : List Lexeme). d ∷ z) n)
+    e1 ∙ ap (λ (z : List Lexeme). te ++ z) (one c v1 uo v2 e2 f) ∙ ap (λ (z : List Lexeme). te ++ c ∷ z) e3 ∙ ap (λ (z : List Lexeme). te ++ c ∷ (tf ++ z)) (one d v3 uc v4 e4 g ∙ add d n)
 
 signed_by : (d : ℕ) (t : List Lexeme) → (h : Texts (formula (suc d) ∷ operator ∷ formula (suc d) ∷ this_symbol mark.RightParen ∷ []) t)
     → Text operator (h.back.first) → Has SpellsFormula (symbol mark.LeftParen ∷ t)
 signed_by d t h (inl w) =
     let f = h.back.back in
-    let is = middle (symbol mark.Plus) (symbol mark.RightParen) t h.first h.second h.back.first h.back.second f.first f.second f.back.first f.back.second h.parts h.back.parts w f.parts f.back.parts f.back.front f.back.back in
-    record { value = plus h.front.value f.front.value; spelled = (h.first, f.first, ap (λ (z : List Lexeme). symbol mark.LeftParen ∷ z) is, h.front.spelled, f.front.spelled) }
+    let is =
+    middle (symbol mark.Plus) (symbol mark.RightParen) t h.first h.second h.back.first h.back.second f.first f.second f.back.first f.back.second h.parts h.back.parts w f.parts f.back.parts f.back.front f.back.back in
+    record {
+      value = plus h.front.value f.front.value;
+      spelled = (h.first, f.first, add (symbol mark.LeftParen) is, h.front.spelled, f.front.spelled);
+    }
 signed_by d t h (inr w) =
     let f = h.back.back in
-    let is = middle (symbol mark.Minus) (symbol mark.RightParen) t h.first h.second h.back.first h.back.second f.first f.second f.back.first f.back.second h.parts h.back.parts w f.parts f.back.parts f.back.front f.back.back in
-    record { value = minus h.front.value f.front.value; spelled = (h.first, f.first, ap (λ (z : List Lexeme). symbol mark.LeftParen ∷ z) is, h.front.spelled, f.front.spelled) }
+    let is =
+    middle (symbol mark.Minus) (symbol mark.RightParen) t h.first h.second h.back.first h.back.second f.first f.second f.back.first f.back.second h.parts h.back.parts w f.parts f.back.parts f.back.front f.back.back in
+    record {
+      value = minus h.front.value f.front.value;
+      spelled = (h.first, f.first, add (symbol mark.LeftParen) is, h.front.spelled, f.front.spelled);
+    }
 
 pub begun_formula : (d : ℕ) (c : Lexeme) → Begun (Has SpellsFormula) c (next_formula d c)
-begun_formula d (number n) = λ t e. (number n, refl, record { value = constant n; spelled = ap (λ (z : List Lexeme). number n ∷ z) e })
-begun_formula d huge_number = λ t e. (number 0, tt, record { value = constant 0; spelled = ap (λ (z : List Lexeme). number 0 ∷ z) e })
+begun_formula d (number n) = λ t e. (number n, refl, record { value = constant n; spelled = add (number n) e })
+begun_formula d huge_number = λ t e. (number 0, tt, record { value = constant 0; spelled = add (number 0) e })
 begun_formula d (symbol mark.Bar) = λ t h.
     let x = h.front.0 in
-    let is : t ≡ name x ∷ symbol mark.Bar ∷ [] = one (name x) t h.first h.second h.parts h.front.1 ∙ ap (λ (z : List Lexeme). name x ∷ z) (one (symbol mark.Bar) h.second h.back.first h.back.second h.back.parts h.back.front ∙ ap (λ (z : List Lexeme). symbol mark.Bar ∷ z) h.back.back) in
-    (symbol mark.Bar, refl, record { value = length_of x; spelled = ap (λ (z : List Lexeme). symbol mark.Bar ∷ z) is })
+    let is : t ≡ name x ∷ symbol mark.Bar ∷ [] =
+    one (name x) t h.first h.second h.parts h.front.1
+    ∙ add (name x) (one (symbol mark.Bar) h.second h.back.first h.back.second h.back.parts h.back.front ∙ add (symbol mark.Bar) h.back.back) in
+    (symbol mark.Bar, refl, record { value = length_of x; spelled = add (symbol mark.Bar) is })
 begun_formula d (symbol mark.LeftParen) = λ t h. (symbol mark.LeftParen, refl, signed_by d t h h.back.front)
 begun_formula d c = tt
 
@@ -72,12 +82,16 @@ related_by : (d : ℕ) (c : Lexeme) (u v t : List Lexeme) (e : Expr) → SpellsF
     → (h : Texts (relation ∷ formula (suc d) ∷ []) v) → Text relation (h.first) → Has SpellsTest (c ∷ t)
 related_by d c u v t e l is h (inl w) =
     let f = h.back in
-    let text : t ≡ u ++ symbol mark.Equal ∷ f.first = is ∙ ap (λ (z : List Lexeme). u ++ z) (one (symbol mark.Equal) v h.first h.second h.parts w ∙ ap (λ (z : List Lexeme). symbol mark.Equal ∷ z) (last h.second f.first f.second f.parts f.back)) in
-    record { value = equal e f.front.value; spelled = (c ∷ u, f.first, ap (λ (z : List Lexeme). c ∷ z) text, l, f.front.spelled) }
+    let text : t ≡ u ++ symbol mark.Equal ∷ f.first =
+    is
+    ∙ ap (λ (z : List Lexeme). u ++ z) (one (symbol mark.Equal) v h.first h.second h.parts w ∙ add (symbol mark.Equal) (last h.second f.first f.second f.parts f.back)) in
+    record { value = equal e f.front.value; spelled = (c ∷ u, f.first, add c text, l, f.front.spelled) }
 related_by d c u v t e l is h (inr w) =
     let f = h.back in
-    let text : t ≡ u ++ symbol mark.Less ∷ f.first = is ∙ ap (λ (z : List Lexeme). u ++ z) (one (symbol mark.Less) v h.first h.second h.parts w ∙ ap (λ (z : List Lexeme). symbol mark.Less ∷ z) (last h.second f.first f.second f.parts f.back)) in
-    record { value = less e f.front.value; spelled = (c ∷ u, f.first, ap (λ (z : List Lexeme). c ∷ z) text, l, f.front.spelled) }
+    let text : t ≡ u ++ symbol mark.Less ∷ f.first =
+    is
+    ∙ ap (λ (z : List Lexeme). u ++ z) (one (symbol mark.Less) v h.first h.second h.parts w ∙ add (symbol mark.Less) (last h.second f.first f.second f.parts f.back)) in
+    record { value = less e f.front.value; spelled = (c ∷ u, f.first, add c text, l, f.front.spelled) }
 
 begun_compared : (d : ℕ) (c : Lexeme) (n : Next) → Begun (Has SpellsFormula) c n → Begun (Has SpellsTest) c (compared d n)
 begun_compared d c None h = tt
@@ -88,13 +102,27 @@ begun_compared d c (Some new) h = λ t ts.
 
 pub begun_test : (d : ℕ) (c : Lexeme) → Begun (Has SpellsTest) c (next_test d c)
 begun_test d (keyword word.True) =
-    λ t e. (keyword word.True, refl, record { value = always; spelled = ap (λ (z : List Lexeme). keyword word.True ∷ z) e })
+    λ t e. (keyword word.True, refl, record { value = always; spelled = add (keyword word.True) e })
 begun_test d (keyword word.Not) =
-    λ t h. (keyword word.Not, refl, record { value = negation h.front.value; spelled = (h.first, ap (λ (z : List Lexeme). keyword word.Not ∷ z) (last t h.first h.second h.parts h.back), h.front.spelled) })
+    λ t h. (
+      keyword word.Not,
+      refl,
+      record {
+        value = negation h.front.value;
+        spelled = (h.first, add (keyword word.Not) (last t h.first h.second h.parts h.back), h.front.spelled);
+      },
+    )
 begun_test d (symbol mark.LeftBracket) = λ t h.
     let f = h.back.back in
-    let is = middle (keyword word.And) (symbol mark.RightBracket) t h.first h.second h.back.first h.back.second f.first f.second f.back.first f.back.second h.parts h.back.parts h.back.front f.parts f.back.parts f.back.front f.back.back in
-    (symbol mark.LeftBracket, refl, record { value = both h.front.value f.front.value; spelled = (h.first, f.first, ap (λ (z : List Lexeme). symbol mark.LeftBracket ∷ z) is, h.front.spelled, f.front.spelled) })
+    let is =
+    middle (keyword word.And) (symbol mark.RightBracket) t h.first h.second h.back.first h.back.second f.first f.second f.back.first f.back.second h.parts h.back.parts h.back.front f.parts f.back.parts f.back.front f.back.back in (
+      symbol mark.LeftBracket,
+      refl,
+      record {
+        value = both h.front.value f.front.value;
+        spelled = (h.first, f.first, add (symbol mark.LeftBracket) is, h.front.spelled, f.front.spelled);
+      },
+    )
 begun_test d c = begun_compared d c (next_formula (suc d) c) (begun_formula (suc d) c)
 
 -- ---- headings
@@ -104,39 +132,63 @@ comma_put : (x : List ℕ) (xs : List (List ℕ)) (t : List Lexeme) → (t ≡ m
     → (symbol mark.Comma ∷ name x ∷ t ≡ more_names (x ∷ xs)) ⊎ With_reveal (x ∷ xs) (symbol mark.Comma ∷ name x ∷ t)
 comma_put x xs t (inl e) = inl (ap (λ (z : List Lexeme). symbol mark.Comma ∷ name x ∷ z) e)
 comma_put x xs t (inr r) =
-    inr (record { reveal = r.reveal; first = r.first; others = r.others; condition = r.condition; parts = ap (λ (z : List Lexeme). symbol mark.Comma ∷ name x ∷ z) r.parts; spelled = r.spelled })
+    inr (record {
+      reveal = r.reveal;
+      first = r.first;
+      others = r.others;
+      condition = r.condition;
+      parts = ap (λ (z : List Lexeme). symbol mark.Comma ∷ name x ∷ z) r.parts;
+      spelled = r.spelled;
+    })
 
 -- a token, a name and a text up to its point
 named : (x : List ℕ) (t u v b w text : List Lexeme) → t ≡ u ++ v → u ≡ name x ∷ [] → v ≡ b ++ w → w ≡ [] → b ≡ text ++ symbol mark.Dot ∷ []
     → t ≡ (name x ∷ text) ++ symbol mark.Dot ∷ []
-named x t u v b w text e f g n k = one (name x) t u v e f ∙ ap (λ (z : List Lexeme). name x ∷ z) (last v b w g n ∙ k)
+named x t u v b w text e f g n k = one (name x) t u v e f ∙ add (name x) (last v b w g n ∙ k)
 
 pub begun_put : (c : Lexeme) → Begun PutText c (next behind_put c)
 begun_put (symbol mark.Comma) = λ t h.
     let b = h.back in
     let p = b.front in
     let x = h.front.0 in
-    let is = named x t h.first h.second b.first b.second p.text h.parts h.front.1 b.parts b.back p.parts in
-    (symbol mark.Comma, refl, record { text = symbol mark.Comma ∷ name x ∷ p.text; parts = ap (λ (z : List Lexeme). symbol mark.Comma ∷ z) is; names = x ∷ p.names; kind = comma_put x p.names p.text p.kind })
+    let is = named x t h.first h.second b.first b.second p.text h.parts h.front.1 b.parts b.back p.parts in (
+      symbol mark.Comma,
+      refl,
+      record {
+        text = symbol mark.Comma ∷ name x ∷ p.text;
+        parts = add (symbol mark.Comma) is;
+        names = x ∷ p.names;
+        kind = comma_put x p.names p.text p.kind;
+      },
+    )
 begun_put (symbol mark.Ampersand) = λ t h.
     let n = h.back in
     let b = n.back in
     let p = b.front in
     let a = n.front.0 in
-    let is : t ≡ (keyword word.Reveal ∷ name a ∷ p.text) ++ symbol mark.Dot ∷ [] = one (keyword word.Reveal) t h.first h.second h.parts h.front ∙ ap (λ (z : List Lexeme). keyword word.Reveal ∷ z) (named a h.second n.first n.second b.first b.second p.text n.parts n.front.1 b.parts b.back p.parts) in
+    let is : t ≡ (keyword word.Reveal ∷ name a ∷ p.text) ++ symbol mark.Dot ∷ [] =
+    one (keyword word.Reveal) t h.first h.second h.parts h.front
+    ∙ add (keyword word.Reveal) (named a h.second n.first n.second b.first b.second p.text n.parts n.front.1 b.parts b.back p.parts) in
     let spelled : SpellsReveals (keyword word.Reveal ∷ name a ∷ p.text) a p.names p.condition = (p.test, ap (λ (z : List Lexeme). keyword word.Reveal ∷ name a ∷ z) p.named, p.spelled) in (
       symbol mark.Ampersand,
       refl,
       record {
         text = symbol mark.Ampersand ∷ keyword word.Reveal ∷ name a ∷ p.text;
-        parts = ap (λ (z : List Lexeme). symbol mark.Ampersand ∷ z) is;
+        parts = add (symbol mark.Ampersand) is;
         names = [];
         kind =
-            inr (record { reveal = keyword word.Reveal ∷ name a ∷ p.text; first = a; others = p.names; condition = p.condition; parts = refl; spelled = spelled });
+            inr (record {
+              reveal = keyword word.Reveal ∷ name a ∷ p.text;
+              first = a;
+              others = p.names;
+              condition = p.condition;
+              parts = refl;
+              spelled = spelled;
+            });
       },
     )
 begun_put (symbol mark.Dot) =
-    λ t e. (symbol mark.Dot, refl, record { text = []; parts = ap (λ (z : List Lexeme). symbol mark.Dot ∷ z) e; names = []; kind = inl refl })
+    λ t e. (symbol mark.Dot, refl, record { text = []; parts = add (symbol mark.Dot) e; names = []; kind = inl refl })
 begun_put c = tt
 
 pub begun_reveal : (c : Lexeme) → Begun RevealText c (next behind_reveal c)
@@ -149,7 +201,7 @@ begun_reveal (symbol mark.Comma) = λ t h.
       refl,
       record {
         text = symbol mark.Comma ∷ name x ∷ p.text;
-        parts = ap (λ (z : List Lexeme). symbol mark.Comma ∷ z) is;
+        parts = add (symbol mark.Comma) is;
         names = x ∷ p.names;
         test = p.test;
         condition = p.condition;
@@ -158,12 +210,12 @@ begun_reveal (symbol mark.Comma) = λ t h.
       },
     )
 begun_reveal (keyword word.If) = λ t h.
-    let is : t ≡ h.first ++ symbol mark.Dot ∷ [] = h.parts ∙ ap (λ (z : List Lexeme). h.first ++ z) (one (symbol mark.Dot) h.second h.back.first h.back.second h.back.parts h.back.front ∙ ap (λ (z : List Lexeme). symbol mark.Dot ∷ z) h.back.back) in (
+    let is : t ≡ h.first ++ symbol mark.Dot ∷ [] = h.parts ∙ ap (λ (z : List Lexeme). h.first ++ z) (one (symbol mark.Dot) h.second h.back.first h.back.second h.back.parts h.back.front ∙ add (symbol mark.Dot) h.back.back) in (
       keyword word.If,
       refl,
       record {
         text = keyword word.If ∷ h.first;
-        parts = ap (λ (z : List Lexeme). keyword word.If ∷ z) is;
+        parts = add (keyword word.If) is;
         names = [];
         test = keyword word.If ∷ h.first;
         condition = h.front.value;
@@ -172,5 +224,17 @@ begun_reveal (keyword word.If) = λ t h.
       },
     )
 begun_reveal (symbol mark.Dot) =
-    λ t e. (symbol mark.Dot, refl, record { text = []; parts = ap (λ (z : List Lexeme). symbol mark.Dot ∷ z) e; names = []; test = []; condition = always; named = refl; spelled = inl (refl, refl) })
+    λ t e. (
+      symbol mark.Dot,
+      refl,
+      record {
+        text = [];
+        parts = add (symbol mark.Dot) e;
+        names = [];
+        test = [];
+        condition = always;
+        named = refl;
+        spelled = inl (refl, refl);
+      },
+    )
 begun_reveal c = tt

@@ -18,7 +18,7 @@ use Rattle.theory_limits.specs.Marks.{end_here, end_from, grammar_end}
 use Rattle.theory_limits.specs.Statements.{MeansAdvert, GrammarTheorem}
 use Rattle.theory_limits.proofs.Plain.{stand_end}
 use Rattle.theory_limits.proofs.SpelledAdverts.{spelled_advert}
-use Rattle.theory_limits.proofs.Texts.{Text, Texts, divided, Begun}
+use Rattle.theory_limits.proofs.Texts.{add, Text, Texts, divided, Begun}
 use Rattle.theory_limits.proofs.BegunTests.{number_same}
 use Rattle.theory_limits.proofs.BegunAdverts.{begun, advert_by}
 
@@ -51,7 +51,7 @@ meant_by a as' c t (Some new) left b h e =
       meant = r.0 ∷ m.meant;
       stand = (r.1, m.stand);
       texts =
-          record { first = r.0 ∷ d.first; second = d.second; parts = ap (λ (z : List Lexeme). r.0 ∷ z) d.parts; front = r.2; back = d.back };
+          record { first = r.0 ∷ d.first; second = d.second; parts = add r.0 d.parts; front = r.2; back = d.back };
     }
 
 meant_is : (as' : List Awaited) (t : List Lexeme) → end_from as' t ≡ None → Meant as' t
@@ -148,7 +148,7 @@ halts_by a as' c t left (Some new) e h k =
       front = c ∷ r.front;
       rest = r.rest;
       awaited = r.awaited;
-      parts = ap (λ (z : List Lexeme). c ∷ z) r.parts;
+      parts = add c r.parts;
       left_is = r.left_is;
       goes = λ u. ap (λ (z : Next). end_here z (suc (length (r.front ++ u))) (λ new. end_from (new ++ as') (r.front ++ u))) e ∙ r.goes u;
       stops = r.stops;
@@ -157,9 +157,25 @@ halts_by a as' c t left (Some new) e h k =
 halts_is : (as' : List Awaited) (t : List Lexeme) (left : ℕ) → end_from as' t ≡ an_end left → Halts as' t left
 halts_is [] [] left e = absurd (some_end left (sym e))
 halts_is (a ∷ as') [] left e =
-    record { front = []; rest = []; awaited = a ∷ as'; parts = refl; left_is = end_is 0 left e; goes = λ u. refl; stops = λ c after u m. absurd cc }
+    record {
+      front = [];
+      rest = [];
+      awaited = a ∷ as';
+      parts = refl;
+      left_is = end_is 0 left e;
+      goes = λ u. refl;
+      stops = λ c after u m. absurd cc;
+    }
 halts_is [] (c ∷ t) left e =
-    record { front = []; rest = c ∷ t; awaited = []; parts = refl; left_is = end_is (suc (length t)) left e; goes = λ u. refl; stops = λ d after u m. refl }
+    record {
+      front = [];
+      rest = c ∷ t;
+      awaited = [];
+      parts = refl;
+      left_is = end_is (suc (length t)) left e;
+      goes = λ u. refl;
+      stops = λ d after u m. refl;
+    }
 halts_is (a ∷ as') (c ∷ t) left e = halts_by a as' c t left (next a c) refl (λ new k. halts_is (new ++ as') t left k) e
 
 -- ---- what stands before begins an advert
@@ -167,7 +183,7 @@ halts_is (a ∷ as') (c ∷ t) left e = halts_by a as' c t left (next a c) refl 
 stand_apart : (t u m : List Lexeme) → StandFor (t ++ u) m → (v : List Lexeme) × (w : List Lexeme) × StandFor t v × (m ≡ v ++ w)
 stand_apart [] u m st = ([], m, tt, refl)
 stand_apart (c ∷ t) u [] st = absurd st
-stand_apart (c ∷ t) u (d ∷ m) st = let r = stand_apart t u m st.1 in (d ∷ r.0, r.1, (st.0, r.2), ap (λ (z : List Lexeme). d ∷ z) r.3)
+stand_apart (c ∷ t) u (d ∷ m) st = let r = stand_apart t u m st.1 in (d ∷ r.0, r.1, (st.0, r.2), add d r.3)
 
 stand_more : (t m more : List Lexeme) → StandFor t m → StandFor (t ++ more) (m ++ more)
 stand_more [] [] more st = stand_themselves more
@@ -179,7 +195,13 @@ begins_is : (t u : List Lexeme) → grammar_end (t ++ u) ≡ None → Begins t
 begins_is t u e =
     let m = whole (t ++ u) e in
     let r = stand_apart t u m.meant m.stand in
-    record { meant = r.0; stand = r.2; more = r.1; advert = m.advert; spelled = subst (λ (z : List Lexeme). Spells z m.advert) r.3 m.spelled }
+    record {
+      meant = r.0;
+      stand = r.2;
+      more = r.1;
+      advert = m.advert;
+      spelled = subst (λ (z : List Lexeme). Spells z m.advert) r.3 m.spelled;
+    }
 
 -- what begins an advert comes, with what follows
 begins_comes : (t : List Lexeme) → Begins t → (more : List Lexeme) × (grammar_end (t ++ more) ≡ None)
@@ -196,9 +218,11 @@ not_past t front [] awaited q parts goes stops lt le b = let len : length t ≡ 
 not_past t front (c ∷ after) awaited q parts goes stops lt le b =
     let k : ℕ = q - suc (length front) in
     let n : q ≡ length front + suc k = omega arith in
-    let fronts : take q t ≡ front ++ c ∷ take k after = ap (take q) parts ∙ ap (λ (m : ℕ). take m (front ++ c ∷ after)) n ∙ take-append-add front (c ∷ after) (suc k) in
+    let fronts : take q t ≡ front ++ c ∷ take k after =
+    ap (take q) parts ∙ ap (λ (m : ℕ). take m (front ++ c ∷ after)) n ∙ take-append-add front (c ∷ after) (suc k) in
     let m = begins_comes (take q t) b in
-    let text : take q t ++ m.0 ≡ front ++ c ∷ (take k after ++ m.0) = ap (λ (z : List Lexeme). z ++ m.0) fronts ∙ append_assoc front (c ∷ take k after) m.0 in
+    let text : take q t ++ m.0 ≡ front ++ c ∷ (take k after ++ m.0) =
+    ap (λ (z : List Lexeme). z ++ m.0) fronts ∙ append_assoc front (c ∷ take k after) m.0 in
     some_end (suc (length (take k after ++ m.0))) (sym (stops c after (take k after ++ m.0) refl) ∙ sym (goes (c ∷ (take k after ++ m.0))) ∙ sym (ap grammar_end text) ∙ m.1)
 
 ends_at : (t : List Lexeme) (left : ℕ) → grammar_end t ≡ an_end left → Halts an_advert t left → IsSyntaxAt t (length t - left)

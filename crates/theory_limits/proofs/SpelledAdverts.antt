@@ -111,7 +111,7 @@ more_entries_go [] ds ss more rest = refl
 more_entries_go (p ∷ ps) ds ss more rest =
     let w = entry_goes p ds ss more (more_entries ps ++ symbol mark.RightBrace ∷ rest) in
     ap (end_from (an_entry ds ss ∷ more)) (append_assoc (entry p) (more_entries ps) (symbol mark.RightBrace ∷ rest)) ∙ w.2
-        ∙ more_entries_go ps w.0 w.1 more rest
+    ∙ more_entries_go ps w.0 w.1 more rest
 
 -- an entry and those behind it
 entries_go : (p : Pre) (ps : List Pre) (ds ss : ℕ) (more : List Awaited) (rest : List Lexeme)
@@ -148,4 +148,4 @@ fee_root_goes fee c tf t (inr w) l = ap (λ (z : List Lexeme). end_from (fee_or_
 pub spelled_advert : (t : List Lexeme) (advert : Advert) → Spells t advert → grammar_end t ≡ None
 spelled_advert t advert s =
     ap (end_from an_advert) s.parts ∙ spelled_pre advert.pre s.pre_part s.pre (s.fee_part ++ s.root_part)
-        ∙ fee_root_goes advert.fee advert.root s.fee_part s.root_part s.fee s.root
+    ∙ fee_root_goes advert.fee advert.root s.fee_part s.root_part s.fee s.root

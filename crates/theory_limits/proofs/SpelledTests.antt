@@ -86,7 +86,7 @@ pub spelled_reveals : (a : List ℕ) (as' : List (List ℕ)) (p : Pred) (tp : Li
     → Goes (a_name ∷ behind_reveal ∷ more) ((names a as' ++ tp) ++ symbol mark.Dot ∷ rest) more rest
 spelled_reveals a as' p tp l more rest =
     ap (end_from (behind_reveal ∷ more)) (append_assoc (more_names as') tp (symbol mark.Dot ∷ rest))
-        ∙ reveal_names as' more (tp ++ symbol mark.Dot ∷ rest) ∙ spelled_condition tp p l more rest
+    ∙ reveal_names as' more (tp ++ symbol mark.Dot ∷ rest) ∙ spelled_condition tp p l more rest
 
 -- what follows `put` without a reveal
 pub spelled_puts : (x : List ℕ) (xs : List (List ℕ)) (more : List Awaited) (rest : List Lexeme)
@@ -99,5 +99,5 @@ pub spelled_both : (x : List ℕ) (xs : List (List ℕ)) (a : List ℕ) (as' : L
     → Goes (a_name ∷ behind_put ∷ more) ((names x xs ++ symbol mark.Ampersand ∷ tr) ++ symbol mark.Dot ∷ rest) more rest
 spelled_both x xs a as' p tr l more rest =
     ap (end_from (behind_put ∷ more)) (append_assoc (more_names xs) (symbol mark.Ampersand ∷ tr) (symbol mark.Dot ∷ rest))
-        ∙ put_names xs more (symbol mark.Ampersand ∷ (tr ++ symbol mark.Dot ∷ rest))
+    ∙ put_names xs more (symbol mark.Ampersand ∷ (tr ++ symbol mark.Dot ∷ rest))
     ∙ ap (λ (z : List Lexeme). end_from (this_word word.Reveal ∷ a_name ∷ behind_reveal ∷ more) (z ++ symbol mark.Dot ∷ rest)) l.1 ∙ spelled_reveals a as' p l.0 l.2 more rest

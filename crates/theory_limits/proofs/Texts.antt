@@ -10,6 +10,10 @@ use Rattle.spec_text.specs.Grammar.{SpellsFormula, SpellsTest, more_names, Spell
 use Rattle.theory_limits.specs.Awaited.{entry as an_entry}
 use Rattle.theory_limits.specs.Awaited.{Awaited, this_symbol, this_word, a_name, a_number, operator, relation, formula, test, behind_put, behind_reveal, wrapped, branch, behind_branch, contract, part, behind_part, entry_kind, behind_entry, fee_or_contract, Next}
 
+-- a token before both
+pub add : {t u : List Lexeme} (c : Lexeme) → t ≡ u → c ∷ t ≡ c ∷ u
+add c e = ap (λ (z : List Lexeme). c ∷ z) e
+
 -- ---- texts of parts
 
 -- a text that stands for something

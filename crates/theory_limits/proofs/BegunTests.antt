@@ -14,7 +14,7 @@ use Rattle.spec_text.specs.Grammar.{SpellsFormula, SpellsTest, more_names, Spell
 use Rattle.spec_text.specs.Reading.{is_symbol, is_keyword, symbol_number, keyword_number}
 use Rattle.theory_text.proofs.Told.Sees.{the_symbol, the_keyword}
 use Rattle.theory_limits.specs.Awaited.{this_symbol, this_word, operator, relation, formula, behind_put, behind_reveal, Next, next, next_formula, compared, next_test}
-use Rattle.theory_limits.proofs.Texts.{add, Has, With_reveal, PutText, RevealText, Text, Texts, divided, Begun}
+use Rattle.theory_limits.proofs.Texts.{add, Joined, Has, With_reveal, PutText, RevealText, Text, Texts, divided, Begun}
 
 -- ---- one token
 
@@ -40,17 +40,22 @@ begun_word k w false e = tt
 -- ---- expressions
 
 -- two texts, a token between them and one behind
-middle : (c d : Lexeme) (t te v1 uo v2 tf v3 uc v4 : List Lexeme) → t ≡ te ++ v1 → v1 ≡ uo ++ v2 → uo ≡ c ∷ [] → v2 ≡ tf ++ v3
-    → v3 ≡ uc ++ v4 → uc ≡ d ∷ [] → v4 ≡ [] → t ≡ te ++ c ∷ (tf ++ d ∷ [])
-middle c d t te v1 uo v2 tf v3 uc v4 e1 e2 f e3 e4 g n =
-    e1 ∙ ap (λ (z : List Lexeme). te ++ z) (one c v1 uo v2 e2 f) ∙ ap (λ (z : List Lexeme). te ++ c ∷ z) e3 ∙ ap (λ (z : List Lexeme). te ++ c ∷ (tf ++ z)) (one d v3 uc v4 e4 g ∙ add d n)
+middle : {A O B : List Lexeme → Type 0} (c d : Lexeme) (t : List Lexeme) (h : Joined A (Joined O (Joined B (Joined (λ u. u ≡ d ∷ []) (λ u. u ≡ [])))) t)
+    → h.back.first ≡ c ∷ [] → t ≡ h.first ++ c ∷ (h.back.back.first ++ d ∷ [])
+middle c d t h w =
+    let o = h.back in
+    let f = o.back in
+    let e = f.back in
+    let close : f.second ≡ d ∷ [] = one d f.second e.first e.second e.parts e.front ∙ add d e.back in
+    h.parts ∙ ap (λ (z : List Lexeme). h.first ++ z) (one c h.second o.first o.second o.parts w)
+    ∙ ap (λ (z : List Lexeme). h.first ++ c ∷ z) (f.parts ∙ ap (λ (z : List Lexeme). f.first ++ z) close)
 
 signed_by : (d : ℕ) (t : List Lexeme) → (h : Texts (formula (suc d) ∷ operator ∷ formula (suc d) ∷ this_symbol mark.RightParen ∷ []) t)
     → Text operator (h.back.first) → Has SpellsFormula (symbol mark.LeftParen ∷ t)
 signed_by d t h (inl w) =
     let f = h.back.back in
     let is =
-    middle (symbol mark.Plus) (symbol mark.RightParen) t h.first h.second h.back.first h.back.second f.first f.second f.back.first f.back.second h.parts h.back.parts w f.parts f.back.parts f.back.front f.back.back in
+    middle (symbol mark.Plus) (symbol mark.RightParen) t h w in
     record {
       value = plus h.front.value f.front.value;
       spelled = (h.first, f.first, add (symbol mark.LeftParen) is, h.front.spelled, f.front.spelled);
@@ -58,7 +63,7 @@ signed_by d t h (inl w) =
 signed_by d t h (inr w) =
     let f = h.back.back in
     let is =
-    middle (symbol mark.Minus) (symbol mark.RightParen) t h.first h.second h.back.first h.back.second f.first f.second f.back.first f.back.second h.parts h.back.parts w f.parts f.back.parts f.back.front f.back.back in
+    middle (symbol mark.Minus) (symbol mark.RightParen) t h w in
     record {
       value = minus h.front.value f.front.value;
       spelled = (h.first, f.first, add (symbol mark.LeftParen) is, h.front.spelled, f.front.spelled);
@@ -115,7 +120,7 @@ begun_test d (keyword word.Not) =
 begun_test d (symbol mark.LeftBracket) = λ t h.
     let f = h.back.back in
     let is =
-    middle (keyword word.And) (symbol mark.RightBracket) t h.first h.second h.back.first h.back.second f.first f.second f.back.first f.back.second h.parts h.back.parts h.back.front f.parts f.back.parts f.back.front f.back.back in (
+    middle (keyword word.And) (symbol mark.RightBracket) t h h.back.front in (
       symbol mark.LeftBracket,
       refl,
       record {

@@ -26,7 +26,8 @@ use Rattle.theory_limits.proofs.Contracts.{walks_root}
 -- what the answer to an entry tells, where so many may come with it
 abbrev Roomed : Judgement → List Awaited → ℕ → ℕ → Reads (Pre × Room) → Type 0
 Roomed j more before sum (Ok x) =
-    (ds : ℕ) × (ss : ℕ) × (ds + x.0.1.0 ≡ most_deposits) × (ss + x.0.1.1 ≡ most_secrets) × (suc (x.0.1.0 + x.0.1.1) ≡ sum) × (j ≡ judged (behind_entry ds ss ∷ more) before (x.1))
+    (ds : ℕ) × (ss : ℕ) × (ds + x.0.1.0 ≡ most_deposits) × (ss + x.0.1.1 ≡ most_secrets) × (suc (x.0.1.0 + x.0.1.1) ≡ sum)
+    × (j ≡ judged (behind_entry ds ss ∷ more) before (x.1))
 Roomed j more before sum (Err e) = j ≡ Err e
 
 roomed : (j : Judgement) (more : List Awaited) (before sum ds ss : ℕ) (room : Room) (r : Reads Pre)
@@ -51,24 +52,35 @@ told_at k party room left ts =
 
 persistent_goes : (party : List ℕ) (more : List Awaited) (before ds ss p q : ℕ) (ts : List Lexeme) → ds + p ≡ most_deposits
     → ss + q ≡ most_secrets
-    → Roomed (judged (entry ds ss ∷ more) before (name party ∷ symbol mark.Colon ∷ symbol mark.Bang ∷ ts)) more before (p + q) (told_at persistent party (p, q) (suc (suc (suc (length ts)))) ts)
+    → Roomed (judged (entry ds ss ∷ more) before (name party ∷ symbol mark.Colon ∷ symbol mark.Bang ∷ ts)) more before (p + q)
+    (told_at persistent party (p, q) (suc (suc (suc (length ts)))) ts)
 persistent_goes party more before ds ss zero q ts d s = rw (above (suc ds) most_deposits (omega arith)) refl
 persistent_goes party more before ds ss (suc p) q ts d s =
-    rw (within (suc ds) most_deposits (omega arith), not_zero (suc p) (omega arith)) (roomed (judged (some_number max_money ∷ this_symbol mark.At ∷ some_name ∷ behind_entry (suc ds) ss ∷ more) before ts) more before (suc p + q) (suc ds) ss (suc p - 1, q) (deposit_at true party ts) ((deposit_walks true party).goes (behind_entry (suc ds) ss ∷ more) before ts) (omega arith) s (omega arith))
+    rw (within (suc ds) most_deposits (omega arith), not_zero (suc p) (omega arith))
+    (roomed (judged (some_number max_money ∷ this_symbol mark.At ∷ some_name ∷ behind_entry (suc ds) ss ∷ more) before ts) more before
+    (suc p + q) (suc ds) ss (suc p - 1, q) (deposit_at true party ts)
+    ((deposit_walks true party).goes (behind_entry (suc ds) ss ∷ more) before ts) (omega arith) s (omega arith))
 
 volatile_goes : (party : List ℕ) (more : List Awaited) (before ds ss p q : ℕ) (ts : List Lexeme) → ds + p ≡ most_deposits
     → ss + q ≡ most_secrets
-    → Roomed (judged (entry ds ss ∷ more) before (name party ∷ symbol mark.Colon ∷ symbol mark.Question ∷ ts)) more before (p + q) (told_at volatile party (p, q) (suc (suc (suc (length ts)))) ts)
+    → Roomed (judged (entry ds ss ∷ more) before (name party ∷ symbol mark.Colon ∷ symbol mark.Question ∷ ts)) more before (p + q)
+    (told_at volatile party (p, q) (suc (suc (suc (length ts)))) ts)
 volatile_goes party more before ds ss zero q ts d s = rw (above (suc ds) most_deposits (omega arith)) refl
 volatile_goes party more before ds ss (suc p) q ts d s =
-    rw (within (suc ds) most_deposits (omega arith), not_zero (suc p) (omega arith)) (roomed (judged (some_number max_money ∷ this_symbol mark.At ∷ some_name ∷ behind_entry (suc ds) ss ∷ more) before ts) more before (suc p + q) (suc ds) ss (suc p - 1, q) (deposit_at false party ts) ((deposit_walks false party).goes (behind_entry (suc ds) ss ∷ more) before ts) (omega arith) s (omega arith))
+    rw (within (suc ds) most_deposits (omega arith), not_zero (suc p) (omega arith))
+    (roomed (judged (some_number max_money ∷ this_symbol mark.At ∷ some_name ∷ behind_entry (suc ds) ss ∷ more) before ts) more before
+    (suc p + q) (suc ds) ss (suc p - 1, q) (deposit_at false party ts)
+    ((deposit_walks false party).goes (behind_entry (suc ds) ss ∷ more) before ts) (omega arith) s (omega arith))
 
 secret_goes : (party : List ℕ) (more : List Awaited) (before ds ss p q : ℕ) (ts : List Lexeme) → ds + p ≡ most_deposits
     → ss + q ≡ most_secrets
-    → Roomed (judged (entry ds ss ∷ more) before (name party ∷ symbol mark.Colon ∷ keyword word.Secret ∷ ts)) more before (p + q) (told_at secret party (p, q) (suc (suc (suc (length ts)))) ts)
+    → Roomed (judged (entry ds ss ∷ more) before (name party ∷ symbol mark.Colon ∷ keyword word.Secret ∷ ts)) more before (p + q)
+    (told_at secret party (p, q) (suc (suc (suc (length ts)))) ts)
 secret_goes party more before ds ss p zero ts d s = rw (above (suc ss) most_secrets (omega arith)) refl
 secret_goes party more before ds ss p (suc q) ts d s =
-    rw (within (suc ss) most_secrets (omega arith), not_zero (suc q) (omega arith)) (roomed (judged (some_name ∷ behind_entry ds (suc ss) ∷ more) before ts) more before (p + suc q) ds (suc ss) (p, suc q - 1) (secret_at party ts) ((secret_walks party).goes (behind_entry ds (suc ss) ∷ more) before ts) d (omega arith) (omega arith))
+    rw (within (suc ss) most_secrets (omega arith), not_zero (suc q) (omega arith))
+    (roomed (judged (some_name ∷ behind_entry ds (suc ss) ∷ more) before ts) more before (p + suc q) ds (suc ss) (p, suc q - 1)
+    (secret_at party ts) ((secret_walks party).goes (behind_entry ds (suc ss) ∷ more) before ts) d (omega arith) (omega arith))
 
 entry_goes : (more : List Awaited) (before ds ss p q : ℕ) (ts : List Lexeme) → ds + p ≡ most_deposits → ss + q ≡ most_secrets
     → Roomed (judged (entry ds ss ∷ more) before ts) more before (p + q) (entry_at (p, q) ts)
@@ -84,8 +96,10 @@ entry_goes more before ds ss p q (name x ∷ t ∷ ts) d s = refl
 entry_goes more before ds ss p q (t ∷ ts) d s = refl
 
 -- what follows an entry
-entries_by : (j : Judgement) (more : List Awaited) (before sum : ℕ) (r : Reads (Pre × Room)) (k : Pre → Room → List Lexeme → Reads (List Pre)) → Roomed j more before sum r
-    → ((x : Pre) (room : Room) (ds ss : ℕ) (ts : List Lexeme) → ds + room.0 ≡ most_deposits → ss + room.1 ≡ most_secrets → suc (room.0 + room.1) ≡ sum → judged (behind_entry ds ss ∷ more) before ts ≡ followed (k x room ts) (judged more before))
+entries_by : (j : Judgement) (more : List Awaited) (before sum : ℕ) (r : Reads (Pre × Room))
+    (k : Pre → Room → List Lexeme → Reads (List Pre)) → Roomed j more before sum r
+    → ((x : Pre) (room : Room) (ds ss : ℕ) (ts : List Lexeme) → ds + room.0 ≡ most_deposits → ss + room.1 ≡ most_secrets
+    → suc (room.0 + room.1) ≡ sum → judged (behind_entry ds ss ∷ more) before ts ≡ followed (k x room ts) (judged more before))
     → j ≡ followed (r >>= λ x. k (x.0.0) (x.0.1) (x.1)) (judged more before)
 entries_by j more before sum (Ok x) k e h = e.5 ∙ h (x.0.0) (x.0.1) (e.0) (e.1) (x.1) e.2 e.3 e.4
 entries_by j more before sum (Err f) k e h = e
@@ -115,11 +129,14 @@ entries_go zero ds ss room more before ts d s e =
 entries_go (suc n) ds ss room more before ts d s e =
     entries_by (judged (entry ds ss ∷ more) before ts) more before (room.0 + room.1) (entry_at room ts) (behind_at n)
     (entry_goes more before ds ss (room.0) (room.1) ts d s)
-    (λ x r es us ts f g k. behind_goes n x r es us more before ts (record { goes = λ m b u. entries_go n es us r m b u f g (omega (arith, k)) }))
+    (λ x r es us ts f g k. behind_goes n x r es us more before ts
+    (record { goes = λ m b u. entries_go n es us r m b u f g (omega (arith, k)) }))
 
 walks_entries : Walks (entry 0 0 ∷ []) (entries_at (most_deposits + most_secrets) (most_deposits, most_secrets))
 walks_entries =
-    record { goes = λ more before ts. entries_go (most_deposits + most_secrets) 0 0 (most_deposits, most_secrets) more before ts refl refl refl }
+    record {
+      goes = λ more before ts. entries_go (most_deposits + most_secrets) 0 0 (most_deposits, most_secrets) more before ts refl refl refl;
+    }
 
 -- ---- the fee and the contract
 
@@ -133,9 +150,11 @@ root_by pre fee j (Ok x) c = c.2 ∙ after_all (c.0) 0 (x.1)
 root_by pre fee j (Err e) c = c
 
 root_goes : (pre : List Pre) (fee : ℕ) (ts : List Lexeme)
-    → judged (contract 1 ∷ []) 0 ts ≡ followed (choice_with (branch_at most_depth) most_depth most_branches ts >>= λ c. Ok (advert_of pre fee (c.0.0), c.1)) (judged [] 0)
+    → judged (contract 1 ∷ []) 0 ts
+    ≡ followed (choice_with (branch_at most_depth) most_depth most_branches ts >>= λ c. Ok (advert_of pre fee (c.0.0), c.1)) (judged [] 0)
 root_goes pre fee ts =
-    root_by pre fee (judged (contract 1 ∷ []) 0 ts) (choice_with (branch_at most_depth) most_depth most_branches ts) (walks_root.goes [] 0 most_branches ts refl)
+    root_by pre fee (judged (contract 1 ∷ []) 0 ts) (choice_with (branch_at most_depth) most_depth most_branches ts)
+    (walks_root.goes [] 0 most_branches ts refl)
 
 abbrev fee_root_at : List Pre → List Lexeme → Reads Advert
 fee_root_at pre ts =
@@ -146,7 +165,9 @@ unfolding fee_at choice_with
 fee_root_goes pre [] = refl
 fee_root_goes pre (keyword word.Fee ∷ ts) =
     (walks_number max_money).goes (contract 1 ∷ []) 0 ts
-    ∙ followed_by (token_by (a_number max_money) ts) (λ f u. choice_with (branch_at most_depth) most_depth most_branches u >>= λ c. Ok (advert_of pre f (c.0.0), c.1)) (judged (contract 1 ∷ []) 0) (judged [] 0) (λ f u. root_goes pre f u)
+    ∙ followed_by (token_by (a_number max_money) ts)
+    (λ f u. choice_with (branch_at most_depth) most_depth most_branches u >>= λ c. Ok (advert_of pre f (c.0.0), c.1))
+    (judged (contract 1 ∷ []) 0) (judged [] 0) (λ f u. root_goes pre f u)
 fee_root_goes pre (t ∷ ts) = root_goes pre 0 (t ∷ ts)
 
 -- ---- adverts
@@ -163,7 +184,8 @@ advert_goes : (ts : List Lexeme) → judged an_advert 0 ts ≡ followed (advert_
 unfolding advert_at
 advert_goes ts =
     (walks_symbol mark.LeftBrace).goes (entry 0 0 ∷ fee_or_contract ∷ []) 0 ts
-    ∙ followed_by (token_by (a_symbol mark.LeftBrace) ts) (λ b u. all_entries u >>= λ p. fee_root_at (p.0) (p.1)) (judged (entry 0 0 ∷ fee_or_contract ∷ []) 0) (judged [] 0) (λ b u. entries_and_root u)
+    ∙ followed_by (token_by (a_symbol mark.LeftBrace) ts) (λ b u. all_entries u >>= λ p. fee_root_at (p.0) (p.1))
+    (judged (entry 0 0 ∷ fee_or_contract ∷ []) 0) (judged [] 0) (λ b u. entries_and_root u)
 
 -- the answer without the advert
 abbrev pub bare_answer : Result Advert Stop → Judgement

@@ -21,7 +21,9 @@ use Rattle.spec_text.specs.Reading.{is_symbol, is_keyword}
 headed : (x : List ℕ) (t u v b w text c n : List Lexeme) → t ≡ u ++ v → u ≡ name x ∷ [] → v ≡ b ++ w → b ≡ text ++ symbol mark.Dot ∷ []
     → w ≡ c ++ n → n ≡ [] → t ≡ name x ∷ (text ++ symbol mark.Dot ∷ c)
 headed x t u v b w text c n e f g k l m =
-    one (name x) t u v e f ∙ add (name x) (g ∙ ap (λ (z : List Lexeme). z ++ w) k ∙ append_assoc text (symbol mark.Dot ∷ []) w ∙ ap (λ (z : List Lexeme). text ++ symbol mark.Dot ∷ z) (last w c n l m))
+    one (name x) t u v e f
+    ∙ add (name x) (g ∙ ap (λ (z : List Lexeme). z ++ w) k ∙ append_assoc text (symbol mark.Dot ∷ []) w
+    ∙ ap (λ (z : List Lexeme). text ++ symbol mark.Dot ∷ z) (last w c n l m))
 
 put_by : (d : ℕ) (t : List Lexeme) (h : Texts (a_name ∷ behind_put ∷ contract d ∷ []) t)
     → ((h.back.front.text ≡ more_names (h.back.front.names)) ⊎ With_reveal (h.back.front.names) (h.back.front.text))
@@ -83,7 +85,9 @@ after_by d most t h =
     let b = k.back in
     let is : t ≡ number n ∷ symbol mark.Colon ∷ b.first =
     one (number n) t h.first h.second h.parts h.front.1
-    ∙ add (number n) (one (symbol mark.Colon) h.second k.first k.second k.parts k.front ∙ add (symbol mark.Colon) (last k.second b.first b.second b.parts b.back)) in
+    ∙ add (number n)
+    (one (symbol mark.Colon) h.second k.first k.second k.parts k.front ∙ add (symbol mark.Colon)
+    (last k.second b.first b.second b.parts b.back)) in
     record { value = after n b.front.value; spelled = (b.first, add (keyword word.After) is, b.front.spelled) }
 
 split_by : (d k : ℕ) (t : List Lexeme) → Texts (this_symbol mark.LeftBracket ∷ a_part d k ∷ []) t
@@ -147,7 +151,8 @@ more_by d k t h =
       text = symbol mark.Plus ∷ (h.first ++ m.text);
       value = branch h.front.value m.value;
       parts =
-          add (symbol mark.Plus) (both_closed (symbol mark.RightParen) t h.first h.second b.first b.second m.text h.parts b.parts m.parts b.back);
+          add (symbol mark.Plus)
+          (both_closed (symbol mark.RightParen) t h.first h.second b.first b.second m.text h.parts b.parts m.parts b.back);
       spelled = (h.first, m.text, refl, h.front.spelled, m.spelled);
     }
 
@@ -164,7 +169,8 @@ part_by d k v t h =
     let b = n.back in
     let m = b.front in
     let is = one (symbol mark.Arrow) t h.first h.second h.parts h.front
-    ∙ add (symbol mark.Arrow) (both_closed (symbol mark.RightBracket) h.second n.first n.second b.first b.second m.text n.parts b.parts m.parts b.back) in
+    ∙ add (symbol mark.Arrow)
+    (both_closed (symbol mark.RightBracket) h.second n.first n.second b.first b.second m.text n.parts b.parts m.parts b.back) in
     record {
       text = number v ∷ symbol mark.Arrow ∷ (n.first ++ m.text);
       value = part v n.front.value m.value;
@@ -201,7 +207,8 @@ begun_more_parts d k c = tt
 
 -- what follows the token that tells which deposit an entry is
 deposit_by : (most ds ss : ℕ) (t : List Lexeme) → (h : Texts (a_number most ∷ this_symbol mark.At ∷ a_name ∷ behind_entry ds ss ∷ []) t)
-    → t ≡ number (h.front.0) ∷ symbol mark.At ∷ name (h.back.back.front.0) ∷ (more_entries (h.back.back.back.front.0) ++ symbol mark.RightBrace ∷ [])
+    → t ≡ number (h.front.0) ∷ symbol mark.At ∷ name (h.back.back.front.0) ∷
+    (more_entries (h.back.back.back.front.0) ++ symbol mark.RightBrace ∷ [])
 deposit_by most ds ss t h =
     let a = h.back in
     let n = a.back in
@@ -210,7 +217,8 @@ deposit_by most ds ss t h =
     let x = n.front.0 in
     one (number v) t h.first h.second h.parts h.front.1
     ∙ add (number v) (one (symbol mark.At) h.second a.first a.second a.parts a.front
-    ∙ add (symbol mark.At) (one (name x) a.second n.first n.second n.parts n.front.1 ∙ add (name x) (last n.second e.first e.second e.parts e.back ∙ e.front.1)))
+    ∙ add (symbol mark.At)
+    (one (name x) a.second n.first n.second n.parts n.front.1 ∙ add (name x) (last n.second e.first e.second e.parts e.back ∙ e.front.1)))
 
 begun_entry : (ds ss : ℕ) (c : Lexeme) → Begun EntryText c (next (entry_kind ds ss) c)
 begun_entry ds ss (symbol mark.Bang) = λ t h.
@@ -316,7 +324,9 @@ advert_by t h =
     let r = b.back in
     let f = r.front in
     let root : b.second ≡ f.fee_part ++ f.root_part = last b.second r.first r.second r.parts r.back ∙ f.parts in
-    let is : t ≡ (symbol mark.LeftBrace ∷ b.first) ++ (f.fee_part ++ f.root_part) = one (symbol mark.LeftBrace) t h.first h.second h.parts h.front ∙ add (symbol mark.LeftBrace) (b.parts ∙ ap (λ (z : List Lexeme). b.first ++ z) root) in (
+    let is : t ≡ (symbol mark.LeftBrace ∷ b.first) ++ (f.fee_part ++ f.root_part) =
+    one (symbol mark.LeftBrace) t h.first h.second h.parts h.front
+    ∙ add (symbol mark.LeftBrace) (b.parts ∙ ap (λ (z : List Lexeme). b.first ++ z) root) in (
       record { pre = e.first ∷ e.others; fee = f.fee; root = f.root },
       record {
         pre_part = symbol mark.LeftBrace ∷ b.first;

@@ -29,18 +29,29 @@ number_same n = elim (eqb_tells n n) [ inl w ↦ w.0 | inr w ↦ absurd (w.1 ref
 
 pub begun_symbol : (s t : Symbol) (b : Bool) → is_symbol t s ≡ b → Begun (Text (this_symbol s)) (symbol t) (if b then Some [] else None)
 begun_symbol s t true e =
-    λ u n. (symbol t, refl, add (symbol t) n ∙ ap (λ (z : Lexeme). z ∷ []) ((the_symbol s (number_same (symbol_number s))).takes (symbol t) tt (rw e refl)))
+    λ u n. (
+      symbol t,
+      refl,
+      add (symbol t) n ∙ ap (λ (z : Lexeme). z ∷ [])
+          ((the_symbol s (number_same (symbol_number s))).takes (symbol t) tt (rw e refl)),
+    )
 begun_symbol s t false e = tt
 
 pub begun_word : (k w : Keyword) (b : Bool) → is_keyword w k ≡ b → Begun (Text (this_word k)) (keyword w) (if b then Some [] else None)
 begun_word k w true e =
-    λ u n. (keyword w, refl, add (keyword w) n ∙ ap (λ (z : Lexeme). z ∷ []) ((the_keyword k (number_same (keyword_number k))).takes (keyword w) tt (rw e refl)))
+    λ u n. (
+      keyword w,
+      refl,
+      add (keyword w) n ∙ ap (λ (z : Lexeme). z ∷ [])
+          ((the_keyword k (number_same (keyword_number k))).takes (keyword w) tt (rw e refl)),
+    )
 begun_word k w false e = tt
 
 -- ---- expressions
 
 -- two texts, a token between them and one behind
-middle : {A O B : List Lexeme → Type 0} (c d : Lexeme) (t : List Lexeme) (h : Joined A (Joined O (Joined B (Joined (λ u. u ≡ d ∷ []) (λ u. u ≡ [])))) t)
+middle : {A O B : List Lexeme → Type 0} (c d : Lexeme) (t : List Lexeme)
+    (h : Joined A (Joined O (Joined B (Joined (λ u. u ≡ d ∷ []) (λ u. u ≡ [])))) t)
     → h.back.first ≡ c ∷ [] → t ≡ h.first ++ c ∷ (h.back.back.first ++ d ∷ [])
 middle c d t h w =
     let o = h.back in
@@ -76,7 +87,8 @@ begun_formula d (symbol mark.Bar) = λ t h.
     let x = h.front.0 in
     let is : t ≡ name x ∷ symbol mark.Bar ∷ [] =
     one (name x) t h.first h.second h.parts h.front.1
-    ∙ add (name x) (one (symbol mark.Bar) h.second h.back.first h.back.second h.back.parts h.back.front ∙ add (symbol mark.Bar) h.back.back) in
+    ∙ add (name x)
+    (one (symbol mark.Bar) h.second h.back.first h.back.second h.back.parts h.back.front ∙ add (symbol mark.Bar) h.back.back) in
     (symbol mark.Bar, refl, record { value = length_of x; spelled = add (symbol mark.Bar) is })
 begun_formula d (symbol mark.LeftParen) = λ t h. (symbol mark.LeftParen, refl, signed_by d t h h.back.front)
 begun_formula d c = tt
@@ -89,13 +101,15 @@ related_by d c u v t e l is h (inl w) =
     let f = h.back in
     let text : t ≡ u ++ symbol mark.Equal ∷ f.first =
     is
-    ∙ ap (λ (z : List Lexeme). u ++ z) (one (symbol mark.Equal) v h.first h.second h.parts w ∙ add (symbol mark.Equal) (last h.second f.first f.second f.parts f.back)) in
+    ∙ ap (λ (z : List Lexeme). u ++ z)
+    (one (symbol mark.Equal) v h.first h.second h.parts w ∙ add (symbol mark.Equal) (last h.second f.first f.second f.parts f.back)) in
     record { value = equal e f.front.value; spelled = (c ∷ u, f.first, add c text, l, f.front.spelled) }
 related_by d c u v t e l is h (inr w) =
     let f = h.back in
     let text : t ≡ u ++ symbol mark.Less ∷ f.first =
     is
-    ∙ ap (λ (z : List Lexeme). u ++ z) (one (symbol mark.Less) v h.first h.second h.parts w ∙ add (symbol mark.Less) (last h.second f.first f.second f.parts f.back)) in
+    ∙ ap (λ (z : List Lexeme). u ++ z)
+    (one (symbol mark.Less) v h.first h.second h.parts w ∙ add (symbol mark.Less) (last h.second f.first f.second f.parts f.back)) in
     record { value = less e f.front.value; spelled = (c ∷ u, f.first, add c text, l, f.front.spelled) }
 
 begun_compared : (d : ℕ) (c : Lexeme) (n : Next) → Begun (Has SpellsFormula) c n → Begun (Has SpellsTest) c (compared d n)
@@ -174,7 +188,8 @@ begun_put (symbol mark.Ampersand) = λ t h.
     let is : t ≡ (keyword word.Reveal ∷ name a ∷ p.text) ++ symbol mark.Dot ∷ [] =
     one (keyword word.Reveal) t h.first h.second h.parts h.front
     ∙ add (keyword word.Reveal) (named a h.second n.first n.second b.first b.second p.text n.parts n.front.1 b.parts b.back p.parts) in
-    let spelled : SpellsReveals (keyword word.Reveal ∷ name a ∷ p.text) a p.names p.condition = (p.test, ap (λ (z : List Lexeme). keyword word.Reveal ∷ name a ∷ z) p.named, p.spelled) in (
+    let spelled : SpellsReveals (keyword word.Reveal ∷ name a ∷ p.text) a p.names p.condition =
+    (p.test, add (keyword word.Reveal) (add (name a) p.named), p.spelled) in (
       symbol mark.Ampersand,
       refl,
       record {
@@ -215,7 +230,8 @@ begun_reveal (symbol mark.Comma) = λ t h.
       },
     )
 begun_reveal (keyword word.If) = λ t h.
-    let is : t ≡ h.first ++ symbol mark.Dot ∷ [] = h.parts ∙ ap (λ (z : List Lexeme). h.first ++ z) (one (symbol mark.Dot) h.second h.back.first h.back.second h.back.parts h.back.front ∙ add (symbol mark.Dot) h.back.back) in (
+    let is : t ≡ h.first ++ symbol mark.Dot ∷ [] = h.parts ∙ ap (λ (z : List Lexeme). h.first ++ z)
+    (one (symbol mark.Dot) h.second h.back.first h.back.second h.back.parts h.back.front ∙ add (symbol mark.Dot) h.back.back) in (
       keyword word.If,
       refl,
       record {

@@ -96,12 +96,14 @@ walks_part_behind d k j i v c w = record { goes = part_behind_goes d k j i v c w
 
 value_by : (d j n : ℕ) (more : List Awaited) (before : ℕ) (ts : List Lexeme) (x : Bool) → nat_le n max_money ≡ x
     → nat_le j most_parts ≡ true
-    → judged (a_part d j ∷ more) before (number n ∷ ts) ≡ followed (token_by a_value (number n ∷ ts)) (judged (this_symbol mark.Arrow ∷ contract d ∷ behind_part d j ∷ more) before)
+    → judged (a_part d j ∷ more) before (number n ∷ ts) ≡ followed (token_by a_value (number n ∷ ts))
+    (judged (this_symbol mark.Arrow ∷ contract d ∷ behind_part d j ∷ more) before)
 value_by d j n more before ts true e le = rw (e, le) refl
 value_by d j n more before ts false e le = rw e refl
 
 value_goes : (d j : ℕ) → nat_le j most_parts ≡ true → (more : List Awaited) (before : ℕ) (ts : List Lexeme)
-    → judged (a_part d j ∷ more) before ts ≡ followed (token_by a_value ts) (judged (this_symbol mark.Arrow ∷ contract d ∷ behind_part d j ∷ more) before)
+    → judged (a_part d j ∷ more) before ts ≡ followed (token_by a_value ts)
+    (judged (this_symbol mark.Arrow ∷ contract d ∷ behind_part d j ∷ more) before)
 value_goes d j le more before [] = refl
 value_goes d j le more before (number n ∷ ts) = value_by d j n more before ts (nat_le n max_money) refl le
 value_goes d j le more before (t ∷ ts) = refl
@@ -126,7 +128,9 @@ walks_parts : (d k i j : ℕ) → WalksContract d k → j + i ≡ suc most_parts
 unfolding parts_at
 walks_parts d k zero j w r = record { goes = λ more before b ts q. last_part d j more before ts (above j most_parts (omega arith)) }
 walks_parts d k (suc i) j w r =
-    left_on (value_leaves d j (within j most_parts (omega arith))) (λ v. then_on (walks_symbol mark.Arrow) (λ a. on_seq w (λ c. walks_part_behind d k j i v c (walks_parts d k i (suc j) w (omega arith)))))
+    left_on (value_leaves d j (within j most_parts (omega arith)))
+    (λ v. then_on (walks_symbol mark.Arrow)
+    (λ a. on_seq w (λ c. walks_part_behind d k j i v c (walks_parts d k i (suc j) w (omega arith)))))
 
 -- ---- guarded terms
 

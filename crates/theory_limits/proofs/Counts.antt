@@ -92,7 +92,10 @@ allowed_by d k before b j i more ts w p q (inl o) = rw o.reader (over_stops d j 
 allowed_by d k before b j i more ts w p q (inr u) =
     let m = u.depth in
     let n = u.branches in
-    rw u.reader (counts_as (judged (branch d j ∷ more) before ts) (judged (wrapped d ∷ more) (suc before) ts) more (branch_at k (b - 1) ts) (under_goes d j before more ts u.counts (within d most_depth (omega arith))) (w.goes more (suc before) (b - 1) ts (omega arith)))
+    rw u.reader
+    (counts_as (judged (branch d j ∷ more) before ts) (judged (wrapped d ∷ more) (suc before) ts) more (branch_at k (b - 1) ts)
+    (under_goes d j before more ts u.counts (within d most_depth (omega arith)))
+    (w.goes more (suc before) (b - 1) ts (omega arith)))
 
 -- a branch of a choice, of which so many may still come
 pub walks_allowed : (d k j i : ℕ) → WalksBranch d k → d + k ≡ suc most_depth → j + i ≡ suc most_choices

@@ -140,7 +140,8 @@ halts_by a as' c t left None e h k = record {
   left_is = end_is (suc (length t)) left k;
   goes = λ u. refl;
   stops =
-      λ d after u m. let same : c ≡ d = cc in subst (λ (z : Lexeme). end_from (a ∷ as') (z ∷ u) ≡ an_end (suc (length u))) same (at_none a as' c None u e refl);
+      λ d after u m. let same : c ≡ d = cc in subst (λ (z : Lexeme). end_from (a ∷ as') (z ∷ u) ≡ an_end (suc (length u))) same
+      (at_none a as' c None u e refl);
 }
 halts_by a as' c t left (Some new) e h k =
     let r = h new k in
@@ -205,8 +206,11 @@ begins_is t u e =
 
 -- what begins an advert comes, with what follows
 begins_comes : (t : List Lexeme) → Begins t → (more : List Lexeme) × (grammar_end (t ++ more) ≡ None)
-begins_comes t b =
-    (b.more, stand_end an_advert (t ++ b.more) (b.meant ++ b.more) (stand_more t b.meant b.more b.stand) ∙ spelled_advert (b.meant ++ b.more) b.advert b.spelled)
+begins_comes t b = (
+  b.more,
+  stand_end an_advert (t ++ b.more) (b.meant ++ b.more) (stand_more t b.meant b.more b.stand)
+      ∙ spelled_advert (b.meant ++ b.more) b.advert b.spelled,
+)
 
 -- no front begins an advert that goes past the next token
 not_past : (t front rest : List Lexeme) (awaited : List Awaited) (q : ℕ) → t ≡ front ++ rest
@@ -223,7 +227,8 @@ not_past t front (c ∷ after) awaited q parts goes stops lt le b =
     let m = begins_comes (take q t) b in
     let text : take q t ++ m.0 ≡ front ++ c ∷ (take k after ++ m.0) =
     ap (λ (z : List Lexeme). z ++ m.0) fronts ∙ append_assoc front (c ∷ take k after) m.0 in
-    some_end (suc (length (take k after ++ m.0))) (sym (stops c after (take k after ++ m.0) refl) ∙ sym (goes (c ∷ (take k after ++ m.0))) ∙ sym (ap grammar_end text) ∙ m.1)
+    some_end (suc (length (take k after ++ m.0)))
+    (sym (stops c after (take k after ++ m.0) refl) ∙ sym (goes (c ∷ (take k after ++ m.0))) ∙ sym (ap grammar_end text) ∙ m.1)
 
 ends_at : (t : List Lexeme) (left : ℕ) → grammar_end t ≡ an_end left → Halts an_advert t left → IsSyntaxAt t (length t - left)
 ends_at t left e h =

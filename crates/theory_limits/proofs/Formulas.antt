@@ -55,10 +55,12 @@ deep_formula d more before (t ∷ ts) h = refl
 
 -- what stands between the brackets of an expression, and the bracket that closes
 formula_rest : (d k : ℕ) → Walks (formula (suc d) ∷ []) (formula_at k)
-    → Walks (formula (suc d) ∷ operator ∷ formula (suc d) ∷ this_symbol mark.RightParen ∷ []) (λ ts. formula_at (suc k) (symbol mark.LeftParen ∷ ts))
+    → Walks (formula (suc d) ∷ operator ∷ formula (suc d) ∷ this_symbol mark.RightParen ∷ [])
+    (λ ts. formula_at (suc k) (symbol mark.LeftParen ∷ ts))
 unfolding formula_at
 formula_rest d k w =
-    walks_seq w (λ e. walks_seq walks_operator (λ o. walks_seq w (λ f. walks_seq (walks_symbol mark.RightParen) (λ c. walks_none (signed o e f)))))
+    walks_seq w
+    (λ e. walks_seq walks_operator (λ o. walks_seq w (λ f. walks_seq (walks_symbol mark.RightParen) (λ c. walks_none (signed o e f)))))
 
 shallow : (k d : ℕ) (more : List Awaited) (before : ℕ) (ts : List Lexeme) → Walks (formula (suc d) ∷ []) (formula_at k)
     → nat_le d most_depth ≡ true → judged (formula d ∷ more) before ts ≡ followed (formula_at (suc k) ts) (judged more before)
@@ -83,7 +85,8 @@ walks_formula k d h = record { goes = λ more before ts. formula_goes k d more b
 comparison_walks : (k d : ℕ) → d + suc k ≡ suc most_depth → Walks (formula (suc d) ∷ relation ∷ formula (suc d) ∷ []) (comparison_at k)
 unfolding comparison_at
 comparison_walks k d h =
-    walks_seq (walks_formula k (suc d) (omega arith)) (λ e. walks_seq walks_relation (λ o. walks_seq (walks_formula k (suc d) (omega arith)) (λ f. walks_none (related o e f))))
+    walks_seq (walks_formula k (suc d) (omega arith))
+    (λ e. walks_seq walks_relation (λ o. walks_seq (walks_formula k (suc d) (omega arith)) (λ f. walks_none (related o e f))))
 
 -- a token with which only other predicates than comparisons begin
 abbrev is_word : Lexeme → Bool
@@ -145,10 +148,13 @@ unfolding test_at
 negation_walks d k w = walks_seq w (λ p. walks_none (negation p))
 
 both_walks : (d k : ℕ) → Walks (test (suc d) ∷ []) (test_at k)
-    → Walks (test (suc d) ∷ this_word word.And ∷ test (suc d) ∷ this_symbol mark.RightBracket ∷ []) (λ ts. test_at (suc k) (symbol mark.LeftBracket ∷ ts))
+    → Walks (test (suc d) ∷ this_word word.And ∷ test (suc d) ∷ this_symbol mark.RightBracket ∷ [])
+    (λ ts. test_at (suc k) (symbol mark.LeftBracket ∷ ts))
 unfolding test_at
 both_walks d k w =
-    walks_seq w (λ p. walks_seq (walks_word word.And) (λ a. walks_seq w (λ q. walks_seq (walks_symbol mark.RightBracket) (λ c. walks_none (both p q)))))
+    walks_seq w
+    (λ p. walks_seq (walks_word word.And)
+    (λ a. walks_seq w (λ q. walks_seq (walks_symbol mark.RightBracket) (λ c. walks_none (both p q)))))
 
 -- no predicate begins with another keyword
 word_wrong : (k d : ℕ) (x : Keyword) (more : List Awaited) (before : ℕ) (ts : List Lexeme) → next_test d (keyword x) ≡ None
@@ -172,7 +178,8 @@ test_goes : (k d : ℕ) (more : List Awaited) (before : ℕ) (ts : List Lexeme) 
     → judged (test d ∷ more) before ts ≡ followed (test_at k ts) (judged more before)
 test_goes zero d more before ts h = deep_test d more before ts (above d most_depth (omega arith)) (above (suc d) most_depth (omega arith))
 test_goes (suc k) d more before ts h =
-    shallow_test k d more before ts h (record { goes = λ m b u. test_goes k (suc d) m b u (omega arith) }) (within d most_depth (omega arith))
+    shallow_test k d more before ts h (record { goes = λ m b u. test_goes k (suc d) m b u (omega arith) })
+    (within d most_depth (omega arith))
 
 pub walks_test : Walks (test 1 ∷ []) (test_at most_depth)
 walks_test = record { goes = λ more before ts. test_goes most_depth 1 more before ts refl }

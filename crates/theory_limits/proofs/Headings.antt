@@ -42,9 +42,11 @@ one_more : (rest : Bool → List Awaited) (more : List Awaited) (before : ℕ) (
 one_more rest more before x (Ok y) = refl
 one_more rest more before x (Err e) = refl
 
-behind_by : (behind : Awaited) (rest : Bool → List Awaited) (ends : Lexeme → Seen Bool) (more : List Awaited) (before : ℕ) (ts : List Lexeme) → judged (some_name ∷ behind ∷ more) before ts ≡ ended rest more before (names_from ends true ts)
+behind_by : (behind : Awaited) (rest : Bool → List Awaited) (ends : Lexeme → Seen Bool) (more : List Awaited) (before : ℕ)
+    (ts : List Lexeme) → judged (some_name ∷ behind ∷ more) before ts ≡ ended rest more before (names_from ends true ts)
     → (s : Seen (Option Bool))
-    → seen_behind behind rest more before s ts ≡ ended rest more before (take_seen s ts >>= λ o. elim (o.0) [ None ↦ names_from ends true ts | Some e ↦ Ok (([], e), ts) ])
+    → seen_behind behind rest more before s ts ≡ ended rest more before
+    (take_seen s ts >>= λ o. elim (o.0) [ None ↦ names_from ends true ts | Some e ↦ Ok (([], e), ts) ])
 behind_by behind rest ends more before ts h (taken None) = h
 behind_by behind rest ends more before ts h (taken (Some e)) = refl
 behind_by behind rest ends more before ts h wrong = refl
@@ -85,14 +87,16 @@ condition_walks true = walks_seq walks_test (λ p. walks_seq (walks_symbol mark.
 condition_walks false = walks_none always
 
 reveals_end : (puts names : List (List ℕ)) (e : Bool) (more : List Awaited) (before : ℕ) (ts : List Lexeme)
-    → judged (behind_names e ++ more) before ts ≡ followed {A = Heading} (condition_at e ts >>= λ p. Ok ((puts, names, p.0), p.1)) (judged more before)
+    → judged (behind_names e ++ more) before ts ≡ followed {A = Heading} (condition_at e ts >>= λ p. Ok ((puts, names, p.0), p.1))
+    (judged more before)
 reveals_end puts names true more before ts =
     (walks_seq (condition_walks true) (λ p. walks_none {A = Heading} (puts, names, p))).goes more before ts
 reveals_end puts names false more before ts =
     (walks_seq (condition_walks false) (λ p. walks_none {A = Heading} (puts, names, p))).goes more before ts
 
 reveals_by : (puts : List (List ℕ)) (more : List Awaited) (before : ℕ) (r : Reads (List (List ℕ) × Bool))
-    → ended behind_names more before r ≡ followed {A = Heading} (r >>= λ a. condition_at (a.0.1) (a.1) >>= λ p. Ok ((puts, a.0.0, p.0), p.1)) (judged more before)
+    → ended behind_names more before r ≡ followed {A = Heading}
+    (r >>= λ a. condition_at (a.0.1) (a.1) >>= λ p. Ok ((puts, a.0.0, p.0), p.1)) (judged more before)
 reveals_by puts more before (Ok x) = reveals_end puts (x.0.0) (x.0.1) more before (x.1)
 reveals_by puts more before (Err e) = refl
 

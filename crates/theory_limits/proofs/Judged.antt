@@ -88,7 +88,8 @@ pub on_seq : {A B : Type 0} {ps qs : List Awaited} {read : ℕ → List Lexeme �
 on_seq {ps = ps} {qs = qs} {read = read} {k = k} w v = record {
   goes = λ more before b ts h.
       on_by (judged ((ps ++ qs) ++ more) before ts) (qs ++ more) more (read b ts) k
-      (counts_as (judged ((ps ++ qs) ++ more) before ts) (judged (ps ++ (qs ++ more)) before ts) (qs ++ more) (read b ts) (ap (λ (z : List Awaited). judged z before ts) (append_assoc ps qs more)) (w.goes (qs ++ more) before b ts h))
+      (counts_as (judged ((ps ++ qs) ++ more) before ts) (judged (ps ++ (qs ++ more)) before ts) (qs ++ more) (read b ts)
+      (ap (λ (z : List Awaited). judged z before ts) (append_assoc ps qs more)) (w.goes (qs ++ more) before b ts h))
       (λ a c d u e. (v a).goes more c d u e);
 }
 
@@ -117,5 +118,6 @@ pub left_on : {A B : Type 0} {ps qs : List Awaited} {read : List Lexeme → Read
     → Leaves ps read qs → ((a : A) → Walks_on qs (k a)) → Walks_on ps (λ b ts. read ts >>= λ x. k (x.0) b (x.1))
 left_on {ps = ps} {qs = qs} {read = read} {k = k} w v = record {
   goes =
-      λ more before b ts h. then_by (judged (ps ++ more) before ts) (qs ++ more) more before b (read ts) k (w.goes more before ts) (λ a u. (v a).goes more before b u h);
+      λ more before b ts h. then_by (judged (ps ++ more) before ts) (qs ++ more) more before b (read ts) k (w.goes more before ts)
+      (λ a u. (v a).goes more before b u h);
 }

@@ -41,5 +41,6 @@ stand_end as' [] (d ∷ m) st = absurd st
 stand_end as' (c ∷ t) [] st = absurd st
 stand_end [] (c ∷ t) (d ∷ m) st = ap (λ (n : ℕ). an_end (suc n)) (stand_length t m st.1)
 stand_end (a ∷ as') (c ∷ t) (d ∷ m) st =
-    ends_same (next a c) (suc (length t)) (λ new. end_from (new ++ as') t) (λ new. end_from (new ++ as') m) (λ new. stand_end (new ++ as') t m st.1)
+    ends_same (next a c) (suc (length t)) (λ new. end_from (new ++ as') t) (λ new. end_from (new ++ as') m)
+    (λ new. stand_end (new ++ as') t m st.1)
     ∙ (λ i. end_here (stands_next a c d st.0 i) (suc (stand_length t m st.1 i)) (λ new. end_from (new ++ as') m))

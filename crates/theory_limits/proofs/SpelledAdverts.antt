@@ -52,11 +52,13 @@ mutual
   spelled_branch (after height body) d t l more rest = ap (λ (z : List Lexeme). end_from (wrapped d ∷ more) (z ++ rest)) l.1
       ∙ spelled_branch body (suc d) l.0 l.2 more rest
   spelled_branch (put_reveal puts reveals test next) d t l more rest =
-      ap (λ (z : List Lexeme). end_from (wrapped d ∷ more) (z ++ rest)) l.2 ∙ ap (end_from (wrapped d ∷ more)) (append_assoc l.0 (symbol mark.Dot ∷ l.1) rest)
+      ap (λ (z : List Lexeme). end_from (wrapped d ∷ more) (z ++ rest)) l.2 ∙ ap (end_from (wrapped d ∷ more))
+      (append_assoc l.0 (symbol mark.Dot ∷ l.1) rest)
       ∙ heading_goes d l.0 puts reveals test l.3 more (l.1 ++ rest) ∙ spelled_choice next (suc d) l.1 l.4 more rest
   spelled_branch (withdraw party) d t l more rest = rw l refl
   spelled_branch (split parts) d t l more rest =
-      ap (λ (z : List Lexeme). end_from (wrapped d ∷ more) (z ++ rest)) l.1 ∙ ap (end_from (a_part (suc d) 1 ∷ more)) (append_assoc l.0 (symbol mark.RightBracket ∷ []) rest) ∙ spelled_parts parts (suc d) 1 l.0 l.2 more rest
+      ap (λ (z : List Lexeme). end_from (wrapped d ∷ more) (z ++ rest)) l.1 ∙ ap (end_from (a_part (suc d) 1 ∷ more))
+      (append_assoc l.0 (symbol mark.RightBracket ∷ []) rest) ∙ spelled_parts parts (suc d) 1 l.0 l.2 more rest
 
   pub spelled_choice : (c : Contract) (d : ℕ) (t : List Lexeme) → SpellsChoice t c → (more : List Awaited) (rest : List Lexeme)
       → Goes (contract d ∷ more) (t ++ rest) more rest
@@ -64,7 +66,9 @@ mutual
   spelled_choice (branch g bs) d t (inl w) more rest = bare_goes g d t w.0 more rest ∙ spelled_branch g d t w.0 more rest
   spelled_choice (branch g bs) d t (inr w) more rest =
       ap (λ (z : List Lexeme). end_from (contract d ∷ more) (z ++ rest)) w.2
-      ∙ ap (end_from (a_branch d 1 ∷ behind_branch d 1 ∷ more)) (append_assoc w.0 (w.1 ++ symbol mark.RightParen ∷ []) rest ∙ ap (λ (z : List Lexeme). w.0 ++ z) (append_assoc w.1 (symbol mark.RightParen ∷ []) rest))
+      ∙ ap (end_from (a_branch d 1 ∷ behind_branch d 1 ∷ more))
+      (append_assoc w.0 (w.1 ++ symbol mark.RightParen ∷ []) rest ∙ ap (λ (z : List Lexeme). w.0 ++ z)
+      (append_assoc w.1 (symbol mark.RightParen ∷ []) rest))
       ∙ as_wrapped d 1 (behind_branch d 1 ∷ more) (w.0 ++ (w.1 ++ symbol mark.RightParen ∷ rest))
       ∙ spelled_branch g d w.0 w.3 (behind_branch d 1 ∷ more) (w.1 ++ symbol mark.RightParen ∷ rest)
       ∙ spelled_more bs d 1 w.1 w.4 more rest
@@ -125,7 +129,9 @@ spelled_pre : (pre : List Pre) (t : List Lexeme) → SpellsPre t pre → (rest :
 spelled_pre [] t l rest = absurd l
 spelled_pre (p ∷ ps) t l rest =
     ap (λ (z : List Lexeme). end_from an_advert (z ++ rest)) l
-    ∙ ap (end_from (an_entry 0 0 ∷ fee_or_contract ∷ [])) (append_assoc (entry p) (more_entries ps ++ symbol mark.RightBrace ∷ []) rest ∙ ap (λ (z : List Lexeme). entry p ++ z) (append_assoc (more_entries ps) (symbol mark.RightBrace ∷ []) rest))
+    ∙ ap (end_from (an_entry 0 0 ∷ fee_or_contract ∷ []))
+    (append_assoc (entry p) (more_entries ps ++ symbol mark.RightBrace ∷ []) rest ∙ ap (λ (z : List Lexeme). entry p ++ z)
+    (append_assoc (more_entries ps) (symbol mark.RightBrace ∷ []) rest))
     ∙ entries_go p ps 0 0 (fee_or_contract ∷ []) rest
 
 -- ---- adverts

@@ -24,12 +24,18 @@ pub spelled_formula : (e : Expr) (d : ℕ) (t : List Lexeme) → SpellsFormula t
 spelled_formula (constant n) d t l more rest = rw l refl
 spelled_formula (length_of x) d t l more rest = rw l refl
 spelled_formula (plus e f) d t l more rest =
-    ap (λ (z : List Lexeme). end_from (formula d ∷ more) (z ++ rest)) l.2 ∙ ap (end_from (formula (suc d) ∷ operator ∷ formula (suc d) ∷ this_symbol mark.RightParen ∷ more)) (two (symbol mark.Plus) (symbol mark.RightParen) l.0 l.1 rest)
-    ∙ spelled_formula e (suc d) l.0 l.3 (operator ∷ formula (suc d) ∷ this_symbol mark.RightParen ∷ more) (symbol mark.Plus ∷ (l.1 ++ symbol mark.RightParen ∷ rest))
+    ap (λ (z : List Lexeme). end_from (formula d ∷ more) (z ++ rest)) l.2 ∙ ap
+    (end_from (formula (suc d) ∷ operator ∷ formula (suc d) ∷ this_symbol mark.RightParen ∷ more))
+    (two (symbol mark.Plus) (symbol mark.RightParen) l.0 l.1 rest)
+    ∙ spelled_formula e (suc d) l.0 l.3 (operator ∷ formula (suc d) ∷ this_symbol mark.RightParen ∷ more)
+    (symbol mark.Plus ∷ (l.1 ++ symbol mark.RightParen ∷ rest))
     ∙ spelled_formula f (suc d) l.1 l.4 (this_symbol mark.RightParen ∷ more) (symbol mark.RightParen ∷ rest)
 spelled_formula (minus e f) d t l more rest =
-    ap (λ (z : List Lexeme). end_from (formula d ∷ more) (z ++ rest)) l.2 ∙ ap (end_from (formula (suc d) ∷ operator ∷ formula (suc d) ∷ this_symbol mark.RightParen ∷ more)) (two (symbol mark.Minus) (symbol mark.RightParen) l.0 l.1 rest)
-    ∙ spelled_formula e (suc d) l.0 l.3 (operator ∷ formula (suc d) ∷ this_symbol mark.RightParen ∷ more) (symbol mark.Minus ∷ (l.1 ++ symbol mark.RightParen ∷ rest))
+    ap (λ (z : List Lexeme). end_from (formula d ∷ more) (z ++ rest)) l.2 ∙ ap
+    (end_from (formula (suc d) ∷ operator ∷ formula (suc d) ∷ this_symbol mark.RightParen ∷ more))
+    (two (symbol mark.Minus) (symbol mark.RightParen) l.0 l.1 rest)
+    ∙ spelled_formula e (suc d) l.0 l.3 (operator ∷ formula (suc d) ∷ this_symbol mark.RightParen ∷ more)
+    (symbol mark.Minus ∷ (l.1 ++ symbol mark.RightParen ∷ rest))
     ∙ spelled_formula f (suc d) l.1 l.4 (this_symbol mark.RightParen ∷ more) (symbol mark.RightParen ∷ rest)
 
 -- ---- predicates
@@ -48,16 +54,21 @@ spelled_test always d t l more rest = rw l refl
 spelled_test (negation p) d t l more rest = ap (λ (z : List Lexeme). end_from (test d ∷ more) (z ++ rest)) l.1
     ∙ spelled_test p (suc d) l.0 l.2 more rest
 spelled_test (both p q) d t l more rest =
-    ap (λ (z : List Lexeme). end_from (test d ∷ more) (z ++ rest)) l.2 ∙ ap (end_from (test (suc d) ∷ this_word word.And ∷ test (suc d) ∷ this_symbol mark.RightBracket ∷ more)) (two (keyword word.And) (symbol mark.RightBracket) l.0 l.1 rest)
-    ∙ spelled_test p (suc d) l.0 l.3 (this_word word.And ∷ test (suc d) ∷ this_symbol mark.RightBracket ∷ more) (keyword word.And ∷ (l.1 ++ symbol mark.RightBracket ∷ rest))
+    ap (λ (z : List Lexeme). end_from (test d ∷ more) (z ++ rest)) l.2 ∙ ap
+    (end_from (test (suc d) ∷ this_word word.And ∷ test (suc d) ∷ this_symbol mark.RightBracket ∷ more))
+    (two (keyword word.And) (symbol mark.RightBracket) l.0 l.1 rest)
+    ∙ spelled_test p (suc d) l.0 l.3 (this_word word.And ∷ test (suc d) ∷ this_symbol mark.RightBracket ∷ more)
+    (keyword word.And ∷ (l.1 ++ symbol mark.RightBracket ∷ rest))
     ∙ spelled_test q (suc d) l.1 l.4 (this_symbol mark.RightBracket ∷ more) (symbol mark.RightBracket ∷ rest)
 spelled_test (equal e f) d t l more rest =
-    ap (λ (z : List Lexeme). end_from (test d ∷ more) (z ++ rest)) l.2 ∙ ap (end_from (test d ∷ more)) (append_assoc l.0 (symbol mark.Equal ∷ l.1) rest)
+    ap (λ (z : List Lexeme). end_from (test d ∷ more) (z ++ rest)) l.2 ∙ ap (end_from (test d ∷ more))
+    (append_assoc l.0 (symbol mark.Equal ∷ l.1) rest)
     ∙ compared_goes e d l.0 l.3 more (symbol mark.Equal ∷ (l.1 ++ rest))
     ∙ spelled_formula e (suc d) l.0 l.3 (relation ∷ formula (suc d) ∷ more) (symbol mark.Equal ∷ (l.1 ++ rest))
     ∙ spelled_formula f (suc d) l.1 l.4 more rest
 spelled_test (less e f) d t l more rest =
-    ap (λ (z : List Lexeme). end_from (test d ∷ more) (z ++ rest)) l.2 ∙ ap (end_from (test d ∷ more)) (append_assoc l.0 (symbol mark.Less ∷ l.1) rest)
+    ap (λ (z : List Lexeme). end_from (test d ∷ more) (z ++ rest)) l.2 ∙ ap (end_from (test d ∷ more))
+    (append_assoc l.0 (symbol mark.Less ∷ l.1) rest)
     ∙ compared_goes e d l.0 l.3 more (symbol mark.Less ∷ (l.1 ++ rest))
     ∙ spelled_formula e (suc d) l.0 l.3 (relation ∷ formula (suc d) ∷ more) (symbol mark.Less ∷ (l.1 ++ rest))
     ∙ spelled_formula f (suc d) l.1 l.4 more rest
@@ -100,4 +111,5 @@ pub spelled_both : (x : List ℕ) (xs : List (List ℕ)) (a : List ℕ) (as' : L
 spelled_both x xs a as' p tr l more rest =
     ap (end_from (behind_put ∷ more)) (append_assoc (more_names xs) (symbol mark.Ampersand ∷ tr) (symbol mark.Dot ∷ rest))
     ∙ put_names xs more (symbol mark.Ampersand ∷ (tr ++ symbol mark.Dot ∷ rest))
-    ∙ ap (λ (z : List Lexeme). end_from (this_word word.Reveal ∷ a_name ∷ behind_reveal ∷ more) (z ++ symbol mark.Dot ∷ rest)) l.1 ∙ spelled_reveals a as' p l.0 l.2 more rest
+    ∙ ap (λ (z : List Lexeme). end_from (this_word word.Reveal ∷ a_name ∷ behind_reveal ∷ more) (z ++ symbol mark.Dot ∷ rest)) l.1
+    ∙ spelled_reveals a as' p l.0 l.2 more rest

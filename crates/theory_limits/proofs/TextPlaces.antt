@@ -47,9 +47,11 @@ limit_by : (text : List ℕ) (tokens : List Token) (w : Limit) (place : ℕ) (r 
     → answer_of text tokens r ≡ failing (faults.Limit w place) → IsMarkedText text w place
 limit_by text tokens w place (Ok a) cut is h = absurd (found_fails a (faults.Limit w place) h)
 limit_by text tokens w place (Err (stops.Syntax left)) cut is h =
-    absurd (syntax_limit (place_of text tokens left) place w (failing_is (fault_of text tokens (stops.Syntax left)) (faults.Limit w place) h))
+    absurd (syntax_limit (place_of text tokens left) place w
+    (failing_is (fault_of text tokens (stops.Syntax left)) (faults.Limit w place) h))
 limit_by text tokens w place (Err (stops.Limit v left)) cut is h =
-    let e = limit_is v w (place_of text tokens left) place (failing_is (fault_of text tokens (stops.Limit v left)) (faults.Limit w place) h) in
+    let e = limit_is v w (place_of text tokens left) place
+    (failing_is (fault_of text tokens (stops.Limit v left)) (faults.Limit w place) h) in
     record {
       tokens = tokens;
       cut = cut;
@@ -83,7 +85,8 @@ syntax_by : (text : List ℕ) (tokens : List Token) (place : ℕ) (r : Result Ad
     → answer_of text tokens r ≡ failing (faults.Syntax place) → IsEndedText text place
 syntax_by text tokens place (Ok a) cut is h = absurd (found_fails a (faults.Syntax place) h)
 syntax_by text tokens place (Err (stops.Limit w left)) cut is h =
-    absurd (syntax_limit place (place_of text tokens left) w (sym (failing_is (fault_of text tokens (stops.Limit w left)) (faults.Syntax place) h)))
+    absurd (syntax_limit place (place_of text tokens left) w
+    (sym (failing_is (fault_of text tokens (stops.Limit w left)) (faults.Syntax place) h)))
 syntax_by text tokens place (Err (stops.Syntax left)) cut is h =
     let t = lexemes text tokens in
     let e = syntax_is (place_of text tokens left) place (failing_is (fault_of text tokens (stops.Syntax left)) (faults.Syntax place) h) in

@@ -25,7 +25,8 @@ verdict (m ∷ ms) end = Err (stops.Limit m.quantity m.left)
 verdict [] None = Ok tt
 verdict [] (Some left) = Err (stops.Syntax left)
 
-step_is : (n : Next) (ws : List Limit) (left : ℕ) (on : List Awaited → Judgement) (behind : List Awaited → List Mark) (end : List Awaited → Option ℕ) → ((new : List Awaited) → on new ≡ verdict (behind new) (end new))
+step_is : (n : Next) (ws : List Limit) (left : ℕ) (on : List Awaited → Judgement) (behind : List Awaited → List Mark)
+    (end : List Awaited → Option ℕ) → ((new : List Awaited) → on new ≡ verdict (behind new) (end new))
     → stepped n ws left on ≡ verdict (marks_here n (marks_at left ws) behind) (end_here n left end)
 step_is None ws left on behind end h = refl
 step_is (Some new) [] left on behind end h = h new
@@ -37,7 +38,8 @@ walk_is [] before [] = refl
 walk_is (a ∷ as') before [] = refl
 walk_is [] before (t ∷ ts) = refl
 walk_is (a ∷ as') before (t ∷ ts) =
-    step_is (next a t) (exceeded a before t ts) (suc (length ts)) (λ new. judged (new ++ as') (came a t before) ts) (λ new. marks_from (new ++ as') (came a t before) ts) (λ new. end_from (new ++ as') ts)
+    step_is (next a t) (exceeded a before t ts) (suc (length ts)) (λ new. judged (new ++ as') (came a t before) ts)
+    (λ new. marks_from (new ++ as') (came a t before) ts) (λ new. end_from (new ++ as') ts)
     (λ new. walk_is (new ++ as') (came a t before) ts)
 
 answer_is : (t : List Lexeme) → bare_answer (advert_of_all t) ≡ verdict (marks t) (grammar_end t)
@@ -67,7 +69,8 @@ end_within [] [] left e = absurd (no_place left e)
 end_within (a ∷ as') [] left e = let i = some_is 0 left e in omega (arith, i)
 end_within [] (t ∷ ts) left e = let i = some_is (suc (length ts)) left e in omega (arith, i)
 end_within (a ∷ as') (t ∷ ts) left e =
-    here_within (next a t) (suc (length ts)) left (suc (length ts)) (λ new. end_from (new ++ as') ts) (omega arith) (λ new k. let i = end_within (new ++ as') ts left k in omega (arith, i)) e
+    here_within (next a t) (suc (length ts)) left (suc (length ts)) (λ new. end_from (new ++ as') ts) (omega arith)
+    (λ new k. let i = end_within (new ++ as') ts left k in omega (arith, i)) e
 
 -- ---- what an answer tells
 
@@ -134,7 +137,8 @@ limit_only_is t w left m =
 unmarked : (t : List Lexeme) (left : ℕ) → advert_of_all t ≡ Err (stops.Syntax left) → marks t ≡ []
 unmarked t left h =
     let is : failed (stops.Syntax left) ≡ verdict (marks t) (grammar_end t) = sym (ap bare_answer h) ∙ answer_is t in
-    none_by (failed (stops.Syntax left)) (marks t) (grammar_end t) (λ w n e. limit_syntax w n left (sym (failed_is (stops.Syntax left) (stops.Limit w n) e))) is
+    none_by (failed (stops.Syntax left)) (marks t) (grammar_end t)
+    (λ w n e. limit_syntax w n left (sym (failed_is (stops.Syntax left) (stops.Limit w n) e))) is
 
 end_by : (t : List Lexeme) (left : ℕ) (ms : List Mark) (end : Option ℕ) → ms ≡ [] → failed (stops.Syntax left) ≡ verdict ms end
     → end ≡ Some left

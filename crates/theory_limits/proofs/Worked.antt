@@ -49,7 +49,8 @@ long_and_deep = refl
 -- `reveal a if not not .. P . withdraw A`
 abbrev revealed : ℕ → List Lexeme → List Lexeme
 revealed n t =
-    with_secret (keyword word.Reveal ∷ name (codes "a") ∷ keyword word.If ∷ (times n (keyword word.Not ∷ []) ++ (t ++ symbol mark.Dot ∷ payment)))
+    with_secret
+    (keyword word.Reveal ∷ name (codes "a") ∷ keyword word.If ∷ (times n (keyword word.Not ∷ []) ++ (t ++ symbol mark.Dot ∷ payment)))
 
 pub deepest_true : marks (revealed 63 (keyword word.True ∷ [])) ≡ []
 deepest_true = refl
@@ -63,25 +64,36 @@ constant_too_great = refl
 
 -- ---- branches and parts
 
-pub widest : marks (with_secret (symbol mark.LeftParen ∷ (payment ++ (times 31 (symbol mark.Plus ∷ payment) ++ symbol mark.RightParen ∷ [])))) ≡ []
+pub widest : marks
+    (with_secret (symbol mark.LeftParen ∷ (payment ++ (times 31 (symbol mark.Plus ∷ payment) ++ symbol mark.RightParen ∷ [])))) ≡ []
 widest = refl
 
-pub too_wide : marks (with_secret (symbol mark.LeftParen ∷ (payment ++ (times 32 (symbol mark.Plus ∷ payment) ++ symbol mark.RightParen ∷ [])))) ≡ at limits.Choice 3 ∷ []
+pub too_wide : marks
+    (with_secret (symbol mark.LeftParen ∷ (payment ++ (times 32 (symbol mark.Plus ∷ payment) ++ symbol mark.RightParen ∷ []))))
+    ≡ at limits.Choice 3 ∷ []
 too_wide = refl
 
 abbrev a_part : List Lexeme
 a_part = number 1 ∷ symbol mark.Arrow ∷ payment
 
 -- the value comes before the number of parts at one token
-pub too_many_parts : marks (with_secret (keyword word.Split ∷ symbol mark.LeftBracket ∷ (a_part ++ (times 63 (symbol mark.Comma ∷ a_part) ++ symbol mark.Comma ∷ huge_number ∷ [])))) ≡ at limits.Number 1 ∷ at limits.Split 1 ∷ []
+pub too_many_parts : marks
+    (with_secret
+    (keyword word.Split ∷ symbol mark.LeftBracket ∷
+    (a_part ++ (times 63 (symbol mark.Comma ∷ a_part) ++ symbol mark.Comma ∷ huge_number ∷ []))))
+    ≡ at limits.Number 1 ∷ at limits.Split 1 ∷ []
 too_many_parts = refl
 
 -- a split of 64 parts with eight branches each: with the split itself the last of them is the 513th
 abbrev eight : List Lexeme
 eight =
-    number 1 ∷ symbol mark.Arrow ∷ symbol mark.LeftParen ∷ (payment ++ (times 7 (symbol mark.Plus ∷ payment) ++ symbol mark.RightParen ∷ []))
+    number 1 ∷ symbol mark.Arrow ∷ symbol mark.LeftParen ∷
+    (payment ++ (times 7 (symbol mark.Plus ∷ payment) ++ symbol mark.RightParen ∷ []))
 
-pub too_many_branches : marks (with_secret (keyword word.Split ∷ symbol mark.LeftBracket ∷ (eight ++ (times 63 (symbol mark.Comma ∷ eight) ++ symbol mark.RightBracket ∷ [])))) ≡ at limits.Branches 4 ∷ []
+pub too_many_branches : marks
+    (with_secret
+    (keyword word.Split ∷ symbol mark.LeftBracket ∷ (eight ++ (times 63 (symbol mark.Comma ∷ eight) ++ symbol mark.RightBracket ∷ []))))
+    ≡ at limits.Branches 4 ∷ []
 too_many_branches = refl
 
 -- ---- entries
@@ -90,12 +102,19 @@ pub most_entries : marks (symbol mark.LeftBrace ∷ (a_secret ++ (more_secrets 3
 most_entries = refl
 
 -- the 33rd is marked at its first token, whole or not
-pub too_many_entries : marks (symbol mark.LeftBrace ∷ (a_secret ++ (more_secrets 31 ++ symbol mark.Bar ∷ name (codes "A") ∷ symbol mark.Colon ∷ keyword word.Secret ∷ []))) ≡ at limits.Secrets 3 ∷ []
+pub too_many_entries : marks
+    (symbol mark.LeftBrace ∷
+    (a_secret ++ (more_secrets 31 ++ symbol mark.Bar ∷ name (codes "A") ∷ symbol mark.Colon ∷ keyword word.Secret ∷ [])))
+    ≡ at limits.Secrets 3 ∷ []
 too_many_entries = refl
 
 -- but not before its kind shows
-pub no_kind : marks (symbol mark.LeftBrace ∷ (a_secret ++ (more_secrets 31 ++ symbol mark.Bar ∷ name (codes "A") ∷ symbol mark.Colon ∷ name (codes "a") ∷ []))) ≡ []
+pub no_kind : marks
+    (symbol mark.LeftBrace ∷
+    (a_secret ++ (more_secrets 31 ++ symbol mark.Bar ∷ name (codes "A") ∷ symbol mark.Colon ∷ name (codes "a") ∷ []))) ≡ []
 no_kind = refl
 
-pub no_kind_ends : grammar_end (symbol mark.LeftBrace ∷ (a_secret ++ (more_secrets 31 ++ symbol mark.Bar ∷ name (codes "A") ∷ symbol mark.Colon ∷ name (codes "a") ∷ []))) ≡ Some 1
+pub no_kind_ends : grammar_end
+    (symbol mark.LeftBrace ∷
+    (a_secret ++ (more_secrets 31 ++ symbol mark.Bar ∷ name (codes "A") ∷ symbol mark.Colon ∷ name (codes "a") ∷ []))) ≡ Some 1
 no_kind_ends = refl

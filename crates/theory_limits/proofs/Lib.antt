@@ -15,4 +15,5 @@ pub mod BegunTests
 pub mod BegunAdverts
 pub mod Ends
 pub mod TextPlaces
+pub mod Fitting
 pub mod Worked

@@ -1,6 +1,7 @@
 -- What is claimed of the limits of contract text; of this project's profile.
-use Rattle.std.specs.Prelude.{◌≡◌, ℕ, ◌-◌, ◌≤◌, List, [], ◌∷◌, length, Some, None, Ok, Err}
+use Rattle.std.specs.Prelude.{◌≡◌, ℕ, ◌-◌, ◌≤◌, List, [], ◌∷◌, length, true, Some, None, Ok, Err}
 use Rattle.spec_terms.specs.Advert.{Advert}
+use Rattle.spec_terms.specs.Readable.{is_readable}
 use Rattle.spec_terms.specs.declared.limit.Limit.{Limit}
 use Rattle.spec_text.specs.declared.stop.Stop.TheVariants as stops
 use Rattle.spec_text.specs.declared.stop.TextFault.TheVariants as faults
@@ -10,7 +11,7 @@ use Rattle.spec_text.specs.declared.lexeme.Lexeme.{Lexeme}
 use Rattle.spec_text.specs.Lexeme.{lexemes}
 use Rattle.spec_text.specs.Grammar.{Spells, StandFor}
 use Rattle.spec_text.specs.ReadAdvert.{advert_of_all, place_of, read_answer}
-use Rattle.spec_text.specs.Statements.{IsSyntaxAt, IsLimitAt}
+use Rattle.spec_text.specs.Statements.{IsSpelledBy, IsSyntaxAt, IsLimitAt}
 use Rattle.theory_limits.specs.Marks.{Mark, marks, grammar_end}
 
 -- tokens spell at most one advert
@@ -80,3 +81,10 @@ pub record TextLimitsTheorem : Type 0 where
   pub limit_only : (text : List ℕ) (w : Limit) (place : ℕ) → IsMarkedText text w place → read_answer text ≡ Err (faults.Limit w place)
   pub syntax : (text : List ℕ) (place : ℕ) → read_answer text ≡ Err (faults.Syntax place) → IsEndedText text place
   pub syntax_only : (text : List ℕ) (place : ℕ) → IsEndedText text place → read_answer text ≡ Err (faults.Syntax place)
+
+-- A text that spells an advert has no mark exactly where the advert, as a tree, is within the limits.
+pub record FittingTheorem : Type 0 where
+  pub within : (text : List ℕ) (advert : Advert) → (s : IsSpelledBy text advert) → marks (lexemes text s.tokens) ≡ []
+      → is_readable advert ≡ true
+  pub within_only : (text : List ℕ) (advert : Advert) → (s : IsSpelledBy text advert) → is_readable advert ≡ true
+      → marks (lexemes text s.tokens) ≡ []

@@ -1,7 +1,7 @@
 //! Where the limits of contract text are met: each theorem is the contract of a function that does nothing.
 #![tactic(auto)]
 
-ghost use Rattle.theory_limits.specs.Statements.{OneAdvertTheorem, LimitsTheorem, GrammarTheorem, TextLimitsTheorem};
+ghost use Rattle.theory_limits.specs.Statements.{OneAdvertTheorem, LimitsTheorem, GrammarTheorem, TextLimitsTheorem, FittingTheorem};
 
 /// A text spells at most one advert.
 pub fn texts_spell_one_advert()
@@ -22,4 +22,9 @@ pub fn awaited_parts_are_the_grammar()
 /// The same of texts: which answer comes, and at which byte.
 pub fn texts_stop_at_bytes()
     ensures { TextLimitsTheorem }
+{}
+
+/// A text that spells an advert has no mark exactly where the advert's depths, counts and numbers are within the limits.
+pub fn unmarked_adverts_fit()
+    ensures { FittingTheorem }
 {}

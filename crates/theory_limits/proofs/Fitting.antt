@@ -30,10 +30,12 @@ unmarked : (text : List ℕ) (tokens : List Token) (advert : Advert) (r : Result
 unmarked text tokens advert (Ok a) is h = (limits_are.read (lexemes text tokens) a is).1
 unmarked text tokens advert (Err e) is h = absurd (fails (fault_of text tokens e) advert h)
 
-within_only : (text : List ℕ) (advert : Advert) (s : IsSpelledBy text advert) → is_readable advert ≡ true → marks (lexemes text s.tokens) ≡ []
+within_only : (text : List ℕ) (advert : Advert) (s : IsSpelledBy text advert) → is_readable advert ≡ true
+    → marks (lexemes text s.tokens) ≡ []
 unfolding read_answer
 within_only text advert s h =
-    unmarked text s.tokens advert (advert_of_all (lexemes text s.tokens)) refl (sym (ap (answer_from text) s.cut) ∙ reader_is.only text advert s h)
+    unmarked text s.tokens advert (advert_of_all (lexemes text s.tokens)) refl
+    (sym (ap (answer_from text) s.cut) ∙ reader_is.only text advert s h)
 
 -- no mark, and within the limits
 pub fitting_is : FittingTheorem

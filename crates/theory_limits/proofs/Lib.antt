@@ -16,4 +16,6 @@ pub mod BegunAdverts
 pub mod Ends
 pub mod TextPlaces
 pub mod Fitting
+pub mod Listed
+pub mod ListedAdverts
 pub mod Worked

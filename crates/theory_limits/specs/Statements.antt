@@ -13,6 +13,7 @@ use Rattle.spec_text.specs.Grammar.{Spells, StandFor}
 use Rattle.spec_text.specs.ReadAdvert.{advert_of_all, place_of, read_answer}
 use Rattle.spec_text.specs.Statements.{IsSpelledBy, IsSyntaxAt, IsLimitAt}
 use Rattle.theory_limits.specs.Marks.{Mark, marks, grammar_end}
+use Rattle.theory_limits.specs.Trees.{over_advert}
 
 -- tokens spell at most one advert
 abbrev pub OneAdvertTheorem : Type 0
@@ -88,3 +89,12 @@ pub record FittingTheorem : Type 0 where
       → is_readable advert ≡ true
   pub within_only : (text : List ℕ) (advert : Advert) → (s : IsSpelledBy text advert) → is_readable advert ≡ true
       → marks (lexemes text s.tokens) ≡ []
+
+-- the quantities of these marks
+abbrev pub quantities : List Mark → List Limit
+quantities [] = []
+quantities (m ∷ ms) = m.quantity ∷ quantities ms
+
+-- the marks of tokens that spell an advert have the quantities that it exceeds as a tree, in the order of the text
+abbrev pub TreeTheorem : Type 0
+TreeTheorem = (t : List Lexeme) (advert : Advert) → Spells t advert → quantities (marks t) ≡ over_advert advert

@@ -1,7 +1,8 @@
 //! Where the limits of contract text are met: each theorem is the contract of a function that does nothing.
 #![tactic(auto)]
 
-ghost use Rattle.theory_limits.specs.Statements.{OneAdvertTheorem, LimitsTheorem, GrammarTheorem, TextLimitsTheorem, FittingTheorem};
+ghost use Rattle.theory_limits.specs.Statements.{OneAdvertTheorem, LimitsTheorem, TextLimitsTheorem};
+ghost use Rattle.theory_limits.specs.Statements.{GrammarTheorem, FittingTheorem, TreeTheorem};
 
 /// A text spells at most one advert.
 pub fn texts_spell_one_advert()
@@ -27,4 +28,9 @@ pub fn texts_stop_at_bytes()
 /// A text that spells an advert has no mark exactly where the advert's depths, counts and numbers are within the limits.
 pub fn unmarked_adverts_fit()
     ensures { FittingTheorem }
+{}
+
+/// The marks of tokens that spell an advert have the quantities that the advert exceeds as a tree, in the order of the text.
+pub fn marks_are_those_of_the_tree()
+    ensures { TreeTheorem }
 {}

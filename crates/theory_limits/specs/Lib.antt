@@ -1,0 +1,4 @@
+pub mod Awaited
+pub mod Marks
+pub mod Trees
+pub mod Statements

@@ -52,3 +52,7 @@ advertised_with (a ∷ rest) contract = if a.contract == contract then Some a.bi
 abbrev pub with_revealed : Bool → Option (Option ℕ) → Option (Option ℕ × Bool)
 with_revealed revealed None = None
 with_revealed revealed (Some length) = Some (length, revealed)
+
+-- an active contract that stands at its root
+abbrev pub root_of : ℕ → ℕ → ℕ → ActiveContract
+root_of number contract balance = record { number = number; contract = contract; position = []; balance = balance }

@@ -1,9 +1,18 @@
 //! The contract calculus: configurations, which steps may be taken, and what they lead to.
 #![tactic(auto)]
 
+mod beginning;
+mod branches;
 pub mod config;
+mod contracts;
+mod deposits;
+mod effects;
+mod lengths;
 mod moves;
+mod premises;
 mod same;
+mod secrets;
+mod state;
 
-pub use config::{Config, StepError};
-pub use spec_calculus::{Deposit, Move, MoveAuthorisation, Owner, Step};
+pub use config::{Active, Config, StepError};
+pub use spec_calculus::{Move, Owner, Step};

@@ -24,7 +24,7 @@ use Rattle.spec_compiler.specs.Transactions.{Standing, branch_unsigned, continue
 use Rattle.spec_compiler.specs.ByPath as by_path
 use Rattle.spec_compiler.specs.ByPath.{PathEnd, branch_end, continued_end, part_end, next_end, end_from, end_at, as_position, position_at}
 use Rattle.theory_script.proofs.Listing.Subterms as spots
-use Rattle.theory_world.proofs.Contracts.Faultless.{no_fault}
+use Rattle.theory_script.proofs.Faultless.{no_fault}
 
 -- ---- no position or branch is at fault
 

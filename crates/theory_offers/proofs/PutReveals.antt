@@ -37,7 +37,7 @@ use Rattle.spec_run.specs.Steps.{core_step}
 use Rattle.spec_run.specs.Statements.{IsKept}
 use Rattle.theory_script.proofs.Listing.Subterms.{each_at, each_of_branches, each_of_advert}
 use Rattle.theory_world.proofs.Same.{bytes-true}
-use Rattle.theory_world.proofs.Contracts.Faultless.{no_fault}
+use Rattle.theory_script.proofs.Faultless.{no_fault}
 use Rattle.theory_run.proofs.Facts.AllSecrets.{different_names}
 use Rattle.theory_world.proofs.Contracts.Positions.{Is_in}
 use Rattle.theory_world.proofs.Later.{compiled_is}

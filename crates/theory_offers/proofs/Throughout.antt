@@ -17,7 +17,7 @@ use Rattle.spec_run.specs.Conditions.{IsSetup, IsEvent}
 use Rattle.spec_run.specs.Draft.{settled, guess}
 use Rattle.spec_run.specs.Revealing.{fits, fitting}
 use Rattle.spec_run.specs.Secrets.{digest_at, is_shown, secret_size, length_in_run}
-use Rattle.spec_run.specs.Event.{Passed, Progress, draft, record_of, opening_world, opening_collision, played}
+use Rattle.spec_run.specs.Event.{Progress, draft, record_of, opening_world, opening_collision, played}
 use Rattle.spec_run.specs.Translation.{turn_of, world_after, opening_configuration, last_configuration, last_world}
 use Rattle.spec_run.specs.Agreement.{Agree}
 use Rattle.spec_run.specs.Offers.{Offer, offers}

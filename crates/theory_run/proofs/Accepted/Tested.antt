@@ -12,7 +12,7 @@ use Rattle.spec_terms.specs.Term.{Contract, branches}
 use Rattle.spec_terms.specs.Core.{core, puts_of, reveals_of}
 use Rattle.spec_terms.specs.Advert.{Advert}
 use Rattle.spec_terms.specs.Paths.{Subterm, position, at_branch, contract_under}
-use Rattle.spec_terms.specs.Parties.{participants, add_new, add_all, choice_mentions}
+use Rattle.spec_terms.specs.Parties.{participants, choice_mentions}
 use Rattle.spec_terms.specs.Precondition.{volatile, secrets, names_of, name_in, party_of, names_of_party, secrets_of}
 use Rattle.spec_terms.specs.Faults.{at_core, are_among, IsWellFormed}
 use Rattle.spec_terms.specs.declared.pre.Pre.{Pre}
@@ -31,11 +31,12 @@ use Rattle.spec_run.specs.Revealing.{fits, fitting}
 use Rattle.spec_run.specs.Secrets.{digest_at, is_shown, secret_size, length_in_run}
 use Rattle.theory_script.proofs.Listing.Subterms.{each_at, each_of_branches, each_of_advert}
 use Rattle.theory_world.proofs.Same.{bytes-true, bytes_refl}
-use Rattle.theory_world.proofs.Hashed.{among_left, among_right, among_head, among_split, any_then, find_any}
-use Rattle.theory_world.proofs.Contracts.Faultless.{no_fault}
+use Rattle.theory_world.proofs.Hashed.{among_left, among_head, among_split, any_then, find_any}
+use Rattle.theory_script.proofs.Faultless.{no_fault}
 use Rattle.theory_run.proofs.Facts.AllSecrets.{different_names}
 use Rattle.theory_run.proofs.Steps.CommitSteps.{each}
 use Rattle.theory_world.proofs.Contracts.Positions.{Is_in}
+use Rattle.theory_world.proofs.Contracts.Mentions.{added}
 use Rattle.theory_run.proofs.Facts.KeptSecrets.{KeptSecrets, Begins, length_at-by}
 use Rattle.theory_run.proofs.Facts.Posting.{is_own-some}
 use Rattle.theory_run.proofs.Accepted.Numbers.{looked_in, in_looked, named_looked}
@@ -75,31 +76,6 @@ module _ (a : Advert) (well : IsWellFormed a) (path : List PathStep) (choice : C
       at_number (λ y. known (core y)) (branches choice) i b (each_of_branches (of_core known) choice e.1) there
 
 -- ---- whose a secret is
-
-new_more : (names : List (List ℕ)) (x a : List ℕ) → is_among a names ≡ true → is_among a (add_new names x) ≡ true
-new_more names x a h = by_test (is_among x names)
-  where
-    by_test : (b : Bool) → is_among a (if b then names else (names ++ x ∷ [])) ≡ true
-    by_test true = h
-    by_test false = among_left a names (x ∷ []) h
-
-new_there : (names : List (List ℕ)) (x : List ℕ) → is_among x (add_new names x) ≡ true
-new_there names x = by_test (is_among x names) refl
-  where
-    by_test : (b : Bool) → is_among x names ≡ b → is_among x (if b then names else (names ++ x ∷ [])) ≡ true
-    by_test true e = e
-    by_test false e = among_right x names (x ∷ []) (among_head x [])
-
-fold_more : (xs names : List (List ℕ)) (a : List ℕ) → is_among a names ≡ true → is_among a (add_all names xs) ≡ true
-fold_more [] names a h = h
-fold_more (x ∷ xs) names a h = fold_more xs (add_new names x) a (new_more names x a h)
-
-pub added : (xs names : List (List ℕ)) (a : List ℕ) → is_among a xs ≡ true → is_among a (add_all names xs) ≡ true
-added [] names a h = cc
-added (x ∷ xs) names a h = elim (or_cases (bytes_eq x a) (is_among a xs) h) [
-  | inl q ↦ fold_more xs (add_new names x) a (subst (λ y. is_among y (add_new names x) ≡ true) (bytes-true x a q) (new_there names x))
-  | inr q ↦ added xs (add_new names x) a q
-]
 
 pub secret_party : (pre : List Pre) (x : List ℕ × List ℕ) → Is_in x (secrets pre) → is_among (x.1) (map party_of pre) ≡ true
 secret_party [] x h = absurd h

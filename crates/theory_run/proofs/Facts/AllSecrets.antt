@@ -14,7 +14,7 @@ use Rattle.spec_calculus.specs.declared.parts.Revealed.{Revealed}
 use Rattle.spec_run.specs.Setup.{Setup}
 use Rattle.spec_run.specs.Secrets.{all_secrets, secrets_from, secrets_of_contract}
 use Rattle.spec_terms.specs.declared.place.Place.TheVariants as places
-use Rattle.theory_world.proofs.Contracts.Faultless.{map_none, no_fault}
+use Rattle.theory_script.proofs.Faultless.{map_none, no_fault}
 use Rattle.theory_world.proofs.Same.{bytes-true, bytes_refl}
 use Rattle.theory_world.proofs.Hashed.{among-append, among_right, among_head}
 use Rattle.theory_run.proofs.Facts.Secrets.{has_secret, same_secret, secret-true, secret_refl, has_secret-append, different_secrets}

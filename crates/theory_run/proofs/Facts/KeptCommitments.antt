@@ -23,11 +23,12 @@ use Rattle.theory_world.proofs.Contracts.Positions.{Is_in}
 use Rattle.theory_world.proofs.Later.{IsCompiledAt, compiled_is}
 use Rattle.theory_run.proofs.Steps.CommitSteps.{arranged-some, arranged-look, every}
 use Rattle.theory_run.proofs.Facts.Promised.{in_pushed, none_named, one_more_named}
-use Rattle.theory_run.proofs.Accepted.Tested.{PromisesNamed, added, secret_party, secret_among, look_append, digest_looked}
+use Rattle.theory_run.proofs.Accepted.Tested.{PromisesNamed, secret_party, secret_among, look_append, digest_looked}
 use Rattle.theory_run.proofs.Accepted.Numbers.{named_looked, looked_in}
 use Rattle.theory_world.proofs.Hashed.{among_left}
 use Rattle.theory_run.proofs.Accepted.Spending.{Checked}
 use Rattle.theory_world.proofs.Contracts.Checking.{compiled_checked}
+use Rattle.theory_world.proofs.Contracts.Mentions.{added}
 
 pub record KeptPromises (s : Setup) (w : World) : Type 0 where
   -- who has committed had the contract advertised before

@@ -21,7 +21,7 @@ use Rattle.spec_run.specs.Conditions.{HashesBytes}
 use Rattle.theory_world.proofs.Tests.{length_map}
 use Rattle.theory_world.proofs.Contracts.Positions.{Is_in}
 use Rattle.theory_world.proofs.Contracts.Standing.{put_position}
-use Rattle.theory_world.proofs.Contracts.Balances.{position_little}
+use Rattle.theory_script.proofs.Balances.{position_little}
 use Rattle.theory_world.proofs.Contracts.Places.{position_place}
 use Rattle.theory_run.proofs.Widths.Fitting.{inputs_fit, output_fits, pays_size, AllShort, short_bytes}
 

@@ -34,7 +34,7 @@ use Rattle.theory_run.proofs.Facts.Kept.{AdvertFine}
 use Rattle.theory_world.proofs.Contracts.Mentions.{has_deposit}
 use Rattle.theory_run.proofs.Accepted.WhatItIs.{bound_at}
 use Rattle.theory_world.proofs.Contracts.Checking.{compiled_checked}
-use Rattle.theory_world.proofs.Contracts.Balances.{root_little}
+use Rattle.theory_script.proofs.Balances.{root_little}
 
 -- ---- inputs and outputs
 

@@ -35,7 +35,7 @@ use Rattle.theory_world.proofs.Same.{bytes-true}
 use Rattle.theory_world.proofs.Tests.{length_map}
 use Rattle.theory_world.proofs.Contracts.Positions.{Is_in}
 use Rattle.theory_world.proofs.Contracts.Standing.{term_choice}
-use Rattle.theory_world.proofs.Contracts.Faultless.{no_fault}
+use Rattle.theory_script.proofs.Faultless.{no_fault}
 use Rattle.theory_run.proofs.Facts.Kept.{KeptBook, AdvertFine}
 use Rattle.theory_run.proofs.Accepted.Spending.{TransactionsFit}
 use Rattle.theory_world.proofs.Contracts.Checking.{compiled_checked}

@@ -33,7 +33,7 @@ chosen_of (suc m) (suc i) k selectors rest below s =
         let n : k + suc m ≡ k + 1 + m = omega arith in
         first_is k (k + suc m) x (take m (xs ++ rest)) false h ∙ ap (λ last. first_true (k + 1) last (take m (xs ++ rest))) n ∙ ih xs r ∙ omega arith
 
-some_below : {X : Type 0} (xs : List X) (i : ℕ) (x : X) → slice_get xs i ≡ Some x → i < length xs
+pub some_below : {X : Type 0} (xs : List X) (i : ℕ) (x : X) → slice_get xs i ≡ Some x → i < length xs
 some_below [] i x h = cc
 some_below (y ∷ xs) zero x h = omega arith
 some_below (y ∷ xs) (suc i) x h = omega (arith, some_below xs i x h)

@@ -32,7 +32,7 @@ selectors_short i n = by_last (nat_lt (i + 1) n)
     by_last true = all_append is_short (replicate i []) ((1 ∷ []) ∷ []) (empty_short i) refl
     by_last false = empty_short i
 
-secrets_short : (hash : List ℕ → List ℕ) (strings digests : List (List ℕ)) → are_secrets hash strings digests ≡ true → list_all is_short strings ≡ true
+pub secrets_short : (hash : List ℕ → List ℕ) (strings digests : List (List ℕ)) → are_secrets hash strings digests ≡ true → list_all is_short strings ≡ true
 secrets_short hash [] digests h = refl
 secrets_short hash (x ∷ strings) [] h = cc
 secrets_short hash (x ∷ strings) (digest ∷ digests) h =
@@ -41,7 +41,7 @@ secrets_short hash (x ∷ strings) (digest ∷ digests) h =
     let r = and_parts (nat_le 16 (length x)) (nat_le (length x) 520) q.0 in
     and_from (is_short x) (list_all is_short strings) r.1 (secrets_short hash strings digests p.1)
 
-stack_short : (signatures strings : List (List ℕ)) (i n : ℕ) → list_all is_short signatures ≡ true → list_all is_short strings ≡ true → list_all is_short (witness_stack signatures strings i n) ≡ true
+pub stack_short : (signatures strings : List (List ℕ)) (i n : ℕ) → list_all is_short signatures ≡ true → list_all is_short strings ≡ true → list_all is_short (witness_stack signatures strings i n) ≡ true
 stack_short signatures strings i n h k =
     all_append is_short (reverse signatures) _ (all_reverse is_short signatures h)
     (all_append is_short (reverse strings) (reverse (selectors i n)) (all_reverse is_short strings k) (all_reverse is_short (selectors i n) (selectors_short i n)))

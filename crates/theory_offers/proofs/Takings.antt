@@ -32,10 +32,10 @@ use Rattle.spec_run.specs.Conditions.{IsSetup}
 use Rattle.spec_run.specs.Firing.{branch_signatures, shown_strings, first_unshown, branch_witness, taking_witnesses, taking_transaction, taking_of_parts, taking_of_position, prepared_if_compiled}
 use Rattle.spec_run.specs.Ledger.{verdict_in, contract_in, position_path, position_branch}
 use Rattle.spec_run.specs.Steps.{names_deposit}
+use Rattle.theory_calculus.proofs.Names.{bytes_refl}
+use Rattle.theory_calculus.proofs.Members.{Is_in}
 use Rattle.theory_script.proofs.Scripts.Witnesses.{witness_opens, stack_short, secrets_short}
 use Rattle.theory_script.proofs.Listing.Stands.{position_stands}
-use Rattle.theory_world.proofs.Same.{bytes_refl}
-use Rattle.theory_world.proofs.Contracts.Positions.{Is_in}
 use Rattle.theory_world.proofs.Hashed.{among_tail, among_head}
 use Rattle.theory_world.proofs.Later.{compiled_is}
 use Rattle.theory_world.proofs.Contracts.Standing.{unsigned_of_branch, position_named, term_choice}

@@ -3,6 +3,7 @@ use Rattle.std.proofs.Common.{◌≡◌, ℕ, zero, suc, ◌+◌, List, [], ◌�
 use Rattle.std.specs.Prelude.{slice_get, if◌then◌else◌, ◌||◌}
 use Rattle.std.specs.Option.{option_map, option_and_then}
 use Rattle.std.specs.List.{list_any}
+use Rattle.std.proofs.lemmas.Bool.{or_left, or_right}
 use Rattle.spec_terms.specs.Term as term
 use Rattle.spec_terms.specs.Term.{Pred, Contract, no_branch, branch, branches, Parts, no_part, part, parts_list, auth, after, put_reveal, withdraw, split}
 use Rattle.spec_terms.specs.Core.{core, lock}
@@ -17,7 +18,7 @@ use Rattle.spec_compiler.specs.Transactions.{Standing, prepared, continued_value
 use Rattle.spec_compiler.specs.Compilation.{choice_transactions, branch_transactions, parts_transactions, path_transactions, compilation}
 use Rattle.spec_compiler.specs.ByPath.{PathEnd, at_position, at_branch, branch_end, next_end, end_from, end_at, as_unsigned, unsigned_at, prepared_at}
 use Rattle.theory_script.specs.Listed.{at_path}
-use Rattle.theory_script.proofs.Listing.Stands.{end_from-step, next_core, is_next_core}
+use Rattle.theory_script.proofs.Listing.Stands.{end_from-step, next_core, is_next_core, some_same}
 
 -- ---- lists by path
 
@@ -58,14 +59,6 @@ has-append path (x ∷ xs) ys = by_test (path_eq x.0 path) (has-append path xs y
     by_test true h = refl
     by_test false h = h
 
-or_right : (a b : Bool) → b ≡ true → (a || b) ≡ true
-or_right true b h = refl
-or_right false b h = h
-
-pub or_left : (a b : Bool) → a ≡ true → (a || b) ≡ true
-or_left true b h = refl
-or_left false b h = cc
-
 -- the first list has no path that the second lacks
 pub record Within {V : Type 0} (xs ys : List (List PathStep × V)) : Type 0 where
   pub has : (path : List PathStep) → has_path path xs ≡ true → has_path path ys ≡ true
@@ -84,9 +77,6 @@ within_all f g = record { has = λ path h. g.has path (f.has path h) }
 
 pub within_same : {V : Type 0} (xs : List (List PathStep × V)) → Within xs xs
 within_same xs = record { has = λ path h. h }
-
-pub some_same : {X : Type 0} {x y : X} → Some x ≡ Some y → x ≡ y
-some_same e = cc
 
 -- ---- each transaction of the list is right
 

@@ -10,7 +10,8 @@ use Rattle.spec_bitcoin.specs.Meaning.{script_meaning}
 use Rattle.spec_compiler.specs.Instance.{Instance, position_script}
 use Rattle.spec_compiler.specs.Witness.{selectors, witness_stack}
 use Rattle.spec_compiler.specs.Statements.{is_secret, are_secrets, is_short, IsHash, IsCompiled, Opens, Fills}
-use Rattle.theory_script.proofs.ScriptTheorem.{all_append, all_reverse, selectors_select}
+use Rattle.theory_calculus.proofs.Members.{all_append}
+use Rattle.theory_script.proofs.ScriptTheorem.{all_reverse, selectors_select}
 use Rattle.theory_script.proofs.Scripts.Opened.{opens_exactly}
 
 pub from_top : (signatures strings : List (List ℕ)) (i n : ℕ) → reverse (witness_stack signatures strings i n) ≡ selectors i n ++ (strings ++ signatures)

@@ -14,8 +14,9 @@ use Rattle.spec_bitcoin.specs.Spelling.{word, long_word, sized, place_bytes, com
 use Rattle.spec_bitcoin.specs.Digests.{double, txid, places_list, sequences_list, outputs_list, preimage}
 use Rattle.spec_bitcoin.specs.Live.{same_outpoint}
 use Rattle.theory_bitcoin.proofs.Formats.{wide32}
+use Rattle.theory_calculus.proofs.Names.{bytes-true, bytes_refl}
 use Rattle.spec_run.specs.Ledger.{same_input, same_output, same_bare}
-use Rattle.theory_world.proofs.Same.{bytes-true, bytes_refl, place-true, place_refl}
+use Rattle.theory_world.proofs.Same.{place-true, place_refl}
 use Rattle.theory_world.proofs.Tests.{length_map}
 use Rattle.theory_world.proofs.Ledger.Preimages.{split_left, split_right, word-apart, place-size, place-apart, outputs-apart, AllPlaces, AllSequences, IsNumbered, few_outputs, SameSigned, HeardLists}
 use Rattle.theory_world.proofs.Ledger.Counts.{count-apart, counts_apart, count_size, some_count}

@@ -26,10 +26,10 @@ use Rattle.spec_compiler.specs.Witness.{chosen_by}
 use Rattle.spec_run.specs.Steps.{reveals, kind_steps, branch_steps, auth_branch, is_awaited, core_step, steps_of}
 use Rattle.spec_run.specs.Event.{draft}
 use Rattle.spec_run.specs.Statements.{IsLast, LeadsTo, IsKept}
+use Rattle.theory_bitcoin.specs.Apart.{bare_input, bare}
 use Rattle.theory_calculus.proofs.Members.{get_below, Is_in}
 use Rattle.theory_calculus.proofs.Names.{persistent_deposit}
 use Rattle.theory_script.proofs.Scripts.Choosing.{witness_chooses}
-use Rattle.theory_world.proofs.Ledger.Bare.{bare, bare_input}
 use Rattle.theory_run.proofs.Facts.Kept.{KeptBook}
 use Rattle.theory_run.proofs.Accepted.Spending.{Checked}
 use Rattle.theory_run.proofs.Accepted.Kinded.{counted}

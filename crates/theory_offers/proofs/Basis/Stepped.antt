@@ -21,9 +21,9 @@ use Rattle.spec_run.specs.Compiled.{compiled_instance}
 use Rattle.spec_run.specs.Draft.{settled}
 use Rattle.spec_run.specs.Ledger.{spend_from, made_from, kind_of, new_position, accepted}
 use Rattle.spec_run.specs.Steps.{names_deposit, is_bound_live}
+use Rattle.theory_bitcoin.specs.Apart.{bare}
 use Rattle.theory_calculus.proofs.Members.{Is_in}
 use Rattle.theory_calculus.proofs.Names.{persistent_deposit}
-use Rattle.theory_world.proofs.Ledger.Bare.{bare}
 use Rattle.theory_world.proofs.Ledger.Accepting.{accepting}
 use Rattle.theory_run.proofs.Accepted.Accept.{bare_in, spent_at}
 use Rattle.theory_world.proofs.Ledger.Worth.{IsAccepted}

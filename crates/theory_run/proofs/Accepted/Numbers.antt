@@ -18,9 +18,9 @@ use Rattle.spec_run.specs.World.{Output, World, is_deposit, bindings_at}
 use Rattle.spec_run.specs.Owners.{deposit_value}
 use Rattle.spec_run.specs.Compiled.{compiled_instance}
 use Rattle.spec_run.specs.Steps.{names_deposit}
+use Rattle.theory_bitcoin.specs.Apart.{bare_input}
 use Rattle.theory_calculus.proofs.Names.{volatile_named}
 use Rattle.theory_calculus.proofs.Members.{Is_in}
-use Rattle.theory_world.proofs.Ledger.Bare.{bare_input}
 use Rattle.theory_world.proofs.Ledger.Accepting.{AllSpent}
 use Rattle.theory_world.proofs.Later.{compiled_is}
 use Rattle.theory_run.proofs.Facts.Kept.{KeptBook}

@@ -22,12 +22,12 @@ use Rattle.spec_run.specs.Owners.{paid_to}
 use Rattle.spec_run.specs.Compiled.{compiled_instance}
 use Rattle.spec_run.specs.Conditions.{HashesBytes}
 use Rattle.spec_run.specs.Giving.{given_output, gift}
+use Rattle.theory_bitcoin.specs.Apart.{bare}
 use Rattle.theory_calculus.proofs.Names.{bytes-true, bytes_refl}
 use Rattle.theory_script.proofs.Scripts.Opened.{opens_exactly}
 use Rattle.theory_script.proofs.Scripts.Deposits.{deposit_meaning}
 use Rattle.theory_script.proofs.Listing.Stands.{position_stands}
 use Rattle.theory_world.proofs.Hashed.{NoClash}
-use Rattle.theory_world.proofs.Ledger.Bare.{bare}
 use Rattle.theory_world.proofs.Later.{compiled_is}
 use Rattle.theory_run.proofs.Facts.Kept.{KeptBook}
 use Rattle.theory_run.proofs.Accepted.Spending.{Checked, script_heard, each_valid}

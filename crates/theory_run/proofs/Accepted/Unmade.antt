@@ -24,10 +24,11 @@ use Rattle.spec_run.specs.Owners.{paid_to}
 use Rattle.spec_run.specs.Compiled.{compiled_instance}
 use Rattle.spec_run.specs.Conditions.{HashesBytes}
 use Rattle.spec_run.specs.Event.{opening_outputs}
+use Rattle.theory_bitcoin.specs.Apart.{bare_input, bare}
 use Rattle.theory_calculus.proofs.Members.{Is_in, in_some}
 use Rattle.theory_world.proofs.Hashed.{NoClash}
 use Rattle.theory_world.proofs.Ledger.Preimages.{IsNumbered, HeardLists, double-apart}
-use Rattle.theory_world.proofs.Ledger.Bare.{bare, bare_input, stripped-apart, inputless_apart}
+use Rattle.theory_world.proofs.Ledger.Bare.{stripped-apart, inputless_apart}
 use Rattle.theory_world.proofs.Contracts.Endorsed.{in_map}
 use Rattle.theory_world.proofs.Contracts.Made.{MadeBy, by_initial, by_branch, ByBranch, made_by}
 use Rattle.theory_world.proofs.Contracts.Mentions.{HasDeposit, has_deposit}

@@ -26,11 +26,12 @@ use Rattle.spec_run.specs.World.{ContractPosition, Output, World, output_at, liv
 use Rattle.spec_run.specs.Compiled.{outpoint_of, bound_outpoints, compiled_instance}
 use Rattle.spec_run.specs.Conditions.{HashesBytes}
 use Rattle.spec_run.specs.Ledger.{is_initial, initial_from, initial_of, first_position}
+use Rattle.theory_bitcoin.specs.Apart.{bare_input, bare}
 use Rattle.theory_calculus.proofs.Members.{Is_in}
 use Rattle.theory_calculus.proofs.Names.{persistent_deposit}
 use Rattle.theory_world.proofs.Hashed.{NoClash}
 use Rattle.theory_world.proofs.Ledger.Preimages.{double-apart, IsNumbered}
-use Rattle.theory_world.proofs.Ledger.Bare.{bare, bare_input, same-true, same_from, stripped-apart, txid-bare}
+use Rattle.theory_world.proofs.Ledger.Bare.{same-true, same_from, stripped-apart, txid-bare}
 use Rattle.theory_world.proofs.Ledger.Accepting.{IsSpent, AllSpent, Accepting, HeardAll, heard_bytes, heard_bytes_hash, heard_input}
 use Rattle.theory_world.proofs.Later.{compiled_is}
 use Rattle.theory_world.proofs.Contracts.Made.{MadeBy, by_initial, by_branch, ByBranch, made_by}

@@ -30,12 +30,13 @@ use Rattle.spec_run.specs.Compiled.{compiled_instance}
 use Rattle.spec_run.specs.Conditions.{IsSetup}
 use Rattle.spec_run.specs.Ledger.{is_initial, initial_of, first_position, Begins, Takes, kind_by, kind_of}
 use Rattle.spec_run.specs.HonestDeposits.{is_init, is_endorse, was_done, is_number, is_bound_to, takes_persistent, is_put_of, takes_put, is_but_for_witnesses, is_of_path, by_contract}
+use Rattle.theory_bitcoin.specs.Apart.{bare}
 use Rattle.theory_calculus.proofs.Names.{bytes_refl, persistent_deposit, volatile_named}
 use Rattle.theory_calculus.proofs.Members.{Is_in, all_in}
 use Rattle.theory_script.proofs.Checked.{puts_known}
 use Rattle.theory_world.proofs.Hashed.{NoClash}
 use Rattle.theory_world.proofs.Ledger.Preimages.{IsNumbered, HeardLists}
-use Rattle.theory_world.proofs.Ledger.Bare.{bare, same_from, NoScripts}
+use Rattle.theory_world.proofs.Ledger.Bare.{same_from, NoScripts}
 use Rattle.theory_world.proofs.Contracts.Standing.{unsigned_of_branch, term_choice}
 use Rattle.theory_world.proofs.Later.{compiled_is}
 use Rattle.theory_world.proofs.Ledger.Accepting.{IsSpent, AllSpent, Accepting, HeardAll, heard_input, HeardInput}

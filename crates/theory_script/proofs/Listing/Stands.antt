@@ -21,7 +21,7 @@ some_same e = cc
 module _ (hash : List ℕ → List ℕ) (s : Instance) where
   -- ---- one more step at the end
 
-  last_step : (o : Option PathEnd) → option_and_then (λ (q : PathEnd). end_from hash s q []) o ≡ o
+  pub last_step : (o : Option PathEnd) → option_and_then (λ (q : PathEnd). end_from hash s q []) o ≡ o
   last_step None = refl
   last_step (Some q) = refl
 
@@ -36,13 +36,13 @@ module _ (hash : List ℕ → List ℕ) (s : Instance) where
   -- ---- the term's own words for it
 
   -- what stands there agrees with the term, and lies at the path
-  abbrev Agrees : List PathStep → PathEnd → Subterm → Type 0
+  abbrev pub Agrees : List PathStep → PathEnd → Subterm → Type 0
   Agrees path (at_position here choice) (paths.position c) = (here.position ≡ path) × (choice ≡ c) × (here.output.script ≡ position_script hash s path choice)
   Agrees path (at_position here choice) (paths.at_branch b) = ⊥
   Agrees path (at_branch here i d) (paths.position c) = ⊥
   Agrees path (at_branch here i d) (paths.at_branch b) = (branch_path here.position i ≡ path) × (d ≡ b)
 
-  abbrev IfAgrees : List PathStep → Option PathEnd → Option Subterm → Type 0
+  abbrev pub IfAgrees : List PathStep → Option PathEnd → Option Subterm → Type 0
   IfAgrees path None None = Unit {0}
   IfAgrees path None (Some q) = ⊥
   IfAgrees path (Some p) None = ⊥
@@ -100,7 +100,7 @@ module _ (hash : List ℕ → List ℕ) (s : Instance) where
       (if_next (path ++ step ∷ []) steps (next_end hash s step p) (next_subterm q step) (agrees_next path p q step h) (λ x y k. agrees_from (path ++ step ∷ []) steps x y k))
 
   -- at the end of a path there stands what the term has there
-  agrees_at : (path : List PathStep) → IfAgrees path (end_at hash s path) (subterm_from (paths.position s.advert.root) path)
+  pub agrees_at : (path : List PathStep) → IfAgrees path (end_at hash s path) (subterm_from (paths.position s.advert.root) path)
   agrees_at path = agrees_from [] path (at_position (root_standing hash s) s.advert.root) (paths.position s.advert.root) (refl, refl, refl)
 
   -- ---- positions

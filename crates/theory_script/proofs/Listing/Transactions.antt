@@ -18,7 +18,7 @@ use Rattle.spec_compiler.specs.Transactions.{Standing, prepared, continued_value
 use Rattle.spec_compiler.specs.Compilation.{choice_transactions, branch_transactions, parts_transactions, path_transactions, compilation}
 use Rattle.spec_compiler.specs.ByPath.{PathEnd, at_position, at_branch, branch_end, next_end, end_from, end_at, as_unsigned, unsigned_at, prepared_at}
 use Rattle.theory_script.specs.Listed.{at_path}
-use Rattle.theory_script.proofs.Listing.Stands.{end_from-step, next_core, is_next_core, some_same}
+use Rattle.theory_script.proofs.Listing.Stands.{end_from-step, next_core, is_next_core, some_same, last_step}
 
 -- ---- lists by path
 
@@ -81,10 +81,6 @@ within_same xs = record { has = λ path h. h }
 -- ---- each transaction of the list is right
 
 module _ (hash : List ℕ → List ℕ) (s : Instance) where
-  pub last_of : (o : Option PathEnd) → option_and_then (λ (q : PathEnd). end_from hash s q []) o ≡ o
-  last_of None = refl
-  last_of (Some q) = refl
-
   one_further : (path : List PathStep) (step : PathStep) (here : PathEnd) → end_at hash s path ≡ Some here → end_at hash s (path ++ step ∷ []) ≡ next_end hash s step here
   one_further path step here h = end_from-step hash s (at_position (root_standing hash s) s.advert.root) path step ∙ ap (option_and_then (next_end hash s step)) h
 
@@ -148,7 +144,7 @@ module _ (hash : List ℕ → List ℕ) (s : Instance) where
         right-append (unsigned_at hash s) (choice_transactions hash s (part_standing hash s path made k v c) 0 c) (parts_transactions hash s path made (k + 1) ps) (choice_right _ 0 c (part_known path made k v c (part_here path made k v c ps h))) (parts_right path made (k + 1) ps (part_more path made k v c ps h))
 
   pub transactions_right : AreRight (unsigned_at hash s) (path_transactions hash s)
-  transactions_right = choice_right (root_standing hash s) 0 s.advert.root (known_from (root_standing hash s) s.advert.root (λ j. last_of (branch_end (root_standing hash s) s.advert.root j)))
+  transactions_right = choice_right (root_standing hash s) 0 s.advert.root (known_from (root_standing hash s) s.advert.root (λ j. last_step hash s (branch_end (root_standing hash s) s.advert.root j)))
 
   -- ---- and each path is in the list
 

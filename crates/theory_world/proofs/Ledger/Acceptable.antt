@@ -28,10 +28,11 @@ use Rattle.spec_run.specs.World.{Output, World}
 use Rattle.spec_run.specs.Ledger.{live_from, tx_out, chain_of, verdict_in}
 use Rattle.spec_run.specs.Firing.{witnessed, with_witnesses}
 use Rattle.spec_run.specs.Values.{total_live}
+use Rattle.theory_bitcoin.specs.Apart.{bare_input, bare}
 use Rattle.theory_calculus.proofs.Names.{bytes_refl}
 use Rattle.theory_world.proofs.Same.{place-true, place_refl}
 use Rattle.theory_world.proofs.Ledger.Found.{found, StandFor, values_at, value_or_zero}
-use Rattle.theory_world.proofs.Ledger.Bare.{bare, bare_input, preimage-bare}
+use Rattle.theory_world.proofs.Ledger.Bare.{preimage-bare}
 use Rattle.theory_world.proofs.Ledger.Spend.{spend-all}
 use Rattle.theory_world.proofs.Tests.{length_map}
 

@@ -15,7 +15,7 @@ use Rattle.spec_calculus.specs.Branches.{active_at, branch_in, branch_of}
 use Rattle.spec_calculus.specs.Steps.{branch_at, opening}
 use Rattle.theory_calculus.proofs.Runs.{kept_along}
 use Rattle.theory_calculus.proofs.Stands.{none_at}
-use Rattle.theory_calculus.proofs.Checked.{none_found}
+use Rattle.theory_calculus.proofs.Faultless.{none_found}
 use Rattle.theory_calculus.proofs.Funded.{IsFine}
 use Rattle.theory_calculus.proofs.Standing.{taken_by}
 use Rattle.theory_calculus.proofs.Kept.{fine_after, opening_fine}

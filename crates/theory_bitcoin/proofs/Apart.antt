@@ -19,7 +19,7 @@ use Rattle.theory_bitcoin.proofs.Top.{one_transaction}
 
 -- ---- fronts of one length
 
-cut : {X : Type 0} (a b x y : List X) → length a ≡ length b → a ++ x ≡ b ++ y → (a ≡ b) × (x ≡ y)
+pub cut : {X : Type 0} (a b x y : List X) → length a ≡ length b → a ++ x ≡ b ++ y → (a ≡ b) × (x ≡ y)
 cut [] [] x y n e = (refl, e)
 cut [] (c ∷ b) x y n e = absurd (omega (arith, n))
 cut (c ∷ a) [] x y n e = absurd (omega (arith, n))
@@ -29,7 +29,7 @@ cut (c ∷ a) (d ∷ b) x y n e =
     let r = cut a b x y (omega (arith, n)) tails in
     ((λ i. heads i ∷ r.0 i), r.1)
 
-number_once : (w : Width) (limit : ℕ) → IsWide w limit → (m n : ℕ) → m < limit → n < limit → to_le_bytes w m ≡ to_le_bytes w n → m ≡ n
+pub number_once : (w : Width) (limit : ℕ) → IsWide w limit → (m n : ℕ) → m < limit → n < limit → to_le_bytes w m ≡ to_le_bytes w n → m ≡ n
 number_once w limit wide m n h k e = sym (wide.again m h) ∙ ap (from_le_bytes w) e ∙ wide.again n k
 
 -- a word and what stands behind it
@@ -39,10 +39,10 @@ words m n x y h k e = let r = cut (word m) (word n) x y refl e in (number_once w
 long_words : (m n : ℕ) (x y : List ℕ) → m < 2 ^ 64 → n < 2 ^ 64 → long_word m ++ x ≡ long_word n ++ y → (m ≡ n) × (x ≡ y)
 long_words m n x y h k e = let r = cut (long_word m) (long_word n) x y refl e in (number_once w64 (2 ^ 64) wide64 m n h k r.0, r.1)
 
-strings : (s t x y : List ℕ) → IsString s → IsString t → sized s ++ x ≡ sized t ++ y → (s ≡ t) × (x ≡ y)
+pub strings : (s t x y : List ℕ) → IsString s → IsString t → sized s ++ x ≡ sized t ++ y → (s ≡ t) × (x ≡ y)
 strings s t x y h k e = same_answer String string_at the_string (sized s) x (sized t) y s t (record { same = refl; fits = h }) (record { same = refl; fits = k }) e
 
-places : (p q : OutPoint) (x y : List ℕ) → IsPlace p → IsPlace q → place_bytes p ++ x ≡ place_bytes q ++ y → (p ≡ q) × (x ≡ y)
+pub places : (p q : OutPoint) (x y : List ℕ) → IsPlace p → IsPlace q → place_bytes p ++ x ≡ place_bytes q ++ y → (p ≡ q) × (x ≡ y)
 places p q x y h k e =
     let f : p.txid ++ (word p.vout ++ x) ≡ q.txid ++ (word q.vout ++ y) = sym (append_assoc p.txid (word p.vout) x) ∙ e ∙ append_assoc q.txid (word q.vout) y in
     let r = cut p.txid q.txid (word p.vout ++ x) (word q.vout ++ y) (omega (arith, h.size, k.size)) f in
@@ -88,25 +88,33 @@ prev_bytes i = place_bytes i.prev
 some_place : (p : OutPoint) (x : List ℕ) → [] ≡ place_bytes p ++ x → IsPlace p → ⊥
 some_place p x e h = let n : 0 ≡ length (place_bytes p ++ x) = ap length e in omega (arith, n, length-append (place_bytes p) x, length-append p.txid (word p.vout), h.size)
 
-all_places : (xs ys : List TxIn) → AllByRecursion IsInput xs → AllByRecursion IsInput ys → flat_map prev_bytes xs ≡ flat_map prev_bytes ys → map (λ (i : TxIn). i.prev) xs ≡ map (λ (i : TxIn). i.prev) ys
+abbrev pub AllPlaces : List TxIn → Type 0
+AllPlaces [] = Unit {0}
+AllPlaces (i ∷ is) = IsPlace i.prev × AllPlaces is
+
+pub inputs_places : (is : List TxIn) → AllByRecursion IsInput is → AllPlaces is
+inputs_places [] h = tt
+inputs_places (i ∷ is) h = (h.0.prev, inputs_places is h.1)
+
+pub all_places : (xs ys : List TxIn) → AllPlaces xs → AllPlaces ys → flat_map prev_bytes xs ≡ flat_map prev_bytes ys → map (λ (i : TxIn). i.prev) xs ≡ map (λ (i : TxIn). i.prev) ys
 all_places [] [] h k e = refl
-all_places [] (y ∷ ys) h k e = absurd (some_place y.prev (flat_map prev_bytes ys) (e ∙ flat_map-cons prev_bytes y ys) k.0.prev)
-all_places (x ∷ xs) [] h k e = absurd (some_place x.prev (flat_map prev_bytes xs) (sym e ∙ flat_map-cons prev_bytes x xs) h.0.prev)
+all_places [] (y ∷ ys) h k e = absurd (some_place y.prev (flat_map prev_bytes ys) (e ∙ flat_map-cons prev_bytes y ys) k.0)
+all_places (x ∷ xs) [] h k e = absurd (some_place x.prev (flat_map prev_bytes xs) (sym e ∙ flat_map-cons prev_bytes x xs) h.0)
 all_places (x ∷ xs) (y ∷ ys) h k e =
-    let r = places x.prev y.prev (flat_map prev_bytes xs) (flat_map prev_bytes ys) h.0.prev k.0.prev (sym (flat_map-cons prev_bytes x xs) ∙ e ∙ flat_map-cons prev_bytes y ys) in
+    let r = places x.prev y.prev (flat_map prev_bytes xs) (flat_map prev_bytes ys) h.0 k.0 (sym (flat_map-cons prev_bytes x xs) ∙ e ∙ flat_map-cons prev_bytes y ys) in
     let rest = all_places xs ys h.1 k.1 r.1 in
     λ i. r.0 i ∷ rest i
 
 pub places_once : (a b : Tx) → AllByRecursion IsInput a.inputs → AllByRecursion IsInput b.inputs → places_list a ≡ places_list b → map (λ (i : TxIn). i.prev) a.inputs ≡ map (λ (i : TxIn). i.prev) b.inputs
 unfolding places_list
-places_once a b h k e = all_places a.inputs b.inputs h k e
+places_once a b h k e = all_places a.inputs b.inputs (inputs_places a.inputs h) (inputs_places b.inputs k) e
 
 some_output : (o : TxOut) (x : List ℕ) → [] ≡ output_bytes o ++ x → ⊥
 some_output o x e =
     let n : 0 ≡ length (output_bytes o ++ x) = ap length e in
     omega (arith, n, length-append (output_bytes o) x, length-append (long_word o.value) (sized o.script))
 
-all_outputs : (xs ys : List TxOut) → AllByRecursion IsOutput xs → AllByRecursion IsOutput ys → flat_map output_bytes xs ≡ flat_map output_bytes ys → xs ≡ ys
+pub all_outputs : (xs ys : List TxOut) → AllByRecursion IsOutput xs → AllByRecursion IsOutput ys → flat_map output_bytes xs ≡ flat_map output_bytes ys → xs ≡ ys
 all_outputs [] [] h k e = refl
 all_outputs [] (y ∷ ys) h k e = absurd (some_output y (flat_map output_bytes ys) (e ∙ flat_map-cons output_bytes y ys))
 all_outputs (x ∷ xs) [] h k e = absurd (some_output x (flat_map output_bytes xs) (sym e ∙ flat_map-cons output_bytes x xs))
@@ -144,7 +152,7 @@ bares_length (x ∷ xs) = ap suc (bares_length xs)
 bares_bytes : (xs : List TxIn) → inputs_bytes (map bare_input xs) ≡ inputs_bytes xs
 bares_bytes xs = sym (with_bytes (map bare_input xs) (map witness_of xs)) ∙ ap inputs_bytes (together xs)
 
-stripped_bare : (tx : Tx) → stripped (bare tx) ≡ stripped tx
+pub stripped_bare : (tx : Tx) → stripped (bare tx) ≡ stripped tx
 unfolding stripped
 stripped_bare tx = ap (λ (l : List ℕ). word tx.version ++ l ++ outputs_bytes tx.outputs ++ word tx.lock) (bares_bytes tx.inputs)
 

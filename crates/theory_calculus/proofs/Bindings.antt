@@ -5,7 +5,6 @@ use Rattle.std.specs.List.{list_all, list_any}
 use Rattle.std.specs.Str.{bytes_eq}
 use Rattle.std.proofs.lemmas.Bool.{and_parts, and_from, or_cases, or_left, or_right, or_parts, eqb-true, eq-eqb, not-true, not_from_false, both_ways, false_from_ne_true}
 use Rattle.std.proofs.lemmas.Bool.Decides.{nat_tests}
-use Rattle.std.proofs.lemmas.Slice.Eq.{bytes_eq-Decides}
 use Rattle.std.proofs.lemmas.List.Sums.{sum_by-cons}
 use Rattle.spec_data.specs.Lists.{has_number, are_distinct, is_among, are_different, look_up}
 use Rattle.spec_terms.specs.Precondition.{Holding, names_of, total_of}
@@ -18,12 +17,7 @@ use Rattle.spec_calculus.specs.Moves.{deposit_at, is_live, value_at, owner_at, v
 use Rattle.spec_calculus.specs.Moves as moves
 use Rattle.theory_calculus.specs.InOrder.{are_ascending}
 use Rattle.theory_calculus.proofs.Members.{Is_in, found, some_there}
-
-pub bytes_true : (xs ys : List ℕ) → bytes_eq xs ys ≡ true → xs ≡ ys
-bytes_true xs ys h = (bytes_eq-Decides xs ys).0 h
-
-pub bytes_same : (xs : List ℕ) → bytes_eq xs xs ≡ true
-bytes_same xs = (bytes_eq-Decides xs xs).1 refl
+use Rattle.theory_calculus.proofs.Names.{bytes-true, bytes_refl, in_named}
 
 -- ---- what is kept of bindings
 
@@ -112,11 +106,6 @@ module _ (ds : List Deposit) where
       by_test true f s ih = let z : b.1 ≡ n = cc in subst (λ m. is_live ds m ≡ true) z s
       by_test false f s ih = ih f
 
-  named : (es : List (List ℕ × Holding)) (x : List ℕ) (h : Holding) → Is_in (x, h) es → is_among x (names_of es) ≡ true
-  named [] x h i = absurd i
-  named (e ∷ es) x h (inl q) = or_left _ _ (subst (λ y. bytes_eq (e.0) y ≡ true) (ap (λ y. y.0) (sym q)) (bytes_same (e.0)))
-  named (e ∷ es) x h (inr i) = or_right (bytes_eq (e.0) x) _ (named es x h i)
-
   pub binds_value : (es : List (List ℕ × Holding)) (bs : List (List ℕ × ℕ)) (x : List ℕ) (n : ℕ) (h : Holding)
       → binds_each ds es bs ≡ true → are_different (names_of es) ≡ true → Is_in (x, h) es → look_up x bs ≡ Some n → value_at ds n ≡ h.value
   binds_value [] bs x n h t d i k = absurd i
@@ -126,21 +115,21 @@ module _ (ds : List Deposit) where
       let q = and_parts (bytes_eq (b.0) (e.0)) (fits_deposit ds (b.1) e.1.owner e.1.value) p.0 in
       let r = and_parts _ (value_at ds (b.1) == e.1.value) q.1 in
       let names_apart = and_parts (not (is_among (e.0) (names_of es))) (are_different (names_of es)) d in
-      by_place i (bytes_true (b.0) (e.0) q.0) (eqb-true (value_at ds (b.1)) e.1.value r.1) (not-true _ names_apart.0)
+      by_place i (bytes-true (b.0) (e.0) q.0) (eqb-true (value_at ds (b.1)) e.1.value r.1) (not-true _ names_apart.0)
       (λ j f. binds_value es bs x n h p.1 names_apart.1 j f)
     where
       by_place : Is_in (x, h) (e ∷ es) → b.0 ≡ e.0 → value_at ds (b.1) ≡ e.1.value → is_among (e.0) (names_of es) ≡ false
           → (Is_in (x, h) es → look_up x bs ≡ Some n → value_at ds n ≡ h.value) → value_at ds n ≡ h.value
       by_place (inl f) same v apart ih =
           let nx : x ≡ e.0 = ap (λ y. y.0) f in
-          let t : bytes_eq (b.0) x ≡ true = subst (λ y. bytes_eq (b.0) y ≡ true) (same ∙ sym nx) (bytes_same (b.0)) in
+          let t : bytes_eq (b.0) x ≡ true = subst (λ y. bytes_eq (b.0) y ≡ true) (same ∙ sym nx) (bytes_refl (b.0)) in
           let k' : Some (b.1) ≡ Some n = rw t at k in
           let z : b.1 ≡ n = cc in
           subst (λ m. value_at ds m ≡ h.value) z (v ∙ ap (λ y. (y.1).value) (sym f))
       by_place (inr j) same v apart ih =
           let f : bytes_eq (b.0) x ≡ false =
           false_from_ne_true _
-          (λ t. both_ways _ apart (subst (λ y. is_among y (names_of es) ≡ true) (sym (bytes_true (b.0) x t) ∙ same) (named es x h j))) in
+          (λ t. both_ways _ apart (subst (λ y. is_among y (names_of es) ≡ true) (sym (bytes-true (b.0) x t) ∙ same) (in_named es (x, h) j))) in
           ih j (rw f at k)
 
 looked_bound : (bs : List (List ℕ × ℕ)) (x : List ℕ) (n : ℕ) → look_up x bs ≡ Some n → list_any (λ c. c.1 == n) bs ≡ true
@@ -166,7 +155,7 @@ bound_once (b ∷ bs) x y n h k l =
     by_tests : (t u : Bool) → bytes_eq (b.0) x ≡ t → bytes_eq (b.0) y ≡ u → list_any (λ c. c.1 == b.1) bs ≡ false
         → (if t then Some (b.1) else look_up x bs) ≡ Some n → (if u then Some (b.1) else look_up y bs) ≡ Some n
         → (look_up x bs ≡ Some n → look_up y bs ≡ Some n → x ≡ y) → x ≡ y
-    by_tests true true e f a k l ih = sym (bytes_true (b.0) x e) ∙ bytes_true (b.0) y f
+    by_tests true true e f a k l ih = sym (bytes-true (b.0) x e) ∙ bytes-true (b.0) y f
     by_tests true false e f a k l ih = absurd (not_later y a (let z : b.1 ≡ n = cc in z) l)
     by_tests false true e f a k l ih = absurd (not_later x a (let z : b.1 ≡ n = cc in z) k)
     by_tests false false e f a k l ih = ih k l
@@ -222,7 +211,7 @@ module _ (ds : List Deposit) (bs : List (List ℕ × ℕ)) where
           → (y : List ℕ) × (is_among y (x ∷ xs) ≡ true) × (look_up y bs ≡ Some n)
       by_bound None e q ih = let r = ih q in (r.0, or_right (bytes_eq x r.0) _ r.1, r.2)
       by_bound (Some m) e q ih = elim (or_cases (m == n) (has_number n (numbers_of bs xs)) q) [
-        | inl a ↦ (x, or_left _ _ (bytes_same x), subst (λ k. look_up x bs ≡ Some k) (eqb-true m n a) e)
+        | inl a ↦ (x, or_left _ _ (bytes_refl x), subst (λ k. look_up x bs ≡ Some k) (eqb-true m n a) e)
         | inr b ↦ (let r = ih b in (r.0, or_right (bytes_eq x r.0) _ r.1, r.2))
       ]
 
@@ -254,7 +243,7 @@ module _ (ds : List Deposit) (bs : List (List ℕ × ℕ)) where
       by_bound None e h ih = cc
       by_bound (Some n) e h ih =
           let c = some_there (deposit_at ds n) h in
-          let v : value_at ds n ≡ worth x = ap moves.value_or_zero c.1 ∙ each x n c.0 (or_left _ _ (bytes_same x)) e c.1 in
+          let v : value_at ds n ≡ worth x = ap moves.value_or_zero c.1 ∙ each x n c.0 (or_left _ _ (bytes_refl x)) e c.1 in
           sum_by-cons (λ m. value_at ds m) n (numbers_of bs xs) ∙ (λ i. v i + ih i) ∙ sym (sum_by-cons worth x xs)
 
   -- the same, of deposits with their values

@@ -1,4 +1,6 @@
 pub mod Members
+pub mod Names
+pub mod Faultless
 pub mod Ordered
 pub mod Offered
 pub mod Runs

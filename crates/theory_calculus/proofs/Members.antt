@@ -1,6 +1,6 @@
 -- Elements of lists, found and filtered, and tests over lists.
-use Rattle.std.proofs.Common.{◌≡◌, ℕ, zero, suc, ◌+◌, ◌<◌, ◌≤◌, List, [], ◌∷◌, ◌++◌, length, Bool, true, false, Option, Some, None, refl, sym, subst, arith, inl, inr, ◌⊎◌}
-use Rattle.std.specs.Prelude.{slice_index_or, if◌then◌else◌, cond, is_some}
+use Rattle.std.proofs.Common.{◌≡◌, ℕ, zero, suc, ◌+◌, ◌<◌, ◌≤◌, List, [], ◌∷◌, ◌++◌, length, Bool, true, false, Option, Some, None, refl, sym, subst, arith, inl, inr, ◌⊎◌, map, ap}
+use Rattle.std.specs.Prelude.{slice_index_or, if◌then◌else◌, cond, is_some, slice_get, ◌&&◌}
 use Rattle.std.specs.List.{Contains, filter, find, list_all}
 use Rattle.std.proofs.lemmas.Bool.{and_parts, and_from}
 use Rattle.spec_data.specs.Lists.{first_false, AllTrue}
@@ -10,6 +10,11 @@ use Rattle.spec_data.specs.Lists.{first_false, AllTrue}
 abbrev pub Is_in : {A : Type 0} → A → List A → Type 0
 Is_in x [] = ⊥
 Is_in x (y ∷ ys) = (x ≡ y) ⊎ Is_in x ys
+
+-- a list that has an element has some length
+pub in_some : {A : Type 0} (x : A) (xs : List A) → Is_in x xs → 0 < length xs
+in_some x [] h = absurd h
+in_some x (y ∷ xs) h = omega arith
 
 pub in_left : {A : Type 0} (x : A) (xs ys : List A) → Is_in x xs → Is_in x (xs ++ ys)
 in_left x [] ys h = absurd h
@@ -25,7 +30,7 @@ in_append x [] ys h = inr h
 in_append x (y ∷ xs) ys (inl e) = inl (inl e)
 in_append x (y ∷ xs) ys (inr i) = elim (in_append x xs ys i) [ inl a ↦ inl (inr a) | inr b ↦ inr b ]
 
-in_at : {A : Type 0} (xs : List A) (k : ℕ) (x : A) → k < length xs → slice_index_or xs k x ≡ x → Is_in x xs
+pub in_at : {A : Type 0} (xs : List A) (k : ℕ) (x : A) → k < length xs → slice_index_or xs k x ≡ x → Is_in x xs
 in_at [] k x l e = absurd (omega (arith, l))
 in_at (y ∷ xs) zero x l e = inl (sym e)
 in_at (y ∷ xs) (suc k) x l e = inr (in_at xs k x (omega (arith, l)) e)
@@ -65,6 +70,21 @@ pub all_in : {A : Type 0} (f : A → Bool) (xs : List A) (x : A) → list_all f 
 all_in f [] x h i = absurd i
 all_in f (y ∷ xs) x h (inl e) = subst (λ z. f z ≡ true) (sym e) (and_parts (f y) (list_all f xs) h).0
 all_in f (y ∷ xs) x h (inr i) = all_in f xs x (and_parts (f y) (list_all f xs) h).1 i
+
+-- what is had at a number stands below the length
+pub get_below : {A : Type 0} (xs : List A) (n : ℕ) (x : A) → slice_get xs n ≡ Some x → n < length xs
+get_below [] n x h = cc
+get_below (y ∷ xs) zero x h = omega arith
+get_below (y ∷ xs) (suc n) x h = let r = get_below xs n x h in omega (arith, r)
+
+pub all_get : {A : Type 0} (f : A → Bool) (xs : List A) (i : ℕ) (x : A) → list_all f xs ≡ true → slice_get xs i ≡ Some x → f x ≡ true
+all_get f [] i x h e = cc
+all_get f (y ∷ xs) zero x h e = let z : y ≡ x = cc in subst (λ w. f w ≡ true) z (and_parts (f y) (list_all f xs) h).0
+all_get f (y ∷ xs) (suc i) x h e = all_get f xs i x (and_parts (f y) (list_all f xs) h).1 e
+
+pub all_map : {A B : Type 0} (f : B → Bool) (g : A → B) (xs : List A) → list_all f (map g xs) ≡ list_all (λ x. f (g x)) xs
+all_map f g [] = refl
+all_map f g (x ∷ xs) = ap (λ b. f (g x) && b) (all_map f g xs)
 
 pub all_append : {A : Type 0} (f : A → Bool) (xs ys : List A) → list_all f xs ≡ true → list_all f ys ≡ true → list_all f (xs ++ ys) ≡ true
 all_append f [] ys h k = k

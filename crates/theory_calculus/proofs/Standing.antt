@@ -1,9 +1,6 @@
 -- Contracts that begin or go on stand at their positions with the static balance.
-use Rattle.std.proofs.Common.{◌≡◌, ℕ, suc, ◌+◌, ◌-◌, ◌≤◌, pos, List, [], ◌∷◌, ◌++◌, Bool, true, Some, refl, sym, ap, ◌∙◌, subst, arith, inl, inr}
+use Rattle.std.proofs.Common.{◌≡◌, ℕ, suc, ◌+◌, ◌-◌, ◌≤◌, pos, List, [], ◌∷◌, ◌++◌, true, Some, refl, sym, ap, ◌∙◌, subst, arith, inl, inr}
 use Rattle.std.specs.Prelude.{◌==◌, slice_get, is_some}
-use Rattle.std.specs.List.{list_all}
-use Rattle.std.specs.Str.{bytes_eq}
-use Rattle.std.proofs.lemmas.Bool.{and_parts, or_cases}
 use Rattle.spec_data.specs.Lists.{is_among, are_different, look_up}
 use Rattle.spec_terms.specs.Advert.{Advert}
 use Rattle.spec_terms.specs.Balance.{as_funded, all_funded}
@@ -28,19 +25,10 @@ use Rattle.theory_calculus.proofs.Members.{Is_in, found, some_there}
 use Rattle.theory_calculus.proofs.Offered.{branch_is}
 use Rattle.theory_calculus.proofs.Sums.{gone_value}
 use Rattle.theory_calculus.proofs.Stands.{stands_branch, stands_next, stands_part, choice_next, choice_part}
-use Rattle.theory_calculus.proofs.Bindings.{bytes_true, IsBound, numbers_distinct, names_value, entries_value}
-use Rattle.theory_calculus.proofs.Checked.{persistent_names_differ, persistent_deposit, volatile_deposit, looked_in, in_looked, worth_among, puts_sum, puts_known, puts_differ, branch_pays, difference, root_is}
+use Rattle.theory_calculus.proofs.Bindings.{IsBound, numbers_distinct, names_value, entries_value}
+use Rattle.theory_calculus.proofs.Checked.{persistent_names_differ, worth_among, puts_sum, puts_known, puts_differ, branch_pays, difference, root_is}
 use Rattle.theory_calculus.proofs.Funded.{StandsAt, IsFine, checked_at}
-
--- what holds of all holds of a name among them
-all_among : (f : List ℕ → Bool) (xs : List (List ℕ)) (a : List ℕ) → list_all f xs ≡ true → is_among a xs ≡ true → f a ≡ true
-all_among f [] a h i = cc
-all_among f (x ∷ xs) a h i =
-    let p = and_parts (f x) (list_all f xs) h in
-    elim (or_cases (bytes_eq x a) (is_among a xs) i) [
-      | inl q ↦ subst (λ y. f y ≡ true) (bytes_true x a q) p.0
-      | inr q ↦ all_among f xs a p.1 q
-    ]
+use Rattle.theory_calculus.proofs.Names.{named_looked, persistent_deposit, volatile_deposit, looked_in, all_among}
 
 module _ (g : Configuration) (fine : IsFine g) where
   bound_of : (k : ℕ) (advert : Advert) → contract_at g.contracts k ≡ Some advert
@@ -78,7 +66,7 @@ module _ (g : Configuration) (fine : IsFine g) where
           → look_up x (bindings_of g.advertised k) ≡ Some n → deposit_at g.deposits n ≡ Some d
           → IsBound g.deposits g.next (deposits advert.pre) (bindings_of g.advertised k) → d.value ≡ worth_among (volatile advert.pre) x
       worth x n d a l f b =
-          let h = in_looked (volatile advert.pre) x a in
+          let h = named_looked (volatile advert.pre) x a in
           b.values x n h.0 d l (volatile_deposit advert.pre (x, h.0) (looked_in (volatile advert.pre) x h.0 h.1)) f ∙ sym (ap value_of h.1)
 
   -- ---- a contract that begins

@@ -1,6 +1,6 @@
 -- What stands below a stand of a contract is a stand of it too, and what the check has seen of each.
-use Rattle.std.proofs.Common.{◌≡◌, ℕ, zero, suc, ◌+◌, ℤ, pos, List, [], ◌∷◌, ◌++◌, Bool, true, false, Option, Some, None, refl, sym, ap, ◌∙◌, subst, arith, inl, inr}
-use Rattle.std.specs.Prelude.{slice_get, option_map, option_and_then, if◌then◌else◌}
+use Rattle.std.proofs.Common.{◌≡◌, ℕ, zero, suc, ◌+◌, ℤ, pos, List, [], ◌∷◌, ◌++◌, Bool, false, Option, Some, None, refl, sym, ap, ◌∙◌, subst, arith, inl, inr}
+use Rattle.std.specs.Prelude.{slice_get, option_map, option_and_then}
 use Rattle.spec_data.proofs.ListLemmas.{or_else-none}
 use Rattle.spec_terms.specs.Advert.{Advert}
 use Rattle.spec_terms.specs.Balance.{Funded, as_funded, after_put, branches_funded, funded_under, parts_funded, root_balance, all_funded}
@@ -10,16 +10,12 @@ use Rattle.spec_terms.specs.Paths.{Subterm, position, at_branch, next_subterm, b
 use Rattle.spec_terms.specs.Precondition.{Holding, volatile}
 use Rattle.spec_terms.specs.Term.{Guarded, auth, after, put_reveal, withdraw, split, Contract, no_branch, branch, branches, Parts, no_part, part, parts_list, Pred}
 use Rattle.spec_terms.proofs.PathLemmas.{subterm_from-step}
-use Rattle.spec_terms.specs.declared.place.Place.{Place}
 use Rattle.spec_terms.specs.declared.path.PathStep.{PathStep}
 use Rattle.spec_terms.specs.declared.path.PathStep.TheVariants.{Branch as To, Part as Into}
 use Rattle.theory_calculus.proofs.Members.{Is_in, in_left, in_right, in_append}
+use Rattle.theory_calculus.proofs.Faultless.{no_place}
 
 -- ---- what the check has seen
-
-no_place : (b : Bool) (p : Place) → (if b then Some p else None) ≡ None → b ≡ false
-no_place true p h = cc
-no_place false p h = refl
 
 -- where no stand has a place, the test is false at each
 pub none_at : (t : Funded → Bool) (ss : List Funded) (s : Funded) → first_place t ss ≡ None → Is_in s ss → t s ≡ false

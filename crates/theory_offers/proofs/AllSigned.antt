@@ -25,9 +25,10 @@ use Rattle.spec_compiler.specs.Compilation.{path_transactions}
 use Rattle.spec_compiler.specs.ByPath as by_path
 use Rattle.spec_compiler.specs.ByPath.{position_at}
 use Rattle.spec_compiler.specs.Endorsements.{put_owner, branch_needs, put_needs, needs_of, path_needs, is_met, is_endorsed}
-use Rattle.theory_world.proofs.Same.{bytes-true}
-use Rattle.theory_world.proofs.Tests.{all-append, all_map, all_among}
-use Rattle.theory_world.proofs.Contracts.Positions.{Is_in, branch_here, covered}
+use Rattle.theory_calculus.proofs.Names.{bytes-true, all_among}
+use Rattle.theory_calculus.proofs.Members.{all_map, Is_in}
+use Rattle.theory_world.proofs.Tests.{all-append}
+use Rattle.theory_world.proofs.Contracts.Positions.{branch_here, covered}
 use Rattle.theory_world.proofs.Contracts.Standing.{stand_of_branch, position_named, term_branches}
 
 pub among_filter : (p : List ℕ → Bool) (a : List ℕ) (xs : List (List ℕ)) → is_among a xs ≡ true → p a ≡ true → is_among a (filter p xs) ≡ true

@@ -1,6 +1,6 @@
 -- The value of a position is its static balance, and a split's parts and the fee make up the value.
 use Rattle.std.proofs.Common.{◌≡◌, ℕ, zero, suc, ◌+◌, ◌-◌, ◌<◌, ◌≤◌, List, [], ◌∷◌, ◌++◌, length, Bool, true, false, not, Option, Some, None, refl, sym, ap, ◌∙◌, subst, arith}
-use Rattle.std.specs.Prelude.{◌&&◌, ◌||◌, ℤ, pos, ◌+ℤ◌, ◌-ℤ◌, int_lt, slice_get, option_map, option_and_then, if◌then◌else◌}
+use Rattle.std.specs.Prelude.{◌&&◌, ◌||◌, ℤ, pos, ◌+ℤ◌, ◌-ℤ◌, int_lt, slice_get, option_map, option_and_then}
 use Rattle.std.specs.Ordering.{int_eq}
 use Rattle.std.proofs.lemmas.Int.{ints}
 use Rattle.std.proofs.lemmas.Bool.{and_parts, or_from, or_parts}
@@ -12,11 +12,10 @@ use Rattle.spec_terms.specs.Term.{Contract, no_branch, branch, branches, auth, a
 use Rattle.spec_terms.specs.Core.{core}
 use Rattle.spec_terms.specs.Precondition.{Holding, volatile, persistent, total_of, value_of_puts}
 use Rattle.spec_terms.specs.Balance as terms
-use Rattle.spec_terms.specs.Balance.{after_put, root_balance, branches_funded, funded_under, parts_funded, all_funded, as_funded}
+use Rattle.spec_terms.specs.Balance.{after_put, root_balance, branches_funded, funded_under, parts_funded, all_funded}
 use Rattle.spec_terms.specs.Faults.{IsWellFormed, sum_of_parts, at_core, is_uneven, is_short, first_place, place_if, place_of}
 use Rattle.spec_terms.specs.Paths.{Subterm, position, at_branch, contract_under}
 use Rattle.spec_terms.specs.Readable.{is_readable_contract, is_some_list, is_readable_split, is_readable_count, are_readable, is_readable_branch, are_readable_parts}
-use Rattle.spec_terms.specs.declared.place.Place.{Place}
 use Rattle.spec_terms.specs.declared.path.PathStep.{PathStep}
 use Rattle.spec_terms.specs.declared.path.PathStep.TheVariants.{Branch as To, Part as Into}
 use Rattle.spec_compiler.specs.Instance.{Instance, branch_path}
@@ -24,7 +23,7 @@ use Rattle.spec_compiler.specs.Transactions.{Standing, branch_unsigned, continue
 use Rattle.spec_compiler.specs.ByPath as by_path
 use Rattle.spec_compiler.specs.ByPath.{PathEnd, branch_end, continued_end, part_end, next_end, end_from, end_at, as_position, position_at}
 use Rattle.theory_script.proofs.Listing.Subterms as spots
-use Rattle.theory_world.proofs.Contracts.Faultless.{no_fault}
+use Rattle.theory_calculus.proofs.Faultless.{no_fault, no_place}
 
 -- ---- no position or branch is at fault
 
@@ -35,10 +34,6 @@ is_bad fee balance subterm = at_core (is_uneven fee balance) subterm || is_short
 abbrev NoneOf : (terms.Funded → Bool) → List terms.Funded → Type 0
 NoneOf t [] = Unit {0}
 NoneOf t (s ∷ ss) = (t s ≡ false) × NoneOf t ss
-
-no_place : (b : Bool) (p : Place) → (if b then Some p else None) ≡ None → b ≡ false
-no_place true p h = cc
-no_place false p h = refl
 
 none_of : (t : terms.Funded → Bool) (ss : List terms.Funded) → first_place t ss ≡ None → NoneOf t ss
 none_of t [] h = tt

@@ -1,21 +1,18 @@
 -- But for the lengths that are committed, the configurations of a run don't depend on the strings that are posted later.
-use Rattle.std.proofs.Common.{◌≡◌, ℕ, List, [], ◌∷◌, ◌++◌, map, Option, Some, None, refl, sym, ap, ◌∙◌, subst}
+use Rattle.std.proofs.Common.{◌≡◌, ℕ, List, ◌++◌, map, Option, Some, None, refl, ap, ◌∙◌}
 use Rattle.spec_bitcoin.specs.declared.tx.Tx.{Tx}
 use Rattle.spec_calculus.specs.declared.parts.Committed.{Committed}
 use Rattle.spec_calculus.specs.Configuration.{Configuration}
 use Rattle.spec_run.specs.declared.event.Event.{Event}
 use Rattle.spec_run.specs.declared.event.Event.TheVariants as events
-use Rattle.spec_run.specs.declared.header.HeldSecret.{HeldSecret}
 use Rattle.spec_run.specs.declared.outcome.Outcome.{Outcome}
 use Rattle.spec_run.specs.declared.outcome.Outcome.TheVariants as outcomes
 use Rattle.spec_run.specs.Setup.{Setup}
-use Rattle.spec_data.specs.Messages.{collision}
 use Rattle.spec_run.specs.World.{World}
-use Rattle.spec_run.specs.Draft.{guess, settled, settle}
-use Rattle.spec_run.specs.Event.{Passed, draft, goes_on, played_from, onto_passed}
+use Rattle.spec_run.specs.Event.{Passed}
 use Rattle.spec_run.specs.Ledger.{Kind, Begins, Takes, Moves, kind_of}
 use Rattle.spec_run.specs.Steps.{reveals, kind_steps, accepted_steps, done_steps, outcome_steps, steps_of}
-use Rattle.spec_run.specs.Translation.{turn_of, turns_from, world_after, last_or}
+use Rattle.spec_run.specs.Translation.{turn_of}
 use Rattle.theory_offers.proofs.Blanked.{blank, fill, unmeasured, after-measured}
 
 -- ---- steps by other strings and other commitments

@@ -20,7 +20,7 @@ use Rattle.spec_run.specs.Signing.{with_pairs, initial_pairs, missing_need, init
 use Rattle.spec_run.specs.Event.{draft, record_of}
 use Rattle.spec_run.specs.Values.{is_done}
 use Rattle.spec_run.specs.HonestDeposits.{is_init, was_done}
-use Rattle.theory_world.proofs.Same.{bytes-true}
+use Rattle.theory_calculus.proofs.Names.{bytes-true}
 use Rattle.theory_world.proofs.Tests.{any-append}
 use Rattle.theory_offers.proofs.Unmet.{endorsed_from}
 use Rattle.theory_offers.proofs.Basis.Opening.{endorsed_later}

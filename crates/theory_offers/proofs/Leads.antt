@@ -26,7 +26,7 @@ use Rattle.spec_run.specs.Ledger.{judged, accepted, kind_by, kind_of, Begins, fi
 use Rattle.spec_run.specs.Steps.{reveals, kind_steps, auth_inits, unauthorised, steps_of}
 use Rattle.spec_run.specs.Event.{draft}
 use Rattle.spec_run.specs.Statements.{IsLast, LeadsTo, IsKept}
-use Rattle.theory_world.proofs.Ledger.Bare.{bare}
+use Rattle.theory_bitcoin.specs.Apart.{bare}
 use Rattle.theory_run.proofs.Facts.OnePosition.{one_initial}
 use Rattle.theory_run.proofs.Facts.KeptSecrets.{KeptSecrets}
 use Rattle.theory_run.proofs.Facts.Kept.{KeptBook}

@@ -1,6 +1,6 @@
 -- Every offer of a configuration is kept in a world that agrees with it and has what is kept.
-use Rattle.std.proofs.Common.{◌≡◌, ℕ, zero, suc, ◌<◌, ◌≤◌, List, [], ◌∷◌, ◌++◌, length, Bool, true, false, Some, refl, sym, subst, arith, inl, inr}
-use Rattle.std.specs.Prelude.{◌⊎◌, slice_get, slice_index_or, filter, if◌then◌else◌}
+use Rattle.std.proofs.Common.{◌≡◌, ℕ, ◌<◌, ◌≤◌, List, [], ◌∷◌, ◌++◌, length, Bool, true, false, Some, refl, sym, subst, inl, inr}
+use Rattle.std.specs.Prelude.{slice_get, filter, if◌then◌else◌}
 use Rattle.std.specs.List.{Contains, flat_map}
 use Rattle.std.proofs.lemmas.Bool.{eqb-true}
 use Rattle.std.proofs.lemmas.List.Concat.{flat_map-cons}
@@ -21,7 +21,7 @@ use Rattle.spec_run.specs.Conditions.{IsSetup}
 use Rattle.spec_run.specs.Agreement.{Agree}
 use Rattle.spec_run.specs.Offers.{Offer, offers_of, offers}
 use Rattle.spec_run.specs.Statements.{IsKept}
-use Rattle.theory_world.proofs.Contracts.Positions.{Is_in}
+use Rattle.theory_calculus.proofs.Members.{Is_in, in_append, in_at}
 use Rattle.theory_world.proofs.Contracts.Standing.{term_choice}
 use Rattle.theory_run.proofs.Facts.KeptSecrets.{Begins, KeptSecrets}
 use Rattle.theory_run.proofs.Facts.Kept.{KeptBook}
@@ -31,16 +31,6 @@ use Rattle.theory_offers.proofs.Leads.{init_kept}
 use Rattle.theory_offers.proofs.Permitted.{Active, fine, withdraw_kept, split_kept}
 use Rattle.theory_offers.proofs.PutReveals.{put_kept}
 use Rattle.theory_offers.proofs.Balanced.{split_even, split_some}
-
-contained : {X : Type 0} (xs : List X) (k : ℕ) (x : X) → k < length xs → slice_index_or xs k x ≡ x → Is_in x xs
-contained [] k x l e = absurd (omega (arith, l))
-contained (y ∷ xs) zero x l e = inl (sym e)
-contained (y ∷ xs) (suc k) x l e = inr (contained xs k x (omega (arith, l)) e)
-
-in_append : {X : Type 0} (x : X) (xs ys : List X) → Is_in x (xs ++ ys) → Is_in x xs ⊎ Is_in x ys
-in_append x [] ys h = inr h
-in_append x (y ∷ xs) ys (inl e) = inl (inl e)
-in_append x (y ∷ xs) ys (inr i) = elim (in_append x xs ys i) [ inl a ↦ inl (inr a) | inr b ↦ inr b ]
 
 -- an offer is of one of the steps
 offered_by : (xs : List Step) (o : Offer) → Is_in o (flat_map offers_of xs) → (x : Step) × Is_in x xs × Is_in o (offers_of x)
@@ -91,7 +81,7 @@ module _ (s : Setup) (setup : IsSetup s) (z : List (List ℕ)) (g : Configuratio
   -- each offer is kept
   pub offers_kept : (o : Offer) → Contains (offers g) o → IsKept s g w o
   offers_kept o h =
-      let i = contained (offers g) h.0 o h.1 h.2 in
+      let i = in_at (offers g) h.0 o h.1 h.2 in
       let r = offered_by (calculus.offers g) o i in
       let e = passed (λ x. is_enabled g x) (beginnings 0 g.contracts ++ all_takings g.contracts g.active) r.0 r.1 in
       step_kept r.0 o (eqb-true (fails g r.0) 0 e) r.2

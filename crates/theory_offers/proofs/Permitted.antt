@@ -31,15 +31,15 @@ use Rattle.spec_run.specs.Agreement.{Agree, active_in, active_by}
 use Rattle.spec_run.specs.Firing.{shown_strings, first_unshown}
 use Rattle.spec_run.specs.Steps.{core_step}
 use Rattle.spec_run.specs.Statements.{IsKept}
-use Rattle.theory_world.proofs.Contracts.Positions.{Is_in}
-use Rattle.theory_world.proofs.Tests.{all_among}
+use Rattle.theory_calculus.proofs.Names.{all_among}
+use Rattle.theory_calculus.proofs.Members.{Is_in, no_false}
 use Rattle.theory_world.proofs.Ledger.Outputs.{active-at}
 use Rattle.theory_world.proofs.Later.{compiled_is}
 use Rattle.theory_world.proofs.Contracts.Standing.{term_branches}
 use Rattle.theory_run.proofs.Facts.Kept.{KeptBook, HeldFine}
 use Rattle.theory_run.proofs.Accepted.Spending.{Checked}
 use Rattle.theory_offers.proofs.Basis.Offered.{KeptOffers}
-use Rattle.theory_offers.proofs.Starts.{no_false, one_total}
+use Rattle.theory_offers.proofs.Starts.{one_total}
 use Rattle.theory_offers.proofs.Takings.{MayTake}
 use Rattle.theory_offers.proofs.TakingLeads.{takes_kept}
 

@@ -1,22 +1,15 @@
 -- An offered branch that puts deposits in or reveals secrets is kept.
-use Rattle.std.proofs.Common.{◌≡◌, ℕ, zero, suc, ◌+◌, List, [], ◌∷◌, length, Bool, true, false, not, Option, Some, None, refl, sym, ap, ◌∙◌, subst, arith, inl, inr}
-use Rattle.std.specs.Prelude.{◌&&◌, ◌⊎◌, slice_get, is_some, if◌then◌else◌}
+use Rattle.std.proofs.Common.{◌≡◌, ℕ, ◌+◌, List, [], ◌∷◌, length, true, Option, Some, None, refl, sym, ap, ◌∙◌, subst, arith}
+use Rattle.std.specs.Prelude.{◌&&◌, slice_get, is_some}
 use Rattle.std.specs.List.{list_all}
-use Rattle.std.specs.Str.{bytes_eq}
-use Rattle.std.proofs.lemmas.Bool.{and_parts, or_cases, both_ways}
+use Rattle.std.proofs.lemmas.Bool.{and_parts}
 use Rattle.spec_data.specs.Lists.{is_among, are_different, look_up, AllTrue}
-use Rattle.spec_terms.specs.Advert.{Advert}
-use Rattle.spec_terms.specs.Balance.{Funded, all_funded}
 use Rattle.spec_terms.specs.Term as term
-use Rattle.spec_terms.specs.Term.{Contract, branches, auth, after, put_reveal, withdraw, split}
+use Rattle.spec_terms.specs.Term.{Contract, auth, after, put_reveal, withdraw, split}
 use Rattle.spec_terms.specs.Core.{core, puts_of, reveals_of, test_of}
-use Rattle.spec_terms.specs.Faults.{IsWellFormed, at_core, are_among, first_place}
-use Rattle.spec_terms.specs.Paths.{Subterm, position, at_branch, contract_under}
+use Rattle.spec_terms.specs.Faults.{IsWellFormed, are_among}
 use Rattle.spec_terms.specs.Value.{holds}
-use Rattle.spec_terms.specs.Precondition.{Holding, holding, deposits, volatile, names_of, value_of, value_of_puts, secrets_of}
-use Rattle.spec_terms.specs.declared.pre.Pre.{Pre}
-use Rattle.spec_terms.specs.declared.pre.Pre.TheVariants.{Persistent, Volatile, Secret}
-use Rattle.spec_terms.specs.declared.path.PathStep.{PathStep}
+use Rattle.spec_terms.specs.Precondition.{Holding, volatile, names_of, value_of, value_of_puts, secrets_of}
 use Rattle.spec_bitcoin.specs.Verdict as bitcoin
 use Rattle.spec_calculus.specs.declared.step.Step.TheVariants as steps
 use Rattle.spec_calculus.specs.Configuration.{Configuration}
@@ -35,11 +28,10 @@ use Rattle.spec_run.specs.Conditions.{IsSetup}
 use Rattle.spec_run.specs.Agreement.{Agree}
 use Rattle.spec_run.specs.Steps.{core_step}
 use Rattle.spec_run.specs.Statements.{IsKept}
-use Rattle.theory_script.proofs.Listing.Subterms.{each_at, each_of_branches, each_of_advert}
-use Rattle.theory_world.proofs.Same.{bytes-true}
-use Rattle.theory_world.proofs.Contracts.Faultless.{no_fault}
-use Rattle.theory_run.proofs.Facts.AllSecrets.{different_names}
-use Rattle.theory_world.proofs.Contracts.Positions.{Is_in}
+use Rattle.theory_script.proofs.Checked.{core_fact}
+use Rattle.theory_calculus.proofs.Faultless.{no_fault}
+use Rattle.theory_calculus.proofs.Names.{different_names}
+use Rattle.theory_calculus.proofs.Members.{Is_in, all_in, no_false}
 use Rattle.theory_world.proofs.Later.{compiled_is}
 use Rattle.theory_world.proofs.Contracts.Standing.{term_choice}
 use Rattle.theory_run.proofs.Facts.KeptSecrets.{Begins, KeptSecrets}
@@ -47,54 +39,14 @@ use Rattle.theory_run.proofs.Facts.Kept.{KeptBook}
 use Rattle.theory_run.proofs.Accepted.Spending.{Checked}
 use Rattle.theory_world.proofs.Ledger.Acceptable.{worth}
 use Rattle.theory_offers.proofs.Basis.Offered.{KeptOffers}
-use Rattle.theory_offers.proofs.Starts.{no_false, one_total, there_is}
+use Rattle.theory_offers.proofs.Starts.{one_total, there_is}
 use Rattle.theory_run.proofs.Steps.Beginnings.{bindings_same}
+use Rattle.theory_run.proofs.Accepted.Numbers.{entry_in}
 use Rattle.theory_offers.proofs.TakingLeads.{takes_kept}
 use Rattle.theory_offers.proofs.Permitted.{Active, is_active, fine, Permitted, permitted}
 use Rattle.theory_offers.proofs.Unlocked.{Unlocked, unlocked}
 
 -- ---- what the check of a contract says of a core
-
-abbrev of_core : (term.Guarded → Bool) → Subterm → Bool
-of_core g (position c) = true
-of_core g (at_branch b) = g (core b)
-
-not_false : (b : Bool) → not b ≡ false → b ≡ true
-not_false true h = refl
-not_false false h = sym h
-
-core_says : (g : term.Guarded → Bool) (p : Subterm) → at_core (λ b. not (g b)) p ≡ false → of_core g p ≡ true
-core_says g (position c) h = refl
-core_says g (at_branch b) h = not_false (g (core b)) h
-
-nth : (f : term.Guarded → Bool) (bs : List term.Guarded) (i : ℕ) (b : term.Guarded) → list_all f bs ≡ true → slice_get bs i ≡ Some b → f b ≡ true
-nth f [] i b h e = cc
-nth f (x ∷ bs) zero b h e = let z : x ≡ b = cc in subst (λ y. f y ≡ true) z (and_parts (f x) (list_all f bs) h).0
-nth f (x ∷ bs) (suc i) b h e = nth f bs i b (and_parts (f x) (list_all f bs) h).1 e
-
-pub core_fact : (test : term.Guarded → Bool) (a : Advert) (path : List PathStep) (c : Contract) (i : ℕ) (b : term.Guarded) → first_place (λ (x : Funded). at_core (λ y. not (test y)) x.subterm) (all_funded a) ≡ None
-    → contract_under a.root path ≡ Some c → slice_get (branches c) i ≡ Some b → test (core b) ≡ true
-core_fact test a path c i b f e g =
-    let all = each_at (of_core test) a.root path c (each_of_advert (of_core test) _ a (λ x h. core_says test x.subterm h) f) e in
-    nth (λ y. test (core y)) (branches c) i b (each_of_branches (of_core test) c all.1) g
-
-all_in : (f : List ℕ → Bool) (xs : List (List ℕ)) (x : List ℕ) → list_all f xs ≡ true → Is_in x xs → f x ≡ true
-all_in f [] x h k = absurd k
-all_in f (y ∷ xs) x h (inl e) = subst (λ z. f z ≡ true) (sym e) (and_parts (f y) (list_all f xs) h).0
-all_in f (y ∷ xs) x h (inr k) = all_in f xs x (and_parts (f y) (list_all f xs) h).1 k
-
--- a volatile deposit is one of the deposits
-volatile_in : (name : List ℕ) (pre : List Pre) → is_among name (names_of (volatile pre)) ≡ true → Is_in (name, holding_or_none (look_up name (volatile pre))) (deposits pre)
-volatile_in name [] h = cc
-volatile_in name (Persistent party value n ∷ pre) h = inr (volatile_in name pre h)
-volatile_in name (Volatile party value n ∷ pre) h = by_test (bytes_eq n name) refl (or_cases (bytes_eq n name) (is_among name (names_of (volatile pre))) h) (volatile_in name pre)
-  where
-    by_test : (b : Bool) → bytes_eq n name ≡ b → (bytes_eq n name ≡ true) ⊎ (is_among name (names_of (volatile pre)) ≡ true) → (is_among name (names_of (volatile pre)) ≡ true → Is_in (name, holding_or_none (look_up name (volatile pre))) (deposits pre))
-        → Is_in (name, holding_or_none (if b then Some (holding party value) else look_up name (volatile pre))) ((n, holding party value) ∷ deposits pre)
-    by_test true e q ih = let z = bytes-true n name e in inl (λ j. (sym z j, holding party value))
-    by_test false e (inl q) ih = absurd (both_ways _ e q)
-    by_test false e (inr q) ih = inr (ih q)
-volatile_in name (Secret party n ∷ pre) h = volatile_in name pre h
 
 puts_worth : (hash : List ℕ → List ℕ) (st : Instance) (puts : List (List ℕ)) → worth (put_deposits hash st puts) ≡ value_of_puts (volatile st.advert.pre) puts
 puts_worth hash st [] = refl
@@ -173,7 +125,7 @@ module _ (s : Setup) (setup : IsSetup s) (z : List (List ℕ)) (g : Configuratio
           reached = p.reached;
           agreed = p.agreed;
           live_puts = λ name j. sym (there_is s setup z g w agree kept secrets more (look_up name (bindings_at w.advertised k))) ∙ subst (λ bs. is_there g.deposits (look_up name bs) ≡ true) same (all_in (λ x. is_there g.deposits (look_up x (bindings_of g.advertised k))) (puts_of (core b)) name live j);
-          known_puts = λ name j. volatile_in name st.advert.pre (all_in (λ x. is_among x (names_of (volatile st.advert.pre))) (puts_of (core b)) name known j);
+          known_puts = λ name j. entry_in st.advert.pre name (all_in (λ x. is_among x (names_of (volatile st.advert.pre))) (puts_of (core b)) name known j);
           different_puts = (and_parts (are_different (puts_of (core b))) (are_different (reveals_of (core b))) apart).0;
           shown = u.shown;
           fits = u.fit;

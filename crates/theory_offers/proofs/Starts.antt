@@ -1,17 +1,15 @@
 -- An offered beginning has an initial transaction that is accepted.
-use Rattle.std.proofs.Common.{◌≡◌, ℕ, zero, suc, ◌+◌, ◌≤◌, List, [], ◌∷◌, length, map, Bool, true, false, not, Option, Some, None, refl, sym, ap, ◌∙◌, subst, arith, inl, inr}
+use Rattle.std.proofs.Common.{◌≡◌, ℕ, ◌+◌, List, [], ◌∷◌, length, map, Bool, true, false, Option, Some, None, refl, sym, ap, ◌∙◌, subst, arith, inl, inr}
 use Rattle.std.specs.Prelude.{◌==◌, ◌&&◌, slice_get, is_some}
-use Rattle.std.specs.List.{list_all, AllByRecursion}
+use Rattle.std.specs.List.{list_all}
 use Rattle.std.specs.Str.{bytes_eq}
-use Rattle.std.proofs.lemmas.Bool.{and_parts, and_from, or_from, or_parts, not-true, not_from_false}
+use Rattle.std.proofs.lemmas.Bool.{and_parts}
 use Rattle.std.proofs.lemmas.List.Sums.{sum_by-cons}
-use Rattle.spec_data.specs.Lists.{is_among, are_different, look_up, first_false, AllTrue}
+use Rattle.spec_data.specs.Lists.{look_up, AllTrue}
 use Rattle.spec_terms.specs.Advert.{Advert}
 use Rattle.spec_terms.specs.Parties.{participants}
-use Rattle.spec_terms.specs.Precondition.{Holding, persistent, names_of, name_in, total_of}
+use Rattle.spec_terms.specs.Precondition.{Holding, persistent, names_of, total_of}
 use Rattle.spec_terms.specs.Faults.{IsWellFormed}
-use Rattle.spec_terms.specs.declared.pre.Pre.{Pre}
-use Rattle.spec_terms.specs.declared.pre.Pre.TheVariants.{Persistent, Volatile, Secret}
 use Rattle.spec_bitcoin.specs.declared.tx.TxOut.{TxOut}
 use Rattle.spec_bitcoin.specs.declared.verdict.Verdict.TheVariants as verdicts
 use Rattle.spec_bitcoin.specs.Verdict as bitcoin
@@ -19,7 +17,7 @@ use Rattle.spec_calculus.specs.declared.step.Step.TheVariants as steps
 use Rattle.spec_calculus.specs.Configuration.{Configuration}
 use Rattle.spec_calculus.specs.Moves.{deposit_at}
 use Rattle.spec_calculus.specs.Beginning as calculus
-use Rattle.spec_calculus.specs.Beginning.{is_there, are_there, bindings_of, is_init_authorised, are_init_authorised, persistent_names, has_committed, have_committed, participants_of}
+use Rattle.spec_calculus.specs.Beginning.{is_there, bindings_of, is_init_authorised, has_committed, have_committed}
 use Rattle.spec_calculus.specs.Steps.{fails, init_premises}
 use Rattle.spec_compiler.specs.Instance.{Instance, position_script}
 use Rattle.spec_compiler.specs.Transactions.{tx_of, prepared, pays, deposit, root_value, initial_unsigned}
@@ -31,24 +29,18 @@ use Rattle.spec_run.specs.Agreement.{Agree}
 use Rattle.spec_run.specs.Firing.{initial_witnesses, initial_transaction}
 use Rattle.spec_run.specs.Ledger.{verdict_in}
 use Rattle.spec_run.specs.Steps.{names_deposit, is_bound_live}
-use Rattle.theory_world.proofs.Tests.{any_map, length_map, all_alike, all_among}
-use Rattle.theory_world.proofs.Contracts.Positions.{in_some, Is_in}
+use Rattle.theory_calculus.proofs.Names.{all_among, different_names, persistent_deposit, persistent_different}
+use Rattle.theory_calculus.proofs.Members.{Is_in, in_some, no_false}
+use Rattle.theory_world.proofs.Tests.{any_map, length_map, all_alike}
 use Rattle.theory_world.proofs.Ledger.Outputs.{deposit-at, deposit_of}
 use Rattle.theory_run.proofs.Facts.KeptSecrets.{KeptSecrets, committed_by}
-use Rattle.theory_run.proofs.Facts.AllSecrets.{different_names}
 use Rattle.theory_world.proofs.Later.{compiled_from}
 use Rattle.theory_world.proofs.Contracts.Mentions.{has_deposit, a_person}
 use Rattle.theory_run.proofs.Facts.Kept.{KeptBook}
-use Rattle.theory_run.proofs.Accepted.WhatItIs.{persistent_deposit}
 use Rattle.theory_world.proofs.Ledger.Acceptable.{Asked, accepts, worth}
+use Rattle.theory_world.proofs.Contracts.Checking.{all_checked}
 use Rattle.theory_offers.proofs.Basis.Offered.{KeptOffers, number_of, ready_all, numbers_apart}
 use Rattle.theory_run.proofs.Steps.Beginnings.{bindings_same}
-
--- where no premise fails, each is true
-pub no_false : (n : ℕ) (bs : List Bool) → 1 ≤ n → first_false n bs ≡ 0 → AllTrue bs
-no_false n [] h e = tt
-no_false n (true ∷ bs) h e = (refl, no_false (n + 1) bs (omega (arith, h)) e)
-no_false n (false ∷ bs) h e = absurd (omega (arith, h, e))
 
 all_named : {V : Type 0} (f : List ℕ → Bool) (ds : List (List ℕ × V)) (d : List ℕ × V) → list_all f (names_of ds) ≡ true → Is_in d ds → f (d.0) ≡ true
 all_named f [] d h i = absurd i
@@ -57,31 +49,12 @@ all_named f (e ∷ ds) d h (inr q) = all_named f ds d (and_parts (f (e.0)) (list
 
 -- ---- names
 
-not_among : (x : List ℕ) (pre : List Pre) → is_among x (map name_in pre) ≡ false → is_among x (map (λ (d : List ℕ × Holding). d.0) (persistent pre)) ≡ false
-not_among x [] h = refl
-not_among x (Persistent party value name ∷ pre) h = let p = or_parts (bytes_eq name x) (is_among x (map name_in pre)) h in or_from _ _ p.0 (not_among x pre p.1)
-not_among x (Volatile party value name ∷ pre) h = not_among x pre (or_parts (bytes_eq name x) (is_among x (map name_in pre)) h).1
-not_among x (Secret party name ∷ pre) h = not_among x pre (or_parts (bytes_eq name x) (is_among x (map name_in pre)) h).1
-
-pub persistent_apart : (pre : List Pre) → are_different (map name_in pre) ≡ true → are_different (map (λ (d : List ℕ × Holding). d.0) (persistent pre)) ≡ true
-persistent_apart [] h = refl
-persistent_apart (Persistent party value name ∷ pre) h =
-    let p = and_parts (not (is_among name (map name_in pre))) (are_different (map name_in pre)) h in
-    and_from _ _ (not_from_false _ (not_among name pre (not-true _ p.0))) (persistent_apart pre p.1)
-persistent_apart (Volatile party value name ∷ pre) h = persistent_apart pre (and_parts (not (is_among name (map name_in pre))) _ h).1
-persistent_apart (Secret party name ∷ pre) h = persistent_apart pre (and_parts (not (is_among name (map name_in pre))) _ h).1
-
 total_worth : (hash : List ℕ → List ℕ) (st : Instance) (ds : List (List ℕ × Holding)) → worth (map (λ d. deposit hash st (d.0) (d.1)) ds) ≡ total_of ds
 total_worth hash st [] = refl
 total_worth hash st (d ∷ ds) = ap (λ n. (d.1).value + n) (total_worth hash st ds)
 
 pub one_total : (o : TxOut) → bitcoin.total_of (o ∷ []) ≡ o.value + 0
 one_total o = sum_by-cons (λ (x : TxOut). x.value) o []
-
-well_at : (cs : List Advert) (k : ℕ) (a : Advert) → AllByRecursion IsWellFormed cs → slice_get cs k ≡ Some a → IsWellFormed a
-well_at [] k a h e = cc
-well_at (c ∷ cs) zero a h e = let z : c ≡ a = cc in subst IsWellFormed z h.0
-well_at (c ∷ cs) (suc k) a h e = well_at cs k a h.1 e
 
 -- ---- a contract that may begin
 
@@ -117,7 +90,7 @@ module _ (s : Setup) (setup : IsSetup s) (z : List (List ℕ)) (g : Configuratio
       by_advert (Some a) e t =
           let c = and_parts true (have_committed g.committed k (participants a)) t.0 in
           let p : have_promised w k (participants a) ≡ true = sym (all_alike (has_committed g.committed k) (has_promised w k) (participants a) (committed_is k)) ∙ c.1 in
-          let well = well_at s.contracts k a setup.contracts e in
+          let well = all_checked s.contracts k a setup.contracts e in
           let one = a_person a well in
           let adv = more.told k one.0 (all_among (has_promised w k) (participants a) one.0 p one.1) in
           let same : bindings_of g.advertised k ≡ bindings_at w.advertised k = bindings_same g.advertised k ∙ ap (λ xs. bindings_at xs k) agree.advertised in
@@ -145,7 +118,7 @@ module _ (s : Setup) (setup : IsSetup s) (z : List (List ℕ)) (g : Configuratio
         let len = length_map (λ (d : List ℕ × Holding). deposit s.hash (instance_of w k may.advert) (d.0) (d.1)) ds in
         record {
           ready = ready_all s setup.hash.size g w kept k (instance_of w k may.advert) may.compiled (tx_of (initial_unsigned s.hash (instance_of w k may.advert))) (λ d. d) ds (λ d i. record { known = persistent_deposit may.advert.pre d i; live = may.live d i; signed = more.inits k (instance_of w k may.advert) d may.compiled i (may.authorised d i) (may.live d i) });
-          distinct = numbers_apart s setup.hash.size g w kept k (instance_of w k may.advert) may.compiled (λ d. d) ds (λ d i. persistent_deposit may.advert.pre d i) (persistent_apart may.advert.pre (different_names may.advert may.well));
+          distinct = numbers_apart s setup.hash.size g w kept k (instance_of w k may.advert) may.compiled (λ d. d) ds (λ d i. persistent_deposit may.advert.pre d i) (persistent_different may.advert.pre (different_names may.advert may.well));
           some = omega (arith, some, len);
           makes = omega arith;
           enough = omega (arith, fresh, total);

@@ -5,9 +5,9 @@ use Rattle.std.specs.List.{filter}
 use Rattle.spec_data.specs.Lists.{first_reason}
 use Rattle.spec_terms.specs.Core.{core}
 use Rattle.spec_terms.specs.Precondition.{Holding, persistent}
+use Rattle.spec_terms.specs.Term.{branches}
 use Rattle.spec_bitcoin.specs.declared.tx.TxIn.{TxIn}
 use Rattle.spec_bitcoin.specs.declared.tx.Tx.{Tx}
-use Rattle.spec_bitcoin.specs.Keys.{is_valid}
 use Rattle.spec_bitcoin.specs.Verdict as bitcoin
 use Rattle.spec_calculus.specs.declared.step.Step.{Step}
 use Rattle.spec_calculus.specs.Configuration.{Configuration}
@@ -26,17 +26,19 @@ use Rattle.spec_compiler.specs.Witness.{chosen_by}
 use Rattle.spec_run.specs.Steps.{reveals, kind_steps, branch_steps, auth_branch, is_awaited, core_step, steps_of}
 use Rattle.spec_run.specs.Event.{draft}
 use Rattle.spec_run.specs.Statements.{IsLast, LeadsTo, IsKept}
-use Rattle.theory_world.proofs.Ledger.Bare.{bare, bare_input}
-use Rattle.theory_world.proofs.Contracts.Positions.{Is_in}
+use Rattle.theory_bitcoin.specs.Apart.{bare_input, bare}
+use Rattle.theory_calculus.proofs.Members.{get_below, Is_in}
+use Rattle.theory_calculus.proofs.Names.{persistent_deposit}
+use Rattle.theory_script.proofs.Scripts.Choosing.{witness_chooses}
 use Rattle.theory_run.proofs.Facts.Kept.{KeptBook}
 use Rattle.theory_run.proofs.Accepted.Spending.{Checked}
 use Rattle.theory_run.proofs.Accepted.Kinded.{counted}
-use Rattle.theory_run.proofs.Accepted.WhatItIs.{initial_is, persistent_deposit, at_bound}
+use Rattle.theory_run.proofs.Accepted.WhatItIs.{initial_is, at_bound}
 use Rattle.theory_world.proofs.Ledger.Acceptable.{none_reason, with-bare}
 use Rattle.theory_offers.proofs.Basis.Offered.{KeptOffers}
 use Rattle.theory_offers.proofs.Leads.{leads_by}
 use Rattle.theory_offers.proofs.Takings as taking
-use Rattle.theory_offers.proofs.Takings.{MayTake, witness_chooses}
+use Rattle.theory_offers.proofs.Takings.{MayTake}
 
 -- the first of the persistent deposits
 first_persistent : (hash : List ℕ → List ℕ) (st : Instance) (ds : List (List ℕ × Holding)) (x : Spent) (xs : List Spent) → map bare_input (map input_of (x ∷ xs)) ≡ map bare_input (map input_of (map (λ (d : List ℕ × Holding). deposit hash st d.0 d.1) ds))
@@ -93,7 +95,7 @@ module _ (s : Setup) (setup : IsSetup s) (g : Configuration) (w : World) (kept :
       let witness = taking.witness s setup g w kept check more n i may in
       let c : chosen_by (branch_count s may.held) witness ≡ i =
       ap (λ m. chosen_by m witness) (counted s w may.held may.output may.fine)
-      ∙ witness_chooses s.hash (is_valid w.book (taking.dg s setup g w kept check more n i may)) may.fine.instance may.held.position may.fine.choice i (taking.sigs s setup g w kept check more n i may) (taking.strings s setup g w kept check more n i may) (script_of_position s may.fine.instance may.held may.fine.choice) (taking.fills s setup g w kept check more n i may) in
+      ∙ witness_chooses (length (branches may.fine.choice)) i (taking.sigs s setup g w kept check more n i may) (taking.strings s setup g w kept check more n i may) (script_of_position s may.fine.instance may.held may.fine.choice) (get_below (branches may.fine.choice) i may.branch may.is_branch) in
       (λ j. kind_by s tx (n ∷ ns) (no_initial j) (held_is j)) ∙ ap (Takes may.held n) c
 
   module _ (step : Step) (step_is : core_step n i (core may.branch) ≡ step ∷ []) where

@@ -1,10 +1,8 @@
 -- An offered branch has a transaction that is accepted.
-use Rattle.std.proofs.Common.{◌≡◌, ℕ, zero, suc, ◌+◌, ◌<◌, ◌≤◌, List, [], ◌∷◌, ◌++◌, length, map, drop, replicate, Bool, true, false, Option, Some, None, refl, sym, ap, ◌∙◌, subst, arith, inl, inr}
-use Rattle.std.specs.Prelude.{◌&&◌, slice_get, if◌then◌else◌, reverse, nat_lt, nat_le, option_map}
+use Rattle.std.proofs.Common.{◌≡◌, ℕ, suc, ◌<◌, ◌≤◌, List, [], ◌∷◌, ◌++◌, length, map, Bool, true, false, Option, Some, None, refl, sym, ap, ◌∙◌, subst, arith, inl, inr}
+use Rattle.std.specs.Prelude.{slice_get, if◌then◌else◌, option_map}
 use Rattle.std.specs.List.{list_all}
-use Rattle.std.proofs.lemmas.Bool.{and_parts, and_from, or_from, ne_eqb, not_from_false}
-use Rattle.std.proofs.lemmas.List.{reverse-append, reverse-reverse}
-use Rattle.std.proofs.Common.{append_assoc}
+use Rattle.std.proofs.lemmas.Bool.{and_from, or_from, ne_eqb, not_from_false}
 use Rattle.spec_data.specs.Lists.{is_among, are_different, has_number, look_up}
 use Rattle.spec_terms.specs.Term as term
 use Rattle.spec_terms.specs.Term.{Contract, branches}
@@ -22,11 +20,11 @@ use Rattle.spec_calculus.specs.Configuration.{Configuration}
 use Rattle.spec_calculus.specs.Branches.{has_branch_authorised}
 use Rattle.spec_compiler.specs.Instance.{Instance, branch_path, branch_label, people, position_script}
 use Rattle.spec_compiler.specs.Scripts.{digest_of}
-use Rattle.spec_compiler.specs.Statements.{IsCompiled, is_short, is_secret, are_valid, are_secrets, secret_lengths, Opens, Fills}
+use Rattle.spec_compiler.specs.Statements.{IsCompiled, is_short, are_valid, are_secrets, secret_lengths, Fills}
 use Rattle.spec_compiler.specs.declared.unsigned.Unsigned.{Unsigned}
 use Rattle.spec_compiler.specs.Transactions.{Standing, tx_of, digest_of_spent, prepared, holding_or_none, branch_unsigned}
 use Rattle.spec_compiler.specs.ByPath.{prepared_at}
-use Rattle.spec_compiler.specs.Witness.{selectors, witness_stack, witness_of, chosen, chosen_by}
+use Rattle.spec_compiler.specs.Witness.{witness_stack}
 use Rattle.spec_run.specs.Setup.{Setup, contract_at}
 use Rattle.spec_run.specs.World.{ContractPosition, Output, World, live_position_at, bindings_at}
 use Rattle.spec_run.specs.Compiled.{compiled_instance}
@@ -34,12 +32,10 @@ use Rattle.spec_run.specs.Conditions.{IsSetup}
 use Rattle.spec_run.specs.Firing.{branch_signatures, shown_strings, first_unshown, branch_witness, taking_witnesses, taking_transaction, taking_of_parts, taking_of_position, prepared_if_compiled}
 use Rattle.spec_run.specs.Ledger.{verdict_in, contract_in, position_path, position_branch}
 use Rattle.spec_run.specs.Steps.{names_deposit}
-use Rattle.theory_script.proofs.ScriptTheorem.{all_append, all_reverse, selectors_select}
-use Rattle.theory_script.proofs.Scripts.Witnesses.{witness_opens}
-use Rattle.theory_script.proofs.Scripts.Chosen.{opened_is_chosen}
+use Rattle.theory_calculus.proofs.Names.{bytes_refl}
+use Rattle.theory_calculus.proofs.Members.{Is_in}
+use Rattle.theory_script.proofs.Scripts.Witnesses.{witness_opens, stack_short, secrets_short}
 use Rattle.theory_script.proofs.Listing.Stands.{position_stands}
-use Rattle.theory_world.proofs.Same.{bytes_refl}
-use Rattle.theory_world.proofs.Contracts.Positions.{Is_in}
 use Rattle.theory_world.proofs.Hashed.{among_tail, among_head}
 use Rattle.theory_world.proofs.Later.{compiled_is}
 use Rattle.theory_world.proofs.Contracts.Standing.{unsigned_of_branch, position_named, term_choice}
@@ -50,60 +46,6 @@ use Rattle.theory_run.proofs.Accepted.WhatItIs.{at_bound}
 use Rattle.theory_world.proofs.Ledger.Acceptable.{Ready, Asked, accepts, worth}
 use Rattle.theory_offers.proofs.Basis.Offered.{KeptOffers, number_of, IsOpen, ready_all, numbers_apart, number_is, digest_size, signature_short}
 use Rattle.theory_offers.proofs.AllSigned.{branch_met, put_met}
-
--- ---- a witness stack
-
-empty_short : (i : ℕ) → list_all is_short (replicate i []) ≡ true
-empty_short zero = refl
-empty_short (suc i) = empty_short i
-
-selectors_short : (i n : ℕ) → list_all is_short (selectors i n) ≡ true
-selectors_short i n = by_last (nat_lt (i + 1) n)
-  where
-    by_last : (b : Bool) → list_all is_short (if b then replicate i [] ++ (1 ∷ []) ∷ [] else replicate i []) ≡ true
-    by_last true = all_append is_short (replicate i []) ((1 ∷ []) ∷ []) (empty_short i) refl
-    by_last false = empty_short i
-
-secrets_short : (hash : List ℕ → List ℕ) (strings digests : List (List ℕ)) → are_secrets hash strings digests ≡ true → list_all is_short strings ≡ true
-secrets_short hash [] digests h = refl
-secrets_short hash (x ∷ strings) [] h = cc
-secrets_short hash (x ∷ strings) (digest ∷ digests) h =
-    let p = and_parts (is_secret hash x digest) (are_secrets hash strings digests) h in
-    let q = and_parts (nat_le 16 (length x) && nat_le (length x) 520) _ p.0 in
-    let r = and_parts (nat_le 16 (length x)) (nat_le (length x) 520) q.0 in
-    and_from (is_short x) (list_all is_short strings) r.1 (secrets_short hash strings digests p.1)
-
-stack_short : (signatures strings : List (List ℕ)) (i n : ℕ) → list_all is_short signatures ≡ true → list_all is_short strings ≡ true → list_all is_short (witness_stack signatures strings i n) ≡ true
-stack_short signatures strings i n h k =
-    all_append is_short (reverse signatures) _ (all_reverse is_short signatures h)
-    (all_append is_short (reverse strings) (reverse (selectors i n)) (all_reverse is_short strings k) (all_reverse is_short (selectors i n) (selectors_short i n)))
-
-from_top : (signatures strings : List (List ℕ)) (i n : ℕ) → reverse (witness_stack signatures strings i n) ≡ selectors i n ++ (strings ++ signatures)
-from_top signatures strings i n =
-    reverse-append (reverse signatures) (reverse strings ++ reverse (selectors i n))
-    ∙ ap (λ (xs : List (List ℕ)). xs ++ reverse (reverse signatures)) (reverse-append (reverse strings) (reverse (selectors i n)))
-    ∙ rw (reverse-reverse, reverse-reverse, reverse-reverse) (append_assoc (selectors i n) strings signatures)
-
--- the witness chooses its branch
-pub witness_chooses : (hash : List ℕ → List ℕ) (valid : List ℕ → List ℕ → Bool) (st : Instance) (position : List PathStep) (choice : Contract) (i : ℕ) (signatures strings : List (List ℕ)) (script : List ℕ) → Fills hash valid st position choice i signatures strings
-    → chosen_by (length (branches choice)) (witness_of signatures strings i (length (branches choice)) script) ≡ i
-witness_chooses hash valid st position choice i signatures strings script f =
-    let n = length (branches choice) in
-    let stack = witness_stack signatures strings i n in
-    let opens : Opens hash valid st position choice (reverse stack) = record {
-      i = i;
-      b = f.b;
-      is_branch = f.is_branch;
-      selectors = selectors i n;
-      strings = strings;
-      signatures = signatures;
-      is_stack = from_top signatures strings i n;
-      selects = selectors_select i n;
-      fits = f.fits;
-      predicate = f.predicate;
-      signed = f.signed;
-    } in
-    ap (λ xs. chosen n (drop 1 xs)) (reverse-append stack (script ∷ [])) ∙ opened_is_chosen hash valid st position choice (reverse stack) opens
 
 -- signatures of a digest whose pairs stand in the book
 signed_each : (book : List Pair) (d : List ℕ) (f : List ℕ → List ℕ) (ps : List (List ℕ)) → ((a : List ℕ) → is_among a ps ≡ true → has_signed book (f a) d ≡ true) → are_valid (is_valid book d) (map (λ key. signature_of key d) (map f ps)) (map f ps) ≡ true

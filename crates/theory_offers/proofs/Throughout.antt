@@ -17,7 +17,7 @@ use Rattle.spec_run.specs.Conditions.{IsSetup, IsEvent}
 use Rattle.spec_run.specs.Draft.{settled, guess}
 use Rattle.spec_run.specs.Revealing.{fits, fitting}
 use Rattle.spec_run.specs.Secrets.{digest_at, is_shown, secret_size, length_in_run}
-use Rattle.spec_run.specs.Event.{Passed, Progress, draft, record_of, opening_world, opening_collision, played}
+use Rattle.spec_run.specs.Event.{Progress, draft, record_of, opening_world, opening_collision, played}
 use Rattle.spec_run.specs.Translation.{turn_of, world_after, opening_configuration, last_configuration, last_world}
 use Rattle.spec_run.specs.Agreement.{Agree}
 use Rattle.spec_run.specs.Offers.{Offer, offers}
@@ -28,6 +28,7 @@ use Rattle.theory_run.proofs.Facts.KeptSecrets.{Begins, KeptSecrets, committed_b
 use Rattle.theory_run.proofs.Steps.Followed.{agree_all}
 use Rattle.theory_run.proofs.Following.{Keeps, turn_at, posted_begins, run_posts, kept_at_end, holds_throughout}
 use Rattle.theory_run.proofs.Facts.Bookkeeping.{checks}
+use Rattle.theory_run.proofs.Worlds.Committed.{all_push}
 use Rattle.theory_offers.proofs.OffersKept.{offers_kept}
 use Rattle.theory_offers.proofs.WholeRun.{KeptAll, all_after, opening_all, keeps_all}
 use Rattle.theory_offers.proofs.Blanked.{blank, same_offers}
@@ -44,10 +45,6 @@ record Cut (s : Setup) (es : List Event) (g : Configuration) (w : World) : Type 
   left : world_after (opening_world s) (played s es).passed ≡ w
   alike : (y : List (List ℕ)) → blank (reached s y (opening_configuration s) (opening_world s) (played s es).passed) ≡ blank g
 
-all_more : {X : Type 0} (P : X → Type 0) (xs : List X) (x : X) → AllByRecursion P xs → P x → AllByRecursion P (xs ++ x ∷ [])
-all_more P [] x h p = (p, tt)
-all_more P (y ∷ ys) x h p = (h.0, all_more P ys x h.1 p)
-
 events_more : (rs : List Record) (r : Record)
     → map (λ (x : Record). x.event) (rs ++ r ∷ []) ≡ map (λ (x : Record). x.event) rs ++ r.event ∷ []
 events_more [] r = refl
@@ -62,7 +59,7 @@ cut_after s z es g w e cut is calm unguessed =
     let p = passing s w e in
     let more = played_more s es e first w cut.on cut.left calm unguessed in
     record {
-      events = all_more (IsEvent s) es e cut.events is;
+      events = all_push (IsEvent s) es e cut.events is;
       on = ap (λ (x : Progress). x.halt) more;
       left = ap (λ (x : Progress). world_after first x.passed) more ∙ left_more ps p first;
       alike = λ y.

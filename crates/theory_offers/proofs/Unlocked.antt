@@ -1,7 +1,6 @@
 -- Revealed secrets fit the digests that a script asks for, and have the committed lengths.
-use Rattle.std.proofs.Common.{◌≡◌, ℕ, ◌-◌, List, [], ◌∷◌, ◌++◌, length, map, Bool, true, false, not, Option, Some, None, refl, sym, ap, ◌∙◌, subst, inl, inr, cond}
+use Rattle.std.proofs.Common.{◌≡◌, ℕ, ◌-◌, List, [], ◌∷◌, ◌++◌, length, map, Bool, true, false, not, Option, Some, None, refl, sym, ap, ◌∙◌, subst, inl, inr}
 use Rattle.std.specs.Prelude.{◌==◌, ◌&&◌, ◌||◌, is_some, if◌then◌else◌}
-use Rattle.std.specs.List.{find}
 use Rattle.std.specs.Option.{option_map}
 use Rattle.std.specs.Str.{bytes_eq}
 use Rattle.std.proofs.lemmas.Bool.{and_parts, and_from, or_left, or_right, or_cases, both_ways, not-true, eqb-true}
@@ -22,10 +21,11 @@ use Rattle.spec_run.specs.Committing.{is_secret_long}
 use Rattle.spec_run.specs.Revealing.{fits, fitting}
 use Rattle.spec_run.specs.Secrets.{digest_at, is_shown, secret_size, length_in_run}
 use Rattle.spec_run.specs.Firing.{shown_string, shown_strings, first_unshown}
-use Rattle.theory_world.proofs.Same.{bytes-true, bytes_refl}
+use Rattle.theory_calculus.proofs.Names.{bytes-true, bytes_refl}
+use Rattle.theory_calculus.proofs.Members.{Is_in}
 use Rattle.theory_world.proofs.Hashed.{any_found}
-use Rattle.theory_world.proofs.Contracts.Positions.{Is_in}
 use Rattle.theory_run.proofs.Facts.KeptSecrets.{Begins, KeptSecrets, is_own, length_at-by}
+use Rattle.theory_run.proofs.Halting.Halts.{found}
 
 -- ---- whose a name is
 
@@ -97,21 +97,13 @@ digest_is k owner name d (p ∷ ps) own h = by_tests (p.contract == k) (bytes_eq
 
 -- ---- what is found
 
-find-true : (p : List ℕ → Bool) (xs : List (List ℕ)) (t : List ℕ) → find p xs ≡ Some t → (p t ≡ true) × (is_among t xs ≡ true)
-find-true p [] t h = cc
-find-true p (x ∷ xs) t h = by_test (p x) refl h (find-true p xs t)
-  where
-    by_test : (b : Bool) → p x ≡ b → cond b (Some x) (find p xs) ≡ Some t → (find p xs ≡ Some t → (p t ≡ true) × (is_among t xs ≡ true)) → (p t ≡ true) × (is_among t (x ∷ xs) ≡ true)
-    by_test true e q ih = let z : x ≡ t = cc in (subst (λ y. p y ≡ true) z e, or_left _ _ (subst (λ y. bytes_eq x y ≡ true) z (bytes_refl x)))
-    by_test false e q ih = let r = ih q in (r.0, or_right (bytes_eq x t) _ r.1)
-
 module _ (s : Setup) (z : List (List ℕ)) (g : Configuration) (w : World) (secrets_kept : KeptSecrets s z g w) (begins : Begins z w.posted) where
   -- the length in the run is that of the string that is shown
   length_is : (owner name d t : List ℕ) → (is_honest s owner ≡ true → is_own s w.hashed (held_secret s owner name) (Some d) ≡ true) → fitting s w.posted d ≡ Some t → length_in_run s z owner name d ≡ Some (length t - 16)
   length_is owner name d t own f = by_honest (is_honest s owner) refl
     where
       ft : (fits s d t ≡ true) × (is_among t w.posted ≡ true)
-      ft = find-true (fits s d) w.posted t f
+      ft = found (fits s d) w.posted t f
 
       by_held : (o : Option (List ℕ)) → is_own s w.hashed o (Some d) ≡ true → option_map secret_size o ≡ Some (length t - 16)
       by_held None h = cc
@@ -147,7 +139,7 @@ module _ (s : Setup) (z : List (List ℕ)) (g : Configuration) (w : World) (secr
             record {
               string = t;
               found = ap (fitting s w.posted) di ∙ f;
-              fit = subst (λ y. fits s y t ≡ true) (sym di) (find-true (fits s d) w.posted t f).0;
+              fit = subst (λ y. fits s y t ≡ true) (sym di) (found (fits s d) w.posted t f).0;
               size = ap (λ o. length_by g.committed k o name) l ∙ ap (λ cs. known_length (length_at cs k owner name)) secrets_kept.lengths ∙ ap known_length (length_at-by s z x w.promises) ∙ ap (λ o. known_length (option_map (length_in_run s z owner name) o)) e ∙ ap (λ o. known_length (Some o)) len;
             }
 

@@ -11,7 +11,7 @@ use Rattle.spec_run.specs.Setup.{Setup}
 use Rattle.spec_data.specs.Messages.{collision}
 use Rattle.spec_run.specs.World.{World}
 use Rattle.spec_run.specs.Draft.{Draft, guess, settled, settle}
-use Rattle.spec_run.specs.Event.{Passed, draft, goes_on, opening_world, played_from, played}
+use Rattle.spec_run.specs.Event.{draft, goes_on, opening_world, played_from, played}
 use Rattle.spec_run.specs.Translation.{Turn, turn_of, turns_from, world_after, record_in, opening_configuration, course, last_or, last_configuration, last_world}
 use Rattle.spec_run.specs.Conditions.{IsEvent}
 use Rattle.spec_run.specs.Statements.{Claim, HoldsFrom, HoldsThroughout}

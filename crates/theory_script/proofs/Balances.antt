@@ -1,7 +1,7 @@
 -- What a compiled contract holds at its positions is their static balance: it pays for their branches, and is no more than all money.
 use Rattle.std.proofs.Common.{◌≡◌, ℕ, zero, suc, ◌+◌, ◌-◌, ◌≤◌, List, [], ◌∷◌, ◌++◌, Bool, true, false, not, Option, Some, None, refl, sym}
 use Rattle.std.proofs.Common.{subst, arith}
-use Rattle.std.specs.Prelude.{◌&&◌, slice_get, option_map, option_and_then, pos, ◌-ℤ◌, int_lt, if◌then◌else◌}
+use Rattle.std.specs.Prelude.{◌&&◌, slice_get, option_map, option_and_then, pos, ◌-ℤ◌, int_lt}
 use Rattle.std.specs.List.{list_all, Contains}
 use Rattle.std.proofs.lemmas.Bool.{and_parts, and_from, not-true, not_from_false}
 use Rattle.std.proofs.lemmas.Int.{ints}
@@ -12,13 +12,11 @@ use Rattle.spec_terms.specs.Term.{Contract, no_branch, branch, branches, Parts, 
 use Rattle.spec_terms.specs.Term.{split}
 use Rattle.spec_terms.specs.Core.{core}
 use Rattle.spec_terms.specs.Precondition.{persistent, volatile, total_of, value_of_puts}
-use Rattle.spec_terms.specs.Paths.{Subterm}
 use Rattle.spec_terms.specs.Paths as terms
-use Rattle.spec_terms.specs.Balance.{after_put, branches_funded, funded_under, parts_funded, root_balance, all_funded}
+use Rattle.spec_terms.specs.Balance.{branches_funded, funded_under, parts_funded, all_funded}
 use Rattle.spec_terms.specs.Balance as balance
 use Rattle.spec_data.specs.Ranges.{max_money}
 use Rattle.spec_terms.specs.Faults.{IsWellFormed, place_of, place_if, first_place, at_core, at_position, is_short, is_uneven, is_too_much}
-use Rattle.spec_terms.specs.declared.place.Place.{Place}
 use Rattle.spec_terms.specs.declared.path.PathStep.{PathStep}
 use Rattle.spec_terms.specs.declared.path.PathStep.TheVariants.{Branch as To, Part as Into}
 use Rattle.spec_compiler.specs.Instance.{Instance, branch_path}
@@ -27,7 +25,8 @@ use Rattle.spec_compiler.specs.Transactions.{root_value, root_standing}
 use Rattle.spec_compiler.specs.ByPath as by_path
 use Rattle.spec_compiler.specs.ByPath.{PathEnd, branch_end, continued_end, part_end, next_end, end_from, end_at, as_position}
 use Rattle.spec_compiler.specs.ByPath.{position_at}
-use Rattle.theory_script.proofs.Faultless.{no_fault, no_limit}
+use Rattle.theory_calculus.proofs.Faultless.{no_fault, no_limit, no_place}
+use Rattle.theory_calculus.proofs.Checked.{enough_alone, difference_alone}
 
 -- ---- the checks of balances, of all positions and branches
 
@@ -36,16 +35,12 @@ abbrev pub is_kept : ℕ → balance.Funded → Bool
 is_kept fee x =
     (not (is_short fee x.balance x.subterm) && not (at_core (is_uneven fee x.balance) x.subterm)) && not (at_position (λ c. is_too_much x.balance) x.subterm)
 
-not_placed : (b : Bool) (p : Place) → (if b then Some p else None) ≡ None → b ≡ false
-not_placed true p h = cc
-not_placed false p h = refl
-
 -- none passes the test where none has a place
 none_placed : (test : balance.Funded → Bool) (x : balance.Funded) (xs : List balance.Funded) → first_place test (x ∷ xs) ≡ None
     → (test x ≡ false) × (first_place test xs ≡ None)
 none_placed test x xs h =
     let p = or_else-none (place_if test x) (first_place test xs) h in
-    (not_placed (test x) (place_of x.subterm x) p.0, p.1)
+    (no_place (test x) (place_of x.subterm x) p.0, p.1)
 
 all_kept : (fee : ℕ) (xs : List balance.Funded) → first_place (λ x. is_short fee x.balance x.subterm) xs ≡ None
     → first_place (λ x. at_core (is_uneven fee x.balance) x.subterm) xs ≡ None
@@ -64,13 +59,6 @@ stands_kept a h =
 
 -- ---- numbers
 
--- where the balance isn't negative, nothing is cut off, and it is the difference of natural numbers
-enough : (m f : ℕ) → int_lt (pos m -ℤ pos f) (pos 0) ≡ false → f ≤ m
-enough m f h = grind (arith, ints, h)
-
-difference : (m f : ℕ) → f ≤ m → pos m -ℤ pos f ≡ pos (m - f)
-difference m f le = omega (arith, ints, le)
-
 within : (v : ℕ) → int_lt (pos max_money) (pos v) ≡ false → v ≤ max_money
 within v h = grind (arith, ints, h)
 
@@ -80,8 +68,8 @@ position_kept : (fee : ℕ) (q : List PathStep) (m f : ℕ) (c : Contract)
     → (pos m -ℤ pos f ≡ pos (m - f)) × (m - f ≤ max_money) × (f ≤ m)
 position_kept fee q m f c h =
     let p = and_parts (not (int_lt (pos m -ℤ pos f) (pos 0)) && true) (not (int_lt (pos max_money) (pos m -ℤ pos f))) h in
-    let le = enough m f (not-true _ (and_parts (not (int_lt (pos m -ℤ pos f) (pos 0))) true p.0).0) in
-    let e = difference m f le in
+    let le = enough_alone m f (not-true _ (and_parts (not (int_lt (pos m -ℤ pos f) (pos 0))) true p.0).0) in
+    let e = difference_alone m f le in
     (e, within (m - f) (subst (λ z. int_lt (pos max_money) z ≡ false) e (not-true _ p.1)), le)
 
 -- ---- what stands below
@@ -213,7 +201,7 @@ module _ (hash : List ℕ → List ℕ) (s : Instance) where
   continued_fine here i b (auth party body) p e f h = cc
   continued_fine here i b (after height body) p e f h = cc
 
-  -- with what a put brings, the position has enough for the fee
+  -- with what a put brings, the position has enough_alone for the fee
   pub put_enough : (here : Standing) (i : ℕ) (b : term.Guarded) (puts reveals : List (List ℕ)) (test : term.Pred) (next : Contract)
       → core b ≡ put_reveal puts reveals test next → Fine (by_path.at_branch here i b)
       → s.advert.fee ≤ here.output.value + value_of_puts (volatile s.advert.pre) puts

@@ -1,73 +1,45 @@
 -- What the check of a contract sees to at each of its positions.
-use Rattle.std.proofs.Common.{◌≡◌, ℕ, ◌<◌, List, [], ◌∷◌, ◌++◌, length, map, Bool, true, false, Option, Some, None, refl, sym, ◌∙◌, subst, arith, length-append}
-use Rattle.std.specs.Prelude.{◌&&◌, ◌||◌, not, nat_le, if◌then◌else◌}
+use Rattle.std.proofs.Common.{◌≡◌, ℕ, ◌<◌, List, [], ◌∷◌, ◌++◌, length, map, Bool, true, false, refl, sym, ◌∙◌, subst, arith, length-append, Some, None}
+use Rattle.std.specs.Prelude.{◌&&◌, ◌||◌, not, nat_le, if◌then◌else◌, slice_get}
 use Rattle.std.specs.Str.{bytes_eq}
 use Rattle.std.specs.List.{list_all}
-use Rattle.std.specs.Cmp.Lexicographic.{same_text}
-use Rattle.std.specs.Option.{option_map}
-use Rattle.std.proofs.lemmas.Bool.{and_parts, and_from}
+use Rattle.std.proofs.lemmas.Bool.{and_parts, and_from, not-false}
 use Rattle.spec_data.specs.Lists.{is_among}
-use Rattle.spec_data.proofs.ListLemmas.{or_else-none}
 use Rattle.spec_terms.specs.Term as term
 use Rattle.spec_terms.specs.Term.{Pred, always, both, negation, equal, less, auth, after, put_reveal, withdraw, split, Contract, no_branch, branch, branches, Parts, no_part, part}
 use Rattle.spec_terms.specs.Advert.{Advert}
-use Rattle.spec_terms.specs.Core.{core, reveals_of, test_of}
-use Rattle.spec_terms.specs.Paths.{Subterm, position, at_branch}
+use Rattle.spec_terms.specs.Core.{core, reveals_of, test_of, puts_of}
+use Rattle.spec_terms.specs.Paths.{Subterm, position, at_branch, contract_under}
 use Rattle.spec_terms.specs.Parties.{participants, add_new, add_all, choice_mentions}
-use Rattle.spec_terms.specs.Precondition.{secrets, names_of, party_of}
+use Rattle.spec_terms.specs.Precondition.{secrets, names_of, party_of, volatile}
 use Rattle.spec_terms.specs.Bound.{is_bounded, lengths_of_test}
 use Rattle.spec_terms.specs.Cost.{cost}
 use Rattle.spec_data.specs.Ranges.{max_money}
 use Rattle.spec_terms.specs.Readable.{is_readable_entry, is_readable_pre, is_readable_contract, is_some_list, is_always, is_whole_prefix, is_readable_count, are_readable, is_readable_branch, are_readable_parts}
-use Rattle.spec_terms.specs.Faults.{at_core, at_position, are_among, first_found, faults, exceeded, fits_a_script}
+use Rattle.spec_terms.specs.Faults.{at_position, are_among, faults, exceeded, fits_a_script, IsWellFormed, first_place, at_core}
 use Rattle.spec_terms.specs.declared.pre.Pre.{Pre}
-use Rattle.spec_terms.specs.declared.place.Place.{Place}
 use Rattle.spec_terms.specs.declared.path.PathStep.{PathStep}
+use Rattle.spec_terms.specs.Balance.{Funded, all_funded}
 use Rattle.spec_compiler.specs.Scripts.{digest_of}
 use Rattle.spec_compiler.specs.Instance.{Instance, people}
 use Rattle.spec_compiler.specs.Statements.{has_size, IsCompiled}
+use Rattle.theory_calculus.proofs.Faultless.{of_core, core_says, none_found, no_fault}
+use Rattle.theory_calculus.proofs.Names.{bytes-true}
+use Rattle.theory_calculus.proofs.Members.{all_get}
 use Rattle.theory_script.proofs.Listing.Subterms.{Each, EachUnder, EachPart, each_at, each_of_branches, each_of_advert}
 
 -- ---- tests of cores and of positions
-
--- the test is true of a branch's core
-abbrev of_core : (term.Guarded → Bool) → Subterm → Bool
-of_core g (position c) = true
-of_core g (at_branch b) = g (core b)
 
 -- the test is true of a position's choice
 abbrev of_choice : (Contract → Bool) → Subterm → Bool
 of_choice g (position c) = g c
 of_choice g (at_branch b) = true
 
-not_false : (b : Bool) → not b ≡ false → b ≡ true
-not_false true h = refl
-not_false false h = sym h
-
-core_says : (g : term.Guarded → Bool) (p : Subterm) → at_core (λ b. not (g b)) p ≡ false → of_core g p ≡ true
-core_says g (position c) h = refl
-core_says g (at_branch b) h = not_false (g (core b)) h
-
 choice_says : (g : Contract → Bool) (p : Subterm) → at_position (λ c. not (g c)) p ≡ false → of_choice g p ≡ true
-choice_says g (position c) h = not_false (g c) h
+choice_says g (position c) h = not-false (g c) h
 choice_says g (at_branch b) h = refl
 
 -- ---- no fault and no limit
-
-none_mapped : {X Y : Type 0} (f : X → Y) (o : Option X) → option_map f o ≡ None → o ≡ None
-none_mapped f None h = refl
-none_mapped f (Some x) h = cc
-
--- none of them has a place
-abbrev NoneFound : {K : Type 0} → List (K × Option Place) → Type 0
-NoneFound [] = Unit {0}
-NoneFound (f ∷ fs) = (f.1 ≡ None) × NoneFound fs
-
-none_found : {K : Type 0} (fs : List (K × Option Place)) → first_found fs ≡ None → NoneFound fs
-none_found [] h = tt
-none_found (f ∷ fs) h =
-    let p = or_else-none (option_map (λ place. (f.0, place)) f.1) (first_found fs) h in
-    (none_mapped (λ place. (f.0, place)) f.1 p.0, none_found fs p.1)
 
 -- what is known of the core of each branch
 pub record IsSound (hashes : List (List ℕ × List ℕ)) (b : term.Guarded) : Type 0 where
@@ -87,10 +59,26 @@ pub record IsGood (s : Instance) (choice : Contract) : Type 0 where
   pub sound : AllSound s.hashes (branches choice)
   pub fits : fits_a_script (cost (length (people s)) choice) ≡ true
 
--- ---- names among names
+-- ---- what the check sees of each branch
 
-same_bytes : (a b : List ℕ) → bytes_eq a b ≡ true → a ≡ b
-same_bytes a b h = same_text a b (sym h)
+pub core_fact : (test : term.Guarded → Bool) (a : Advert) (path : List PathStep) (c : Contract) (i : ℕ) (b : term.Guarded)
+    → first_place (λ (x : Funded). at_core (λ y. not (test y)) x.subterm) (all_funded a) ≡ None → contract_under a.root path ≡ Some c
+    → slice_get (branches c) i ≡ Some b → test (core b) ≡ true
+core_fact test a path c i b f e g =
+    let all = each_at (of_core test) a.root path c (each_of_advert (of_core test) _ a (λ x h. core_says test x.subterm h) f) e in
+    all_get (λ y. test (core y)) (branches c) i b (each_of_branches (of_core test) c all.1) g
+
+module _ (a : Advert) (well : IsWellFormed a) (path : List PathStep) (choice : Contract) (at : contract_under a.root path ≡ Some choice) (i : ℕ)
+    (b : term.Guarded) (there : slice_get (branches choice) i ≡ Some b) where
+  -- it puts volatile deposits
+  pub puts_known : list_all (λ x. is_among x (names_of (volatile a.pre))) (puts_of (core b)) ≡ true
+  puts_known = core_fact (λ y. are_among (puts_of y) (names_of (volatile a.pre))) a path choice i b (no_fault a well).1.0 at there
+
+  -- and reveals secrets
+  pub reveals_known : list_all (λ x. is_among x (names_of (secrets a.pre))) (reveals_of (core b)) ≡ true
+  reveals_known = core_fact (λ y. are_among (reveals_of y) (names_of (secrets a.pre))) a path choice i b (no_fault a well).1.1.0 at there
+
+-- ---- names among names
 
 -- what is true of all is true of one among them
 one_of : (g : List ℕ → Bool) (name : List ℕ) (known : List (List ℕ)) → list_all g known ≡ true → is_among name known ≡ true → g name ≡ true
@@ -100,7 +88,7 @@ one_of g name (a ∷ known) h k =
     by_test (bytes_eq a name) refl k p.0 (λ l. one_of g name known p.1 l)
   where
     by_test : (t : Bool) → bytes_eq a name ≡ t → (t || is_among name known) ≡ true → g a ≡ true → (is_among name known ≡ true → g name ≡ true) → g name ≡ true
-    by_test true e l here there = subst (λ x. g x ≡ true) (same_bytes a name e) here
+    by_test true e l here there = subst (λ x. g x ≡ true) (bytes-true a name e) here
     by_test false e l here there = there l
 
 all_of : (g : List ℕ → Bool) (names known : List (List ℕ)) → list_all g known ≡ true → are_among names known ≡ true → list_all g names ≡ true

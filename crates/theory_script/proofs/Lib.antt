@@ -6,7 +6,6 @@ mod Unlimited
 pub mod Balances
 pub mod Checked
 pub mod Encoding
-pub mod Faultless
 pub mod Listing
 pub mod Missing
 pub mod NumberLemmas

@@ -24,7 +24,8 @@ use Rattle.spec_compiler.specs.Transactions.{Standing, pays, deposit, holding_or
 use Rattle.spec_compiler.specs.Transactions.{core_unsigned, branch_unsigned, initial_unsigned}
 use Rattle.spec_compiler.specs.ByPath as by_path
 use Rattle.spec_compiler.specs.ByPath.{PathEnd, branch_end, end_at, as_position, position_at, as_unsigned, unsigned_at}
-use Rattle.theory_script.specs.Money.{IsKept, Pays}
+use Rattle.theory_calculus.specs.Money.{Pays}
+use Rattle.theory_script.specs.Money.{IsKept}
 use Rattle.theory_script.proofs.Balances.{Fine, root_enough, stand_fine, put_enough, position_fine, position_static, branch_fine}
 use Rattle.theory_script.proofs.Listing.Stands.{position_stands}
 

@@ -18,6 +18,7 @@ use Rattle.spec_compiler.specs.Statements.{is_short, are_secrets, are_valid, sec
 use Rattle.theory_script.proofs.Scripts.Demanded.{IsWell, AllWell, IsChecked, Unlocks, SaysUnlocks}
 use Rattle.theory_script.proofs.Scripts.Demanded.{HasSize}
 use Rattle.spec_compiler.specs.Witness.{selection, selectors}
+use Rattle.theory_calculus.proofs.Members.{all_append}
 use Rattle.theory_script.proofs.Scripts.Positions.{IsFine, AllFine, position_meets, output_meaning}
 use Rattle.theory_script.proofs.Scripts.Readable.{AllPlain, met_unlocks, unlocks_met}
 use Rattle.theory_script.proofs.Sizes.ScriptSizes.{HasSizes, AllHaveSizes, branch_sized, output_sized}
@@ -99,10 +100,6 @@ keeps_limits branches c =
       limits = and_from _ _ (all_pushable (output_ops branches) s.written) ops;
       few = omega (arith, s.few, c.operations);
     }
-
-pub all_append : {X : Type 0} (f : X → Bool) (xs ys : List X) → list_all f xs ≡ true → list_all f ys ≡ true → list_all f (xs ++ ys) ≡ true
-all_append f [] ys h k = k
-all_append f (x ∷ xs) ys h k = let p = and_parts (f x) (list_all f xs) h in and_from (f x) (list_all f (xs ++ ys)) p.0 (all_append f xs ys p.1 k)
 
 pub all_reverse : {X : Type 0} (f : X → Bool) (xs : List X) → list_all f xs ≡ true → list_all f (reverse xs) ≡ true
 all_reverse f [] h = refl

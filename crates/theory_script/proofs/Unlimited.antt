@@ -1,14 +1,14 @@
 -- The limit on items isn't met where there are few items and few operations.
-use Rattle.std.proofs.Common.{◌≡◌, ℕ, ◌+◌, ◌≤◌, List, [], ◌∷◌, length, Bool, true, false, Option, Some, None, refl, sym, ap, ◌∙◌, arith}
+use Rattle.std.proofs.Common.{◌≡◌, ℕ, ◌+◌, ◌≤◌, List, [], ◌∷◌, length, Bool, true, false, Option, Some, None, refl, ap, ◌∙◌, arith}
 use Rattle.std.specs.Prelude.{if◌then◌else◌, nat_le, not}
 use Rattle.std.specs.Option.{option_and_then}
 use Rattle.spec_bitcoin.specs.declared.script.Op.{Op}
 use Rattle.spec_bitcoin.specs.declared.opcode.Kind.{Kind}
 use Rattle.spec_bitcoin.specs.declared.opcode.Kind.TheVariants.{Begins, Cuts, Ends, Runs}
 use Rattle.spec_bitcoin.specs.Effects.{Item, Stacks, truth}
-use Rattle.spec_bitcoin.specs.Meaning.{within_limit, pop_condition, run, run_sections, outcome}
+use Rattle.spec_bitcoin.specs.Meaning.{pop_condition, run, run_sections, outcome}
 use Rattle.spec_bitcoin.specs.Trees.{Items, End, Plain, Block, Sections, NoMore, Section, Open, Outside, Inside, Unmatched}
-use Rattle.spec_bitcoin.specs.Trees.{put_front, put_kind, kind_of, read, outside, tree_of}
+use Rattle.spec_bitcoin.specs.Trees.{put_front, put_kind, kind_of, read, outside}
 use Rattle.theory_script.specs.Limits.{free_act, free_choose, free_items, free_sections, free_outcome}
 use Rattle.theory_script.proofs.Scripts.Limits.{Holds, act_holds, act_is, step_in}
 

@@ -1,18 +1,18 @@
 -- What is claimed of the money in a contract's transactions: each pays out all that it spends but the fee, and nothing is cut off at zero.
-use Rattle.std.specs.Prelude.{◌≡◌, ℕ, ◌+◌, ◌≤◌, List, Some, slice_get, sum_by, pos}
+use Rattle.std.specs.Prelude.{◌≡◌, ℕ, ◌+◌, List, Some, slice_get, sum_by, pos}
 use Rattle.std.specs.List.{Contains}
 use Rattle.spec_terms.specs.Paths as spots
 use Rattle.spec_terms.specs.Balance.{as_funded, all_funded}
-use Rattle.spec_terms.specs.Term.{Guarded, auth, after, put_reveal, withdraw, split, Contract, branches}
+use Rattle.spec_terms.specs.Term.{Guarded, Contract, branches}
 use Rattle.spec_terms.specs.Advert.{Advert}
 use Rattle.spec_terms.specs.Core.{core}
-use Rattle.spec_terms.specs.Precondition.{volatile, value_of_puts}
-use Rattle.spec_terms.specs.Faults.{IsWellFormed, sum_of_parts}
+use Rattle.spec_terms.specs.Faults.{IsWellFormed}
 use Rattle.spec_terms.specs.declared.path.PathStep.{PathStep}
 use Rattle.spec_compiler.specs.declared.unsigned.Unsigned.{Unsigned}
 use Rattle.spec_compiler.specs.Instance.{Instance}
 use Rattle.spec_compiler.specs.Transactions.{Standing, initial_unsigned}
 use Rattle.spec_compiler.specs.ByPath.{position_at, unsigned_at}
+use Rattle.theory_calculus.specs.Money.{Pays}
 
 -- what a transaction pays out, in satoshi
 abbrev pub paid_out : Unsigned → ℕ
@@ -25,14 +25,6 @@ paid_in d = sum_by (λ x. x.value) d.spends
 -- what a transaction spends is what it pays out and the fee of its contract
 abbrev pub IsKept : Advert → Unsigned → Type 0
 IsKept advert d = paid_out d + advert.fee ≡ paid_in d
-
--- a balance pays for what a core does: with the deposits that a put brings for the fee, and for a split's parts and the fee exactly
-abbrev pub Pays : Advert → ℕ → Guarded → Type 0
-Pays advert balance (put_reveal puts reveals test next) = advert.fee ≤ balance + value_of_puts (volatile advert.pre) puts
-Pays advert balance (withdraw party) = advert.fee ≤ balance
-Pays advert balance (split parts) = sum_of_parts parts + advert.fee ≡ balance
-Pays advert balance (auth party body) = Unit {0}
-Pays advert balance (after height body) = Unit {0}
 
 -- every transaction of the contract keeps its money; every position holds exactly its static balance, and pays for each of its branches
 pub record KeepsMoney (hash : List ℕ → List ℕ) (s : Instance) : Type 0 where

@@ -7,7 +7,7 @@ use Rattle.spec_data.specs.Lists.{is_among}
 use Rattle.spec_bitcoin.specs.declared.label.Label.{Label}
 use Rattle.spec_bitcoin.specs.Keys.{Pair, label_text, key_of, has_signed, is_valid, signature_of}
 use Rattle.spec_run.specs.Signing.{signed, signed_all}
-use Rattle.theory_world.proofs.Same.{bytes-true, bytes_refl}
+use Rattle.theory_calculus.proofs.Names.{bytes-true, bytes_refl}
 use Rattle.theory_world.proofs.Tests.{any-append}
 use Rattle.theory_world.proofs.Hashed.{NoClash}
 

@@ -1,7 +1,5 @@
-pub mod Balances
 pub mod Checking
 pub mod Endorsed
-pub mod Faultless
 pub mod FirstKey
 pub mod Keyed
 pub mod Made

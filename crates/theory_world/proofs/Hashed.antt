@@ -1,19 +1,16 @@
 -- The messages of a run: what is among them, and that no two of them have one digest.
 use Rattle.std.proofs.Common.{◌≡◌, ℕ, List, [], ◌∷◌, ◌++◌, Bool, true, false, Option, Some, None, refl, sym, ap, ◌∙◌, subst, arith, inl, inr, cond}
-use Rattle.std.specs.Prelude.{◌||◌, ◌⊎◌, if◌then◌else◌, is_some}
+use Rattle.std.specs.Prelude.{◌⊎◌, if◌then◌else◌, is_some}
 use Rattle.std.specs.List.{find, list_any}
-use Rattle.std.specs.Option.{option_map, option_or}
+use Rattle.std.specs.Option.{option_or}
 use Rattle.std.specs.Str.{bytes_eq}
 use Rattle.std.proofs.lemmas.Bool.{or_left, or_right, or_cases}
 use Rattle.spec_data.specs.Lists.{is_among}
 use Rattle.spec_data.specs.Messages.{noted, noted_all, is_twin, clash, collision}
-use Rattle.theory_world.proofs.Same.{bytes-true, bytes_refl}
-use Rattle.theory_world.proofs.Tests.{any-append}
+use Rattle.theory_calculus.proofs.Names.{bytes-true, bytes_refl, among-append}
+use Rattle.theory_calculus.proofs.Faultless.{map_none}
 
 -- ---- byte strings in lists
-
-pub among-append : (t : List ℕ) (xs ys : List (List ℕ)) → is_among t (xs ++ ys) ≡ (is_among t xs || is_among t ys)
-among-append t xs ys = any-append (λ x. bytes_eq x t) xs ys
 
 pub among_head : (t : List ℕ) (us : List (List ℕ)) → is_among t (t ∷ us) ≡ true
 among_head t us = or_left _ _ (bytes_refl t)
@@ -92,10 +89,6 @@ pub record NoClash (hash : List ℕ → List ℕ) (ms : List (List ℕ)) : Type 
 
 pub no_clash_none : (hash : List ℕ → List ℕ) → NoClash hash []
 no_clash_none hash = record { one = λ t u h k e. cc }
-
-map_none : {A B : Type 0} (f : A → B) (o : Option A) → option_map f o ≡ None → o ≡ None
-map_none f None h = refl
-map_none f (Some x) h = cc
 
 or_none : {A : Type 0} (a b : Option A) → option_or a b ≡ None → (a ≡ None) × (b ≡ None)
 or_none None b h = (refl, h)

@@ -12,7 +12,7 @@ use Rattle.spec_run.specs.declared.outcome.Reason.{Reason}
 use Rattle.spec_run.specs.Setup.{Setup}
 use Rattle.spec_run.specs.World.{World, live_position_at}
 use Rattle.spec_run.specs.Compiled.{compiled_instance}
-use Rattle.spec_run.specs.Draft.{Draft, refused, unless}
+use Rattle.spec_run.specs.Draft.{Draft, unless}
 use Rattle.spec_run.specs.Advertising.{advertise_row}
 use Rattle.spec_run.specs.Committing.{commit_row, digest_row, committed_strings, strings_compiled, with_promise}
 use Rattle.spec_run.specs.Signing.{endorse_row, init_row, authorise_row, sign_row, with_pairs}
@@ -23,7 +23,7 @@ use Rattle.spec_run.specs.Ledger.{judged, reaches, verdict_in}
 use Rattle.spec_run.specs.Event.{draft, append_read, mine_row}
 use Rattle.spec_run.specs.Hashing.{event_strings, judged_strings, reaching_strings, reaching_if, reaching_read}
 use Rattle.spec_run.specs.Values.{is_refused}
-use Rattle.theory_world.specs.Hashing.{HashesRow, EventsHashRows}
+use Rattle.theory_world.specs.Hashing.{EventsHashRows}
 
 -- the draft hashes these strings, or a front of them where it is refused
 record HashesOf (d : Draft) (xs : List (List ℕ)) : Type 0 where

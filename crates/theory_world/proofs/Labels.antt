@@ -15,22 +15,17 @@ use Rattle.spec_terms.specs.declared.path.PathStep.{PathStep}
 use Rattle.spec_terms.specs.declared.path.PathStep.TheVariants.{Branch as To, Part as Into}
 use Rattle.spec_terms.specs.Advert.{Advert}
 use Rattle.spec_bitcoin.specs.Keys.{IsStep}
+use Rattle.theory_calculus.proofs.Members.{get_below}
 
--- a number within a short list is a number of 4 bytes
-pub get_below : {X : Type 0} (xs : List X) (n : ℕ) (x : X) → slice_get xs n ≡ Some x → n < length xs
-get_below [] n x h = cc
-get_below (y ∷ xs) zero x h = omega arith
-get_below (y ∷ xs) (suc n) x h = let r = get_below xs n x h in omega (arith, r)
-
-branch_readable : (c : Contract) (i : ℕ) (b : term.Guarded) → are_readable c ≡ true → slice_get (branches c) i ≡ Some b → is_readable_branch b ≡ true
+pub branch_readable : (c : Contract) (i : ℕ) (b : term.Guarded) → are_readable c ≡ true → slice_get (branches c) i ≡ Some b → is_readable_branch b ≡ true
 branch_readable no_branch i b h e = cc
 branch_readable (branch d c) zero b h e = let z : d ≡ b = cc in subst (λ y. is_readable_branch y ≡ true) z (and_parts (is_readable_branch d) (are_readable c) h).0
 branch_readable (branch d c) (suc i) b h e = branch_readable c i b (and_parts (is_readable_branch d) (are_readable c) h).1 e
 
-abbrev is_fine : Contract → Bool
+abbrev pub is_fine : Contract → Bool
 is_fine c = is_readable_count c && are_readable c
 
-part_fine : (ps : Parts) (k : ℕ) (p : ℕ × Contract) → are_readable_parts ps ≡ true → slice_get (parts_list ps) k ≡ Some p → is_fine p.1 ≡ true
+pub part_fine : (ps : Parts) (k : ℕ) (p : ℕ × Contract) → are_readable_parts ps ≡ true → slice_get (parts_list ps) k ≡ Some p → is_fine p.1 ≡ true
 part_fine no_part k p h e = cc
 part_fine (part v c ps) zero p h e =
     let z : (let q : ℕ × Contract = (v, c) in q) ≡ p = cc in
@@ -39,7 +34,7 @@ part_fine (part v c ps) zero p h e =
 part_fine (part v c ps) (suc k) p h e = part_fine ps k p (and_parts (nat_le v max_money && is_fine c) (are_readable_parts ps) h).1 e
 
 -- a core is as its branch
-core_readable : (b : term.Guarded) → is_readable_branch b ≡ true → is_readable_branch (core b) ≡ true
+pub core_readable : (b : term.Guarded) → is_readable_branch b ≡ true → is_readable_branch (core b) ≡ true
 core_readable (auth party body) h = core_readable body (and_parts _ (is_readable_branch body) h).1
 core_readable (after height body) h = core_readable body (and_parts _ (is_readable_branch body) h).1
 core_readable (put_reveal puts reveals test next) h = h

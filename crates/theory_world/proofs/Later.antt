@@ -13,7 +13,8 @@ use Rattle.spec_run.specs.Setup.{Setup, contract_at}
 use Rattle.spec_run.specs.World.{ContractPosition, Output, Promise, World, output_at, bindings_at, is_advertised, is_promise_of, has_promised, have_promised, digests_at}
 use Rattle.spec_run.specs.Compiled.{outpoint_of, bound_outpoints, instance_of, is_complete, instance_if_complete, compiled_instance}
 use Rattle.spec_run.specs.Ledger.{spend_from, made_from}
-use Rattle.theory_world.proofs.Tests.{any-append, all_then}
+use Rattle.theory_calculus.proofs.Members.{all_then}
+use Rattle.theory_world.proofs.Tests.{any-append}
 
 -- ---- outputs by number, after a transaction
 

@@ -8,8 +8,8 @@ use Rattle.spec_calculus.specs.declared.parts.Revealed.{Revealed}
 use Rattle.spec_run.specs.World.{Promise, is_promise_of}
 use Rattle.spec_run.specs.Committing.{used_digests, used_again}
 use Rattle.spec_run.specs.Secrets.{digest_at}
-use Rattle.theory_world.proofs.Same.{bytes-true, bytes_refl}
-use Rattle.theory_world.proofs.Hashed.{among_left, among_right, among_head, among-append}
+use Rattle.theory_calculus.proofs.Names.{bytes-true, bytes_refl, among-append}
+use Rattle.theory_world.proofs.Hashed.{among_left, among_right, among_head}
 
 abbrev pub digests_in : List (List ℕ × List ℕ) → List (List ℕ)
 digests_in ds = map (λ d. d.1) ds

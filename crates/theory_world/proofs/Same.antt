@@ -1,17 +1,11 @@
 -- Tests of sameness say what they test.
-use Rattle.std.proofs.Common.{◌≡◌, ℕ, List, true, refl}
+use Rattle.std.proofs.Common.{◌≡◌, true, refl}
 use Rattle.std.specs.Prelude.{◌==◌}
 use Rattle.std.specs.Str.{bytes_eq}
 use Rattle.std.proofs.lemmas.Bool.{and_parts, and_from, eqb-true, eq-eqb}
-use Rattle.std.proofs.lemmas.Slice.Eq.{bytes_eq-Decides}
 use Rattle.spec_bitcoin.specs.declared.tx.OutPoint.{OutPoint}
 use Rattle.spec_bitcoin.specs.Live.{same_outpoint}
-
-pub bytes-true : (xs ys : List ℕ) → bytes_eq xs ys ≡ true → xs ≡ ys
-bytes-true xs ys h = (bytes_eq-Decides xs ys).0 h
-
-pub bytes_refl : (xs : List ℕ) → bytes_eq xs xs ≡ true
-bytes_refl xs = (bytes_eq-Decides xs xs).1 refl
+use Rattle.theory_calculus.proofs.Names.{bytes-true, bytes_refl}
 
 pub place-true : (p q : OutPoint) → same_outpoint p q ≡ true → p ≡ q
 place-true p q h =

@@ -1,7 +1,6 @@
 -- What is authorised stays so through all steps, and what a list of authorisations adds.
-use Rattle.std.proofs.Common.{◌≡◌, ℕ, List, [], ◌∷◌, ◌++◌, Bool, true, false, refl, sym, ap, ◌∙◌, subst, inl, inr, cond}
-use Rattle.std.specs.Prelude.{◌==◌, ◌&&◌, if◌then◌else◌}
-use Rattle.std.specs.List.{filter}
+use Rattle.std.proofs.Common.{◌≡◌, ℕ, List, [], ◌∷◌, ◌++◌, Bool, true, false, refl, sym, ◌∙◌, subst, inl, inr, cond}
+use Rattle.std.specs.Prelude.{◌==◌, ◌&&◌}
 use Rattle.std.specs.Str.{bytes_eq}
 use Rattle.std.proofs.lemmas.Bool.{and_from, or_left, or_right, eq-eqb}
 use Rattle.spec_terms.specs.Precondition.{Holding}
@@ -14,9 +13,9 @@ use Rattle.spec_calculus.specs.Beginning.{is_init_authorised}
 use Rattle.spec_calculus.specs.Branches.{has_branch_authorised}
 use Rattle.spec_calculus.specs.Steps.{with_init, with_branch, effect, after_steps}
 use Rattle.spec_run.specs.Steps.{auth_inits}
-use Rattle.theory_world.proofs.Same.{bytes_refl}
+use Rattle.theory_calculus.proofs.Names.{bytes_refl}
+use Rattle.theory_calculus.proofs.Members.{Is_in}
 use Rattle.theory_world.proofs.Tests.{any-append}
-use Rattle.theory_world.proofs.Contracts.Positions.{Is_in}
 
 -- ---- one authorisation
 
@@ -27,7 +26,7 @@ init_more given c d k x h = by_test (is_init_authorised given c d)
     by_test true = h
     by_test false = any-append (λ (a : InitAuthorisation). (a.contract == k) && bytes_eq a.deposit x) given (record { contract = c; deposit = d } ∷ []) ∙ or_left _ _ h
 
-init_new : (given : List InitAuthorisation) (c : ℕ) (d : List ℕ) → is_init_authorised (with_init given c d) c d ≡ true
+pub init_new : (given : List InitAuthorisation) (c : ℕ) (d : List ℕ) → is_init_authorised (with_init given c d) c d ≡ true
 init_new given c d = by_test (is_init_authorised given c d) refl
   where
     by_test : (b : Bool) → is_init_authorised given c d ≡ b → is_init_authorised (cond b given (given ++ record { contract = c; deposit = d } ∷ [])) c d ≡ true
@@ -91,14 +90,3 @@ pub auth_inits_new : (k : ℕ) (ds : List (List ℕ × Holding)) (g : Configurat
 auth_inits_new k [] g e h = absurd h
 auth_inits_new k (d ∷ ds) g e (inl q) = inits_stay (auth_inits k ds) (effect g (steps.AuthInit k (d.1).owner (d.0))) k (e.0) (subst (λ (y : List ℕ × Holding). is_init_authorised (with_init g.init_authorised k (d.0)) k (y.0) ≡ true) (sym q) (init_new g.init_authorised k (d.0)))
 auth_inits_new k (d ∷ ds) g e (inr i) = auth_inits_new k ds (effect g (steps.AuthInit k (d.1).owner (d.0))) e i
-
--- what passes the test is among those that do
-pub filter_in : {A : Type 0} (f : A → Bool) (xs : List A) (x : A) → Is_in x xs → f x ≡ true → Is_in x (filter f xs)
-filter_in f [] x h t = absurd h
-filter_in f (y ∷ ys) x h t = by_test (f y) refl h (λ i. filter_in f ys x i t)
-  where
-    by_test : (b : Bool) → f y ≡ b → Is_in x (y ∷ ys) → (Is_in x ys → Is_in x (filter f ys)) → Is_in x (if b then y ∷ filter f ys else filter f ys)
-    by_test true e (inl q) ih = inl q
-    by_test true e (inr i) ih = inr (ih i)
-    by_test false e (inl q) ih = let z : f y ≡ true = ap f (sym q) ∙ t in cc
-    by_test false e (inr i) ih = ih i

@@ -3,8 +3,7 @@ use Rattle.std.proofs.Common.{◌≡◌, ℕ, suc, ◌+◌, List, [], ◌∷◌,
 use Rattle.std.specs.Prelude.{◌==◌, ◌&&◌, ◌||◌}
 use Rattle.std.specs.List.{filter, list_all, list_any, fold, sum_by}
 use Rattle.std.proofs.lemmas.Bool.{and_parts, and_from, or_cases, eqb-true}
-use Rattle.spec_data.specs.Lists.{has_number, is_among}
-use Rattle.theory_world.proofs.Same.{bytes-true}
+use Rattle.spec_data.specs.Lists.{has_number}
 
 pub all_alike : {X : Type 0} (f g : X → Bool) (xs : List X) → ((x : X) → f x ≡ g x) → list_all f xs ≡ list_all g xs
 all_alike f g xs h = λ i. list_all (λ x. h x i) xs
@@ -12,19 +11,9 @@ all_alike f g xs h = λ i. list_all (λ x. h x i) xs
 pub any_alike : {X : Type 0} (f g : X → Bool) (xs : List X) → ((x : X) → f x ≡ g x) → list_any f xs ≡ list_any g xs
 any_alike f g xs h = λ i. list_any (λ x. h x i) xs
 
-pub all_then : {X : Type 0} (f g : X → Bool) (xs : List X) → ((x : X) → f x ≡ true → g x ≡ true) → list_all f xs ≡ true → list_all g xs ≡ true
-all_then f g [] h a = refl
-all_then f g (x ∷ xs) h a =
-    let p = and_parts (f x) (list_all f xs) a in
-    and_from (g x) (list_all g xs) (h x p.0) (all_then f g xs h p.1)
-
 pub all_of : {X : Type 0} (f : X → Bool) (xs : List X) → ((x : X) → f x ≡ true) → list_all f xs ≡ true
 all_of f [] h = refl
 all_of f (x ∷ xs) h = and_from _ _ (h x) (all_of f xs h)
-
-pub all_map : {X Y : Type 0} (f : Y → Bool) (g : X → Y) (xs : List X) → list_all f (map g xs) ≡ list_all (λ x. f (g x)) xs
-all_map f g [] = refl
-all_map f g (x ∷ xs) = ap (λ b. f (g x) && b) (all_map f g xs)
 
 pub any_map : {X Y : Type 0} (f : Y → Bool) (g : X → Y) (xs : List X) → list_any f (map g xs) ≡ list_any (λ x. f (g x)) xs
 any_map f g [] = refl
@@ -37,13 +26,6 @@ any-append p (x ∷ xs) ys = grind (arith, any-append p xs ys)
 pub all-append : {X : Type 0} (p : X → Bool) (xs ys : List X) → list_all p (xs ++ ys) ≡ (list_all p xs && list_all p ys)
 all-append p [] ys = refl
 all-append p (x ∷ xs) ys = grind (arith, all-append p xs ys)
-
-pub all_filter : {X : Type 0} (f p : X → Bool) (xs : List X) → list_all f xs ≡ true → list_all f (filter p xs) ≡ true
-all_filter f p [] a = refl
-all_filter f p (x ∷ xs) a =
-    let q = and_parts (f x) (list_all f xs) a in
-    let ih = all_filter f p xs q.1 in
-    grind arith
 
 pub filter-append : {X : Type 0} (p : X → Bool) (xs ys : List X) → filter p (xs ++ ys) ≡ filter p xs ++ filter p ys
 filter-append p [] ys = refl
@@ -76,14 +58,4 @@ all_has f (x ∷ xs) a h i =
     elim (or_cases (x == a) (has_number a xs) i) [
       | inl q ↦ subst (λ y. f y ≡ true) (eqb-true x a q) p.0
       | inr q ↦ all_has f xs a p.1 q
-    ]
-
--- and of a byte string among them
-pub all_among : (f : List ℕ → Bool) (xs : List (List ℕ)) (a : List ℕ) → list_all f xs ≡ true → is_among a xs ≡ true → f a ≡ true
-all_among f [] a h i = cc
-all_among f (x ∷ xs) a h i =
-    let p = and_parts (f x) (list_all f xs) h in
-    elim (or_cases _ (is_among a xs) i) [
-      | inl q ↦ subst (λ y. f y ≡ true) (bytes-true x a q) p.0
-      | inr q ↦ all_among f xs a p.1 q
     ]

@@ -1,7 +1,6 @@
 -- What is claimed of the strings that events hash: those of their row in the table, and where an event is refused at most these.
-use Rattle.std.specs.Prelude.{◌≡◌, ℕ, List, [], ◌++◌, false, true}
+use Rattle.std.specs.Prelude.{◌≡◌, ℕ, List, ◌++◌, false, true}
 use Rattle.spec_run.specs.declared.event.Event.{Event}
-use Rattle.spec_run.specs.declared.event.Event.TheVariants as events
 use Rattle.spec_run.specs.Setup.{Setup}
 use Rattle.spec_run.specs.World.{World}
 use Rattle.spec_run.specs.Draft.{Draft}

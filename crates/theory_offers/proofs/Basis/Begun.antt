@@ -22,6 +22,7 @@ use Rattle.spec_run.specs.Ledger.{Begins, accepted, is_initial, initial_of, kind
 use Rattle.spec_run.specs.Steps.{names_deposit}
 use Rattle.spec_run.specs.Event.{record_of}
 use Rattle.spec_run.specs.HonestDeposits.{is_init, was_done, gives, by_contract, takes_persistent, SpendsWithLeave}
+use Rattle.theory_calculus.proofs.Names.{persistent_deposit}
 use Rattle.theory_world.proofs.Hashed.{NoClash}
 use Rattle.theory_world.proofs.Contracts.Mentions.{HasDeposit, has_deposit}
 use Rattle.theory_world.proofs.Ledger.Worth.{IsAccepted}
@@ -31,7 +32,7 @@ use Rattle.theory_run.proofs.Facts.Kept.{KeptBook}
 use Rattle.theory_run.proofs.Accepted.Spending.{Checked}
 use Rattle.theory_run.proofs.Facts.Opening.{owner_is}
 use Rattle.theory_run.proofs.Accepted.Accept.{bare_in, spent_at}
-use Rattle.theory_run.proofs.Accepted.WhatItIs.{AtBound, at_bound, persistent_deposit, IsInitial, initial_is}
+use Rattle.theory_run.proofs.Accepted.WhatItIs.{AtBound, at_bound, IsInitial, initial_is}
 use Rattle.theory_offers.proofs.Basis.Stepped.{spends_in, is_gone}
 use Rattle.theory_offers.proofs.Basis.Reached.{BeginsEndorsed}
 use Rattle.theory_offers.proofs.Endorsing.{KeptStarts}

@@ -26,8 +26,7 @@ use Rattle.spec_run.specs.Secrets.{newly_shown}
 use Rattle.spec_run.specs.Signing.{with_pairs, endorsing_pairs, endorse_row, endorse_draft, initial_pairs, init_row, init_draft, authorising_pairs, authorise_row, authorise_draft, sign_row, sign_draft}
 use Rattle.spec_run.specs.Event.{mine_row, mine_draft}
 use Rattle.spec_run.specs.Steps.{commit_lengths, steps_of}
-use Rattle.theory_run.proofs.Facts.AllSecrets.{different_names}
-use Rattle.theory_run.proofs.Accepted.Numbers.{persistent_different}
+use Rattle.theory_calculus.proofs.Names.{different_names, persistent_different}
 use Rattle.theory_run.proofs.Facts.Kept.{KeptBook}
 use Rattle.theory_run.proofs.Accepted.Spending.{Checked}
 use Rattle.theory_offers.proofs.Basis.Offered.{KeptOffers}

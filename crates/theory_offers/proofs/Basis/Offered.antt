@@ -32,9 +32,9 @@ use Rattle.spec_run.specs.Giving.{deposit_witness}
 use Rattle.spec_run.specs.Firing.{deposit_witnesses}
 use Rattle.spec_run.specs.Steps.{names_deposit, is_bound_live}
 use Rattle.spec_run.specs.Values.{live_value}
+use Rattle.theory_calculus.proofs.Names.{bytes_refl}
+use Rattle.theory_calculus.proofs.Members.{Is_in}
 use Rattle.theory_script.proofs.Scripts.Deposits.{deposit_meaning}
-use Rattle.theory_world.proofs.Same.{bytes_refl}
-use Rattle.theory_world.proofs.Contracts.Positions.{Is_in}
 use Rattle.theory_world.proofs.Later.{compiled_is}
 use Rattle.theory_run.proofs.Steps.CommitSteps.{Constant}
 use Rattle.theory_run.proofs.Facts.Kept.{KeptBook}

@@ -25,16 +25,16 @@ use Rattle.spec_run.specs.Setup.{Setup, pre_at, pre_of}
 use Rattle.spec_run.specs.World.{ContractPosition, World, output_at, live_position_at}
 use Rattle.spec_run.specs.Compiled.{compiled_instance}
 use Rattle.spec_run.specs.Signing.{signed_all, authorising_pairs, branch_pair, prepared_if_compiled, pairs_of_deposits, initial_pairs}
-use Rattle.spec_run.specs.Steps.{auth_inits, init_steps, is_of_party, is_bound_live}
-use Rattle.theory_world.proofs.Same.{bytes-true, bytes_refl}
+use Rattle.spec_run.specs.Steps.{init_steps, is_of_party, is_bound_live}
+use Rattle.theory_calculus.proofs.Names.{bytes-true, bytes_refl}
+use Rattle.theory_calculus.proofs.Members.{Is_in, in_filter}
 use Rattle.theory_world.proofs.Tests.{any-append}
 use Rattle.theory_world.proofs.Book.{signed_more, signed_new}
-use Rattle.theory_world.proofs.Contracts.Positions.{Is_in}
 use Rattle.theory_world.proofs.Later.{compiled_is}
 use Rattle.theory_world.proofs.Contracts.Standing.{unsigned_of_branch}
+use Rattle.theory_run.proofs.Steps.Beginnings.{init_all, after-inits}
 use Rattle.theory_offers.proofs.Basis.Offered.{KeptOffers}
 use Rattle.theory_offers.proofs.Basis.Opening.{signs_offers}
-use Rattle.theory_world.proofs.Contracts.Endorsed.{in_filter}
 
 -- ---- a branch
 
@@ -84,15 +84,6 @@ authorise_offers s g w party n i hashed posted more there =
 
 -- ---- an initial transaction
 
--- the authorisations after those of these deposits
-abbrev pub all_inits : List InitAuthorisation → ℕ → List (List ℕ × Holding) → List InitAuthorisation
-all_inits xs k [] = xs
-all_inits xs k (d ∷ ds) = all_inits (with_init xs k (d.0)) k ds
-
-after-inits : (g : Configuration) (k : ℕ) (ds : List (List ℕ × Holding)) → after_steps g (auth_inits k ds) ≡ record g { init_authorised = all_inits g.init_authorised k ds }
-after-inits g k [] = refl
-after-inits g k (d ∷ ds) = after-inits (record g { init_authorised = with_init g.init_authorised k (d.0) }) k ds
-
 pub with_init-split : (xs : List InitAuthorisation) (k : ℕ) (x : List ℕ) (j : ℕ) (y : List ℕ) → is_init_authorised (with_init xs k x) j y ≡ true → (is_init_authorised xs j y ≡ true) ⊎ ((k ≡ j) × (x ≡ y))
 with_init-split xs k x j y h = by_test (is_init_authorised xs k x) h
   where
@@ -106,7 +97,7 @@ with_init-split xs k x j y h = by_test (is_init_authorised xs k x) h
       | inr u ↦ elim (or_cases ((k == j) && bytes_eq x y) false u) [ inl v ↦ new v | inr v ↦ cc ]
     ]
 
-all_inits-split : (xs : List InitAuthorisation) (k : ℕ) (ds : List (List ℕ × Holding)) (j : ℕ) (y : List ℕ) → is_init_authorised (all_inits xs k ds) j y ≡ true
+all_inits-split : (xs : List InitAuthorisation) (k : ℕ) (ds : List (List ℕ × Holding)) (j : ℕ) (y : List ℕ) → is_init_authorised (init_all xs k ds) j y ≡ true
     → (is_init_authorised xs j y ≡ true) ⊎ ((k ≡ j) × ((d : List ℕ × Holding) × Is_in d ds × (d.0 ≡ y)))
 all_inits-split xs k [] j y h = inl h
 all_inits-split xs k (d ∷ ds) j y h = elim (all_inits-split (with_init xs k (d.0)) k ds j y h) [
@@ -154,8 +145,8 @@ pub init_offers : (s : Setup) (g : Configuration) (w : World) (k : ℕ) (party :
 init_offers s g w k party hashed posted more st c apart =
     let ps = initial_pairs s party (compiled_instance s w k) in
     let ds = filter (λ d. is_of_party party d && is_bound_live w k d) (persistent (pre_at s k)) in
-    subst (λ x. KeptOffers s x (record w { book = signed_all w.book ps; hashed = hashed; posted = posted })) (sym (after-inits g k ds))
-    (signs_offers s g (record g { init_authorised = all_inits g.init_authorised k ds }) w (signed_all w.book ps) hashed posted more
+    subst (λ x. KeptOffers s x (record w { book = signed_all w.book ps; hashed = hashed; posted = posted })) (sym (after-inits k ds g))
+    (signs_offers s g (record g { init_authorised = init_all g.init_authorised k ds }) w (signed_all w.book ps) hashed posted more
     (record { parties = more.constant.parties; honest = more.constant.honest; contracts = more.constant.contracts })
     (λ a d h. signed_more w.book ps a d h)
     (λ j x h. elim (all_inits-split g.init_authorised k ds j x h) [ inl y ↦ inl y | inr y ↦ inr (subst (λ m. is_some (compiled_instance s w m) ≡ true) y.0 (ap is_some c)) ])

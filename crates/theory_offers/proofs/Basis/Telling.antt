@@ -2,8 +2,7 @@
 use Rattle.std.proofs.Common.{◌≡◌, ℕ, zero, suc, ◌≤◌, List, [], ◌∷◌, ◌++◌, length, map, Bool, true, false, Option, Some, None, refl, sym, ap, ◌∙◌, subst, inl, inr, append-nil}
 use Rattle.std.specs.Prelude.{◌==◌, ◌&&◌, slice_get, is_some}
 use Rattle.std.specs.List.{list_any, list_all, AllByRecursion}
-use Rattle.std.specs.Str.{bytes_eq}
-use Rattle.std.proofs.lemmas.Bool.{and_parts, and_from, or_left, or_right, or_parts, or_cases, both_ways, not-false, eqb-true, eq-eqb}
+use Rattle.std.proofs.lemmas.Bool.{and_parts, and_from, or_parts, or_cases, both_ways, not-false, eqb-true, eq-eqb}
 use Rattle.spec_data.specs.Lists.{is_among, are_different, look_up, first_reason, NoneTrue}
 use Rattle.spec_data.proofs.ListLemmas.{no_reason-none_true}
 use Rattle.spec_terms.specs.Advert.{Advert}
@@ -23,28 +22,17 @@ use Rattle.spec_run.specs.Draft.{done, settled}
 use Rattle.spec_run.specs.Owners.{suits}
 use Rattle.spec_run.specs.Advertising.{arranged, not_live, deposit_names, advertise_row, advertise_draft}
 use Rattle.spec_run.specs.Steps.{steps_of}
-use Rattle.theory_world.proofs.Same.{bytes_refl}
-use Rattle.theory_world.proofs.Tests.{any-append, all_among}
+use Rattle.theory_calculus.proofs.Names.{all_among, different_names, in_named}
+use Rattle.theory_calculus.proofs.Members.{Is_in, some_there}
+use Rattle.theory_world.proofs.Tests.{any-append}
 use Rattle.theory_world.proofs.Hashed.{NoClash}
-use Rattle.theory_world.proofs.Contracts.Positions.{Is_in}
-use Rattle.theory_run.proofs.Facts.AllSecrets.{different_names}
 use Rattle.theory_world.proofs.Later.{lasts_refl, are_made, bindings-more, compiled_is, compiled_from, compiled_stays}
 use Rattle.theory_run.proofs.Facts.Kept.{KeptBook, AdvertFine, IsBound, Frame, signs}
 use Rattle.theory_run.proofs.Accepted.Spending.{Checked}
 use Rattle.theory_world.proofs.Staying.{inits_stay, asked_stay}
 use Rattle.theory_run.proofs.Events.Quiet.{KeptAfter, unless_after}
-use Rattle.theory_run.proofs.Events.Advertised.{look_arranged, some_arranged, all_looked, live_looked, suits_looked, one_name, suits_bound, entry_named, deposit_looked}
-
-some_is : {X : Type 0} (o : Option X) → is_some o ≡ true → (x : X) × (o ≡ Some x)
-some_is None h = cc
-some_is (Some x) h = (x, refl)
-
-some_such : (f : List ℕ → Bool) (xs : List (List ℕ)) → list_any f xs ≡ true → (a : List ℕ) × (is_among a xs ≡ true) × (f a ≡ true)
-some_such f [] h = cc
-some_such f (x ∷ xs) h = elim (or_cases (f x) (list_any f xs) h) [
-  | inl q ↦ (x, or_left _ _ (bytes_refl x), q)
-  | inr q ↦ (let r = some_such f xs q in (r.0, or_right (bytes_eq x r.0) _ r.1, r.2))
-]
+use Rattle.theory_run.proofs.Events.Advertised.{look_arranged, some_arranged, all_looked, live_looked, suits_looked, one_name, suits_bound, deposit_looked}
+use Rattle.theory_run.proofs.Events.AfterAdvert.{any_there}
 
 one_of : {X : Type 0} (P : X → Type 0) (xs : List X) (n : ℕ) (x : X) → AllByRecursion P xs → slice_get xs n ≡ Some x → P x
 one_of P [] n x h e = cc
@@ -60,7 +48,7 @@ made_arranged : (w : World) (names : List (List ℕ)) (bs : List (List ℕ × �
 made_arranged w [] bs live h = refl
 made_arranged w (m ∷ names) bs live h =
     let p = and_parts (is_some (look_up m bs)) (list_all (λ m. is_some (look_up m bs)) names) h in
-    let r = some_is (look_up m bs) p.0 in
+    let r = some_there (look_up m bs) p.0 in
     let e = r.1 in
     and_from _ _ (rw e (by_output (output_at w r.0) (live_looked w bs m r.0 live e))) (made_arranged w names bs live p.1)
   where
@@ -92,7 +80,7 @@ module _ (s : Setup) (size : HashesBytes s.hash) (few_contracts : length s.contr
 
   module _ (row : NoneTrue (advertise_row s w contract bindings)) where
     found : (a : Advert) × (contract_at s contract ≡ Some a)
-    found = some_is (contract_at s contract) (not-false _ row.0)
+    found = some_there (contract_at s contract) (not-false _ row.0)
 
     looked : list_all (λ m. is_some (look_up m bindings)) names ≡ true
     looked =
@@ -109,11 +97,11 @@ module _ (s : Setup) (size : HashesBytes s.hash) (few_contracts : length s.contr
     differ = subst (λ pre. are_different (map name_in pre) ≡ true) (sym pre_is) (different_names found.0 (one_of IsWellFormed s.contracts contract found.0 well found.1))
 
     fair : (a : List ℕ) × (is_among a (people_at s contract) ≡ true) × (is_honest s a ≡ true)
-    fair = some_such (is_honest s) (people_at s contract) (not-false _ row.1.1.1.1.1.1.0)
+    fair = any_there (is_honest s) (people_at s contract) (not-false _ row.1.1.1.1.1.1.0)
 
     bound_one : (name : List ℕ) (h : Holding) → Is_in (name, h) (deposits (pre_at s contract)) → (n : ℕ) × (look_up name (arranged 0 names bindings) ≡ Some n) × IsBound s next h n
     bound_one name h i =
-        let r = some_is (look_up name (arranged 0 names bindings)) (some_arranged names bindings name (entry_named (deposits (pre_at s contract)) (name, h) i)) in
+        let r = some_there (look_up name (arranged 0 names bindings)) (some_arranged names bindings name (in_named (deposits (pre_at s contract)) (name, h) i)) in
         let l = look_arranged names bindings name r.0 looked r.1 in
         let su = suits_looked s w contract bindings name r.0 row.1.1.1.1.1.0 l in
         let b = suits_bound s w h r.0 (subst (λ o. suits s o (output_at w r.0) ≡ true) (deposit_looked (pre_at s contract) (name, h) differ i) su) in

@@ -15,7 +15,8 @@ use Rattle.spec_run.specs.World.{Promise, World, is_advertised, is_promise_of, h
 use Rattle.spec_run.specs.Compiled.{compiled_instance}
 use Rattle.spec_run.specs.Advertising.{arranged}
 use Rattle.spec_run.specs.Committing.{secrets_at}
-use Rattle.theory_world.proofs.Tests.{any-append, all_among}
+use Rattle.theory_calculus.proofs.Names.{all_among}
+use Rattle.theory_world.proofs.Tests.{any-append}
 use Rattle.theory_world.proofs.Later.{lasts_refl, compiled_is, bindings-more, compiled_stays}
 use Rattle.theory_run.proofs.Steps.CommitSteps.{Constant}
 use Rattle.theory_run.proofs.Facts.Kept.{KeptBook}

@@ -28,15 +28,15 @@ use Rattle.spec_run.specs.Compiled.{compiled_instance}
 use Rattle.spec_run.specs.Conditions.{HashesBytes}
 use Rattle.spec_run.specs.Event.{opening_outputs}
 use Rattle.spec_run.specs.Ledger.{live_from, spend_from, made_from}
+use Rattle.theory_bitcoin.specs.Apart.{bare_input}
+use Rattle.theory_calculus.proofs.Members.{Is_in, get_below}
 use Rattle.theory_world.proofs.Hashed.{NoClash}
 use Rattle.theory_world.proofs.Ledger.Preimages.{HeardLists, heard_lists, double-apart, IsNumbered}
-use Rattle.theory_world.proofs.Ledger.Bare.{bare_input, NoScripts, stripped-apart, inputless_apart}
-use Rattle.theory_world.proofs.Contracts.Positions.{Is_in}
+use Rattle.theory_world.proofs.Ledger.Bare.{NoScripts, stripped-apart, inputless_apart}
 use Rattle.theory_world.proofs.Ledger.Accepting.{IsSpent, AllSpent, Accepting, HeardAll, heard_bytes, heard_bytes_hash, heard_shared, heard_input, later_strings, first_strings}
 use Rattle.theory_world.proofs.Later.{SameOutput, get-spent, get-front, get-split, get-made}
 use Rattle.spec_calculus.specs.Branches.{has_branch_authorised}
 use Rattle.theory_world.proofs.Ledger.Outputs.{length-spend_from}
-use Rattle.theory_world.proofs.Labels.{get_below}
 use Rattle.theory_run.proofs.Facts.Kept.{cause_later, KeptBook, HeldFine, BranchCause, SpentFor, AllSpentFor, From, opening_id, Frame, origin_later, held_later, advert_later}
 use Rattle.theory_run.proofs.Accepted.Spending.{TransactionsFit, Checked, deposit_signed}
 

@@ -19,10 +19,12 @@ use Rattle.spec_run.specs.World.{ContractPosition, Output, World, is_advertised}
 use Rattle.spec_run.specs.Compiled.{compiled_instance}
 use Rattle.spec_run.specs.Conditions.{HashesBytes}
 use Rattle.spec_run.specs.Ledger.{spend_from, made_from, branch_holds, branch_in, position_branch, position_path, contract_in, count_of, branch_count, first_number, first_witness, initial_of, first_position, Kind, Begins, Takes, Moves, kind_by, kind_of, new_position}
+use Rattle.theory_bitcoin.proofs.Apart.{AllPlaces}
+use Rattle.theory_calculus.proofs.Members.{Is_in}
+use Rattle.theory_calculus.proofs.Names.{persistent_deposit}
 use Rattle.theory_script.proofs.Scripts.Chosen.{opened_is_chosen}
-use Rattle.theory_world.proofs.Ledger.Preimages.{IsNumbered, AllPlaces}
+use Rattle.theory_world.proofs.Ledger.Preimages.{IsNumbered}
 use Rattle.theory_world.proofs.Hashed.{NoClash}
-use Rattle.theory_world.proofs.Contracts.Positions.{Is_in}
 use Rattle.theory_world.proofs.Ledger.Accepting.{Accepting, HeardAll, heard_input}
 use Rattle.theory_world.proofs.Later.{compiled_is}
 use Rattle.theory_world.proofs.Contracts.Standing.{term_choice, term_branches}
@@ -30,7 +32,7 @@ use Rattle.theory_world.proofs.Contracts.Mentions.{branch_named, payee_mentioned
 use Rattle.theory_run.proofs.Facts.Kept.{KeptBook, HeldFine, Frame, HeardDigest}
 use Rattle.theory_run.proofs.Accepted.Spending.{TransactionsFit, Checked, IsTaken, taken}
 use Rattle.theory_run.proofs.Accepted.Accept.{scripts_none, lists, all_strings_of}
-use Rattle.theory_run.proofs.Accepted.WhatItIs.{First, first, first_holds, persistent_deposit, at_bound, initial_is}
+use Rattle.theory_run.proofs.Accepted.WhatItIs.{First, first, first_holds, at_bound, initial_is}
 use Rattle.theory_run.proofs.Accepted.WhatItMakes.{Taking, accept_move, accept_begin, accept_branch}
 
 -- the items under a witness's script

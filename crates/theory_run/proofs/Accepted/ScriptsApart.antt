@@ -22,24 +22,21 @@ use Rattle.spec_run.specs.Owners.{paid_to}
 use Rattle.spec_run.specs.Compiled.{compiled_instance}
 use Rattle.spec_run.specs.Conditions.{HashesBytes}
 use Rattle.spec_run.specs.Giving.{given_output, gift}
+use Rattle.theory_bitcoin.specs.Apart.{bare}
+use Rattle.theory_calculus.proofs.Names.{bytes-true, bytes_refl}
 use Rattle.theory_script.proofs.Scripts.Opened.{opens_exactly}
 use Rattle.theory_script.proofs.Scripts.Deposits.{deposit_meaning}
 use Rattle.theory_script.proofs.Listing.Stands.{position_stands}
-use Rattle.theory_world.proofs.Same.{bytes-true, bytes_refl}
 use Rattle.theory_world.proofs.Hashed.{NoClash}
-use Rattle.theory_world.proofs.Ledger.Bare.{bare}
 use Rattle.theory_world.proofs.Later.{compiled_is}
 use Rattle.theory_run.proofs.Facts.Kept.{KeptBook}
 use Rattle.theory_run.proofs.Accepted.Spending.{Checked, script_heard, each_valid}
 use Rattle.theory_run.proofs.Facts.Labelled.{same_label, deposit_label, heard_label}
+use Rattle.theory_run.proofs.Facts.Opening.{among_map}
 
 -- a judge that takes any signature for this key
 abbrev only : List ℕ → List ℕ → List ℕ → Bool
 only key signature other = bytes_eq other key
-
-mapped : (f : List ℕ → List ℕ) (x : List ℕ) (xs : List (List ℕ)) → is_among x xs ≡ true → is_among (f x) (map f xs) ≡ true
-mapped f x [] h = cc
-mapped f x (y ∷ xs) h = grind (arith, mapped f x xs, bytes-true y x, bytes_refl (f x))
 
 module _ (s : Setup) (size : HashesBytes s.hash) (few_contracts : length s.contracts ≤ 16) (g : Configuration) (w : World) (kept : KeptBook s g w) (check : Checked s w) (clear : NoClash s.hash w.hashed)
     (k : ℕ) (st : Instance) (compiled : compiled_instance s w k ≡ Some st) where
@@ -60,7 +57,7 @@ module _ (s : Setup) (size : HashesBytes s.hash) (few_contracts : length s.contr
       let adv = kept.adverts k c.advertised in
       let part : is_among adv.fair.0 (people st) ≡ true = subst (λ p. is_among adv.fair.0 p ≡ true) (ap people_of c.there ∙ ap (λ (y : Instance). people y) (sym c.is)) adv.fair.1 in
       let branch_key = key_of s.hash (branch_label st.contract (branch_path q op.i) adv.fair.0) in
-      let r = each_valid valid op.signatures (branch_keys s.hash st (branch_path q op.i)) branch_key op.signed (mapped (λ party. key_of s.hash (branch_label st.contract (branch_path q op.i) party)) adv.fair.0 (people st) part) in
+      let r = each_valid valid op.signatures (branch_keys s.hash st (branch_path q op.i)) branch_key op.signed (among_map (λ party. key_of s.hash (branch_label st.contract (branch_path q op.i) party)) adv.fair.0 (people st) part) in
       let one : key_of s.hash (branch_label k (q ++ To op.i ∷ []) adv.fair.0) ≡ key = subst (λ m. key_of s.hash (branch_label m (q ++ To op.i ∷ []) adv.fair.0) ≡ key) number (bytes-true branch_key key r.1) in
       let l = same_label s size few_contracts g w kept check w.hashed clear (λ t h. h) (branch_label k (q ++ To op.i ∷ []) adv.fair.0) (labels.Deposit a)
       (heard_label s size few_contracts g w kept check w.hashed clear (λ t h. h) k st q here choice op.i op.b adv.fair.0 compiled stand op.is_branch part) (deposit_label s size few_contracts g w kept check w.hashed clear (λ t h. h) a declared) one in

@@ -38,16 +38,19 @@ use Rattle.spec_run.specs.World.{ContractPosition, Output, World}
 use Rattle.spec_run.specs.Owners.{paid_to}
 use Rattle.spec_run.specs.Compiled.{compiled_instance}
 use Rattle.spec_run.specs.Conditions.{HashesBytes}
+use Rattle.theory_bitcoin.proofs.Apart.{AllPlaces}
+use Rattle.theory_bitcoin.specs.Apart.{bare}
+use Rattle.theory_calculus.proofs.Names.{bytes-true, bytes_refl}
+use Rattle.theory_calculus.proofs.Members.{Is_in}
 use Rattle.theory_script.proofs.Scripts.Opened.{opens_exactly}
 use Rattle.theory_script.proofs.Scripts.Deposits.{deposit_meaning}
 use Rattle.theory_script.proofs.Listing.OutputScripts.{scripts_are_listed}
 use Rattle.theory_script.proofs.Listing.Stands.{position_stands}
 use Rattle.theory_script.specs.Listed.{at_path}
-use Rattle.theory_world.proofs.Same.{bytes-true, bytes_refl}
 use Rattle.theory_world.proofs.Hashed.{NoClash, among_left, among_right, among_head, among_tail}
-use Rattle.theory_world.proofs.Ledger.Preimages.{SameSigned, HeardLists, heard_lists, double-apart, preimage-apart, IsNumbered, AllPlaces}
-use Rattle.theory_world.proofs.Ledger.Bare.{bare, NoScripts, signed-bare}
-use Rattle.theory_world.proofs.Contracts.Positions.{Is_in, covered, branch_here, transactions_strings, transactions_labels}
+use Rattle.theory_world.proofs.Ledger.Preimages.{SameSigned, HeardLists, heard_lists, double-apart, preimage-apart, IsNumbered}
+use Rattle.theory_world.proofs.Ledger.Bare.{NoScripts, signed-bare}
+use Rattle.theory_world.proofs.Contracts.Positions.{covered, branch_here, transactions_strings, transactions_labels}
 use Rattle.theory_world.proofs.Contracts.Standing.{stand_of_branch, position_named}
 use Rattle.theory_world.proofs.Book.{valid_signed}
 use Rattle.theory_world.proofs.Later.{compiled_is}

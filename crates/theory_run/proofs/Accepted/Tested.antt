@@ -1,5 +1,5 @@
 -- What an accepted put or reveal shows: its secrets are revealed, and its test is true of their lengths.
-use Rattle.std.proofs.Common.{◌≡◌, ℕ, zero, suc, List, [], ◌∷◌, ◌++◌, length, map, reverse, Bool, true, false, not, Option, Some, None, refl, sym, ap, ◌∙◌, subst, inl, inr}
+use Rattle.std.proofs.Common.{◌≡◌, ℕ, List, [], ◌∷◌, ◌++◌, length, map, reverse, Bool, true, false, not, Option, Some, None, refl, sym, ap, ◌∙◌, subst, inl, inr}
 use Rattle.std.specs.Prelude.{◌-◌, if◌then◌else◌, ◌==◌, ◌&&◌, ◌||◌, slice_get, is_some}
 use Rattle.std.specs.List.{find, list_all, list_any}
 use Rattle.std.specs.Option.{option_map}
@@ -7,17 +7,12 @@ use Rattle.std.specs.Str.{bytes_eq}
 use Rattle.std.proofs.lemmas.Bool.{and_parts, and_from, or_cases, or_left, or_right, eqb-true, both_ways}
 use Rattle.std.proofs.lemmas.List.{reverse-append}
 use Rattle.spec_data.specs.Lists.{is_among, are_different, look_up}
-use Rattle.spec_terms.specs.Term as term
-use Rattle.spec_terms.specs.Term.{Contract, branches}
-use Rattle.spec_terms.specs.Core.{core, puts_of, reveals_of}
 use Rattle.spec_terms.specs.Advert.{Advert}
-use Rattle.spec_terms.specs.Paths.{Subterm, position, at_branch, contract_under}
-use Rattle.spec_terms.specs.Parties.{participants, add_new, add_all, choice_mentions}
-use Rattle.spec_terms.specs.Precondition.{volatile, secrets, names_of, name_in, party_of, names_of_party, secrets_of}
-use Rattle.spec_terms.specs.Faults.{at_core, are_among, IsWellFormed}
+use Rattle.spec_terms.specs.Parties.{participants, choice_mentions}
+use Rattle.spec_terms.specs.Precondition.{secrets, names_of, name_in, party_of, names_of_party, secrets_of}
+use Rattle.spec_terms.specs.Faults.{IsWellFormed}
 use Rattle.spec_terms.specs.declared.pre.Pre.{Pre}
 use Rattle.spec_terms.specs.declared.pre.Pre.TheVariants.{Persistent, Volatile, Secret}
-use Rattle.spec_terms.specs.declared.path.PathStep.{PathStep}
 use Rattle.spec_bitcoin.specs.Verdict.{items_of}
 use Rattle.spec_calculus.specs.declared.parts.Revealed.{Revealed}
 use Rattle.spec_calculus.specs.Configuration.{Configuration}
@@ -29,77 +24,16 @@ use Rattle.spec_run.specs.World.{Promise, World, digests_at, is_promise_of, has_
 use Rattle.spec_run.specs.Committing.{secrets_at, is_secret_long}
 use Rattle.spec_run.specs.Revealing.{fits, fitting}
 use Rattle.spec_run.specs.Secrets.{digest_at, is_shown, secret_size, length_in_run}
-use Rattle.theory_script.proofs.Listing.Subterms.{each_at, each_of_branches, each_of_advert}
-use Rattle.theory_world.proofs.Same.{bytes-true, bytes_refl}
-use Rattle.theory_world.proofs.Hashed.{among_left, among_right, among_head, among_split, any_then, find_any}
-use Rattle.theory_world.proofs.Contracts.Faultless.{no_fault}
-use Rattle.theory_run.proofs.Facts.AllSecrets.{different_names}
-use Rattle.theory_run.proofs.Steps.CommitSteps.{each}
-use Rattle.theory_world.proofs.Contracts.Positions.{Is_in}
+use Rattle.theory_world.proofs.Hashed.{among_left, among_head, among_split, any_then, find_any}
+use Rattle.theory_calculus.proofs.Names.{bytes-true, bytes_refl, different_names, looked_in, in_looked, named_looked, all_among}
+use Rattle.theory_calculus.proofs.Members.{Is_in}
+use Rattle.theory_world.proofs.Contracts.Mentions.{added}
 use Rattle.theory_run.proofs.Facts.KeptSecrets.{KeptSecrets, Begins, length_at-by}
 use Rattle.theory_run.proofs.Facts.Posting.{is_own-some}
-use Rattle.theory_run.proofs.Accepted.Numbers.{looked_in, in_looked, named_looked}
 
 -- ---- what the check of a contract sees to
 
-abbrev of_core : (term.Guarded → Bool) → Subterm → Bool
-of_core f (position c) = true
-of_core f (at_branch b) = f (core b)
-
-core_says : (f : term.Guarded → Bool) (p : Subterm) → at_core (λ b. not (f b)) p ≡ false → of_core f p ≡ true
-core_says f (position c) h = refl
-core_says f (at_branch b) h = by_test (f (core b)) h
-  where
-    by_test : (t : Bool) → not t ≡ false → t ≡ true
-    by_test true q = refl
-    by_test false q = sym q
-
-at_number : (f : term.Guarded → Bool) (bs : List term.Guarded) (i : ℕ) (b : term.Guarded) → list_all f bs ≡ true → slice_get bs i ≡ Some b → f b ≡ true
-at_number f [] i b h e = cc
-at_number f (x ∷ bs) zero b h e = let z : x ≡ b = cc in subst (λ y. f y ≡ true) z (and_parts (f x) (list_all f bs) h).0
-at_number f (x ∷ bs) (suc i) b h e = at_number f bs i b (and_parts (f x) (list_all f bs) h).1 e
-
-module _ (a : Advert) (well : IsWellFormed a) (path : List PathStep) (choice : Contract) (at : contract_under a.root path ≡ Some choice) (i : ℕ) (b : term.Guarded) (there : slice_get (branches choice) i ≡ Some b) where
-  -- a branch puts volatile deposits
-  pub puts_known : list_all (λ x. is_among x (names_of (volatile a.pre))) (puts_of (core b)) ≡ true
-  puts_known =
-      let known : term.Guarded → Bool = λ y. are_among (puts_of y) (names_of (volatile a.pre)) in
-      let e = each_at (of_core known) a.root path choice (each_of_advert (of_core known) _ a (λ x h. core_says known x.subterm h) (no_fault a well).1.0) at in
-      at_number (λ y. known (core y)) (branches choice) i b (each_of_branches (of_core known) choice e.1) there
-
-  -- and reveals secrets
-  pub reveals_known : list_all (λ x. is_among x (names_of (secrets a.pre))) (reveals_of (core b)) ≡ true
-  reveals_known =
-      let known : term.Guarded → Bool = λ y. are_among (reveals_of y) (names_of (secrets a.pre)) in
-      let e = each_at (of_core known) a.root path choice (each_of_advert (of_core known) _ a (λ x h. core_says known x.subterm h) (no_fault a well).1.1.0) at in
-      at_number (λ y. known (core y)) (branches choice) i b (each_of_branches (of_core known) choice e.1) there
-
 -- ---- whose a secret is
-
-new_more : (names : List (List ℕ)) (x a : List ℕ) → is_among a names ≡ true → is_among a (add_new names x) ≡ true
-new_more names x a h = by_test (is_among x names)
-  where
-    by_test : (b : Bool) → is_among a (if b then names else (names ++ x ∷ [])) ≡ true
-    by_test true = h
-    by_test false = among_left a names (x ∷ []) h
-
-new_there : (names : List (List ℕ)) (x : List ℕ) → is_among x (add_new names x) ≡ true
-new_there names x = by_test (is_among x names) refl
-  where
-    by_test : (b : Bool) → is_among x names ≡ b → is_among x (if b then names else (names ++ x ∷ [])) ≡ true
-    by_test true e = e
-    by_test false e = among_right x names (x ∷ []) (among_head x [])
-
-fold_more : (xs names : List (List ℕ)) (a : List ℕ) → is_among a names ≡ true → is_among a (add_all names xs) ≡ true
-fold_more [] names a h = h
-fold_more (x ∷ xs) names a h = fold_more xs (add_new names x) a (new_more names x a h)
-
-pub added : (xs names : List (List ℕ)) (a : List ℕ) → is_among a xs ≡ true → is_among a (add_all names xs) ≡ true
-added [] names a h = cc
-added (x ∷ xs) names a h = elim (or_cases (bytes_eq x a) (is_among a xs) h) [
-  | inl q ↦ fold_more xs (add_new names x) a (subst (λ y. is_among y (add_new names x) ≡ true) (bytes-true x a q) (new_there names x))
-  | inr q ↦ added xs (add_new names x) a q
-]
 
 pub secret_party : (pre : List Pre) (x : List ℕ × List ℕ) → Is_in x (secrets pre) → is_among (x.1) (map party_of pre) ≡ true
 secret_party [] x h = absurd h
@@ -161,7 +95,7 @@ secrets_different (Secret party name ∷ pre) h =
 
 -- ---- the digest that is committed
 
--- each commitment is to secrets of its party
+-- all_among commitment is to secrets of its party
 pub record PromisesNamed (s : Setup) (ps : List Promise) : Type 0 where
   pub named : (p : Promise) → Is_in p ps → (n d : List ℕ) → look_up n p.digests ≡ Some d → is_among n (secrets_at s p.contract p.party) ≡ true
 
@@ -258,7 +192,7 @@ module _ (s : Setup) (z : List (List ℕ)) (c : Configuration) (w : World) (kept
       let l = named_looked (secrets ad.pre) x h in
       let i = looked_in (secrets ad.pre) x l.0 l.1 in
       let part : is_among l.0 (participants ad) ≡ true = added (map party_of ad.pre ++ choice_mentions ad.root) [] l.0 (among_left l.0 (map party_of ad.pre) (choice_mentions ad.root) (secret_party ad.pre (x, l.0) i)) in
-      let has : has_promised w k l.0 ≡ true = each (has_promised w k) (participants ad) l.0 promised part in
+      let has : has_promised w k l.0 ≡ true = all_among (has_promised w k) (participants ad) l.0 promised part in
       let own : is_among x (secrets_at s k l.0) ≡ true = subst (λ pre. is_among x (secrets_of l.0 pre) ≡ true) (sym pre_is) (secret_among (secrets ad.pre) x l.0 i) in
       by_digest l.0 l.1 (digest_at w.promises (record { contract = k; party = l.0; secret = x })) refl (kept.full (record { contract = k; party = l.0; secret = x }) has own)
     where

@@ -1,15 +1,13 @@
 -- What an accepted transaction is to the contracts, and what its outputs hold.
-use Rattle.std.proofs.Common.{◌≡◌, ℕ, zero, suc, ◌+◌, List, [], ◌∷◌, length, map, Bool, true, false, not, Option, Some, None, refl, sym, ap, ◌∙◌, subst, arith, inl, inr}
+use Rattle.std.proofs.Common.{◌≡◌, ℕ, zero, suc, ◌+◌, List, [], ◌∷◌, length, map, Bool, true, false, not, Option, Some, None, refl, sym, ap, ◌∙◌, subst, arith, inl}
 use Rattle.std.specs.Prelude.{◌==◌, slice_get, if◌then◌else◌}
 use Rattle.std.specs.Str.{bytes_eq}
 use Rattle.std.proofs.lemmas.Bool.{both_ways}
 use Rattle.spec_data.specs.Lists.{is_among, look_up}
 use Rattle.spec_terms.specs.Term as term
-use Rattle.spec_terms.specs.Term.{Contract, branches, Parts, no_part, part, parts_list, auth, after, put_reveal, withdraw, split}
+use Rattle.spec_terms.specs.Term.{Contract}
 use Rattle.spec_terms.specs.Advert.{Advert}
 use Rattle.spec_terms.specs.Precondition.{Holding, deposits, persistent}
-use Rattle.spec_terms.specs.declared.pre.Pre.{Pre}
-use Rattle.spec_terms.specs.declared.pre.Pre.TheVariants.{Persistent, Volatile, Secret}
 use Rattle.spec_terms.specs.declared.path.PathStep.{PathStep}
 use Rattle.spec_bitcoin.specs.declared.tx.OutPoint.{OutPoint}
 use Rattle.spec_bitcoin.specs.declared.tx.TxIn.{TxIn}
@@ -28,10 +26,12 @@ use Rattle.spec_run.specs.World.{ContractPosition, Output, World, output_at, liv
 use Rattle.spec_run.specs.Compiled.{outpoint_of, bound_outpoints, compiled_instance}
 use Rattle.spec_run.specs.Conditions.{HashesBytes}
 use Rattle.spec_run.specs.Ledger.{is_initial, initial_from, initial_of, first_position}
+use Rattle.theory_bitcoin.specs.Apart.{bare_input, bare}
+use Rattle.theory_calculus.proofs.Members.{Is_in}
+use Rattle.theory_calculus.proofs.Names.{persistent_deposit}
 use Rattle.theory_world.proofs.Hashed.{NoClash}
 use Rattle.theory_world.proofs.Ledger.Preimages.{double-apart, IsNumbered}
-use Rattle.theory_world.proofs.Ledger.Bare.{bare, bare_input, same-true, same_from, stripped-apart, txid-bare}
-use Rattle.theory_world.proofs.Contracts.Positions.{Is_in}
+use Rattle.theory_world.proofs.Ledger.Bare.{same-true, same_from, stripped-apart, txid-bare}
 use Rattle.theory_world.proofs.Ledger.Accepting.{IsSpent, AllSpent, Accepting, HeardAll, heard_bytes, heard_bytes_hash, heard_input}
 use Rattle.theory_world.proofs.Later.{compiled_is}
 use Rattle.theory_world.proofs.Contracts.Made.{MadeBy, by_initial, by_branch, ByBranch, made_by}
@@ -92,13 +92,6 @@ bound_looked w (b ∷ bs) name n h = by_test (bytes_eq (b.0) name) h (bound_look
     by_test : (t : Bool) → (if t then Some (b.1) else look_up name bs) ≡ Some n → (look_up name bs ≡ Some n → look_up name (bound_outpoints w bs) ≡ Some (outpoint_of (output_at w n))) → (if t then Some (outpoint_of (output_at w (b.1))) else look_up name (bound_outpoints w bs)) ≡ Some (outpoint_of (output_at w n))
     by_test true q ih = let z : b.1 ≡ n = cc in ap (λ k. Some (outpoint_of (output_at w k))) z
     by_test false q ih = ih q
-
-pub persistent_deposit : (pre : List Pre) (d : List ℕ × Holding) → Is_in d (persistent pre) → Is_in d (deposits pre)
-persistent_deposit [] d h = absurd h
-persistent_deposit (Persistent party value name ∷ pre) d (inl e) = inl e
-persistent_deposit (Persistent party value name ∷ pre) d (inr k) = inr (persistent_deposit pre d k)
-persistent_deposit (Volatile party value name ∷ pre) d h = inr (persistent_deposit pre d h)
-persistent_deposit (Secret party name ∷ pre) d h = persistent_deposit pre d h
 
 -- a bound deposit lies at its output's place
 pub record AtBound (s : Setup) (w : World) (st : Instance) (name : List ℕ) (h : Holding) : Type 0 where

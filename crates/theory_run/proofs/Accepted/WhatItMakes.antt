@@ -22,9 +22,9 @@ use Rattle.spec_run.specs.World.{ContractPosition, Output, World, is_advertised}
 use Rattle.spec_run.specs.Compiled.{compiled_instance}
 use Rattle.spec_run.specs.Conditions.{HashesBytes}
 use Rattle.spec_run.specs.Ledger.{spend_from, made_from, core_holds, initial_of, first_position}
+use Rattle.theory_bitcoin.specs.Apart.{bare}
 use Rattle.theory_world.proofs.Ledger.Preimages.{IsNumbered}
 use Rattle.theory_world.proofs.Hashed.{NoClash}
-use Rattle.theory_world.proofs.Ledger.Bare.{bare}
 use Rattle.theory_world.proofs.Ledger.Accepting.{Accepting, HeardAll}
 use Rattle.theory_world.proofs.Later.{compiled_is}
 use Rattle.theory_world.proofs.Contracts.Made.{ByBranch}

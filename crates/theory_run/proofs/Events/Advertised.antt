@@ -4,7 +4,7 @@ use Rattle.std.specs.Prelude.{◌==◌, ◌&&◌, ◌||◌, is_some, if◌then�
 use Rattle.std.specs.List.{list_all}
 use Rattle.std.specs.Option.{is_none}
 use Rattle.std.specs.Str.{bytes_eq}
-use Rattle.std.proofs.lemmas.Bool.{and_parts, and_from, or_left, or_right, or_parts, or_cases, both_ways, not-true, eqb-true, eq-eqb}
+use Rattle.std.proofs.lemmas.Bool.{and_parts, and_from, or_left, or_right, or_parts, both_ways, not-true, eqb-true, eq-eqb}
 use Rattle.spec_data.specs.Lists.{is_among, are_different, has_number, look_up}
 use Rattle.spec_terms.specs.Precondition.{Holding, deposits, names_of, name_in}
 use Rattle.spec_terms.specs.declared.pre.Pre.{Pre}
@@ -15,9 +15,9 @@ use Rattle.spec_run.specs.Setup.{Setup, pre_at}
 use Rattle.spec_run.specs.World.{Output, World, output_at, is_deposit}
 use Rattle.spec_run.specs.Owners.{paid_to, owner_among, owner_by, suits}
 use Rattle.spec_run.specs.Advertising.{or_else_this, arranged, repeated, not_live, unsuited}
-use Rattle.theory_world.proofs.Same.{bytes-true, bytes_refl}
+use Rattle.theory_calculus.proofs.Names.{bytes-true, bytes_refl, deposit_named, in_named}
+use Rattle.theory_calculus.proofs.Members.{Is_in}
 use Rattle.theory_world.proofs.Tests.{any-append}
-use Rattle.theory_world.proofs.Contracts.Positions.{Is_in}
 use Rattle.theory_run.proofs.Facts.Kept.{IsBound}
 
 -- ---- look-ups in what is arranged
@@ -144,24 +144,13 @@ suits_bound s w h n t = by_output (output_at w n) refl t
 
 -- ---- names of deposits
 
-deposit_named : (pre : List Pre) (x : List ℕ) → is_among x (names_of (deposits pre)) ≡ true → is_among x (map name_in pre) ≡ true
-deposit_named [] x h = cc
-deposit_named (Persistent party value name ∷ pre) x h = elim (or_cases (bytes_eq name x) _ h) [ inl a ↦ or_left _ _ a | inr b ↦ or_right (bytes_eq name x) _ (deposit_named pre x b) ]
-deposit_named (Volatile party value name ∷ pre) x h = elim (or_cases (bytes_eq name x) _ h) [ inl a ↦ or_left _ _ a | inr b ↦ or_right (bytes_eq name x) _ (deposit_named pre x b) ]
-deposit_named (Secret party name ∷ pre) x h = or_right (bytes_eq name x) _ (deposit_named pre x h)
-
-pub entry_named : (ds : List (List ℕ × Holding)) (d : List ℕ × Holding) → Is_in d ds → is_among (d.0) (names_of ds) ≡ true
-entry_named [] d h = absurd h
-entry_named (e ∷ ds) d (inl q) = or_left _ _ (subst (λ (y : List ℕ × Holding). bytes_eq (e.0) (y.0) ≡ true) (sym q) (bytes_refl (e.0)))
-entry_named (e ∷ ds) d (inr i) = or_right (bytes_eq (e.0) (d.0)) _ (entry_named ds d i)
-
 -- an entry of different names is what its name is looked up as
 entry_looked : (e : List ℕ × Holding) (ds : List (List ℕ × Holding)) (d : List ℕ × Holding) → is_among (e.0) (names_of ds) ≡ false → Is_in d (e ∷ ds) → (Is_in d ds → look_up (d.0) ds ≡ Some (d.1)) → look_up (d.0) (e ∷ ds) ≡ Some (d.1)
 entry_looked e ds d f (inl q) ih = let z : bytes_eq (e.0) (d.0) ≡ true = subst (λ (y : List ℕ × Holding). bytes_eq (e.0) (y.0) ≡ true) (sym q) (bytes_refl (e.0)) in rw z (ap (λ (y : List ℕ × Holding). Some (y.1)) (sym q))
 entry_looked e ds d f (inr i) ih = by_test (bytes_eq (e.0) (d.0)) refl
   where
     by_test : (t : Bool) → bytes_eq (e.0) (d.0) ≡ t → (if t then Some (e.1) else look_up (d.0) ds) ≡ Some (d.1)
-    by_test true u = absurd (both_ways _ f (subst (λ y. is_among y (names_of ds) ≡ true) (sym (bytes-true (e.0) (d.0) u)) (entry_named ds d i)))
+    by_test true u = absurd (both_ways _ f (subst (λ y. is_among y (names_of ds) ≡ true) (sym (bytes-true (e.0) (d.0) u)) (in_named ds d i)))
     by_test false u = ih i
 
 pub head_apart : (name : List ℕ) (pre : List Pre) → (not (is_among name (map name_in pre)) && are_different (map name_in pre)) ≡ true → (is_among name (names_of (deposits pre)) ≡ false) × (are_different (map name_in pre) ≡ true)

@@ -23,9 +23,10 @@ use Rattle.spec_run.specs.Conditions.{IsSetup, HashesBytes}
 use Rattle.spec_run.specs.Owners.{suits}
 use Rattle.spec_run.specs.Advertising.{or_else_this, arranged, are_rearranged, deposit_names, advertise_row, advertise_draft}
 use Rattle.spec_run.specs.Draft.{done}
-use Rattle.theory_world.proofs.Tests.{any-append, all_among}
+use Rattle.theory_calculus.proofs.Names.{all_among, different_names, in_named}
+use Rattle.theory_calculus.proofs.Members.{some_there}
+use Rattle.theory_world.proofs.Tests.{any-append}
 use Rattle.theory_world.proofs.Hashed.{NoClash, among_head}
-use Rattle.theory_run.proofs.Facts.AllSecrets.{different_names}
 use Rattle.theory_world.proofs.Later.{are_made, compiled_is, compiled_from, compiled_stays, bindings-more, lasts_refl}
 use Rattle.theory_run.proofs.Facts.Kept.{KeptBook, Frame, AdvertFine, signs}
 use Rattle.theory_run.proofs.Accepted.Spending.{Checked}
@@ -33,7 +34,7 @@ use Rattle.theory_world.proofs.Contracts.Checking.{contract_checked}
 use Rattle.theory_world.proofs.Contracts.Mentions.{a_person}
 use Rattle.theory_world.proofs.Staying.{inits_stay, asked_stay}
 use Rattle.theory_run.proofs.Events.Quiet.{KeptAfter, unless_after}
-use Rattle.theory_run.proofs.Events.Advertised.{look_arranged, some_arranged, all_looked, live_looked, suits_looked, one_name, suits_bound, entry_named, deposit_looked}
+use Rattle.theory_run.proofs.Events.Advertised.{look_arranged, some_arranged, all_looked, live_looked, suits_looked, one_name, suits_bound, deposit_looked}
 
 -- ---- compiled contracts of an earlier world
 
@@ -64,16 +65,12 @@ any_there f (x ∷ xs) h = elim (or_cases (f x) (list_any f xs) h) [
   | inr q ↦ (let r = any_there f xs q in (r.0, or_right (bytes_eq x r.0) _ r.1, r.2))
 ]
 
-pub some_is : {X : Type 0} (o : Option X) → is_some o ≡ true → (x : X) × (o ≡ Some x)
-some_is None h = cc
-some_is (Some x) h = (x, refl)
-
 -- each of these names is bound to an output that was made
 arranged_made : (w : World) (names : List (List ℕ)) (bs : List (List ℕ × ℕ)) → list_all (λ m. is_some (look_up m bs)) names ≡ true → ((x : List ℕ) (n : ℕ) → look_up x bs ≡ Some n → is_some (output_at w n) ≡ true) → are_made w (arranged 0 names bs) ≡ true
 arranged_made w [] bs all h = refl
 arranged_made w (m ∷ names) bs all h =
     let p = and_parts (is_some (look_up m bs)) (list_all (λ m. is_some (look_up m bs)) names) all in
-    let r = some_is (look_up m bs) p.0 in
+    let r = some_there (look_up m bs) p.0 in
     and_from _ _ (subst (λ o. is_some (output_at w (or_else_this 0 o)) ≡ true) (sym r.1) (h m r.0 r.1)) (arranged_made w names bs p.1 h)
 
 pub deposit_made : (o : Option Output) → is_deposit o ≡ true → is_some o ≡ true
@@ -124,8 +121,8 @@ module _ (s : Setup) (setup : IsSetup s) (w : World) (k : ℕ) (bs : List (List 
             there = c;
             made = made;
             bound = λ name h i.
-                let there : is_some (look_up name (arranged 0 (deposit_names s k) bs)) ≡ true = some_arranged (deposit_names s k) bs name (subst (λ ds. is_among name (names_of (deposits ds)) ≡ true) (sym pre) (entry_named (deposits a.pre) (name, h) i)) in
-                let r = some_is (look_up name (arranged 0 (deposit_names s k) bs)) there in
+                let there : is_some (look_up name (arranged 0 (deposit_names s k) bs)) ≡ true = some_arranged (deposit_names s k) bs name (subst (λ ds. is_among name (names_of (deposits ds)) ≡ true) (sym pre) (in_named (deposits a.pre) (name, h) i)) in
+                let r = some_there (look_up name (arranged 0 (deposit_names s k) bs)) there in
                 let l = look_arranged (deposit_names s k) bs name r.0 all r.1 in
                 let d : look_up name (deposits (pre_at s k)) ≡ Some h = subst (λ ds. look_up name (deposits ds) ≡ Some h) (sym pre) (deposit_looked a.pre (name, h) (different_names a well) i) in
                 let t = suits_looked s w k bs name r.0 row.1.1.1.1.1.0 l in

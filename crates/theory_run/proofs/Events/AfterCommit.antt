@@ -33,19 +33,20 @@ use Rattle.spec_run.specs.Advertising.{arranged}
 use Rattle.spec_run.specs.Committing.{secrets_at, committed_digests, committed_strings, commit_row, digest_row, with_promise, strings_compiled, committed_draft, commit_draft}
 use Rattle.spec_run.specs.Draft.{Draft, settled}
 use Rattle.spec_run.specs.Steps.{steps_of}
-use Rattle.theory_world.proofs.Tests.{any-append, all_then, all_among}
+use Rattle.theory_calculus.proofs.Members.{all_then, Is_in, some_there}
+use Rattle.theory_calculus.proofs.Names.{all_among, persistent_deposit}
+use Rattle.theory_world.proofs.Tests.{any-append}
 use Rattle.theory_world.proofs.Hashed.{NoClash, no_clash, among_right, all_more, all_new}
-use Rattle.theory_world.proofs.Contracts.Positions.{Is_in}
 use Rattle.theory_world.proofs.Later.{IsCompiledAt, compiled_is, compiled_stays, digests-other, lasts_refl}
 use Rattle.theory_run.proofs.Steps.CommitSteps.{digests_looked}
 use Rattle.theory_run.proofs.Facts.Kept.{KeptBook, Frame, AdvertFine, cause_later, origin_later, held_later, advert_later, signs}
 use Rattle.theory_run.proofs.Accepted.Spending.{Checked, TransactionsFit}
-use Rattle.theory_run.proofs.Accepted.WhatItIs.{persistent_deposit, bound_at}
+use Rattle.theory_run.proofs.Accepted.WhatItIs.{bound_at}
 use Rattle.theory_run.proofs.Widths.Putting.{all_fit, transactions_fit}
 use Rattle.theory_world.proofs.Staying.{inits_stay, asked_stay}
 use Rattle.theory_run.proofs.Events.Quiet.{KeptAfter, unless_after}
 use Rattle.theory_run.proofs.Facts.Labelled.{compiled_label}
-use Rattle.theory_run.proofs.Events.AfterAdvert.{compiled_before, some_is}
+use Rattle.theory_run.proofs.Events.AfterAdvert.{compiled_before}
 use Rattle.theory_run.proofs.Facts.KeptCommitments.{KeptPromises, one_more_promise, checked_now}
 use Rattle.theory_run.proofs.Facts.Undertakings.{committed_sized}
 use Rattle.theory_run.proofs.Facts.OwnLabels.{KeptLabels, signs_compiled}
@@ -150,7 +151,7 @@ module _ (s : Setup) (setup : IsSetup s) (g : Configuration) (w : World) (kept :
         → has_signed w.book (key_of s.hash (branch_label k (q ++ To i ∷ []) a)) d ≡ true → ⊥
     nothing_signed q here choice i b a d e t p honest x =
         let l = compiled_label s setup.few_contracts next next_check hs heard k st q here choice i b a now e t p in
-        let r = some_is (compiled_instance s w k) (signs_compiled s w hs labels hs_clear sub k (q ++ To i ∷ []) a d l.0 l.1 honest x) in
+        let r = some_there (compiled_instance s w k) (signs_compiled s w hs labels hs_clear sub k (q ++ To i ∷ []) a d l.0 l.1 honest x) in
         before r.0 r.1
 
     pub complete : KeptBook s g' next

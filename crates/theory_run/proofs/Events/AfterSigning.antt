@@ -28,9 +28,9 @@ use Rattle.spec_run.specs.Compiled.{compiled_instance}
 use Rattle.spec_run.specs.Conditions.{HashesBytes}
 use Rattle.spec_run.specs.Signing.{signed_all, label_party, needs_at, pairs_of_party, pairs_of_deposits, initial_pairs, authorising_pairs}
 use Rattle.spec_run.specs.Steps.{is_bound_live}
-use Rattle.theory_world.proofs.Same.{bytes-true}
+use Rattle.theory_calculus.proofs.Names.{bytes-true}
+use Rattle.theory_calculus.proofs.Members.{Is_in}
 use Rattle.theory_world.proofs.Hashed.{NoClash}
-use Rattle.theory_world.proofs.Contracts.Positions.{Is_in}
 use Rattle.theory_world.proofs.Later.{lasts_refl, compiled_is}
 use Rattle.theory_world.proofs.Book.{signed_more, signed_back}
 use Rattle.theory_run.proofs.Facts.Kept.{KeptBook, HeldFine, DepositCause, Needed, needed, Started, started, BranchCause, Frame, signs}

@@ -39,13 +39,15 @@ use Rattle.spec_run.specs.Ledger.{verdict_in, items_of, strings_of, reason_of, s
 use Rattle.spec_run.specs.Signing.{with_pairs, label_party}
 use Rattle.spec_run.specs.Giving.{first_dead, value_out, give_row, given_input, given_output, unsigned_gift, given_digest, signed_input, given_pairs, gift, give_draft}
 use Rattle.spec_run.specs.Steps.{steps_of}
-use Rattle.theory_world.proofs.Same.{bytes-true}
+use Rattle.theory_bitcoin.proofs.Apart.{AllPlaces}
+use Rattle.theory_bitcoin.specs.Apart.{bare_input, bare}
+use Rattle.theory_calculus.proofs.Names.{bytes-true}
+use Rattle.theory_calculus.proofs.Members.{Is_in}
 use Rattle.theory_world.proofs.Hashed.{NoClash, no_clash, among_left, all_more, all_new}
 use Rattle.theory_world.proofs.Tests.{length_map}
 use Rattle.theory_world.proofs.Ledger.Worth.{IsAccepted, accepted_by}
-use Rattle.theory_world.proofs.Contracts.Positions.{Is_in}
-use Rattle.theory_world.proofs.Ledger.Preimages.{AllPlaces, AllSequences, IsNumbered, HeardLists, heard_lists}
-use Rattle.theory_world.proofs.Ledger.Bare.{bare, bare_input, bare_numbered, bare_lists, same_preimage}
+use Rattle.theory_world.proofs.Ledger.Preimages.{AllSequences, IsNumbered, HeardLists, heard_lists}
+use Rattle.theory_world.proofs.Ledger.Bare.{bare_numbered, bare_lists, same_preimage}
 use Rattle.theory_world.proofs.Ledger.Accepting.{IsSpent, AllSpent, accepting, HeardAll, heard_shared, heard_input}
 use Rattle.theory_run.proofs.Facts.Kept.{KeptBook, AllDead, AllFinal, HeardDigest, Gave, gave}
 use Rattle.theory_run.proofs.Accepted.Spending.{TransactionsFit, Checked}

@@ -33,16 +33,16 @@ use Rattle.spec_run.specs.Signing.{with_pairs, endorsing_pairs, endorse_row, end
 use Rattle.spec_run.specs.Revealing.{own_secret, reveal_row, reveal_draft}
 use Rattle.spec_run.specs.Event.{mine_row, mine_draft}
 use Rattle.spec_run.specs.Steps.{is_of_party, is_bound_live, init_steps, steps_of}
-use Rattle.theory_world.proofs.Same.{bytes-true, bytes_refl}
+use Rattle.theory_calculus.proofs.Names.{bytes-true, bytes_refl}
+use Rattle.theory_calculus.proofs.Members.{Is_in, filter_has}
 use Rattle.theory_world.proofs.Hashed.{NoClash, no_clash, among_head, all_more, all_new}
-use Rattle.theory_world.proofs.Contracts.Positions.{Is_in}
 use Rattle.theory_world.proofs.Contracts.Standing.{term_branches}
 use Rattle.theory_world.proofs.Contracts.Mentions.{branch_named, asked_mentioned}
 use Rattle.theory_run.proofs.Facts.Kept.{KeptBook, HeldFine}
 use Rattle.theory_run.proofs.Accepted.Spending.{Checked}
 use Rattle.theory_world.proofs.Later.{compiled_is}
 use Rattle.theory_run.proofs.Events.AfterSigning.{quiet_kept, sign_kept, authorise_kept, endorse_kept, init_kept}
-use Rattle.theory_world.proofs.Staying.{inits_stay, asked_stay, auth_inits_new, branch_new, filter_in}
+use Rattle.theory_world.proofs.Staying.{inits_stay, asked_stay, auth_inits_new, branch_new}
 
 -- an output that is active
 pub record IsActive (w : World) (n : ℕ) (held : ContractPosition) : Type 0 where
@@ -69,7 +69,7 @@ held_contract s w held o hf = let ci = compiled_is s w held.contract hf.instance
 pub now_authorised : (s : Setup) (g : Configuration) (w : World) (contract : ℕ) (party : List ℕ) (e : List ℕ × Holding) → Is_in e (persistent (pre_at s contract)) → (e.1).owner ≡ party → is_bound_live w contract e ≡ true → is_init_authorised (after_steps g (init_steps s w contract party)).init_authorised contract (e.0) ≡ true
 now_authorised s g w contract party e i o l =
     let t : (is_of_party party e && is_bound_live w contract e) ≡ true = and_from _ _ (subst (λ y. bytes_eq (e.1).owner y ≡ true) o (bytes_refl (e.1).owner)) l in
-    auth_inits_new contract _ g e (filter_in (λ d. is_of_party party d && is_bound_live w contract d) (persistent (pre_at s contract)) e i t)
+    auth_inits_new contract _ g e (filter_has (λ d. is_of_party party d && is_bound_live w contract d) (persistent (pre_at s contract)) e i t)
 
 -- the strings are those of the whole run
 module _ (s : Setup) (size : HashesBytes s.hash) (few_contracts : length s.contracts ≤ 16) (strings : List (List ℕ)) (g : Configuration) (w : World) (kept : KeptBook s g w) (check : Checked s w) (clear : NoClash s.hash w.hashed) where

@@ -1,44 +1,21 @@
 -- The secrets of all contracts are different.
-use Rattle.std.proofs.Common.{◌≡◌, ℕ, ◌+◌, ◌<◌, List, [], ◌∷◌, ◌++◌, map, Bool, true, false, not, Some, None, refl, sym, ap, ◌∙◌, subst, arith, inl, inr}
-use Rattle.std.specs.Prelude.{if◌then◌else◌}
+use Rattle.std.proofs.Common.{◌≡◌, ℕ, ◌+◌, ◌<◌, List, [], ◌∷◌, ◌++◌, map, true, false, not, refl, sym, ap, ◌∙◌, subst, arith, inl, inr}
 use Rattle.std.specs.List.{AllByRecursion}
 use Rattle.std.specs.Str.{bytes_eq}
-use Rattle.std.proofs.lemmas.Bool.{and_parts, and_from, or_left, or_right, or_parts, or_from, or_cases, not-true, not_from_false, false_from_ne_true, both_ways}
+use Rattle.std.proofs.lemmas.Bool.{and_parts, and_from, or_left, or_right, or_from, or_cases, not-true, not_from_false, false_from_ne_true, both_ways}
 use Rattle.spec_data.specs.Lists.{is_among, are_different}
 use Rattle.spec_terms.specs.Advert.{Advert}
-use Rattle.spec_terms.specs.Faults.{IsWellFormed, first_repeated}
+use Rattle.spec_terms.specs.Faults.{IsWellFormed}
 use Rattle.spec_terms.specs.Precondition.{secrets, name_in}
 use Rattle.spec_terms.specs.declared.pre.Pre.{Pre}
 use Rattle.spec_terms.specs.declared.pre.Pre.TheVariants.{Persistent, Volatile, Secret}
 use Rattle.spec_calculus.specs.declared.parts.Revealed.{Revealed}
 use Rattle.spec_run.specs.Setup.{Setup}
 use Rattle.spec_run.specs.Secrets.{all_secrets, secrets_from, secrets_of_contract}
-use Rattle.spec_terms.specs.declared.place.Place.TheVariants as places
-use Rattle.theory_world.proofs.Contracts.Faultless.{map_none, no_fault}
-use Rattle.theory_world.proofs.Same.{bytes-true, bytes_refl}
-use Rattle.theory_world.proofs.Hashed.{among-append, among_right, among_head}
+use Rattle.theory_calculus.proofs.Names.{bytes_refl, different_names}
 use Rattle.theory_run.proofs.Facts.Secrets.{has_secret, same_secret, secret-true, secret_refl, has_secret-append, different_secrets}
 
 -- ---- names of one precondition
-
--- names none of which is repeated after others are different, and none of those
-repeated_none : (k : ℕ) (before names : List (List ℕ)) → first_repeated k before names ≡ None → (are_different names ≡ true) × ((n : List ℕ) → is_among n names ≡ true → is_among n before ≡ false)
-repeated_none k before [] h = (refl, λ n i. cc)
-repeated_none k before (x ∷ xs) h = by_test (is_among x before) refl h (repeated_none (k + 1) (before ++ x ∷ []) xs)
-  where
-    by_test : (b : Bool) → is_among x before ≡ b → (if b then Some k else first_repeated (k + 1) (before ++ x ∷ []) xs) ≡ None
-        → (first_repeated (k + 1) (before ++ x ∷ []) xs ≡ None → (are_different xs ≡ true) × ((n : List ℕ) → is_among n xs ≡ true → is_among n (before ++ x ∷ []) ≡ false))
-        → (are_different (x ∷ xs) ≡ true) × ((n : List ℕ) → is_among n (x ∷ xs) ≡ true → is_among n before ≡ false)
-    by_test true e q ih = cc
-    by_test false e q ih =
-        let r = ih q in
-        let apart : is_among x xs ≡ false = false_from_ne_true _ (λ t. both_ways _ (r.1 x t) (among_right x before (x ∷ []) (among_head x []))) in (
-          and_from _ _ (not_from_false _ apart) r.0,
-          λ n i. elim (or_cases (bytes_eq x n) (is_among n xs) i) [
-            | inl a ↦ subst (λ y. is_among y before ≡ false) (bytes-true x n a) e
-            | inr b ↦ (or_parts (is_among n before) (is_among n (x ∷ [])) (sym (among-append n before (x ∷ [])) ∙ r.1 n b)).0
-          ],
-        )
 
 -- the secrets of a contract, of different names
 secret_named : (k : ℕ) (x : Revealed) (pre : List Pre) → has_secret x (secrets_of_contract k (secrets pre)) ≡ true → is_among x.secret (map name_in pre) ≡ true
@@ -85,10 +62,6 @@ different_append (x ∷ xs) ys a b h =
     let here : has_secret x ys ≡ false = h x (or_left _ _ (secret_refl x)) in
     let ih = different_append xs ys p.1 b (λ y t. h y (or_right (same_secret x y) _ t)) in
     and_from _ _ (not_from_false _ (has_secret-append x xs ys ∙ or_from _ _ (not-true _ p.0) here)) ih
-
--- the faultless have different names
-pub different_names : (a : Advert) → IsWellFormed a → are_different (map name_in a.pre) ≡ true
-different_names a h = (repeated_none 0 [] (map name_in a.pre) (map_none places.Pre (first_repeated 0 [] (map name_in a.pre)) (no_fault a h).0)).0
 
 all_from : (k : ℕ) (cs : List Advert) → AllByRecursion IsWellFormed cs → different_secrets (secrets_from k cs) ≡ true
 all_from k [] h = refl

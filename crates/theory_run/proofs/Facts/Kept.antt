@@ -33,10 +33,9 @@ use Rattle.spec_run.specs.Owners.{paid_to}
 use Rattle.spec_run.specs.Compiled.{compiled_instance}
 use Rattle.spec_run.specs.Event.{opening_outputs}
 use Rattle.spec_run.specs.Steps.{names_deposit, is_bound_live}
+use Rattle.theory_calculus.proofs.Members.{all_then, Is_in}
 use Rattle.theory_world.proofs.Ledger.Preimages.{HeardLists, IsNumbered}
 use Rattle.theory_world.proofs.Ledger.Bare.{NoScripts}
-use Rattle.theory_world.proofs.Contracts.Positions.{Is_in}
-use Rattle.theory_world.proofs.Tests.{all_then}
 use Rattle.theory_world.proofs.Later.{Lasts, SameOutput, are_made, compiled_is}
 
 -- a test that isn't false is true

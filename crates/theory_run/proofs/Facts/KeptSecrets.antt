@@ -17,7 +17,7 @@ use Rattle.spec_run.specs.Committing.{secrets_at, is_secret_long, used_digests}
 use Rattle.spec_run.specs.Revealing.{fits, fitting}
 use Rattle.spec_run.specs.Secrets.{all_secrets, digest_at, is_shown, shown, newly_shown, secret_size, length_in_run, lengths_in_run}
 use Rattle.spec_run.specs.Steps.{reveals}
-use Rattle.theory_world.proofs.Same.{bytes-true}
+use Rattle.theory_calculus.proofs.Names.{bytes-true}
 use Rattle.theory_world.proofs.Hashed.{NoClash, find_any, any_found}
 use Rattle.theory_run.proofs.Facts.Secrets.{has_secret, different_secrets, has_secret-append, filter-member, different-filter, all-filter, is_known_in, legal_reveals}
 use Rattle.theory_world.proofs.Once.{Once}

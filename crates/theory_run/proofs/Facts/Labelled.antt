@@ -25,10 +25,11 @@ use Rattle.spec_run.specs.Conditions.{HashesBytes}
 use Rattle.spec_run.specs.Signing.{label_party, branch_pair, prepared_if_compiled, authorising_pairs}
 use Rattle.spec_run.specs.Ledger.{position_path}
 use Rattle.theory_bitcoin.proofs.Labels.{one_label}
-use Rattle.theory_world.proofs.Same.{bytes-true}
+use Rattle.theory_calculus.proofs.Names.{bytes-true}
+use Rattle.theory_calculus.proofs.Members.{get_below}
 use Rattle.theory_world.proofs.Hashed.{NoClash}
 use Rattle.theory_world.proofs.Book.{key-apart}
-use Rattle.theory_world.proofs.Labels.{get_below, path_fine}
+use Rattle.theory_world.proofs.Labels.{path_fine}
 use Rattle.theory_world.proofs.Later.{compiled_is}
 use Rattle.theory_world.proofs.Contracts.Standing.{stand_of_branch, unsigned_of_branch, view_at}
 use Rattle.theory_run.proofs.Facts.Kept.{KeptBook, HeldFine, BranchCause}

@@ -1,5 +1,5 @@
 -- What every run keeps holds at its opening.
-use Rattle.std.proofs.Common.{◌≡◌, ℕ, zero, suc, ◌+◌, ◌<◌, List, [], ◌∷◌, ◌++◌, length, map, Bool, true, false, Option, Some, None, refl, sym, ap, ◌∙◌, subst, arith, inl, inr}
+use Rattle.std.proofs.Common.{◌≡◌, ℕ, ◌+◌, List, [], ◌∷◌, ◌++◌, map, Bool, true, false, Option, Some, None, refl, sym, ap, ◌∙◌, subst, arith, inl, inr}
 use Rattle.std.specs.Prelude.{slice_get, if◌then◌else◌}
 use Rattle.std.specs.List.{list_all}
 use Rattle.std.specs.Str.{bytes_eq}
@@ -27,7 +27,8 @@ use Rattle.spec_run.specs.Steps.{moved_output}
 use Rattle.spec_run.specs.Translation.{opening_configuration}
 use Rattle.spec_run.specs.Agreement.{Agree, is_placed}
 use Rattle.theory_bitcoin.proofs.Labels.{one_label}
-use Rattle.theory_world.proofs.Same.{bytes-true, bytes_refl}
+use Rattle.theory_calculus.proofs.Names.{bytes-true, bytes_refl}
+use Rattle.theory_calculus.proofs.Members.{get_below}
 use Rattle.theory_world.proofs.Tests.{length_map}
 use Rattle.theory_world.proofs.Ledger.Outputs.{nothing_held, length-made_from, deposits-new, actives-new}
 use Rattle.theory_run.proofs.Steps.Moved.{AgreeOnMoney}
@@ -39,17 +40,12 @@ use Rattle.theory_run.proofs.Facts.Kept.{KeptBook}
 
 -- ---- lists
 
-among_map : (f : List ℕ → List ℕ) (x : List ℕ) (xs : List (List ℕ)) → is_among x xs ≡ true → is_among (f x) (map f xs) ≡ true
+pub among_map : (f : List ℕ → List ℕ) (x : List ℕ) (xs : List (List ℕ)) → is_among x xs ≡ true → is_among (f x) (map f xs) ≡ true
 among_map f x [] h = cc
 among_map f x (y ∷ xs) h = elim (or_cases (bytes_eq y x) (is_among x xs) h) [
   | inl u ↦ or_left _ _ (subst (λ z. bytes_eq (f y) (f z) ≡ true) (bytes-true y x u) (bytes_refl (f y)))
   | inr v ↦ or_right (bytes_eq (f y) (f x)) _ (among_map f x xs v)
 ]
-
-get_few : {X : Type 0} (xs : List X) (n : ℕ) (x : X) → slice_get xs n ≡ Some x → n < length xs
-get_few [] n x h = cc
-get_few (y ∷ xs) zero x h = omega arith
-get_few (y ∷ xs) (suc n) x h = let r = get_few xs n x h in omega (arith, r)
 
 -- ---- whose a script is
 
@@ -191,7 +187,7 @@ module _ (s : Setup) (is : IsSetup s) (opens : opening_collision s ≡ None) whe
           txid = is.hash.bytes (s.hash (stripped (opening_transaction (opening_outputs s))));
           size = is.hash.size (s.hash (stripped (opening_transaction (opening_outputs s))));
           vout =
-              let f = get_few (opening_outputs s) n r.0 r.1 in
+              let f = get_below (opening_outputs s) n r.0 r.1 in
               let b = length_map {Y = TxOut} (λ d. record { value = d.1; script = paid_to s (d.0) }) s.header.deposits in
               let few = is.header.few_deposits in
               omega (arith, f, b, few);

@@ -41,8 +41,9 @@ use Rattle.spec_run.specs.Advertising.{arranged, deposit_names, advertise_row}
 use Rattle.spec_run.specs.Committing.{committed_strings, commit_row, digest_row, with_promise, committed_draft}
 use Rattle.spec_run.specs.Event.{append_read, mine_row, draft}
 use Rattle.theory_bitcoin.proofs.Labels.{one_label}
-use Rattle.theory_world.proofs.Same.{bytes-true}
-use Rattle.theory_world.proofs.Tests.{any-append, all_then}
+use Rattle.theory_calculus.proofs.Names.{bytes-true}
+use Rattle.theory_calculus.proofs.Members.{all_then, some_there}
+use Rattle.theory_world.proofs.Tests.{any-append}
 use Rattle.theory_world.proofs.Hashed.{NoClash, all_more, all_new, among_head}
 use Rattle.theory_world.proofs.Book.{key-apart, signed_back}
 use Rattle.theory_world.proofs.Contracts.Standing.{term_branches, unsigned_of_branch}
@@ -55,7 +56,6 @@ use Rattle.theory_world.proofs.Contracts.Endorsed.{need_of_pair, NeedIs, branch_
 use Rattle.theory_run.proofs.Events.AfterSigning.{pair_of_deposit}
 use Rattle.theory_run.proofs.Events.Quiet.{IsActive, active, held_contract}
 use Rattle.theory_run.proofs.Events.Given.{key_given}
-use Rattle.theory_run.proofs.Events.AfterAdvert.{some_is}
 
 -- an honest party's label of a branch is of a compiled contract
 abbrev pub IsOwn : Setup → World → Label → Type 0
@@ -94,7 +94,7 @@ signs_compiled s w hs kept clear sub k path a d fine heard honest h =
 -- a compiled contract stays compiled
 pub some_compiled : (s : Setup) (w next : World) (k : ℕ) → (is_advertised w k ≡ true → is_advertised next k ≡ true) → ((a : List ℕ) → has_promised w k a ≡ true → has_promised next k a ≡ true) → is_some (compiled_instance s w k) ≡ true → is_some (compiled_instance s next k) ≡ true
 some_compiled s w next k adverts promises h =
-    let r = some_is (compiled_instance s w k) h in
+    let r = some_there (compiled_instance s w k) h in
     let c = compiled_is s w k r.0 r.1 in
     ap is_some (compiled_from s next k c.advert c.there (adverts c.advertised) (all_then (has_promised w k) (has_promised next k) (participants c.advert) promises c.promised))
 

@@ -15,7 +15,7 @@ use Rattle.spec_run.specs.Setup.{Setup, is_declared}
 use Rattle.spec_run.specs.World.{World}
 use Rattle.spec_run.specs.Owners.{paid_to, owner_among, owner_by}
 use Rattle.theory_bitcoin.proofs.Labels.{one_label}
-use Rattle.theory_world.proofs.Same.{bytes-true, bytes_refl}
+use Rattle.theory_calculus.proofs.Names.{bytes-true, bytes_refl}
 use Rattle.theory_world.proofs.Hashed.{NoClash}
 use Rattle.theory_world.proofs.Book.{key-apart}
 use Rattle.theory_run.proofs.Facts.Kept.{KeptBook}

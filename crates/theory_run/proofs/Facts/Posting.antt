@@ -17,9 +17,9 @@ use Rattle.spec_run.specs.Committing.{is_secret_long, used_digests}
 use Rattle.spec_run.specs.Revealing.{fits}
 use Rattle.spec_run.specs.Secrets.{all_secrets, digest_at, is_shown, shown, newly_shown}
 use Rattle.spec_run.specs.Steps.{reveals}
-use Rattle.theory_world.proofs.Same.{bytes-true, bytes_refl}
+use Rattle.theory_calculus.proofs.Names.{bytes-true, bytes_refl, among-append}
 use Rattle.theory_world.proofs.Tests.{any-append}
-use Rattle.theory_world.proofs.Hashed.{NoClash, no_clash, among-append, among_split, all_more, all_new, any_then, any_found, find_any}
+use Rattle.theory_world.proofs.Hashed.{NoClash, no_clash, among_split, all_more, all_new, any_then, any_found, find_any}
 use Rattle.theory_run.proofs.Facts.Secrets.{has_secret, different_secrets, after-reveals}
 use Rattle.theory_run.proofs.Facts.KeptSecrets.{Begins, KeptSecrets, is_own, committed_by, reveals_legal, reveals_agree}
 

@@ -1,9 +1,9 @@
 -- Each branch of a well-formed compiled contract is as text may have it.
-use Rattle.std.proofs.Common.{◌≡◌, ℕ, zero, suc, List, [], ◌∷◌, ◌++◌, Bool, true, Option, Some, None, refl, subst}
+use Rattle.std.proofs.Common.{◌≡◌, ℕ, List, [], ◌∷◌, ◌++◌, Bool, true, Option, Some, None, refl, subst}
 use Rattle.std.specs.Prelude.{◌&&◌, nat_le, slice_get, option_map, option_and_then}
 use Rattle.std.proofs.lemmas.Bool.{and_parts}
 use Rattle.spec_terms.specs.Term as term
-use Rattle.spec_terms.specs.Term.{Contract, no_branch, branch, branches, Parts, no_part, part, parts_list, auth, after, put_reveal, withdraw, split}
+use Rattle.spec_terms.specs.Term.{Contract, branches, parts_list, auth, after, put_reveal, withdraw, split}
 use Rattle.spec_terms.specs.Core.{core}
 use Rattle.spec_data.specs.Ranges.{max_money}
 use Rattle.spec_terms.specs.Readable.{is_readable_pre, is_readable_contract, is_readable_branch, is_readable_split, is_readable_test, is_readable_count, are_readable, are_readable_parts}
@@ -13,25 +13,12 @@ use Rattle.spec_terms.specs.declared.path.PathStep.TheVariants.{Branch as To, Pa
 use Rattle.spec_compiler.specs.Instance.{Instance, branch_path}
 use Rattle.spec_compiler.specs.Transactions.{Standing, continued_value, branch_unsigned, continued, part_standing, root_standing}
 use Rattle.spec_compiler.specs.ByPath as by_path
-use Rattle.spec_compiler.specs.ByPath.{PathEnd, branch_end, continued_end, part_end, next_end, end_from, end_at, as_position, position_at}
+use Rattle.spec_compiler.specs.ByPath.{PathEnd, branch_end, continued_end, part_end, next_end, end_from, position_at}
 use Rattle.theory_world.proofs.Contracts.Standing.{stand_of_branch}
-use Rattle.theory_run.proofs.Widths.BranchWidths.{core_is_readable}
+use Rattle.theory_world.proofs.Labels.{branch_readable, part_fine, core_readable}
 
 abbrev is_fine : Contract → Bool
 is_fine c = is_readable_count c && are_readable c
-
-branch_readable : (c : Contract) (i : ℕ) (b : term.Guarded) → are_readable c ≡ true → slice_get (branches c) i ≡ Some b → is_readable_branch b ≡ true
-branch_readable no_branch i b h e = cc
-branch_readable (branch d c) zero b h e = let z : d ≡ b = cc in subst (λ y. is_readable_branch y ≡ true) z (and_parts (is_readable_branch d) (are_readable c) h).0
-branch_readable (branch d c) (suc i) b h e = branch_readable c i b (and_parts (is_readable_branch d) (are_readable c) h).1 e
-
-part_readable : (ps : Parts) (k : ℕ) (p : ℕ × Contract) → are_readable_parts ps ≡ true → slice_get (parts_list ps) k ≡ Some p → is_fine p.1 ≡ true
-part_readable no_part k p h e = cc
-part_readable (part v c ps) zero p h e =
-    let z : (let q : ℕ × Contract = (v, c) in q) ≡ p = cc in
-    let a = and_parts (nat_le v max_money && is_fine c) (are_readable_parts ps) h in
-    subst (λ (q : ℕ × Contract). is_fine q.1 ≡ true) z (and_parts (nat_le v max_money) (is_fine c) a.0).1
-part_readable (part v c ps) (suc k) p h e = part_readable ps k p (and_parts (nat_le v max_money && is_fine c) (are_readable_parts ps) h).1 e
 
 module _ (hash : List ℕ → List ℕ) (st : Instance) where
   abbrev Readable : PathEnd → Type 0
@@ -64,7 +51,7 @@ module _ (hash : List ℕ → List ℕ) (st : Instance) where
       by_part None e q = cc
       by_part (Some x) e q =
           let z : by_path.at_position (part_standing hash st (branch_path here.position i) (branch_unsigned hash st here i b) k x.0 x.1) x.1 ≡ end = cc in
-          subst Readable z (part_readable ps k x (and_parts (is_readable_split ps) (are_readable_parts ps) f).1 e)
+          subst Readable z (part_fine ps k x (and_parts (is_readable_split ps) (are_readable_parts ps) f).1 e)
   at_part here i k b (auth party body) end f h = cc
   at_part here i k b (after height body) end f h = cc
 
@@ -75,8 +62,8 @@ module _ (hash : List ℕ → List ℕ) (st : Instance) where
     where
       by_continued : (o : Option (Standing × Contract)) → continued_end hash st here i b (core b) ≡ o → option_and_then (λ (p : Standing × Contract). branch_end p.0 p.1 j) o ≡ Some next → Readable next
       by_continued None e q = cc
-      by_continued (Some p) e q = at_choice p.0 p.1 j next (at_continued here i b (core b) p (core_is_readable b f) e) q
-  at_next (Into k) (by_path.at_branch here i b) next f h = at_part here i k b (core b) next (core_is_readable b f) h
+      by_continued (Some p) e q = at_choice p.0 p.1 j next (at_continued here i b (core b) p (core_readable b f) e) q
+  at_next (Into k) (by_path.at_branch here i b) next f h = at_part here i k b (core b) next (core_readable b f) h
 
   from_readable : (path : List PathStep) (here end : PathEnd) → Readable here → end_from hash st here path ≡ Some end → Readable end
   from_readable [] here end f h = let e : here ≡ end = cc in subst Readable e f

@@ -9,7 +9,7 @@ use Rattle.spec_calculus.specs.Configuration.{Configuration}
 use Rattle.spec_calculus.specs.Branches.{length_at, is_known, is_revealed}
 use Rattle.spec_calculus.specs.Steps.{effect, after_steps, Legal}
 use Rattle.spec_run.specs.Steps.{reveal_step}
-use Rattle.theory_world.proofs.Same.{bytes-true, bytes_refl}
+use Rattle.theory_calculus.proofs.Names.{bytes-true, bytes_refl}
 use Rattle.theory_world.proofs.Tests.{any-append}
 use Rattle.theory_run.proofs.Steps.Legal.{passes}
 

@@ -25,7 +25,7 @@ use Rattle.spec_run.specs.Firing.{reaches_if, initial_by, taking_of_position, fi
 use Rattle.spec_run.specs.Ledger.{judged, verdict_in, reaches}
 use Rattle.spec_run.specs.Event.{append_read, mine_row, draft}
 use Rattle.spec_run.specs.Halting.{IsOwnReveal}
-use Rattle.theory_world.proofs.Same.{bytes-true, bytes_refl}
+use Rattle.theory_calculus.proofs.Names.{bytes-true, bytes_refl}
 
 -- ---- drafts that may post nobody's secret
 

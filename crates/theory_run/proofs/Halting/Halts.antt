@@ -14,9 +14,9 @@ use Rattle.spec_run.specs.World.{World}
 use Rattle.spec_run.specs.Draft.{is_allowed, is_guessed}
 use Rattle.spec_run.specs.Event.{draft}
 use Rattle.spec_run.specs.Halting.{AreApart, Collides, GivesAway, GivesNoneAway, Guesses, SameStrings}
-use Rattle.theory_world.proofs.Same.{bytes-true, bytes_refl}
+use Rattle.theory_calculus.proofs.Names.{bytes-true, bytes_refl, among-append}
 use Rattle.theory_run.proofs.Halting.Allowing.{allowed_own, own_allowed}
-use Rattle.theory_world.proofs.Hashed.{NoClash, no_clash, among-append, among_head}
+use Rattle.theory_world.proofs.Hashed.{NoClash, no_clash, among_head}
 
 -- ---- the same strings
 
@@ -54,7 +54,7 @@ apart_by hash xs ys same clear = record { apart = λ t u h k e. clear.one t u (s
 pub calm_is : (hash : List ℕ → List ℕ) (ms ts : List (List ℕ)) → NoClash hash ms → collision hash ms ts ≡ None → AreApart hash (ms ++ ts)
 calm_is hash ms ts clear none = apart_by hash (noted_all ms ts) (ms ++ ts) (all_noted ms ts) (no_clash hash ms ts clear none)
 
-found : (p : List ℕ → Bool) (xs : List (List ℕ)) (x : List ℕ) → find p xs ≡ Some x → (p x ≡ true) × (is_among x xs ≡ true)
+pub found : (p : List ℕ → Bool) (xs : List (List ℕ)) (x : List ℕ) → find p xs ≡ Some x → (p x ≡ true) × (is_among x xs ≡ true)
 found p [] x h = cc
 found p (y ∷ ys) x h = by_test (p y) refl h (found p ys x)
   where

@@ -1,9 +1,9 @@
 -- An honest party's deposit that an accepted transaction spends, without a new gift, is taken by a contract that the party has endorsed or started.
 use Rattle.std.proofs.Common.{◌≡◌, ℕ, List, [], ◌∷◌, ◌++◌, map, Bool, true, Option, Some, None, refl, sym, ap, ◌∙◌, subst, inl, inr}
 use Rattle.std.specs.Prelude.{◌==◌, slice_get}
-use Rattle.std.specs.List.{list_any, list_all}
+use Rattle.std.specs.List.{list_any}
 use Rattle.std.specs.Str.{bytes_eq}
-use Rattle.std.proofs.lemmas.Bool.{and_parts, and_from, or_left, or_right, or_cases, eq-eqb, eqb-true}
+use Rattle.std.proofs.lemmas.Bool.{and_from, or_left, or_right, or_cases, eq-eqb, eqb-true}
 use Rattle.spec_data.specs.Lists.{is_among, has_number, look_up}
 use Rattle.spec_terms.specs.Term as term
 use Rattle.spec_terms.specs.Term.{Contract, branches}
@@ -30,24 +30,25 @@ use Rattle.spec_run.specs.Compiled.{compiled_instance}
 use Rattle.spec_run.specs.Conditions.{IsSetup}
 use Rattle.spec_run.specs.Ledger.{is_initial, initial_of, first_position, Begins, Takes, kind_by, kind_of}
 use Rattle.spec_run.specs.HonestDeposits.{is_init, is_endorse, was_done, is_number, is_bound_to, takes_persistent, is_put_of, takes_put, is_but_for_witnesses, is_of_path, by_contract}
-use Rattle.theory_world.proofs.Same.{bytes_refl}
+use Rattle.theory_bitcoin.specs.Apart.{bare}
+use Rattle.theory_calculus.proofs.Names.{bytes_refl, persistent_deposit, volatile_named}
+use Rattle.theory_calculus.proofs.Members.{Is_in, all_in}
+use Rattle.theory_script.proofs.Checked.{puts_known}
 use Rattle.theory_world.proofs.Hashed.{NoClash}
 use Rattle.theory_world.proofs.Ledger.Preimages.{IsNumbered, HeardLists}
-use Rattle.theory_world.proofs.Ledger.Bare.{bare, same_from, NoScripts}
-use Rattle.theory_world.proofs.Contracts.Positions.{Is_in}
-use Rattle.theory_world.proofs.Contracts.Standing.{unsigned_of_branch}
+use Rattle.theory_world.proofs.Ledger.Bare.{same_from, NoScripts}
+use Rattle.theory_world.proofs.Contracts.Standing.{unsigned_of_branch, term_choice}
 use Rattle.theory_world.proofs.Later.{compiled_is}
 use Rattle.theory_world.proofs.Ledger.Accepting.{IsSpent, AllSpent, Accepting, HeardAll, heard_input, HeardInput}
 use Rattle.theory_run.proofs.Facts.Kept.{KeptBook, HeardDigest, AllDead, IsDead, Needed, Started}
 use Rattle.theory_run.proofs.Accepted.Spending.{TransactionsFit, Checked, same_gift, same_put, same_start, deposit_signed}
 use Rattle.theory_run.proofs.Accepted.Accept.{scripts_none, lists, all_strings_of, bare_in, not_dead}
-use Rattle.theory_run.proofs.Accepted.WhatItIs.{First, first, initial_first, branch_first, initial_is, not_initial, persistent_deposit, at_bound}
+use Rattle.theory_run.proofs.Accepted.WhatItIs.{First, first, initial_first, branch_first, initial_is, not_initial, at_bound}
 use Rattle.theory_run.proofs.Accepted.WhatItMakes.{Taking}
 use Rattle.theory_run.proofs.Accepted.Kinded.{looked_branch, first_taking, kind_taken}
 use Rattle.theory_world.proofs.Contracts.Endorsed.{in_map}
 use Rattle.theory_run.proofs.Facts.Owned.{paid_same}
 use Rattle.theory_world.proofs.Contracts.Checking.{compiled_checked}
-use Rattle.theory_run.proofs.Widths.Putting.{named, puts_known}
 use Rattle.theory_run.proofs.Facts.OnePosition.{one_initial}
 use Rattle.theory_run.proofs.Honest.Leaves.{Leave, by_gift, by_endorsement, by_start, KeptLeave}
 
@@ -67,11 +68,6 @@ any_in : {X : Type 0} (f : X → Bool) (xs : List X) (x : X) → Is_in x xs → 
 any_in f [] x h t = absurd h
 any_in f (y ∷ xs) x (inl e) t = or_left _ _ (subst (λ z. f z ≡ true) e t)
 any_in f (y ∷ xs) x (inr h) t = or_right (f y) _ (any_in f xs x h t)
-
-all_in : (f : List ℕ → Bool) (xs : List (List ℕ)) (x : List ℕ) → list_all f xs ≡ true → Is_in x xs → f x ≡ true
-all_in f [] x h i = absurd i
-all_in f (y ∷ xs) x h (inl e) = subst (λ z. f z ≡ true) (sym e) (and_parts (f y) (list_all f xs) h).0
-all_in f (y ∷ xs) x h (inr i) = all_in f xs x (and_parts (f y) (list_all f xs) h).1 i
 
 -- places of one list among those of another
 place_in : (xs ys : List TxIn) (i : TxIn) → map (λ (x : TxIn). x.prev) xs ≡ map (λ (x : TxIn). x.prev) ys → Is_in i xs → (j : TxIn) × Is_in j ys × (j.prev ≡ i.prev)
@@ -141,8 +137,8 @@ module _ (s : Setup) (setup : IsSetup s) (before : List Record) (g : Configurati
       by_place (inr f) =
           let u = in_map (λ name. deposit s.hash st name (holding_or_none (look_up name (volatile st.advert.pre)))) (puts_of (core b)) m.0 f in
           let name = u.0 in
-          let known = all_in (λ x. is_among x (names_of (volatile st.advert.pre))) (puts_of (core b)) name (puts_known s.hash st (compiled_checked s setup w k st c) q pos choice j b stands there) u.1 in
-          let h = named st.advert.pre name known in
+          let known = all_in (λ x. is_among x (names_of (volatile st.advert.pre))) (puts_of (core b)) name (puts_known st.advert (compiled_checked s setup w k st c) q choice (term_choice s.hash st q pos choice stands) j b there) u.1 in
+          let h = volatile_named st.advert.pre name known in
           let p : i.prev ≡ (deposit s.hash st name h.0).outpoint = at_place ∙ ap (λ (y : Spent). y.outpoint) u.2 ∙ ap (λ o. (deposit s.hash st name (holding_or_none o)).outpoint) h.1 in
           let t = bound_one k st c (name, h.0) h.2 p in
           let v : is_put_of w k a n name (look_up name (volatile (pre_at s k))) ≡ true = ap (λ o. is_put_of w k a n name (look_up name (volatile (pre_of o)))) (advert_of s w k st c) ∙ ap (is_put_of w k a n name) h.1 ∙ t in

@@ -36,8 +36,8 @@ use Rattle.spec_run.specs.Firing.{initial_by, taking_of_position, reaches_if, fi
 use Rattle.spec_run.specs.Ledger.{verdict_in, strings_of, items_of, reason_of, accepted, judged, reaches, spend_from, made_from, kind_of, new_position}
 use Rattle.spec_run.specs.HonestDeposits.{gives, by_transaction, SpendsWithLeave}
 use Rattle.spec_run.specs.Event.{append_read, mine_row, draft, record_of}
+use Rattle.theory_calculus.proofs.Names.{bytes-true, bytes_refl}
 use Rattle.theory_run.proofs.Events.Advertised.{none_is}
-use Rattle.theory_world.proofs.Same.{bytes-true, bytes_refl}
 use Rattle.theory_world.proofs.Hashed.{NoClash, no_clash, among_left, all_more, all_new}
 use Rattle.theory_world.proofs.Ledger.Worth.{accepted_by}
 use Rattle.theory_world.proofs.Later.{get-spent, get-front}

@@ -40,7 +40,7 @@ use Rattle.spec_run.specs.Firing.{initial_by, taking_of_position, reaches_if, fi
 use Rattle.spec_run.specs.Ledger.{verdict_in, strings_of, items_of, reason_of, accepted, judged, reaches, position_branch, position_path, branch_in}
 use Rattle.spec_run.specs.Event.{append_read, mine_row, draft, record_of}
 use Rattle.spec_run.specs.Steps.{init_steps, steps_of}
-use Rattle.theory_world.proofs.Same.{bytes-true, bytes_refl}
+use Rattle.theory_calculus.proofs.Names.{bytes-true, bytes_refl}
 use Rattle.theory_world.proofs.Hashed.{NoClash, no_clash, among_head, all_more, all_new}
 use Rattle.theory_world.proofs.Book.{signed_back}
 use Rattle.theory_world.proofs.Contracts.Standing.{term_branches}

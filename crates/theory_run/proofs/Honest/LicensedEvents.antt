@@ -38,12 +38,12 @@ use Rattle.spec_run.specs.Ledger.{verdict_in, strings_of, items_of, accepted, ju
 use Rattle.spec_run.specs.Event.{append_read, mine_row, draft}
 use Rattle.spec_run.specs.Steps.{parties_once, moved_output, move_of, auth_move, owners_of, reveals, kind_steps, is_of_party, is_bound_live, steps_of}
 use Rattle.spec_run.specs.Licence.{IsRevealOf, Licensed}
+use Rattle.theory_calculus.proofs.Names.{bytes-true}
+use Rattle.theory_calculus.proofs.Members.{Is_in, in_filter}
 use Rattle.theory_run.proofs.Events.Advertised.{none_is}
-use Rattle.theory_world.proofs.Same.{bytes-true}
 use Rattle.theory_world.proofs.Hashed.{NoClash, no_clash, among_left, among_right, all_more, all_new}
 use Rattle.theory_world.proofs.Ledger.Worth.{accepted_by}
 use Rattle.theory_world.proofs.Ledger.Preimages.{IsNumbered}
-use Rattle.theory_world.proofs.Contracts.Positions.{Is_in}
 use Rattle.theory_world.proofs.Ledger.Accepting.{Accepting, accepting, HeardAll}
 use Rattle.theory_run.proofs.Facts.AllSecrets.{all_different}
 use Rattle.theory_run.proofs.Facts.KeptSecrets.{Begins, KeptSecrets}
@@ -52,7 +52,6 @@ use Rattle.theory_run.proofs.Steps.CommitSteps.{Constant, none_shown}
 use Rattle.theory_run.proofs.Facts.Kept.{KeptBook}
 use Rattle.theory_run.proofs.Accepted.Spending.{TransactionsFit, Checked}
 use Rattle.theory_run.proofs.Accepted.WhatItIs.{initial_is}
-use Rattle.theory_world.proofs.Contracts.Endorsed.{in_filter}
 use Rattle.theory_run.proofs.Facts.Owned.{owner_paid}
 use Rattle.theory_run.proofs.Accepted.ScriptsApart.{gift_starts_nothing}
 use Rattle.theory_run.proofs.Events.Fired.{piece_numbered, started_numbered, taken_numbered}

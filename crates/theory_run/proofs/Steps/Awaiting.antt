@@ -30,7 +30,7 @@ use Rattle.spec_run.specs.World.{ContractPosition, Output, World, is_deposit, li
 use Rattle.spec_run.specs.Ledger.{made_from}
 use Rattle.spec_run.specs.Steps.{auth_branch, is_awaited}
 use Rattle.spec_run.specs.Agreement.{active_by, active_in, deposits_from, actives_from}
-use Rattle.theory_world.proofs.Same.{bytes-true, bytes_refl}
+use Rattle.theory_calculus.proofs.Names.{bytes-true, bytes_refl}
 use Rattle.theory_world.proofs.Tests.{any-append}
 use Rattle.theory_world.proofs.Ledger.Outputs.{deposit_of, deposit-at, active-at}
 use Rattle.theory_run.proofs.Steps.Legal.{passes}

@@ -3,8 +3,8 @@ use Rattle.std.proofs.Common.{◌≡◌, ℕ, List, [], ◌∷◌, ◌++◌, map
 use Rattle.std.specs.Prelude.{◌-◌, if◌then◌else◌, ◌==◌, ◌&&◌, slice_get}
 use Rattle.std.specs.List.{filter, list_all}
 use Rattle.std.specs.Str.{bytes_eq}
-use Rattle.std.proofs.lemmas.Bool.{and_from, or_left, or_right, eq-eqb}
-use Rattle.spec_data.specs.Lists.{AllTrue, is_among, look_up, has_number}
+use Rattle.std.proofs.lemmas.Bool.{and_from, or_left}
+use Rattle.spec_data.specs.Lists.{AllTrue, look_up, has_number}
 use Rattle.spec_terms.specs.Advert.{Advert}
 use Rattle.spec_terms.specs.Parties.{participants}
 use Rattle.spec_terms.specs.Precondition.{Holding, persistent, deposits, names_of, total_of}
@@ -24,21 +24,21 @@ use Rattle.spec_run.specs.Setup.{Setup, pre_of as setup_pre}
 use Rattle.spec_run.specs.World.{ContractPosition, World, bindings_at, has_promised, have_promised}
 use Rattle.spec_run.specs.Ledger.{spend_from, made_from}
 use Rattle.spec_run.specs.Steps.{auth_inits, unauthorised, begin_steps, names_deposit}
-use Rattle.theory_world.proofs.Same.{bytes_refl}
-use Rattle.theory_world.proofs.Tests.{any-append, any_map, all_alike, all_among}
+use Rattle.theory_calculus.proofs.Names.{bytes_refl, all_among, different_names, in_looked, persistent_different, persistent_deposit, in_named}
+use Rattle.theory_calculus.proofs.Members.{Is_in}
+use Rattle.theory_world.proofs.Tests.{any-append, any_map, all_alike}
 use Rattle.theory_run.proofs.Steps.Legal.{passes, after-append, legal_append}
 use Rattle.theory_run.proofs.Steps.Moved.{AgreeOnMoney, live_there, actives-untouched}
 use Rattle.theory_run.proofs.Facts.KeptSecrets.{committed_by}
-use Rattle.theory_run.proofs.Facts.AllSecrets.{different_names}
 use Rattle.theory_run.proofs.Steps.CommitSteps.{Constant}
-use Rattle.theory_world.proofs.Contracts.Positions.{Is_in}
 use Rattle.theory_world.proofs.Ledger.Accepting.{Accepting}
 use Rattle.theory_world.proofs.Later.{compiled_is}
+use Rattle.theory_world.proofs.Staying.{init_new}
 use Rattle.theory_run.proofs.Facts.Kept.{KeptBook}
 use Rattle.theory_run.proofs.Accepted.Spending.{Checked}
-use Rattle.theory_run.proofs.Accepted.WhatItIs.{IsInitial, persistent_deposit}
+use Rattle.theory_run.proofs.Accepted.WhatItIs.{IsInitial}
 use Rattle.theory_run.proofs.Steps.Gone.{gone_values, agree_by}
-use Rattle.theory_run.proofs.Accepted.Numbers.{in_looked, persistent_different, all_in, AreBound, are_bound}
+use Rattle.theory_run.proofs.Accepted.Numbers.{all_in, AreBound, are_bound}
 
 -- ---- what contract steps leave
 
@@ -76,13 +76,6 @@ pub after-inits : (k : ℕ) (ds : List (List ℕ × Holding)) (c : Configuration
 after-inits k [] c = refl
 after-inits k (d ∷ ds) c = after-inits k ds (effect c (steps.AuthInit k (d.1).owner (d.0)))
 
-init_there : (xs : List InitAuthorisation) (k : ℕ) (n : List ℕ) → is_init_authorised (with_init xs k n) k n ≡ true
-init_there xs k n = by_test (is_init_authorised xs k n) refl
-  where
-    by_test : (b : Bool) → is_init_authorised xs k n ≡ b → is_init_authorised (cond b xs (xs ++ record { contract = k; deposit = n } ∷ [])) k n ≡ true
-    by_test true e = e
-    by_test false e = any-append _ xs (record { contract = k; deposit = n } ∷ []) ∙ or_right (is_init_authorised xs k n) _ (or_left _ _ (and_from _ _ (eq-eqb k k refl) (bytes_refl n)))
-
 init_more : (xs : List InitAuthorisation) (k j : ℕ) (n m : List ℕ) → is_init_authorised xs j m ≡ true → is_init_authorised (with_init xs k n) j m ≡ true
 init_more xs k j n m h = by_test (is_init_authorised xs k n)
   where
@@ -109,7 +102,7 @@ inits_cover xs ys k (p ∷ ps) h = by_test (is_init_authorised xs k (p.0)) refl 
         → list_all (λ n. is_init_authorised (init_all (with_init ys k (p.0)) k (missing xs k ps)) k n) (names_of ps) ≡ true
         → list_all (λ n. is_init_authorised (init_all ys k (cond (not b) (p ∷ missing xs k ps) (missing xs k ps))) k n) (p.0 ∷ names_of ps) ≡ true
     by_test true e a b = and_from _ _ (init_all_more ys k k (missing xs k ps) (p.0) (h (p.0) e)) a
-    by_test false e a b = and_from _ _ (init_all_more (with_init ys k (p.0)) k k (missing xs k ps) (p.0) (init_there ys k (p.0))) b
+    by_test false e a b = and_from _ _ (init_all_more (with_init ys k (p.0)) k k (missing xs k ps) (p.0) (init_new ys k (p.0))) b
 
 -- ---- the steps
 
@@ -129,11 +122,6 @@ in_filter {A} p x (y ∷ xs) h = by_test (p y) h (in_filter p x xs)
     by_test true (inl e) ih = inl e
     by_test true (inr i) ih = inr (ih i)
     by_test false i ih = inr (ih i)
-
-in_names : (ds : List (List ℕ × Holding)) (d : List ℕ × Holding) → Is_in d ds → is_among (d.0) (names_of ds) ≡ true
-in_names [] d h = absurd h
-in_names (e ∷ ds) d (inl q) = or_left _ _ (subst (λ (x : List ℕ × Holding). bytes_eq (e.0) (x.0) ≡ true) (sym q) (bytes_refl (e.0)))
-in_names (e ∷ ds) d (inr i) = or_right (bytes_eq (e.0) (d.0)) _ (in_names ds d i)
 
 module _ (s : Setup) (g : Configuration) (w : World) (kept : KeptBook s g w) (check : Checked s w) (tx : Tx) (spent : List ℕ) (acc : Accepting s w tx spent)
     (z : List (List ℕ)) (c : Configuration) (con : Constant s c) (money : AgreeOnMoney s c w) (advertised : c.advertised ≡ w.advertised) (committed : c.committed ≡ map (committed_by s z) w.promises)
@@ -172,7 +160,7 @@ module _ (s : Setup) (g : Configuration) (w : World) (kept : KeptBook s g w) (ch
   init_ok [] h = tt
   init_ok (d ∷ ds) h =
       let i = h d (inl refl) in
-      let t = all_among (λ x. is_there c.deposits (look_up x (bindings_of c.advertised k))) (persistent_names ad.pre) (d.0) there (in_names (persistent ad.pre) d i) in
+      let t = all_among (λ x. is_there c.deposits (look_up x (bindings_of c.advertised k))) (persistent_names ad.pre) (d.0) there (in_named (persistent ad.pre) d i) in
       (subst (λ o. AllTrue (auth_init_premises c k (d.1).owner (d.0) o)) (sym at) (all_committed, (owned d i, (t, tt))), init_ok ds (λ e j. h e (inr j)))
 
   abbrev awaited : List (List ℕ × Holding)

@@ -30,13 +30,13 @@ use Rattle.spec_run.specs.World.{ContractPosition, World, is_deposit, bindings_a
 use Rattle.spec_run.specs.Conditions.{HashesBytes}
 use Rattle.spec_run.specs.Ledger.{spend_from, made_from, core_holds, position_branch}
 use Rattle.spec_run.specs.Steps.{auth_branch, is_awaited, core_step, branch_steps}
+use Rattle.theory_bitcoin.specs.Apart.{bare_input}
 use Rattle.theory_world.proofs.Ledger.Preimages.{IsNumbered}
 use Rattle.theory_world.proofs.Tests.{all_alike}
 use Rattle.theory_world.proofs.Hashed.{NoClash}
 use Rattle.theory_run.proofs.Steps.Legal.{passes, after-append, legal_append}
 use Rattle.theory_run.proofs.Steps.Moved.{AgreeOnMoney}
 use Rattle.theory_run.proofs.Steps.CommitSteps.{Constant}
-use Rattle.theory_world.proofs.Ledger.Bare.{bare_input}
 use Rattle.theory_world.proofs.Ledger.Accepting.{Accepting, AllSpent, HeardAll}
 use Rattle.theory_world.proofs.Later.{compiled_is}
 use Rattle.theory_world.proofs.Contracts.Standing.{term_branches}

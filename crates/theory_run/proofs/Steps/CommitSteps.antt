@@ -24,7 +24,7 @@ use Rattle.spec_run.specs.Committing.{secrets_at, is_secret_long, own_digests, o
 use Rattle.spec_run.specs.Revealing.{fits, fitting}
 use Rattle.spec_run.specs.Secrets.{all_secrets, secrets_from, secrets_of_contract, digest_at, is_shown, shown, newly_shown, secret_size, length_in_run, lengths_in_run}
 use Rattle.spec_run.specs.Steps.{reveals, commit_lengths}
-use Rattle.theory_world.proofs.Same.{bytes-true, bytes_refl}
+use Rattle.theory_calculus.proofs.Names.{bytes-true, bytes_refl, all_among}
 use Rattle.theory_world.proofs.Tests.{any-append, any_map, map_append}
 use Rattle.theory_run.proofs.Steps.Legal.{passes}
 use Rattle.theory_world.proofs.Hashed.{NoClash, no_clash, among_left, among_head, among_tail, all_more, all_new}
@@ -80,15 +80,6 @@ pub every : (f : List ℕ → Bool) (names : List (List ℕ)) → ((n : List ℕ
 every f [] h = refl
 every f (x ∷ names) h = and_from _ _ (h x (among_head x names)) (every f names (λ n i. h n (among_tail n x names i)))
 
-pub each : (f : List ℕ → Bool) (names : List (List ℕ)) (n : List ℕ) → list_all f names ≡ true → is_among n names ≡ true → f n ≡ true
-each f [] n h i = cc
-each f (x ∷ names) n h i =
-    let p = and_parts (f x) (list_all f names) h in
-    elim (or_cases (bytes_eq x n) (is_among n names) i) [
-      | inl q ↦ subst (λ y. f y ≡ true) (bytes-true x n q) p.0
-      | inr q ↦ each f names n p.1 q
-    ]
-
 -- ---- an honest party's own secrets
 
 held_all : (s : Setup) (a : List ℕ) (ns : List (List ℕ)) → is_some (not_held s a ns) ≡ false → list_all (λ n. is_some (held_secret s a n)) ns ≡ true
@@ -108,7 +99,7 @@ own_looked s a n (m ∷ ns) h = by_test (bytes_eq m n) refl h (own_looked s a n 
     by_test true e q ih = ap (λ y. Some (s.hash (bytes_or_none (held_secret s a y)))) (bytes-true m n e)
     by_test false e q ih = ih q
 
--- each of a party's secrets has its digest
+-- all_among of a party's secrets has its digest
 pub digests_looked : (s : Setup) (k : ℕ) (a : List ℕ) (ds : List (List ℕ × List ℕ)) → names_fit s k a ds ≡ true → list_all (λ n. is_some (look_up n (committed_digests s k a ds))) (secrets_at s k a) ≡ true
 digests_looked s k a ds h = by_honest (is_honest s a) refl h
   where
@@ -119,7 +110,7 @@ digests_looked s k a ds h = by_honest (is_honest s a) refl h
     by_honest true e r = every (λ n. is_some (look_up n (own_digests s a names))) names (λ n i. ap is_some (own_looked s a n names i))
     by_honest false e r =
         let p = and_parts (are_different (names_of ds) && list_all (λ n. is_among n names) (names_of ds)) (list_all (λ n. is_among n (names_of ds)) names) r in
-        every (λ n. is_some (look_up n ds)) names (λ n i. named-looked ds n (each (λ m. is_among m (names_of ds)) names n p.1 i))
+        every (λ n. is_some (look_up n ds)) names (λ n i. named-looked ds n (all_among (λ m. is_among m (names_of ds)) names n p.1 i))
 
 own_heard : (s : Setup) (a n : List ℕ) (ns : List (List ℕ)) → is_among n ns ≡ true → is_among (bytes_or_none (held_secret s a n)) (own_strings s a ns) ≡ true
 own_heard s a n [] h = cc
@@ -233,7 +224,7 @@ module _ (s : Setup) (z : List (List ℕ)) (apart : different_secrets (all_secre
   long : is_honest s a ≡ true → list_all (λ n. is_secret_long (bytes_or_none (held_secret s a n))) names ≡ true
   long h = long_all s a names (rw h at row.1.1.1.1.1.1.0)
 
-  -- each name has its digest
+  -- all_among name has its digest
   looked : list_all (λ n. is_some (look_up n digests)) names ≡ true
   looked = digests_looked s k a ds (not-false _ row.1.1.1.1.0)
 
@@ -241,7 +232,7 @@ module _ (s : Setup) (z : List (List ℕ)) (apart : different_secrets (all_secre
   fair n i = by_honest (is_honest s a) refl
     where
       by_honest : (b : Bool) → is_honest s a ≡ b → is_fair (if b then option_map secret_size (held_secret s a n) else option_map secret_size (fitting s z (or_else_this [] (look_up n digests)))) ≡ true
-      by_honest true e = own_fair (held_secret s a n) (each (λ m. is_some (held_secret s a m)) names n (held e) i) (each (λ m. is_secret_long (bytes_or_none (held_secret s a m))) names n (long e) i)
+      by_honest true e = own_fair (held_secret s a n) (all_among (λ m. is_some (held_secret s a m)) names n (held e) i) (all_among (λ m. is_secret_long (bytes_or_none (held_secret s a m))) names n (long e) i)
       by_honest false e = found_fair s (or_else_this [] (look_up n digests)) z
 
   told : (not (is_among a s.header.honest) || are_known (lengths_in_run s z a (arranged [] names digests))) ≡ true
@@ -249,7 +240,7 @@ module _ (s : Setup) (z : List (List ℕ)) (apart : different_secrets (all_secre
     where
       by_honest : (b : Bool) → is_honest s a ≡ b → (not b || are_known (lengths_in_run s z a (arranged [] names digests))) ≡ true
       by_honest false e = refl
-      by_honest true e = all_told s z a digests names (λ n i. rw e (own_told (held_secret s a n) (each (λ m. is_some (held_secret s a m)) names n (held e) i)))
+      by_honest true e = all_told s z a digests names (λ n i. rw e (own_told (held_secret s a n) (all_among (λ m. is_some (held_secret s a m)) names n (held e) i)))
 
   new : not (has_committed g.committed k a) ≡ true
   new = rw (kept.lengths, any_map (λ c. (c.contract == k) && bytes_eq c.party a) (committed_by s z) w.promises) (not_from_false _ row.1.1.1.0)
@@ -291,7 +282,7 @@ module _ (s : Setup) (z : List (List ℕ)) (apart : different_secrets (all_secre
         let dl : look_up x.secret (own_digests s a names) ≡ Some d = rw ha at l.0 in
         let e : Some (s.hash (bytes_or_none (held_secret s a x.secret))) ≡ Some d = sym own ∙ dl in
         let there = heard (bytes_or_none (held_secret s a x.secret)) (rw ha (own_heard s a x.secret names l.1)) in
-        let one = own_one s next.hashed (held_secret s a x.secret) (each (λ m. is_some (held_secret s a m)) names x.secret (held ha) l.1) (each (λ m. is_secret_long (bytes_or_none (held_secret s a m))) names x.secret (long ha) l.1)
+        let one = own_one s next.hashed (held_secret s a x.secret) (all_among (λ m. is_some (held_secret s a m)) names x.secret (held ha) l.1) (all_among (λ m. is_secret_long (bytes_or_none (held_secret s a m))) names x.secret (long ha) l.1)
         (rw eh (all_new w.hashed hs _ there)) in
         subst (λ b. is_own s next.hashed (held_secret s b x.secret) (Some d) ≡ true) (sym n.1) (subst (λ o. is_own s next.hashed (held_secret s a x.secret) o ≡ true) e one)
 

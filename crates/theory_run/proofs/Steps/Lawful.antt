@@ -23,13 +23,13 @@ use Rattle.spec_run.specs.Owners.{deposit_value}
 use Rattle.spec_run.specs.Conditions.{HashesBytes}
 use Rattle.spec_run.specs.Ledger.{spend_from, made_from, branch_holds, position_path, items_of, initial_of, first_position, branch_count, first_number, first_witness, Kind, Begins, Takes, Moves, kind_by, kind_of, new_position}
 use Rattle.spec_run.specs.Steps.{kind_steps}
+use Rattle.theory_calculus.proofs.Members.{Is_in}
 use Rattle.theory_world.proofs.Ledger.Preimages.{IsNumbered}
 use Rattle.theory_world.proofs.Ledger.Found.{values_at, value_or_zero}
 use Rattle.theory_world.proofs.Hashed.{NoClash}
 use Rattle.theory_run.proofs.Steps.Moved.{AgreeOnMoney, CanMove, legal_move, ends-move, agree_move}
 use Rattle.theory_run.proofs.Facts.KeptSecrets.{KeptSecrets, Begins as BeginsWith, committed_by}
 use Rattle.theory_run.proofs.Steps.CommitSteps.{Constant}
-use Rattle.theory_world.proofs.Contracts.Positions.{Is_in}
 use Rattle.theory_world.proofs.Ledger.Accepting.{Accepting, AllSpent, IsSpent, HeardAll, first_strings}
 use Rattle.theory_run.proofs.Facts.Kept.{KeptBook}
 use Rattle.theory_run.proofs.Accepted.Spending.{TransactionsFit, Checked}

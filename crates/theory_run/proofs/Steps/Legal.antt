@@ -16,7 +16,7 @@ use Rattle.spec_calculus.specs.Same.{owner_eq, output_eq, move_eq}
 use Rattle.spec_calculus.specs.Moves.{spends_live, owns_one, has_authorised, with_authorisation, without_move}
 use Rattle.spec_calculus.specs.Steps.{premises, fails, effect, after_steps, Legal}
 use Rattle.spec_run.specs.Steps.{auth_move}
-use Rattle.theory_world.proofs.Same.{bytes-true, bytes_refl}
+use Rattle.theory_calculus.proofs.Names.{bytes-true, bytes_refl}
 use Rattle.theory_world.proofs.Tests.{filter-append, any-append}
 
 pub passes : (g : Configuration) (step : Step) → AllTrue (premises g step) → fails g step ≡ 0

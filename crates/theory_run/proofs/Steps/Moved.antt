@@ -24,8 +24,9 @@ use Rattle.spec_run.specs.Owners.{owner_of, deposit_value}
 use Rattle.spec_run.specs.Ledger.{spend_from, made_from}
 use Rattle.spec_run.specs.Steps.{parties_once, moved_output, move_of, auth_move, owners_of, move_steps}
 use Rattle.spec_run.specs.Agreement.{active_by, active_in, actives_from, deposits_from}
-use Rattle.theory_world.proofs.Tests.{all_has, all_alike, any_alike, all_then, all_map, any_map, all_filter, sum_map, length_map}
-use Rattle.theory_world.proofs.Same.{bytes-true, bytes_refl}
+use Rattle.theory_calculus.proofs.Names.{bytes-true, bytes_refl}
+use Rattle.theory_calculus.proofs.Members.{all_then, all_map, all_filter}
+use Rattle.theory_world.proofs.Tests.{all_has, all_alike, any_alike, any_map, sum_map, length_map}
 use Rattle.theory_world.proofs.Ledger.Outputs.{deposit_of, deposit-at, active-named, actives-append, actives-spent, actives-new, deposits-append, deposits-spent, deposits-new, nothing_held, length-spend_from, length-made_from}
 use Rattle.theory_run.proofs.Steps.Legal.{passes, after-append, legal_append, after-auths, auth_all, all_there, all_gone, legal_auths}
 

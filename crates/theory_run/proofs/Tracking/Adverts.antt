@@ -1,5 +1,5 @@
 -- The configuration tracks the world where a contract is advertised.
-use Rattle.std.proofs.Common.{◌≡◌, ℕ, List, [], ◌∷◌, ◌++◌, map, Bool, true, false, not, Option, Some, None, refl, sym, ap, ◌∙◌, subst, inl, inr}
+use Rattle.std.proofs.Common.{◌≡◌, ℕ, List, [], ◌∷◌, ◌++◌, Bool, true, false, not, Option, Some, None, refl, sym, ap, ◌∙◌, subst, inl, inr}
 use Rattle.std.specs.Prelude.{◌==◌, ◌||◌, slice_get, is_some}
 use Rattle.std.specs.List.{list_any, list_all}
 use Rattle.std.specs.Str.{bytes_eq}
@@ -7,9 +7,7 @@ use Rattle.std.proofs.lemmas.Bool.{and_parts, and_from, not_from_false, not-fals
 use Rattle.spec_data.specs.Lists.{is_among, are_different, look_up, first_reason}
 use Rattle.spec_data.proofs.ListLemmas.{no_reason-none_true}
 use Rattle.spec_terms.specs.Advert.{Advert}
-use Rattle.spec_terms.specs.Precondition.{Holding, deposits, names_of, name_in}
-use Rattle.spec_terms.specs.declared.pre.Pre.{Pre}
-use Rattle.spec_terms.specs.declared.pre.Pre.TheVariants.{Persistent, Volatile, Secret}
+use Rattle.spec_terms.specs.Precondition.{Holding, deposits, names_of}
 use Rattle.spec_calculus.specs.declared.step.Step.TheVariants as steps
 use Rattle.spec_calculus.specs.Configuration.{Configuration}
 use Rattle.spec_calculus.specs.Beginning.{contract_at, pre_of as calculus_pre, fits_deposit, binds, binds_each, are_bound_apart}
@@ -21,23 +19,15 @@ use Rattle.spec_run.specs.Conditions.{IsSetup}
 use Rattle.spec_run.specs.Draft.{done}
 use Rattle.spec_run.specs.Secrets.{all_secrets}
 use Rattle.spec_run.specs.Advertising.{or_else_this, arranged, repeated, unsuited, deposit_names, are_rearranged, advertise_row, advertise_draft}
-use Rattle.theory_world.proofs.Same.{bytes_refl}
-use Rattle.theory_world.proofs.Contracts.Positions.{Is_in}
+use Rattle.theory_calculus.proofs.Names.{bytes_refl, different_names, deposits_different}
+use Rattle.theory_calculus.proofs.Members.{Is_in}
 use Rattle.theory_run.proofs.Facts.Secrets.{different_secrets}
-use Rattle.theory_run.proofs.Facts.AllSecrets.{different_names}
 use Rattle.theory_world.proofs.Contracts.Checking.{contract_checked}
 use Rattle.theory_run.proofs.Steps.Legal.{passes}
 use Rattle.theory_run.proofs.Steps.Moved.{AgreeOnMoney, live_there, owner_there, value_there}
 use Rattle.theory_run.proofs.Steps.CommitSteps.{same_people}
-use Rattle.theory_run.proofs.Events.Advertised.{all_looked, suits_looked, one_name, deposit_looked, head_apart}
+use Rattle.theory_run.proofs.Events.Advertised.{all_looked, suits_looked, one_name, deposit_looked}
 use Rattle.theory_run.proofs.Tracking.Tracked.{Tracks, Tracked, still, unless_tracked}
-
--- the names of deposits differ where all names do
-deposits_different : (pre : List Pre) → are_different (map name_in pre) ≡ true → are_different (names_of (deposits pre)) ≡ true
-deposits_different [] h = refl
-deposits_different (Persistent party value name ∷ pre) h = let p = head_apart name pre h in and_from _ _ (not_from_false _ p.0) (deposits_different pre p.1)
-deposits_different (Volatile party value name ∷ pre) h = let p = head_apart name pre h in and_from _ _ (not_from_false _ p.0) (deposits_different pre p.1)
-deposits_different (Secret party name ∷ pre) h = deposits_different pre (head_apart name pre h).1
 
 -- a deposit that suits fits
 fits_where_suits : (s : Setup) (g : Configuration) (w : World) → AgreeOnMoney s g w → (n : ℕ) (h : Holding) → suits s (Some h) (output_at w n) ≡ true → fits_deposit g.deposits n h.owner h.value ≡ true

@@ -20,7 +20,7 @@ use Rattle.spec_run.specs.Committing.{used_digests, committed_strings, commit_ro
 use Rattle.spec_run.specs.Revealing.{own_secret, reveal_row, reveal_draft}
 use Rattle.spec_run.specs.Secrets.{all_secrets, digest_at, newly_shown}
 use Rattle.spec_run.specs.Steps.{reveal_step, reveals, commit_lengths, steps_of}
-use Rattle.theory_world.proofs.Same.{bytes-true}
+use Rattle.theory_calculus.proofs.Names.{bytes-true}
 use Rattle.theory_world.proofs.Hashed.{among_left}
 use Rattle.theory_run.proofs.Facts.Secrets.{different_secrets, after-reveals}
 use Rattle.theory_world.proofs.Once.{at_used}

@@ -26,15 +26,12 @@ use Rattle.spec_run.specs.Secrets.{all_secrets}
 use Rattle.spec_run.specs.Ledger.{position_branch}
 use Rattle.spec_run.specs.Signing.{with_pairs, initial_pairs, init_row, init_draft, asked_by, branch_if_live, authorising_pairs, authorise_row, authorise_draft}
 use Rattle.spec_run.specs.Steps.{auth_inits, is_of_party, is_bound_live, names_deposit, init_steps}
-use Rattle.theory_world.proofs.Same.{bytes_refl}
+use Rattle.theory_calculus.proofs.Names.{bytes_refl, different_names, in_looked, persistent_different}
+use Rattle.theory_calculus.proofs.Members.{Is_in, in_filter}
 use Rattle.theory_run.proofs.Facts.Secrets.{different_secrets}
-use Rattle.theory_run.proofs.Facts.AllSecrets.{different_names}
-use Rattle.theory_world.proofs.Contracts.Positions.{Is_in}
-use Rattle.theory_world.proofs.Contracts.Endorsed.{in_filter}
 use Rattle.theory_run.proofs.Steps.Legal.{passes}
 use Rattle.theory_world.proofs.Ledger.Outputs.{active-at}
 use Rattle.theory_world.proofs.Later.{compiled_is}
-use Rattle.theory_run.proofs.Accepted.Numbers.{in_looked, persistent_different}
 use Rattle.theory_run.proofs.Accepted.Spending.{Checked}
 use Rattle.theory_run.proofs.Steps.Beginnings.{bindings_same, committed_same, there_same, after-inits, init_all, InitOk, legal_inits}
 use Rattle.theory_run.proofs.Tracking.Tracked.{Tracks, Tracked, still, unless_tracked}

@@ -5,7 +5,7 @@ use Rattle.std.specs.List.{AllByRecursion, flat_map}
 use Rattle.std.proofs.lemmas.Bool.{and_parts}
 use Rattle.std.proofs.lemmas.Bool.Decides.{nat_tests}
 use Rattle.spec_terms.specs.Term as term
-use Rattle.spec_terms.specs.Term.{Contract, no_branch, branch, branches, Parts, no_part, part, parts_list, auth, after, put_reveal, withdraw, split}
+use Rattle.spec_terms.specs.Term.{Contract, branches, Parts, no_part, part, parts_list, auth, after, put_reveal, withdraw, split}
 use Rattle.spec_terms.specs.Core.{core, lock, puts_of}
 use Rattle.spec_data.specs.Ranges.{max_money, last_height}
 use Rattle.spec_terms.specs.Readable.{is_readable_branch, is_readable_split, is_readable_count, are_readable, are_readable_parts, is_some_list, most_parts}
@@ -18,21 +18,15 @@ use Rattle.spec_compiler.specs.declared.unsigned.Spent.{Spent}
 use Rattle.spec_compiler.specs.Transactions.{Standing, input_of, tx_of, party_script, continued_value, put_deposits, part_position, part_outputs, core_outputs, branch_unsigned}
 use Rattle.spec_compiler.specs.ByPath.{position_at}
 use Rattle.spec_run.specs.Conditions.{HashesBytes}
+use Rattle.theory_calculus.proofs.Members.{Is_in}
 use Rattle.theory_world.proofs.Tests.{length_map}
-use Rattle.theory_world.proofs.Contracts.Positions.{Is_in}
 use Rattle.theory_world.proofs.Contracts.Standing.{put_position}
-use Rattle.theory_world.proofs.Contracts.Balances.{position_little}
+use Rattle.theory_script.proofs.Balances.{position_little}
 use Rattle.theory_world.proofs.Contracts.Places.{position_place}
+use Rattle.theory_world.proofs.Labels.{core_readable}
 use Rattle.theory_run.proofs.Widths.Fitting.{inputs_fit, output_fits, pays_size, AllShort, short_bytes}
 
 -- ---- a branch that text may have
-
-pub core_is_readable : (b : term.Guarded) → is_readable_branch b ≡ true → is_readable_branch (core b) ≡ true
-core_is_readable (auth party body) h = core_is_readable body (and_parts _ (is_readable_branch body) h).1
-core_is_readable (after height body) h = core_is_readable body (and_parts _ (is_readable_branch body) h).1
-core_is_readable (put_reveal puts reveals test next) h = h
-core_is_readable (withdraw party) h = h
-core_is_readable (split parts) h = h
 
 -- its lock is at most the last height
 pub lock_low : (b : term.Guarded) → is_readable_branch b ≡ true → lock b ≤ last_height
@@ -94,7 +88,7 @@ module _ (hash : List ℕ → List ℕ) (size : HashesBytes hash) (st : Instance
   -- its outputs have few bytes
   pub branch_size : (here : Standing) (i : ℕ) (b : term.Guarded) → is_readable_branch b ≡ true → length (flat_map output_bytes (tx_of (branch_unsigned hash st here i b)).outputs) < 2 ^ 32
   branch_size here i b readable =
-      let n = outputs_few (branch_path here.position i) here.output.value (core b) (core_is_readable b readable) in
+      let n = outputs_few (branch_path here.position i) here.output.value (core b) (core_readable b readable) in
       let l = short_bytes (core_outputs hash st (branch_path here.position i) here.output.value (core b)) (outputs_short (branch_path here.position i) here.output.value (core b)) in
       omega (arith, n, l)
 
@@ -103,7 +97,7 @@ module _ (hash : List ℕ → List ℕ) (size : HashesBytes hash) (st : Instance
       → ((x : Spent) → Is_in x (put_deposits hash st (puts_of (core b))) → IsPlace x.outpoint) → length (put_deposits hash st (puts_of (core b))) + 1 < 2 ^ 64 → IsTransaction (tx_of (branch_unsigned hash st here i b))
   branch_fits well q here choice i b stands there readable places few =
       let l = lock_low b readable in
-      let r = core_is_readable b readable in
+      let r = core_readable b readable in
       let v = position_little hash st well q here choice stands in
       let n = length_map input_of (put_deposits hash st (puts_of (core b))) in
       record {

@@ -25,16 +25,17 @@ use Rattle.spec_run.specs.Conditions.{HashesBytes, IsSetup}
 use Rattle.spec_bitcoin.specs.Keys.{pay_to}
 use Rattle.std.proofs.lemmas.List.Concat.{flat_map-cons}
 use Rattle.theory_bitcoin.proofs.Formats.{wide64}
+use Rattle.theory_calculus.proofs.Members.{Is_in, in_some}
+use Rattle.theory_calculus.proofs.Names.{persistent_deposit}
 use Rattle.theory_world.proofs.Ledger.Preimages.{IsNumbered, numbered}
 use Rattle.theory_world.proofs.Ledger.Counts.{count_size}
 use Rattle.theory_world.proofs.Tests.{length_map}
-use Rattle.theory_world.proofs.Contracts.Positions.{Is_in}
 use Rattle.theory_world.proofs.Later.{compiled_is}
 use Rattle.theory_run.proofs.Facts.Kept.{AdvertFine}
 use Rattle.theory_world.proofs.Contracts.Mentions.{has_deposit}
 use Rattle.theory_run.proofs.Accepted.WhatItIs.{bound_at}
 use Rattle.theory_world.proofs.Contracts.Checking.{compiled_checked}
-use Rattle.theory_world.proofs.Contracts.Balances.{root_little}
+use Rattle.theory_script.proofs.Balances.{root_little}
 
 -- ---- inputs and outputs
 
@@ -101,17 +102,6 @@ few_persistent (Persistent party value name ∷ pre) = let r = few_persistent pr
 few_persistent (Volatile party value name ∷ pre) = let r = few_persistent pre in omega (arith, r)
 few_persistent (Secret party name ∷ pre) = few_persistent pre
 
-persistent_among : (pre : List Pre) (d : List ℕ × Holding) → Is_in d (persistent pre) → Is_in d (deposits pre)
-persistent_among [] d h = absurd h
-persistent_among (Persistent party value name ∷ pre) d (inl e) = inl e
-persistent_among (Persistent party value name ∷ pre) d (inr i) = inr (persistent_among pre d i)
-persistent_among (Volatile party value name ∷ pre) d h = inr (persistent_among pre d h)
-persistent_among (Secret party name ∷ pre) d h = persistent_among pre d h
-
-some_there : {X : Type 0} (x : X) (xs : List X) → Is_in x xs → 0 < length xs
-some_there x [] h = absurd h
-some_there x (y ∷ xs) h = omega arith
-
 few_deposits : (a : Advert) → IsWellFormed a → length (persistent a.pre) ≤ 32
 few_deposits a h =
     let r = (and_parts (is_readable_pre a.pre) (nat_le a.fee max_money && is_readable_contract a.root) h.readable).0 in
@@ -143,7 +133,7 @@ module _ (s : Setup) (is : IsSetup s) (w : World) (adverts : (k : ℕ) → is_ad
       let pe : people_at s k ≡ participants ci.advert = ap people_of ci.there in
       let m : is_among fair.0 (participants st.advert) ≡ true = subst (λ (y : Advert). is_among fair.0 (participants y) ≡ true) (sym sa) (subst (λ ps. is_among fair.0 ps ≡ true) pe fair.1) in
       let d = has_deposit st.advert fair.0 well m in
-      some_there (d.name, d.holding) (persistent st.advert.pre) d.there
+      in_some (d.name, d.holding) (persistent st.advert.pre) d.there
 
   -- the initial transaction of a compiled contract
   pub initial_fits : IsTransaction (tx_of (initial_unsigned s.hash st))
@@ -156,7 +146,7 @@ module _ (s : Setup) (is : IsSetup s) (w : World) (adverts : (k : ℕ) → is_ad
         version = omega arith;
         some = omega (arith, a, b, n);
         few_inputs = omega (arith, a, b, f);
-        inputs = inputs_fit (persistent_deposits s.hash st) (persistent_place (persistent st.advert.pre) (persistent_among st.advert.pre));
+        inputs = inputs_fit (persistent_deposits s.hash st) (persistent_place (persistent st.advert.pre) (persistent_deposit st.advert.pre));
         few_outputs = omega arith;
         outputs = (output_fits s.hash is.hash (position_script s.hash st [] st.advert.root) (root_value st) (root_little s.hash st well), tt);
         lock = omega arith;

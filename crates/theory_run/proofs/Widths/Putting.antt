@@ -1,5 +1,5 @@
 -- The transactions of compiled contracts have numbers within their widths: what they put is bound, and isn't much.
-use Rattle.std.proofs.Common.{◌≡◌, ℕ, zero, suc, ◌≤◌, List, [], ◌∷◌, length, Bool, true, false, not, Some, None, refl, sym, ap, subst, arith, inl, inr}
+use Rattle.std.proofs.Common.{◌≡◌, ℕ, suc, ◌≤◌, List, [], ◌∷◌, length, Bool, true, false, not, Some, refl, sym, ap, subst, arith, inl, inr}
 use Rattle.std.specs.Prelude.{◌&&◌, ◌||◌, ◌⊎◌, nat_le, slice_get, if◌then◌else◌}
 use Rattle.std.specs.List.{list_all}
 use Rattle.std.specs.Str.{bytes_eq}
@@ -7,35 +7,29 @@ use Rattle.std.proofs.lemmas.Bool.{and_parts, and_from, or_left, or_right, or_pa
 use Rattle.std.proofs.lemmas.Bool.Decides.{nat_tests}
 use Rattle.spec_data.specs.Lists.{is_among, are_different, look_up}
 use Rattle.spec_terms.specs.Advert.{Advert}
-use Rattle.spec_terms.specs.Term as term
-use Rattle.spec_terms.specs.Term.{Contract, branches}
 use Rattle.spec_terms.specs.Core.{core, puts_of, reveals_of}
-use Rattle.spec_terms.specs.Paths.{Subterm, position, at_branch, contract_under}
-use Rattle.spec_terms.specs.Balance.{all_funded}
-use Rattle.spec_terms.specs.Precondition.{Holding, holding, volatile, deposits, secrets, names_of}
+use Rattle.spec_terms.specs.Precondition.{volatile, deposits, secrets, names_of}
 use Rattle.spec_data.specs.Ranges.{max_money}
 use Rattle.spec_terms.specs.Readable.{most_deposits, most_secrets, is_readable_pre, is_readable_contract, is_some_list, is_readable_entry}
-use Rattle.spec_terms.specs.Faults.{IsWellFormed, first_place, at_core, are_among}
+use Rattle.spec_terms.specs.Faults.{IsWellFormed}
 use Rattle.spec_terms.specs.declared.pre.Pre.{Pre}
 use Rattle.spec_terms.specs.declared.pre.Pre.TheVariants.{Persistent, Volatile, Secret}
-use Rattle.spec_terms.specs.declared.path.PathStep.{PathStep}
 use Rattle.spec_bitcoin.specs.Spelling.{IsPlace}
 use Rattle.spec_calculus.specs.Configuration.{Configuration}
 use Rattle.spec_compiler.specs.Instance.{Instance}
 use Rattle.spec_compiler.specs.declared.unsigned.Spent.{Spent}
-use Rattle.spec_compiler.specs.Transactions.{Standing, deposit, holding_or_none, put_deposits, tx_of, branch_unsigned}
-use Rattle.spec_compiler.specs.ByPath.{position_at}
+use Rattle.spec_compiler.specs.Transactions.{deposit, holding_or_none, put_deposits, tx_of, branch_unsigned}
 use Rattle.spec_run.specs.Setup.{Setup}
 use Rattle.spec_run.specs.World.{Output, World, is_advertised}
 use Rattle.spec_run.specs.Compiled.{compiled_instance}
 use Rattle.spec_run.specs.Conditions.{IsSetup}
-use Rattle.theory_script.proofs.Listing.Subterms.{each_at, each_of_branches, each_of_advert}
+use Rattle.theory_script.proofs.Checked.{core_fact, puts_known}
 use Rattle.theory_world.proofs.Ledger.Preimages.{numbered}
-use Rattle.theory_world.proofs.Same.{bytes-true}
 use Rattle.theory_world.proofs.Tests.{length_map}
-use Rattle.theory_world.proofs.Contracts.Positions.{Is_in}
 use Rattle.theory_world.proofs.Contracts.Standing.{term_choice}
-use Rattle.theory_world.proofs.Contracts.Faultless.{no_fault}
+use Rattle.theory_calculus.proofs.Faultless.{no_fault}
+use Rattle.theory_calculus.proofs.Names.{bytes-true, volatile_named}
+use Rattle.theory_calculus.proofs.Members.{Is_in}
 use Rattle.theory_run.proofs.Facts.Kept.{KeptBook, AdvertFine}
 use Rattle.theory_run.proofs.Accepted.Spending.{TransactionsFit}
 use Rattle.theory_world.proofs.Contracts.Checking.{compiled_checked}
@@ -83,44 +77,7 @@ no_more (x ∷ xs) ys h k =
     let l = length_without x ys b.0 in
     omega (arith, r, l)
 
--- ---- what the check sees of each branch
-
-abbrev of_core : (term.Guarded → Bool) → Subterm → Bool
-of_core g (position c) = true
-of_core g (at_branch b) = g (core b)
-
-is_true : (b : Bool) → not b ≡ false → b ≡ true
-is_true true h = refl
-is_true false h = sym h
-
-says : (g : term.Guarded → Bool) (p : Subterm) → at_core (λ b. not (g b)) p ≡ false → of_core g p ≡ true
-says g (position c) h = refl
-says g (at_branch b) h = is_true (g (core b)) h
-
-all_get : (f : term.Guarded → Bool) (bs : List term.Guarded) (i : ℕ) (b : term.Guarded) → list_all f bs ≡ true → slice_get bs i ≡ Some b → f b ≡ true
-all_get f [] i b h e = cc
-all_get f (c ∷ bs) zero b h e = let z : c ≡ b = cc in subst (λ y. f y ≡ true) z (and_parts (f c) (list_all f bs) h).0
-all_get f (c ∷ bs) (suc i) b h e = all_get f bs i b (and_parts (f c) (list_all f bs) h).1 e
-
-core_says : (g : term.Guarded → Bool) (a : Advert) (q : List PathStep) (choice : Contract) (i : ℕ) (b : term.Guarded) → first_place (λ x. at_core (λ y. not (g y)) x.subterm) (all_funded a) ≡ None → contract_under a.root q ≡ Some choice → slice_get (branches choice) i ≡ Some b → g (core b) ≡ true
-core_says g a q choice i b h e t =
-    let all = each_of_advert (of_core g) (λ x. at_core (λ y. not (g y)) x.subterm) a (λ x. says g x.subterm) h in
-    let here = each_at (of_core g) a.root q choice all e in
-    all_get (λ y. g (core y)) (branches choice) i b (each_of_branches (of_core g) choice here.1) t
-
 -- ---- puts
-
--- a volatile deposit's name
-pub named : (pre : List Pre) (name : List ℕ) → is_among name (names_of (volatile pre)) ≡ true → (h : Holding) × (look_up name (volatile pre) ≡ Some h) × Is_in (name, h) (deposits pre)
-named [] name h = cc
-named (Persistent party value n ∷ pre) name h = let r = named pre name h in (r.0, r.1, inr r.2)
-named (Volatile party value n ∷ pre) name h = by_test (bytes_eq n name) refl h (named pre name)
-  where
-    by_test : (t : Bool) → bytes_eq n name ≡ t → (t || is_among name (names_of (volatile pre))) ≡ true → (is_among name (names_of (volatile pre)) ≡ true → (h : Holding) × (look_up name (volatile pre) ≡ Some h) × Is_in (name, h) (deposits pre))
-        → (h : Holding) × ((if t then Some (holding party value) else look_up name (volatile pre)) ≡ Some h) × Is_in (name, h) ((n, holding party value) ∷ deposits pre)
-    by_test true e k ih = let z = bytes-true n name e in (holding party value, refl, inl (λ i. (sym z i, holding party value)))
-    by_test false e k ih = let r = ih k in (r.0, r.1, inr r.2)
-named (Secret party n ∷ pre) name h = named pre name h
 
 few_volatile : (pre : List Pre) → length (names_of (volatile pre)) ≤ length (deposits pre)
 few_volatile [] = omega arith
@@ -136,17 +93,11 @@ few_names a h =
     let l = few_volatile a.pre in
     grind (arith, nat_tests, q, l)
 
--- what a branch puts are volatile deposits
-pub puts_known : (hash : List ℕ → List ℕ) (st : Instance) → IsWellFormed st.advert → (q : List PathStep) (here : Standing) (choice : Contract) (i : ℕ) (b : term.Guarded) → position_at hash st q ≡ Some (here, choice) → slice_get (branches choice) i ≡ Some b
-    → list_all (λ n. is_among n (names_of (volatile st.advert.pre))) (puts_of (core b)) ≡ true
-puts_known hash st well q here choice i b stand there =
-    core_says (λ y. are_among (puts_of y) (names_of (volatile st.advert.pre))) st.advert q choice i b (no_fault st.advert well).1.0 (term_choice hash st q here choice stand) there
-
 module _ (s : Setup) (is : IsSetup s) (w : World) (adverts : (k : ℕ) → is_advertised w k ≡ true → AdvertFine s w k) (placed : (n : ℕ) (o : Output) → slice_get w.outputs n ≡ Some o → IsPlace o.outpoint) where
   put_places : (k : ℕ) (st : Instance) (c : compiled_instance s w k ≡ Some st) (puts : List (List ℕ)) → list_all (λ n. is_among n (names_of (volatile st.advert.pre))) puts ≡ true → (x : Spent) → Is_in x (put_deposits s.hash st puts) → IsPlace x.outpoint
   put_places k st c [] h x i = absurd i
   put_places k st c (n ∷ puts) h x (inl e) =
-      let r = named st.advert.pre n (and_parts (is_among n (names_of (volatile st.advert.pre))) (list_all (λ m. is_among m (names_of (volatile st.advert.pre))) puts) h).0 in
+      let r = volatile_named st.advert.pre n (and_parts (is_among n (names_of (volatile st.advert.pre))) (list_all (λ m. is_among m (names_of (volatile st.advert.pre))) puts) h).0 in
       let p = bound_place s is w adverts placed k st c (n, r.0) r.2 in
       subst (λ (y : Spent). IsPlace y.outpoint) (sym e) p
   put_places k st c (n ∷ puts) h x (inr i) = put_places k st c puts (and_parts (is_among n (names_of (volatile st.advert.pre))) (list_all (λ m. is_among m (names_of (volatile st.advert.pre))) puts) h).1 x i
@@ -159,8 +110,8 @@ module _ (s : Setup) (is : IsSetup s) (w : World) (adverts : (k : ℕ) → is_ad
         let well = compiled_checked s is w k st c in
         let ch = term_choice s.hash st q here choice stand in
         let f = no_fault st.advert well in
-        let known = puts_known s.hash st well q here choice i b stand there in
-        let once = (and_parts (are_different (puts_of (core b))) (are_different (reveals_of (core b))) (core_says (λ y. are_different (puts_of y) && are_different (reveals_of y)) st.advert q choice i b f.1.1.1.0 ch there)).0 in
+        let known = puts_known st.advert well q choice ch i b there in
+        let once = (and_parts (are_different (puts_of (core b))) (are_different (reveals_of (core b))) (core_fact (λ y. are_different (puts_of y) && are_different (reveals_of y)) st.advert q choice i b f.1.1.1.0 ch there)).0 in
         let n = no_more (puts_of (core b)) (names_of (volatile st.advert.pre)) once known in
         let l = few_names st.advert well in
         let m = length_map (λ name. deposit s.hash st name (holding_or_none (look_up name (volatile st.advert.pre)))) (puts_of (core b)) in

@@ -23,12 +23,11 @@ use Rattle.spec_run.specs.Committing.{used_again}
 use Rattle.spec_run.specs.Committing.{with_promise, committed_draft}
 use Rattle.spec_run.specs.Event.{Passed, draft}
 use Rattle.spec_run.specs.Translation.{world_after}
+use Rattle.theory_calculus.proofs.Names.{bytes-true, among-append, different_names}
 use Rattle.theory_run.specs.WorldsOfRuns.{IsOfOwnSecrets}
-use Rattle.theory_world.proofs.Same.{bytes-true}
-use Rattle.theory_world.proofs.Hashed.{among-append, among_head, among_tail}
+use Rattle.theory_world.proofs.Hashed.{among_head, among_tail}
 use Rattle.theory_world.proofs.Once.{digests_in, used-append, not_before, one_name}
 use Rattle.theory_world.proofs.Contracts.Checking.{contract_checked}
-use Rattle.theory_run.proofs.Facts.AllSecrets.{different_names}
 use Rattle.theory_run.proofs.Accepted.Tested.{secrets_different}
 use Rattle.theory_run.proofs.Steps.CommitSteps.{digests_looked, own_looked}
 use Rattle.theory_run.proofs.Facts.Undertakings.{IsQuiet, told_stays}
@@ -132,7 +131,7 @@ own_arranged s a names (n ∷ ns) h =
 
 -- ---- one commitment more
 
-all_push : {X : Type 0} (P : X → Type 0) (xs : List X) (x : X) → AllByRecursion P xs → P x → AllByRecursion P (xs ++ x ∷ [])
+pub all_push : {X : Type 0} (P : X → Type 0) (xs : List X) (x : X) → AllByRecursion P xs → P x → AllByRecursion P (xs ++ x ∷ [])
 all_push P [] x h p = (p, tt)
 all_push P (y ∷ xs) x h p = (h.0, all_push P xs x h.1 p)
 

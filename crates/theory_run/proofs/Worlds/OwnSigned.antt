@@ -33,7 +33,7 @@ use Rattle.spec_run.specs.Values.{is_refused}
 use Rattle.spec_run.specs.Event.{append_read, mine_row, draft}
 use Rattle.theory_run.specs.OwnSignatures.{is_signer, event_pairs, signed_pairs, own_pairs}
 use Rattle.theory_bitcoin.proofs.Labels.{one_label}
-use Rattle.theory_world.proofs.Same.{bytes-true, bytes_refl}
+use Rattle.theory_calculus.proofs.Names.{bytes-true, bytes_refl}
 use Rattle.theory_world.proofs.Hashed.{NoClash, all_new, among_head}
 use Rattle.theory_world.proofs.Book.{key-apart, signed_more, signed_new, signed_back}
 use Rattle.theory_run.proofs.Facts.Kept.{KeptBook}

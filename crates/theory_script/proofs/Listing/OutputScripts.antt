@@ -2,6 +2,7 @@
 use Rattle.std.proofs.Common.{◌≡◌, ℕ, zero, suc, ◌+◌, List, [], ◌∷◌, ◌++◌, true, Option, Some, None, refl, sym, ap, ◌∙◌, subst, arith, append_assoc, append-nil}
 use Rattle.std.specs.Prelude.{slice_get}
 use Rattle.std.specs.Option.{option_map, option_and_then}
+use Rattle.std.proofs.lemmas.Bool.{or_left}
 use Rattle.spec_terms.specs.Term as term
 use Rattle.spec_terms.specs.Term.{Contract, no_branch, branch, branches, Parts, no_part, part, parts_list, auth, after, put_reveal, withdraw, split}
 use Rattle.spec_terms.specs.Core.{core, lock}
@@ -13,8 +14,8 @@ use Rattle.spec_compiler.specs.Transactions.{Standing, core_unsigned, part_posit
 use Rattle.spec_compiler.specs.Compilation.{choice_scripts, branch_scripts, parts_scripts, scripts}
 use Rattle.spec_compiler.specs.ByPath.{PathEnd, at_position, at_branch, branch_end, continued_end, next_end, end_from, end_at, as_position, position_at}
 use Rattle.theory_script.specs.Listed.{at_path}
-use Rattle.theory_script.proofs.Listing.Stands.{next_core, is_next_core}
-use Rattle.theory_script.proofs.Listing.Transactions.{has_path, AreRight, right-append, list_is, path_same, or_left, Within, within_front, within_back, within_more, within_all, within_same, some_same, last_of, Known, known_here, known_more, known_from, KnownParts, part_here, part_more, known_continued, known_parts, part_known}
+use Rattle.theory_script.proofs.Listing.Stands.{next_core, is_next_core, some_same, last_step}
+use Rattle.theory_script.proofs.Listing.Transactions.{has_path, AreRight, right-append, list_is, path_same, Within, within_front, within_back, within_more, within_all, within_same, Known, known_here, known_more, known_from, KnownParts, part_here, part_more, known_continued, known_parts, part_known}
 
 -- the script of a position's output
 abbrev script_of : Standing × Contract → List ℕ
@@ -54,7 +55,7 @@ module _ (hash : List ℕ → List ℕ) (s : Instance) where
         )
 
   scripts_right : AreRight script_at (scripts hash s)
-  scripts_right = (refl, choice_right (root_standing hash s) 0 s.advert.root (known_from hash s (root_standing hash s) s.advert.root (λ j. last_of hash s (branch_end (root_standing hash s) s.advert.root j))))
+  scripts_right = (refl, choice_right (root_standing hash s) 0 s.advert.root (known_from hash s (root_standing hash s) s.advert.root (λ j. last_step hash s (branch_end (root_standing hash s) s.advert.root j))))
 
   -- ---- and each position is in the list
 

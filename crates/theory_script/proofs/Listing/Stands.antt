@@ -6,7 +6,7 @@ use Rattle.spec_terms.specs.Term as term
 use Rattle.spec_terms.specs.Term.{Contract, branches, parts_list, auth, after, put_reveal, withdraw, split}
 use Rattle.spec_terms.specs.Core.{core, continuation}
 use Rattle.spec_terms.specs.Paths as paths
-use Rattle.spec_terms.specs.Paths.{Subterm, below, next_subterm, subterm_from, as_contract, contract_under}
+use Rattle.spec_terms.specs.Paths.{Subterm, below, next_subterm, subterm_from, as_contract}
 use Rattle.spec_terms.specs.declared.path.PathStep.{PathStep}
 use Rattle.spec_terms.specs.declared.path.PathStep.TheVariants.{Branch as To, Part as Into}
 use Rattle.spec_compiler.specs.Instance.{Instance, branch_path, position_script}
@@ -15,13 +15,13 @@ use Rattle.spec_compiler.specs.Transactions.{Standing, branch_unsigned, part_pos
 use Rattle.spec_compiler.specs.ByPath.{PathEnd, at_position, at_branch, branch_end, continued_end, part_end, next_end, end_from, end_at, as_position, position_at}
 use Rattle.theory_script.specs.Listed.{StandsAt}
 
-some_pair : {X : Type 0} {x y : X} → Some x ≡ Some y → x ≡ y
-some_pair e = cc
+pub some_same : {X : Type 0} {x y : X} → Some x ≡ Some y → x ≡ y
+some_same e = cc
 
 module _ (hash : List ℕ → List ℕ) (s : Instance) where
   -- ---- one more step at the end
 
-  last_step : (o : Option PathEnd) → option_and_then (λ (q : PathEnd). end_from hash s q []) o ≡ o
+  pub last_step : (o : Option PathEnd) → option_and_then (λ (q : PathEnd). end_from hash s q []) o ≡ o
   last_step None = refl
   last_step (Some q) = refl
 
@@ -36,13 +36,13 @@ module _ (hash : List ℕ → List ℕ) (s : Instance) where
   -- ---- the term's own words for it
 
   -- what stands there agrees with the term, and lies at the path
-  abbrev Agrees : List PathStep → PathEnd → Subterm → Type 0
+  abbrev pub Agrees : List PathStep → PathEnd → Subterm → Type 0
   Agrees path (at_position here choice) (paths.position c) = (here.position ≡ path) × (choice ≡ c) × (here.output.script ≡ position_script hash s path choice)
   Agrees path (at_position here choice) (paths.at_branch b) = ⊥
   Agrees path (at_branch here i d) (paths.position c) = ⊥
   Agrees path (at_branch here i d) (paths.at_branch b) = (branch_path here.position i ≡ path) × (d ≡ b)
 
-  abbrev IfAgrees : List PathStep → Option PathEnd → Option Subterm → Type 0
+  abbrev pub IfAgrees : List PathStep → Option PathEnd → Option Subterm → Type 0
   IfAgrees path None None = Unit {0}
   IfAgrees path None (Some q) = ⊥
   IfAgrees path (Some p) None = ⊥
@@ -100,14 +100,14 @@ module _ (hash : List ℕ → List ℕ) (s : Instance) where
       (if_next (path ++ step ∷ []) steps (next_end hash s step p) (next_subterm q step) (agrees_next path p q step h) (λ x y k. agrees_from (path ++ step ∷ []) steps x y k))
 
   -- at the end of a path there stands what the term has there
-  agrees_at : (path : List PathStep) → IfAgrees path (end_at hash s path) (subterm_from (paths.position s.advert.root) path)
+  pub agrees_at : (path : List PathStep) → IfAgrees path (end_at hash s path) (subterm_from (paths.position s.advert.root) path)
   agrees_at path = agrees_from [] path (at_position (root_standing hash s) s.advert.root) (paths.position s.advert.root) (refl, refl, refl)
 
   -- ---- positions
 
   stands_on : (path : List PathStep) (h here : Standing) (i : ℕ) (d c : term.Guarded) (choice : Contract) → branch_path h.position i ≡ path → continued_end hash s h i d c ≡ Some (here, choice) → (here.position ≡ path) × (continuation c ≡ Some choice) × (here.output.script ≡ position_script hash s path choice)
   stands_on path h here i d (put_reveal puts reveals test next) choice e k =
-      let p = some_pair k in
+      let p = some_same k in
       (ap (λ (x : Standing × Contract). x.0.position) (sym p) ∙ e, ap (λ (x : Standing × Contract). Some (x.1)) p, ap (λ (x : Standing × Contract). x.0.output.script) (sym p) ∙ ap (λ (q : List PathStep). position_script hash s q next) e ∙ ap (λ (x : Standing × Contract). position_script hash s path (x.1)) p)
   stands_on path h here i d (withdraw party) choice e k = cc
   stands_on path h here i d (split parts) choice e k = cc
@@ -118,7 +118,7 @@ module _ (hash : List ℕ → List ℕ) (s : Instance) where
   stands_if path here choice None u h e = cc
   stands_if path here choice (Some p) None h e = absurd h
   stands_if path here choice (Some (at_position x c)) (Some (paths.position y)) h e =
-      let p = some_pair e in (
+      let p = some_same e in (
         ap (λ (z : Standing × Contract). z.0.position) (sym p) ∙ h.0,
         ap Some (sym h.1 ∙ ap (λ (z : Standing × Contract). z.1) p),
         ap (λ (z : Standing × Contract). z.0.output.script) (sym p) ∙ h.2 ∙ ap (λ (z : Standing × Contract). position_script hash s path (z.1)) p,

@@ -1,6 +1,6 @@
 -- A fact of every position and every branch of a contract.
 use Rattle.std.proofs.Common.{◌≡◌, ℕ, zero, suc, ◌+◌, List, [], ◌∷◌, ◌++◌, Bool, true, false, Option, Some, None, refl, subst}
-use Rattle.std.specs.Prelude.{ℤ, pos, slice_get, if◌then◌else◌}
+use Rattle.std.specs.Prelude.{ℤ, pos, slice_get}
 use Rattle.std.specs.Option.{option_and_then, option_map}
 use Rattle.std.specs.List.{list_all}
 use Rattle.std.proofs.lemmas.Bool.{and_from}
@@ -13,9 +13,9 @@ use Rattle.spec_terms.specs.Paths.{Subterm, position, at_branch, below, next_sub
 use Rattle.spec_terms.specs.Precondition.{Holding, volatile}
 use Rattle.spec_terms.specs.Balance.{Funded, as_funded, after_put, branches_funded, funded_under, parts_funded, root_balance, all_funded}
 use Rattle.spec_terms.specs.Faults.{place_of, place_if, first_place}
-use Rattle.spec_terms.specs.declared.place.Place.{Place}
 use Rattle.spec_terms.specs.declared.path.PathStep.{PathStep}
 use Rattle.spec_terms.specs.declared.path.PathStep.TheVariants.{Branch as To, Part as Into}
+use Rattle.theory_calculus.proofs.Faultless.{no_place}
 
 module _ (f : Subterm → Bool) where
   -- the test is true of each branch, and of all positions and branches that stand under it
@@ -120,10 +120,6 @@ module _ (f : Subterm → Bool) where
 abbrev NoneOf : (Funded → Bool) → List Funded → Type 0
 NoneOf t [] = Unit {0}
 NoneOf t (s ∷ ss) = (t s ≡ false) × NoneOf t ss
-
-no_place : (b : Bool) (p : Place) → (if b then Some p else None) ≡ None → b ≡ false
-no_place true p h = cc
-no_place false p h = refl
 
 none_of : (t : Funded → Bool) (ss : List Funded) → first_place t ss ≡ None → NoneOf t ss
 none_of t [] h = tt

@@ -3,6 +3,7 @@ use Rattle.std.proofs.Common.{◌≡◌, ℕ, zero, suc, ◌+◌, List, [], ◌�
 use Rattle.std.specs.Prelude.{slice_get, if◌then◌else◌, ◌||◌}
 use Rattle.std.specs.Option.{option_map, option_and_then}
 use Rattle.std.specs.List.{list_any}
+use Rattle.std.proofs.lemmas.Bool.{or_left, or_right}
 use Rattle.spec_terms.specs.Term as term
 use Rattle.spec_terms.specs.Term.{Pred, Contract, no_branch, branch, branches, Parts, no_part, part, parts_list, auth, after, put_reveal, withdraw, split}
 use Rattle.spec_terms.specs.Core.{core, lock}
@@ -17,7 +18,7 @@ use Rattle.spec_compiler.specs.Transactions.{Standing, prepared, continued_value
 use Rattle.spec_compiler.specs.Compilation.{choice_transactions, branch_transactions, parts_transactions, path_transactions, compilation}
 use Rattle.spec_compiler.specs.ByPath.{PathEnd, at_position, at_branch, branch_end, next_end, end_from, end_at, as_unsigned, unsigned_at, prepared_at}
 use Rattle.theory_script.specs.Listed.{at_path}
-use Rattle.theory_script.proofs.Listing.Stands.{end_from-step, next_core, is_next_core}
+use Rattle.theory_script.proofs.Listing.Stands.{end_from-step, next_core, is_next_core, some_same, last_step}
 
 -- ---- lists by path
 
@@ -58,14 +59,6 @@ has-append path (x ∷ xs) ys = by_test (path_eq x.0 path) (has-append path xs y
     by_test true h = refl
     by_test false h = h
 
-or_right : (a b : Bool) → b ≡ true → (a || b) ≡ true
-or_right true b h = refl
-or_right false b h = h
-
-pub or_left : (a b : Bool) → a ≡ true → (a || b) ≡ true
-or_left true b h = refl
-or_left false b h = cc
-
 -- the first list has no path that the second lacks
 pub record Within {V : Type 0} (xs ys : List (List PathStep × V)) : Type 0 where
   pub has : (path : List PathStep) → has_path path xs ≡ true → has_path path ys ≡ true
@@ -85,16 +78,9 @@ within_all f g = record { has = λ path h. g.has path (f.has path h) }
 pub within_same : {V : Type 0} (xs : List (List PathStep × V)) → Within xs xs
 within_same xs = record { has = λ path h. h }
 
-pub some_same : {X : Type 0} {x y : X} → Some x ≡ Some y → x ≡ y
-some_same e = cc
-
 -- ---- each transaction of the list is right
 
 module _ (hash : List ℕ → List ℕ) (s : Instance) where
-  pub last_of : (o : Option PathEnd) → option_and_then (λ (q : PathEnd). end_from hash s q []) o ≡ o
-  last_of None = refl
-  last_of (Some q) = refl
-
   one_further : (path : List PathStep) (step : PathStep) (here : PathEnd) → end_at hash s path ≡ Some here → end_at hash s (path ++ step ∷ []) ≡ next_end hash s step here
   one_further path step here h = end_from-step hash s (at_position (root_standing hash s) s.advert.root) path step ∙ ap (option_and_then (next_end hash s step)) h
 
@@ -158,7 +144,7 @@ module _ (hash : List ℕ → List ℕ) (s : Instance) where
         right-append (unsigned_at hash s) (choice_transactions hash s (part_standing hash s path made k v c) 0 c) (parts_transactions hash s path made (k + 1) ps) (choice_right _ 0 c (part_known path made k v c (part_here path made k v c ps h))) (parts_right path made (k + 1) ps (part_more path made k v c ps h))
 
   pub transactions_right : AreRight (unsigned_at hash s) (path_transactions hash s)
-  transactions_right = choice_right (root_standing hash s) 0 s.advert.root (known_from (root_standing hash s) s.advert.root (λ j. last_of (branch_end (root_standing hash s) s.advert.root j)))
+  transactions_right = choice_right (root_standing hash s) 0 s.advert.root (known_from (root_standing hash s) s.advert.root (λ j. last_step hash s (branch_end (root_standing hash s) s.advert.root j)))
 
   -- ---- and each path is in the list
 

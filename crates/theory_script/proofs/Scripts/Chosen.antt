@@ -1,12 +1,13 @@
 -- The branch that a stack opens is the branch that its selectors choose.
-use Rattle.std.proofs.Common.{◌≡◌, ℕ, zero, suc, ◌+◌, ◌-◌, ◌<◌, List, [], ◌∷◌, ◌++◌, length, map, take, Bool, true, false, Some, sym, ap, ◌∙◌, arith}
-use Rattle.std.specs.Prelude.{if◌then◌else◌, nat_lt, slice_get}
+use Rattle.std.proofs.Common.{◌≡◌, ℕ, zero, suc, ◌+◌, ◌-◌, ◌<◌, List, [], ◌∷◌, ◌++◌, length, map, take, Bool, true, false, sym, ap, ◌∙◌, arith}
+use Rattle.std.specs.Prelude.{if◌then◌else◌, nat_lt}
 use Rattle.spec_terms.specs.Term.{Contract, branches}
 use Rattle.spec_terms.specs.declared.path.PathStep.{PathStep}
 use Rattle.spec_bitcoin.specs.Effects.{truth}
 use Rattle.spec_compiler.specs.Instance.{Instance}
 use Rattle.spec_compiler.specs.Witness.{selection, first_true, chosen}
 use Rattle.spec_compiler.specs.Statements.{Opens}
+use Rattle.theory_calculus.proofs.Members.{get_below}
 use Rattle.theory_script.proofs.Scripts.Readable.{next_selection}
 
 first_is : (k last : ℕ) (x : List ℕ) (xs : List (List ℕ)) (b : Bool) → truth x ≡ b → first_true k last (x ∷ xs) ≡ (if b then k else first_true (k + 1) last xs)
@@ -33,11 +34,6 @@ chosen_of (suc m) (suc i) k selectors rest below s =
         let n : k + suc m ≡ k + 1 + m = omega arith in
         first_is k (k + suc m) x (take m (xs ++ rest)) false h ∙ ap (λ last. first_true (k + 1) last (take m (xs ++ rest))) n ∙ ih xs r ∙ omega arith
 
-some_below : {X : Type 0} (xs : List X) (i : ℕ) (x : X) → slice_get xs i ≡ Some x → i < length xs
-some_below [] i x h = cc
-some_below (y ∷ xs) zero x h = omega arith
-some_below (y ∷ xs) (suc i) x h = omega (arith, some_below xs i x h)
-
 pub chosen_from : (n i : ℕ) (selectors rest : List (List ℕ)) → i < n → map truth selectors ≡ selection i n → chosen n (selectors ++ rest) ≡ i
 chosen_from zero i selectors rest below s = absurd (omega (arith, below))
 chosen_from (suc m) i selectors rest below s =
@@ -50,4 +46,4 @@ chosen_from (suc m) i selectors rest below s =
 pub opened_is_chosen : (hash : List ℕ → List ℕ) (valid : List ℕ → List ℕ → Bool) (s : Instance) (position : List PathStep) (choice : Contract) (stack : List (List ℕ)) (opened : Opens hash valid s position choice stack) → chosen (length (branches choice)) stack ≡ opened.i
 opened_is_chosen hash valid s position choice stack o =
     ap (chosen (length (branches choice))) o.is_stack
-    ∙ chosen_from (length (branches choice)) o.i o.selectors (o.strings ++ o.signatures) (some_below (branches choice) o.i o.b o.is_branch) o.selects
+    ∙ chosen_from (length (branches choice)) o.i o.selectors (o.strings ++ o.signatures) (get_below (branches choice) o.i o.b o.is_branch) o.selects

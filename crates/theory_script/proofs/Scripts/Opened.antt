@@ -1,6 +1,6 @@
 -- The script theorem of a position of a checked contract.
 use Rattle.std.proofs.Common.{◌≡◌, ℕ, zero, suc, ◌+◌, ◌<◌, List, [], ◌∷◌, length, map, Bool, true, Option, Some, None, refl, sym, ap, ◌∙◌, subst, arith}
-use Rattle.std.specs.Prelude.{◌&&◌, nat_le, slice_get, reverse}
+use Rattle.std.specs.Prelude.{nat_le, slice_get, reverse}
 use Rattle.std.specs.Option.{option_map}
 use Rattle.std.specs.List.{list_all}
 use Rattle.std.proofs.lemmas.Bool.{and_parts, and_from}
@@ -16,6 +16,7 @@ use Rattle.spec_compiler.specs.Witness.{selection}
 use Rattle.spec_compiler.specs.Scripts.{Demands, digest_of, demands_of, demands_from}
 use Rattle.spec_compiler.specs.Instance.{Instance, people, branch_path, branch_label, branch_keys, position_demands, position_script}
 use Rattle.spec_compiler.specs.Statements.{are_valid, are_secrets, secret_lengths, has_size, is_short, IsHash, IsCompiled, Opens, OpensExactly, HasCost}
+use Rattle.theory_calculus.proofs.Members.{all_map}
 use Rattle.theory_script.proofs.Scripts.Demanded.{Unlocks, IsWell, AllWell, IsChecked}
 use Rattle.theory_script.proofs.Checked.{IsSound, AllSound, is_good}
 use Rattle.theory_script.proofs.Sizes.Covered.{covered}
@@ -24,10 +25,6 @@ use Rattle.theory_script.proofs.Scripts.Predicates.{within_of_test}
 use Rattle.theory_script.specs.Limits.{MeetsNoLimit, ops_at}
 use Rattle.theory_script.proofs.Scripts.Limits.{script_means}
 use Rattle.theory_script.proofs.ScriptTheorem.{says, has_cost, keeps_limits}
-
-all_map : {X Y : Type 0} (f : Y → Bool) (g : X → Y) (xs : List X) → list_all f (map g xs) ≡ list_all (λ x. f (g x)) xs
-all_map f g [] = refl
-all_map f g (x ∷ xs) = ap (λ b. f (g x) && b) (all_map f g xs)
 
 -- ---- a position's demands
 

@@ -7,7 +7,7 @@ use Rattle.spec_bitcoin.specs.declared.script.Op.TheVariants.{Push, Code}
 use Rattle.spec_bitcoin.specs.declared.opcode.Opcode.TheVariants.{Constant, Binary}
 use Rattle.spec_bitcoin.specs.Opcodes.{opcode_of}
 use Rattle.spec_bitcoin.specs.Numbers.{item_of_number}
-use Rattle.spec_bitcoin.specs.Effects.{Item, Stacks, effect, result_of}
+use Rattle.spec_bitcoin.specs.Effects.{Item, Stacks, result_of}
 use Rattle.spec_bitcoin.specs.Scripts.{push_number}
 use Rattle.theory_script.specs.Items.{size_of_number}
 pub use Rattle.theory_script.specs.Limits.{free_act}

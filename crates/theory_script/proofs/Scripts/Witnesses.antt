@@ -10,7 +10,8 @@ use Rattle.spec_bitcoin.specs.Meaning.{script_meaning}
 use Rattle.spec_compiler.specs.Instance.{Instance, position_script}
 use Rattle.spec_compiler.specs.Witness.{selectors, witness_stack}
 use Rattle.spec_compiler.specs.Statements.{is_secret, are_secrets, is_short, IsHash, IsCompiled, Opens, Fills}
-use Rattle.theory_script.proofs.ScriptTheorem.{all_append, all_reverse, selectors_select}
+use Rattle.theory_calculus.proofs.Members.{all_append}
+use Rattle.theory_script.proofs.ScriptTheorem.{all_reverse, selectors_select}
 use Rattle.theory_script.proofs.Scripts.Opened.{opens_exactly}
 
 pub from_top : (signatures strings : List (List ℕ)) (i n : ℕ) → reverse (witness_stack signatures strings i n) ≡ selectors i n ++ (strings ++ signatures)
@@ -32,7 +33,7 @@ selectors_short i n = by_last (nat_lt (i + 1) n)
     by_last true = all_append is_short (replicate i []) ((1 ∷ []) ∷ []) (empty_short i) refl
     by_last false = empty_short i
 
-secrets_short : (hash : List ℕ → List ℕ) (strings digests : List (List ℕ)) → are_secrets hash strings digests ≡ true → list_all is_short strings ≡ true
+pub secrets_short : (hash : List ℕ → List ℕ) (strings digests : List (List ℕ)) → are_secrets hash strings digests ≡ true → list_all is_short strings ≡ true
 secrets_short hash [] digests h = refl
 secrets_short hash (x ∷ strings) [] h = cc
 secrets_short hash (x ∷ strings) (digest ∷ digests) h =
@@ -41,7 +42,7 @@ secrets_short hash (x ∷ strings) (digest ∷ digests) h =
     let r = and_parts (nat_le 16 (length x)) (nat_le (length x) 520) q.0 in
     and_from (is_short x) (list_all is_short strings) r.1 (secrets_short hash strings digests p.1)
 
-stack_short : (signatures strings : List (List ℕ)) (i n : ℕ) → list_all is_short signatures ≡ true → list_all is_short strings ≡ true → list_all is_short (witness_stack signatures strings i n) ≡ true
+pub stack_short : (signatures strings : List (List ℕ)) (i n : ℕ) → list_all is_short signatures ≡ true → list_all is_short strings ≡ true → list_all is_short (witness_stack signatures strings i n) ≡ true
 stack_short signatures strings i n h k =
     all_append is_short (reverse signatures) _ (all_reverse is_short signatures h)
     (all_append is_short (reverse strings) (reverse (selectors i n)) (all_reverse is_short strings k) (all_reverse is_short (selectors i n) (selectors_short i n)))

@@ -11,7 +11,7 @@ use Rattle.spec_run.specs.Compiled.{compiled_instance}
 use Rattle.spec_run.specs.Conditions.{IsSetup}
 use Rattle.theory_world.proofs.Later.{compiled_is}
 
-all_checked : (cs : List Advert) (k : ℕ) (a : Advert) → AllByRecursion IsWellFormed cs → slice_get cs k ≡ Some a → IsWellFormed a
+pub all_checked : (cs : List Advert) (k : ℕ) (a : Advert) → AllByRecursion IsWellFormed cs → slice_get cs k ≡ Some a → IsWellFormed a
 all_checked [] k a h e = cc
 all_checked (c ∷ cs) zero a h e = let z : c ≡ a = cc in subst IsWellFormed z h.0
 all_checked (c ∷ cs) (suc k) a h e = all_checked cs k a h.1 e

@@ -8,7 +8,6 @@ use Rattle.std.proofs.lemmas.Bool.{and_parts, or_left, or_right, or_cases}
 use Rattle.std.proofs.lemmas.List.Concat.{flat_map-cons}
 use Rattle.spec_data.specs.Lists.{is_among}
 use Rattle.spec_terms.specs.Term as term
-use Rattle.spec_terms.specs.Term.{Contract, branches}
 use Rattle.spec_terms.specs.Core.{core, puts_of, is_asked}
 use Rattle.spec_terms.specs.Parties.{participants}
 use Rattle.spec_terms.specs.Paths.{at}
@@ -23,11 +22,11 @@ use Rattle.spec_compiler.specs.Transactions.{Standing, tx_of, digest_of_spent, p
 use Rattle.spec_compiler.specs.Compilation.{path_transactions, compilation}
 use Rattle.spec_compiler.specs.Endorsements.{Need, needs, path_needs, needs_of, branch_needs, put_needs}
 use Rattle.spec_compiler.specs.ByPath as by_path
-use Rattle.spec_compiler.specs.ByPath.{PathEnd, end_at, as_unsigned, unsigned_at, position_at}
+use Rattle.spec_compiler.specs.ByPath.{PathEnd, end_at, as_unsigned, unsigned_at}
 use Rattle.spec_run.specs.Signing.{pairs_of_party}
+use Rattle.theory_calculus.proofs.Names.{bytes-true, bytes_refl}
+use Rattle.theory_calculus.proofs.Members.{Is_in, in_filter}
 use Rattle.theory_script.proofs.Listing.Transactions.{AreRight, transactions_right}
-use Rattle.theory_world.proofs.Same.{bytes-true, bytes_refl}
-use Rattle.theory_world.proofs.Contracts.Positions.{Is_in}
 use Rattle.theory_world.proofs.Contracts.Standing.{term_branch}
 use Rattle.theory_world.proofs.Contracts.Made.{IsBranch, known}
 
@@ -37,15 +36,6 @@ pub in_map : {A B : Type 0} (f : A → B) (xs : List A) (y : B) → Is_in y (map
 in_map f [] y h = absurd h
 in_map f (x ∷ xs) y (inl e) = (x, inl refl, e)
 in_map f (x ∷ xs) y (inr i) = let r = in_map f xs y i in (r.0, inr r.1, r.2)
-
-pub in_filter : {A : Type 0} (f : A → Bool) (xs : List A) (x : A) → Is_in x (filter f xs) → Is_in x xs × (f x ≡ true)
-in_filter f [] x h = absurd h
-in_filter f (y ∷ ys) x h = by_test (f y) refl h (λ k. in_filter f ys x k)
-  where
-    by_test : (b : Bool) → f y ≡ b → Is_in x (if b then y ∷ filter f ys else filter f ys) → (Is_in x (filter f ys) → Is_in x ys × (f x ≡ true)) → Is_in x (y ∷ ys) × (f x ≡ true)
-    by_test true e (inl k) ih = (inl k, ap f k ∙ e)
-    by_test true e (inr k) ih = let r = ih k in (inr r.0, r.1)
-    by_test false e k ih = let r = ih k in (inr r.0, r.1)
 
 pub in_joined : {A : Type 0} (xs ys : List A) (x : A) → Is_in x (xs ++ ys) → Is_in x xs ⊎ Is_in x ys
 in_joined [] ys x h = inr h

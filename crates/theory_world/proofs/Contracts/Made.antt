@@ -10,7 +10,7 @@ use Rattle.spec_compiler.specs.Instance.{Instance, branch_path}
 use Rattle.spec_compiler.specs.Transactions.{Standing, continued_value, branch_unsigned, continued, part_standing, output_outpoint, root_standing}
 use Rattle.spec_compiler.specs.ByPath as by_path
 use Rattle.spec_compiler.specs.ByPath.{PathEnd, branch_end, continued_end, part_end, next_end, end_from, end_at, as_position, position_at}
-use Rattle.theory_world.proofs.Contracts.Standing.{from-append}
+use Rattle.theory_script.proofs.Listing.Stands.{end_from-step}
 
 module _ (hash : List ℕ → List ℕ) (s : Instance) where
   -- a branch of a position
@@ -87,7 +87,7 @@ module _ (hash : List ℕ → List ℕ) (s : Instance) where
   from_known : (rest : List PathStep) (st end : PathEnd) (front : List PathStep) → end_at hash s front ≡ Some st → Known st front → end_from hash s st rest ≡ Some end → Known end (front ++ rest)
   from_known [] st end front h k e = let z : st ≡ end = cc in subst (λ y. Known y (front ++ [])) z (subst (Known st) (sym (append-nil front)) k)
   from_known (step ∷ rest) st end front h k e = by_next (next_end hash s step st) refl e
-      (λ next f x. subst (Known end) (append_assoc front (step ∷ []) rest) (from_known rest next end (front ++ step ∷ []) (from-append hash s (by_path.at_position (root_standing hash s) s.advert.root) front step ∙ ap (option_and_then (next_end hash s step)) h ∙ f) (next_known step st next front h k f) x))
+      (λ next f x. subst (Known end) (append_assoc front (step ∷ []) rest) (from_known rest next end (front ++ step ∷ []) (end_from-step hash s (by_path.at_position (root_standing hash s) s.advert.root) front step ∙ ap (option_and_then (next_end hash s step)) h ∙ f) (next_known step st next front h k f) x))
     where
       by_next : (o : Option PathEnd) → next_end hash s step st ≡ o → option_and_then (λ (next : PathEnd). end_from hash s next rest) o ≡ Some end
           → ((next : PathEnd) → next_end hash s step st ≡ Some next → end_from hash s next rest ≡ Some end → Known end (front ++ step ∷ rest)) → Known end (front ++ step ∷ rest)

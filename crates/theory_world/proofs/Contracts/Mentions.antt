@@ -20,10 +20,10 @@ use Rattle.spec_terms.specs.declared.path.PathStep.{PathStep}
 use Rattle.spec_terms.specs.declared.path.PathStep.TheVariants.{Branch as To, Part as Into}
 use Rattle.spec_terms.specs.declared.place.Place.{Place}
 use Rattle.spec_terms.specs.declared.place.Place.TheVariants as places
-use Rattle.theory_world.proofs.Same.{bytes-true, bytes_refl}
 use Rattle.theory_world.proofs.Hashed.{among_left, among_right, among_head, among_tail}
-use Rattle.theory_world.proofs.Contracts.Positions.{Is_in}
-use Rattle.theory_world.proofs.Contracts.Faultless.{no_fault}
+use Rattle.theory_calculus.proofs.Faultless.{no_fault}
+use Rattle.theory_calculus.proofs.Names.{bytes-true, bytes_refl}
+use Rattle.theory_calculus.proofs.Members.{Is_in}
 
 -- ---- participants
 

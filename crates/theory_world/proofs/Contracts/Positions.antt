@@ -1,6 +1,6 @@
 -- The transactions of a contract, by path and in a list.
-use Rattle.std.proofs.Common.{◌≡◌, ◌<◌, length, arith, ℕ, zero, suc, ◌+◌, List, [], ◌∷◌, ◌++◌, true, Option, Some, None, refl, sym, ap, subst, arith, inl, inr}
-use Rattle.std.specs.Prelude.{◌⊎◌, slice_get, option_map, option_and_then}
+use Rattle.std.proofs.Common.{◌≡◌, arith, ℕ, zero, suc, ◌+◌, List, [], ◌∷◌, true, Option, Some, None, refl, sym, ap, subst, arith, inl, inr}
+use Rattle.std.specs.Prelude.{slice_get, option_map, option_and_then}
 use Rattle.std.specs.List.{flat_map}
 use Rattle.std.proofs.lemmas.List.Concat.{flat_map-cons}
 use Rattle.spec_data.specs.Lists.{is_among}
@@ -14,28 +14,10 @@ use Rattle.spec_compiler.specs.declared.unsigned.Unsigned.{Unsigned}
 use Rattle.spec_compiler.specs.Transactions.{Standing, continued_value, core_unsigned, branch_unsigned, continued, part_standing, root_standing}
 use Rattle.spec_compiler.specs.Compilation.{choice_transactions, branch_transactions, parts_transactions, path_transactions}
 use Rattle.spec_compiler.specs.ByPath as by_path
-use Rattle.spec_compiler.specs.ByPath.{PathEnd, branch_end, continued_end, part_end, next_end, end_from, end_at, as_position, as_unsigned, position_at, unsigned_at}
+use Rattle.spec_compiler.specs.ByPath.{PathEnd, branch_end, continued_end, part_end, next_end, end_from, end_at}
 use Rattle.spec_compiler.specs.Hashed.{unsigned_strings, path_labels}
+use Rattle.theory_calculus.proofs.Members.{Is_in, in_left, in_right}
 use Rattle.theory_world.proofs.Hashed.{among_left, among_right}
-
--- ---- an element of a list
-
-abbrev pub Is_in : {A : Type 0} → A → List A → Type 0
-Is_in x [] = ⊥
-Is_in x (y ∷ ys) = (x ≡ y) ⊎ Is_in x ys
-
-pub in_some : {A : Type 0} (x : A) (xs : List A) → Is_in x xs → 0 < length xs
-in_some x [] h = absurd h
-in_some x (y ∷ xs) h = omega arith
-
-pub in_left : {A : Type 0} (x : A) (xs ys : List A) → Is_in x xs → Is_in x (xs ++ ys)
-in_left x [] ys h = absurd h
-in_left x (y ∷ xs) ys (inl e) = inl e
-in_left x (y ∷ xs) ys (inr i) = inr (in_left x xs ys i)
-
-pub in_right : {A : Type 0} (x : A) (xs ys : List A) → Is_in x ys → Is_in x (xs ++ ys)
-in_right x [] ys h = h
-in_right x (y ∷ xs) ys h = inr (in_right x xs ys h)
 
 -- ---- from paths to the list
 

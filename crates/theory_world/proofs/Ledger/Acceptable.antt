@@ -1,6 +1,6 @@
 -- A compiled transaction whose inputs spend live outputs, with witnesses that open them, is accepted.
 use Rattle.std.proofs.Common.{◌≡◌, ℕ, zero, suc, ◌+◌, ◌<◌, ◌≤◌, List, [], ◌∷◌, ◌++◌, length, map, Bool, true, false, not, Option, Some, None, refl, sym, ap, ◌∙◌, subst, arith, cond}
-use Rattle.std.specs.Prelude.{◌==◌, ◌&&◌, ◌||◌, slice_get, is_some, if◌then◌else◌, nat_lt, nat_le}
+use Rattle.std.specs.Prelude.{◌==◌, ◌&&◌, ◌||◌, slice_get, is_some, if◌then◌else◌, nat_lt}
 use Rattle.std.specs.List.{list_all, list_any, position_from}
 use Rattle.std.specs.Option.{option_and_then, option_map_or}
 use Rattle.std.specs.Str.{bytes_eq}
@@ -28,9 +28,11 @@ use Rattle.spec_run.specs.World.{Output, World}
 use Rattle.spec_run.specs.Ledger.{live_from, tx_out, chain_of, verdict_in}
 use Rattle.spec_run.specs.Firing.{witnessed, with_witnesses}
 use Rattle.spec_run.specs.Values.{total_live}
-use Rattle.theory_world.proofs.Same.{bytes_refl, place-true, place_refl}
+use Rattle.theory_bitcoin.specs.Apart.{bare_input, bare}
+use Rattle.theory_calculus.proofs.Names.{bytes_refl}
+use Rattle.theory_world.proofs.Same.{place-true, place_refl}
 use Rattle.theory_world.proofs.Ledger.Found.{found, StandFor, values_at, value_or_zero}
-use Rattle.theory_world.proofs.Ledger.Bare.{bare, bare_input, preimage-bare}
+use Rattle.theory_world.proofs.Ledger.Bare.{preimage-bare}
 use Rattle.theory_world.proofs.Ledger.Spend.{spend-all}
 use Rattle.theory_world.proofs.Tests.{length_map}
 

@@ -22,7 +22,8 @@ use Rattle.spec_compiler.specs.Statements.{is_short}
 use Rattle.spec_run.specs.Setup.{Setup}
 use Rattle.spec_run.specs.World.{Output, World}
 use Rattle.spec_run.specs.Ledger.{live_from, tx_out, strings_of}
-use Rattle.theory_world.proofs.Same.{bytes-true, place-true}
+use Rattle.theory_calculus.proofs.Names.{bytes-true}
+use Rattle.theory_world.proofs.Same.{place-true}
 use Rattle.theory_world.proofs.Ledger.Found.{found, none_missing}
 use Rattle.theory_world.proofs.Ledger.Worth.{IsAccepted, IsBalanced, balanced}
 use Rattle.theory_world.proofs.Hashed.{among_left, among_right, among_head, among_tail}

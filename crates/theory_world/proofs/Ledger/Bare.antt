@@ -14,18 +14,13 @@ use Rattle.spec_bitcoin.specs.Spelling.{word, long_word, sized, place_bytes, com
 use Rattle.spec_bitcoin.specs.Digests.{double, txid, places_list, sequences_list, outputs_list, preimage}
 use Rattle.spec_bitcoin.specs.Live.{same_outpoint}
 use Rattle.theory_bitcoin.proofs.Formats.{wide32}
+use Rattle.theory_bitcoin.proofs.Apart.{cut, AllPlaces, all_outputs, stripped_bare}
+use Rattle.theory_bitcoin.specs.Apart.{bare_input, bare}
+use Rattle.theory_calculus.proofs.Names.{bytes-true, bytes_refl}
 use Rattle.spec_run.specs.Ledger.{same_input, same_output, same_bare}
-use Rattle.theory_world.proofs.Same.{bytes-true, bytes_refl, place-true, place_refl}
-use Rattle.theory_world.proofs.Tests.{length_map}
-use Rattle.theory_world.proofs.Ledger.Preimages.{split_left, split_right, word-apart, place-size, place-apart, outputs-apart, AllPlaces, AllSequences, IsNumbered, few_outputs, SameSigned, HeardLists}
+use Rattle.theory_world.proofs.Same.{place-true, place_refl}
+use Rattle.theory_world.proofs.Ledger.Preimages.{split_right, word-apart, place-size, place-apart, AllSequences, IsNumbered, few_outputs, SameSigned, HeardLists}
 use Rattle.theory_world.proofs.Ledger.Counts.{count-apart, counts_apart, count_size, some_count}
-
-abbrev pub bare_input : TxIn → TxIn
-bare_input i = record i { witness = [] }
-
--- the transaction without its witnesses
-abbrev pub bare : Tx → Tx
-bare tx = record tx { inputs = map bare_input tx.inputs }
 
 -- ---- sameness
 
@@ -99,12 +94,8 @@ flat-bare : (f : TxIn → List ℕ) → ((i : TxIn) → f (bare_input i) ≡ f i
 flat-bare f h [] = refl
 flat-bare f h (x ∷ xs) = flat_map-cons f (bare_input x) (map bare_input xs) ∙ (λ j. h x j ++ flat-bare f h xs j) ∙ sym (flat_map-cons f x xs)
 
-pub stripped-bare : (tx : Tx) → stripped (bare tx) ≡ stripped tx
-unfolding stripped
-stripped-bare tx = λ j. word tx.version ++ (compact (length_map bare_input tx.inputs j) ++ flat-bare input_bytes (λ i. refl) tx.inputs j) ++ outputs_bytes tx.outputs ++ word tx.lock
-
 pub txid-bare : (hash : List ℕ → List ℕ) (tx : Tx) → txid hash (bare tx) ≡ txid hash tx
-txid-bare hash tx = ap (double hash) (stripped-bare tx)
+txid-bare hash tx = ap (double hash) (stripped_bare tx)
 
 pub places-bare : (tx : Tx) → places_list (bare tx) ≡ places_list tx
 unfolding places_list
@@ -156,7 +147,7 @@ inputs_size (i ∷ is) none places =
 input-apart : (x y : TxIn) → x.script_sig ≡ [] → y.script_sig ≡ [] → IsPlace x.prev → IsPlace y.prev → x.sequence < 2 ^ 32 → y.sequence < 2 ^ 32 → input_bytes x ≡ input_bytes y → bare_input x ≡ bare_input y
 input-apart x y nx ny px py sx sy e =
     let r = split_right (place_bytes x.prev ++ sized x.script_sig) (place_bytes y.prev ++ sized y.script_sig) (word x.sequence) (word y.sequence) (wide32.len x.sequence ∙ sym (wide32.len y.sequence)) e in
-    let q = split_left (place_bytes x.prev) (place_bytes y.prev) (sized x.script_sig) (sized y.script_sig) (place-size x.prev px ∙ sym (place-size y.prev py)) r.0 in
+    let q = cut (place_bytes x.prev) (place_bytes y.prev) (sized x.script_sig) (sized y.script_sig) (place-size x.prev px ∙ sym (place-size y.prev py)) r.0 in
     let a = place-apart x.prev y.prev px py q.0 in
     let b = word-apart x.sequence y.sequence sx sy r.1 in
     let c = nx ∙ sym ny in
@@ -167,7 +158,7 @@ inputs-apart [] [] nx ny px py sx sy l e = refl
 inputs-apart [] (y ∷ ys) nx ny px py sx sy l e = absurd (omega (arith, l))
 inputs-apart (x ∷ xs) [] nx ny px py sx sy l e = absurd (omega (arith, l))
 inputs-apart (x ∷ xs) (y ∷ ys) nx ny px py sx sy l e =
-    let r = split_left (input_bytes x) (input_bytes y) (flat_map input_bytes xs) (flat_map input_bytes ys) (input_size x nx.0 px.0 ∙ sym (input_size y ny.0 py.0)) (sym (flat_map-cons input_bytes x xs) ∙ e ∙ flat_map-cons input_bytes y ys) in
+    let r = cut (input_bytes x) (input_bytes y) (flat_map input_bytes xs) (flat_map input_bytes ys) (input_size x nx.0 px.0 ∙ sym (input_size y ny.0 py.0)) (sym (flat_map-cons input_bytes x xs) ∙ e ∙ flat_map-cons input_bytes y ys) in
     let a = input-apart x y nx.0 ny.0 px.0 py.0 sx.0 sy.0 r.0 in
     let b = inputs-apart xs ys nx.1 ny.1 px.1 py.1 sx.1 sy.1 (omega (arith, l)) r.1 in
     λ i. a i ∷ b i
@@ -195,7 +186,7 @@ outputs_size os h =
 pub stripped-apart : (a b : Tx) → NoScripts a.inputs → NoScripts b.inputs → IsNumbered a → IsNumbered b → stripped a ≡ stripped b → bare a ≡ bare b
 stripped-apart a b na nb fa fb e =
     let r1 = split_right (word a.version ++ between a) (word b.version ++ between b) (word a.lock) (word b.lock) (wide32.len a.lock ∙ sym (wide32.len b.lock)) (sym (stripped_is a) ∙ e ∙ stripped_is b) in
-    let r2 = split_left (word a.version) (word b.version) (between a) (between b) (wide32.len a.version ∙ sym (wide32.len b.version)) r1.0 in
+    let r2 = cut (word a.version) (word b.version) (between a) (between b) (wide32.len a.version ∙ sym (wide32.len b.version)) r1.0 in
     let la = length-append (flat_map input_bytes a.inputs) (outputs_bytes a.outputs) in
     let lb = length-append (flat_map input_bytes b.inputs) (outputs_bytes b.outputs) in
     let ia = inputs_size a.inputs na fa.places in
@@ -205,8 +196,8 @@ stripped-apart a b na nb fa fb e =
     let n : length a.inputs ≡ length b.inputs =
     count-apart (length a.inputs) (length b.inputs) (length (outputs_bytes a.outputs)) (length (outputs_bytes b.outputs)) (flat_map input_bytes a.inputs ++ outputs_bytes a.outputs) (flat_map input_bytes b.inputs ++ outputs_bytes b.outputs) r2.1
     (la ∙ ap (λ k. k + length (outputs_bytes a.outputs)) ia) (lb ∙ ap (λ k. k + length (outputs_bytes b.outputs)) ib) (omega (arith, oa)) (omega (arith, ob)) in
-    let r3 = split_left (compact (length a.inputs)) (compact (length b.inputs)) (flat_map input_bytes a.inputs ++ outputs_bytes a.outputs) (flat_map input_bytes b.inputs ++ outputs_bytes b.outputs) (ap (λ k. length (compact k)) n) r2.1 in
-    let r4 = split_left (flat_map input_bytes a.inputs) (flat_map input_bytes b.inputs) (outputs_bytes a.outputs) (outputs_bytes b.outputs) (ia ∙ ap (λ k. 41 * k) n ∙ sym ib) r3.1 in
+    let r3 = cut (compact (length a.inputs)) (compact (length b.inputs)) (flat_map input_bytes a.inputs ++ outputs_bytes a.outputs) (flat_map input_bytes b.inputs ++ outputs_bytes b.outputs) (ap (λ k. length (compact k)) n) r2.1 in
+    let r4 = cut (flat_map input_bytes a.inputs) (flat_map input_bytes b.inputs) (outputs_bytes a.outputs) (outputs_bytes b.outputs) (ia ∙ ap (λ k. 41 * k) n ∙ sym ib) r3.1 in
     let ca = few_outputs a.outputs in
     let cb = few_outputs b.outputs in
     let sa = fa.size in
@@ -214,7 +205,7 @@ stripped-apart a b na nb fa fb e =
     let r5 = counts_apart (length a.outputs) (length b.outputs) (flat_map output_bytes a.outputs) (flat_map output_bytes b.outputs) (omega (arith, ca, sa)) (omega (arith, cb, sb)) r4.1 in
     let v = word-apart a.version b.version fa.version fb.version r2.0 in
     let i = inputs-apart a.inputs b.inputs na nb fa.places fb.places fa.sequences fb.sequences n r4.0 in
-    let o = outputs-apart a.outputs b.outputs fa.outputs fb.outputs r5 in
+    let o = all_outputs a.outputs b.outputs fa.outputs fb.outputs r5 in
     let l = word-apart a.lock b.lock fa.lock fb.lock r1.1 in
     λ j. record { version = v j; inputs = i j; outputs = o j; lock = l j }
 
@@ -226,7 +217,7 @@ none_between tx h = ap (λ is. compact (length is) ++ (flat_map input_bytes is +
 pub inputless_apart : (a b : Tx) → a.inputs ≡ [] → 0 < length b.inputs → stripped a ≡ stripped b → ⊥
 inputless_apart a b none some e =
     let r1 = split_right (word a.version ++ between a) (word b.version ++ between b) (word a.lock) (word b.lock) (wide32.len a.lock ∙ sym (wide32.len b.lock)) (sym (stripped_is a) ∙ e ∙ stripped_is b) in
-    let r2 = split_left (word a.version) (word b.version) (between a) (between b) (wide32.len a.version ∙ sym (wide32.len b.version)) r1.0 in
+    let r2 = cut (word a.version) (word b.version) (between a) (between b) (wide32.len a.version ∙ sym (wide32.len b.version)) r1.0 in
     some_count (length b.inputs) (outputs_bytes a.outputs) (flat_map input_bytes b.inputs ++ outputs_bytes b.outputs) some (sym (none_between a none) ∙ r2.1)
 
 -- where no script is given, what is signed the same is the same

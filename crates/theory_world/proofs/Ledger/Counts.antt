@@ -5,7 +5,7 @@ use Rattle.std.specs.Int.{Width, w16, w32, w64, to_le_bytes, from_le_bytes}
 use Rattle.spec_bitcoin.specs.Spelling.{compact}
 use Rattle.spec_bitcoin.specs.Reading.{any, compact_at}
 use Rattle.theory_bitcoin.proofs.Formats.{IsWide, wide16, wide32, wide64, Form, single, two, four, eight, form_of, count}
-use Rattle.theory_world.proofs.Ledger.Preimages.{split_left}
+use Rattle.theory_bitcoin.proofs.Apart.{cut}
 
 -- what the lowest eight bytes leave of a number
 eight_left : (n : ℕ) → from_le_bytes w64 (to_le_bytes w64 n) + 2 ^ 64 * (n / 2 ^ 64) ≡ n
@@ -15,7 +15,7 @@ eight_left n = omega arith
 width_apart : (w : Width) (limit : ℕ) → IsWide w limit → (b n m : ℕ) (c d x y : List ℕ) → c ≡ b ∷ to_le_bytes w n → d ≡ b ∷ to_le_bytes w m → c ++ x ≡ d ++ y → (to_le_bytes w n ≡ to_le_bytes w m) × (length x ≡ length y)
 width_apart w limit wide b n m c d x y e f h =
     let l : length c ≡ length d = ap length e ∙ ap suc (wide.len n ∙ sym (wide.len m)) ∙ sym (ap length f) in
-    let r = split_left c d x y l h in
+    let r = cut c d x y l h in
     let s : b ∷ to_le_bytes w n ≡ b ∷ to_le_bytes w m = sym e ∙ r.0 ∙ f in
     (cc, ap length r.1)
 

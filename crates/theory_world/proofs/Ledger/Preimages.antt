@@ -1,104 +1,46 @@
 -- Bytes of transactions and of what is signed are read in one way.
-use Rattle.std.proofs.Common.{◌≡◌, ℕ, ◌+◌, ◌<◌, ◌≤◌, ◌^◌, List, [], ◌∷◌, ◌++◌, length, map, true, Result, Ok, Err, refl, sym, ap, ◌∙◌, arith, length-append, append_assoc}
+use Rattle.std.proofs.Common.{◌≡◌, ℕ, ◌+◌, ◌<◌, ◌≤◌, ◌^◌, List, [], ◌∷◌, ◌++◌, length, map, true, refl, sym, ap, ◌∙◌, arith, length-append}
 use Rattle.std.specs.List.{flat_map, AllByRecursion}
-use Rattle.std.specs.Int.{w32, w64, from_le_bytes}
+use Rattle.std.specs.Int.{w32}
 use Rattle.std.proofs.lemmas.List.Concat.{flat_map-cons}
 use Rattle.spec_data.specs.Lists.{is_among}
 use Rattle.spec_bitcoin.specs.declared.tx.OutPoint.{OutPoint}
 use Rattle.spec_bitcoin.specs.declared.tx.TxIn.{TxIn}
 use Rattle.spec_bitcoin.specs.declared.tx.TxOut.{TxOut}
 use Rattle.spec_bitcoin.specs.declared.tx.Tx.{Tx}
-use Rattle.spec_bitcoin.specs.Spelling.{word, long_word, sized, place_bytes, output_bytes, IsString, IsPlace, IsInput, IsOutput, IsTransaction}
+use Rattle.spec_bitcoin.specs.Spelling.{word, long_word, sized, place_bytes, output_bytes, IsPlace, IsInput, IsOutput, IsTransaction}
 use Rattle.spec_bitcoin.specs.Digests.{double, places_list, sequences_list, outputs_list, shared_strings, preimage}
-use Rattle.spec_bitcoin.specs.Reading.{string_at}
 use Rattle.theory_bitcoin.proofs.Formats.{wide32, wide64}
-use Rattle.theory_bitcoin.proofs.Parts.{the_string}
+use Rattle.theory_bitcoin.proofs.Apart.{cut, AllPlaces, all_places, all_outputs, inputs_places, number_once, places}
 use Rattle.spec_run.specs.Conditions.{HashesBytes}
 use Rattle.theory_world.proofs.Hashed.{NoClash, among_left, among_right, among_head, among_tail}
 
 -- ---- lists that are joined
 
-pub split_left : {X : Type 0} (xs ys us vs : List X) → length xs ≡ length ys → xs ++ us ≡ ys ++ vs → (xs ≡ ys) × (us ≡ vs)
-split_left [] [] us vs l e = (refl, e)
-split_left [] (y ∷ ys) us vs l e = absurd (omega (arith, l))
-split_left (x ∷ xs) [] us vs l e = absurd (omega (arith, l))
-split_left (x ∷ xs) (y ∷ ys) us vs l e =
-    let h : x ≡ y = cc in
-    let t : xs ++ us ≡ ys ++ vs = cc in
-    let r = split_left xs ys us vs (omega (arith, l)) t in
-    let q = r.0 in
-    (λ i. h i ∷ q i, r.1)
-
 pub split_right : {X : Type 0} (xs ys us vs : List X) → length us ≡ length vs → xs ++ us ≡ ys ++ vs → (xs ≡ ys) × (us ≡ vs)
 split_right xs ys us vs l e =
     let n : length xs + length us ≡ length ys + length vs = sym (length-append xs us) ∙ ap length e ∙ length-append ys vs in
-    split_left xs ys us vs (omega (arith, l, n)) e
+    cut xs ys us vs (omega (arith, l, n)) e
 
 -- ---- parts
 
 pub word-apart : (n m : ℕ) → n < 2 ^ 32 → m < 2 ^ 32 → word n ≡ word m → n ≡ m
-word-apart n m h k e = sym (wide32.again n h) ∙ ap (from_le_bytes w32) e ∙ wide32.again m k
-
-pub long-apart : (n m : ℕ) → n < 2 ^ 64 → m < 2 ^ 64 → long_word n ≡ long_word m → n ≡ m
-long-apart n m h k e = sym (wide64.again n h) ∙ ap (from_le_bytes w64) e ∙ wide64.again m k
+word-apart n m h k e = number_once w32 (2 ^ 32) wide32 n m h k e
 
 pub place-size : (p : OutPoint) → IsPlace p → length (place_bytes p) ≡ 36
 place-size p h = length-append p.txid (word p.vout) ∙ (let a = h.size in let b = wide32.len p.vout in omega (arith, a, b))
 
 pub place-apart : (p q : OutPoint) → IsPlace p → IsPlace q → place_bytes p ≡ place_bytes q → p ≡ q
-place-apart p q h k e =
-    let r = split_left p.txid q.txid (word p.vout) (word q.vout) (h.size ∙ sym k.size) e in
-    let a = r.0 in
-    let b = word-apart p.vout q.vout h.vout k.vout r.1 in
-    λ i. record { txid = a i; vout = b i }
-
-abbrev first_of : Result (List ℕ × List ℕ) ℕ → List ℕ
-first_of (Ok p) = p.0
-first_of (Err n) = []
-
-abbrev second_of : Result (List ℕ × List ℕ) ℕ → List ℕ
-second_of (Ok p) = p.1
-second_of (Err n) = []
-
-pub sized-apart : (s t a b : List ℕ) → IsString s → IsString t → sized s ++ a ≡ sized t ++ b → (s ≡ t) × (a ≡ b)
-sized-apart s t a b h k e =
-    let x = the_string.again (sized s) a s (record { same = refl; fits = h }) in
-    let y = the_string.again (sized t) b t (record { same = refl; fits = k }) in
-    let z : (let r : Result (List ℕ × List ℕ) ℕ = Ok (s, a) in r) ≡ Ok (t, b) = sym x ∙ ap string_at e ∙ y in
-    (ap first_of z, ap second_of z)
+place-apart p q h k e = (places p q [] [] h k (ap (λ t. t ++ []) e)).0
 
 -- ---- the three lists
-
-abbrev pub AllPlaces : List TxIn → Type 0
-AllPlaces [] = Unit {0}
-AllPlaces (i ∷ is) = IsPlace i.prev × AllPlaces is
 
 abbrev pub AllSequences : List TxIn → Type 0
 AllSequences [] = Unit {0}
 AllSequences (i ∷ is) = (i.sequence < 2 ^ 32) × AllSequences is
 
-abbrev place_text : TxIn → List ℕ
-place_text i = place_bytes i.prev
-
 abbrev sequence_text : TxIn → List ℕ
 sequence_text i = word i.sequence
-
-pub places-apart : (xs ys : List TxIn) → AllPlaces xs → AllPlaces ys → flat_map place_text xs ≡ flat_map place_text ys → map (λ i. i.prev) xs ≡ map (λ i. i.prev) ys
-places-apart [] [] h k e = refl
-places-apart [] (y ∷ ys) h k e =
-    let n = ap length (e ∙ flat_map-cons place_text y ys) ∙ length-append (place_text y) (flat_map place_text ys) in
-    let m = place-size y.prev k.0 in
-    absurd (omega (arith, n, m))
-places-apart (x ∷ xs) [] h k e =
-    let n = ap length (sym (flat_map-cons place_text x xs) ∙ e) in
-    let l = length-append (place_text x) (flat_map place_text xs) in
-    let m = place-size x.prev h.0 in
-    absurd (omega (arith, n, l, m))
-places-apart (x ∷ xs) (y ∷ ys) h k e =
-    let r = split_left (place_text x) (place_text y) (flat_map place_text xs) (flat_map place_text ys) (place-size x.prev h.0 ∙ sym (place-size y.prev k.0)) (sym (flat_map-cons place_text x xs) ∙ e ∙ flat_map-cons place_text y ys) in
-    let a = place-apart x.prev y.prev h.0 k.0 r.0 in
-    let b = places-apart xs ys h.1 k.1 r.1 in
-    λ i. a i ∷ b i
 
 pub sequences-apart : (xs ys : List TxIn) → AllSequences xs → AllSequences ys → flat_map sequence_text xs ≡ flat_map sequence_text ys → map (λ i. i.sequence) xs ≡ map (λ i. i.sequence) ys
 sequences-apart [] [] h k e = refl
@@ -112,42 +54,10 @@ sequences-apart (x ∷ xs) [] h k e =
     let m = wide32.len x.sequence in
     absurd (omega (arith, n, l, m))
 sequences-apart (x ∷ xs) (y ∷ ys) h k e =
-    let r = split_left (sequence_text x) (sequence_text y) (flat_map sequence_text xs) (flat_map sequence_text ys) (wide32.len x.sequence ∙ sym (wide32.len y.sequence)) (sym (flat_map-cons sequence_text x xs) ∙ e ∙ flat_map-cons sequence_text y ys) in
+    let r = cut (sequence_text x) (sequence_text y) (flat_map sequence_text xs) (flat_map sequence_text ys) (wide32.len x.sequence ∙ sym (wide32.len y.sequence)) (sym (flat_map-cons sequence_text x xs) ∙ e ∙ flat_map-cons sequence_text y ys) in
     let a = word-apart x.sequence y.sequence h.0 k.0 r.0 in
     let b = sequences-apart xs ys h.1 k.1 r.1 in
     λ i. a i ∷ b i
-
-output-size : (o : TxOut) (rest : List ℕ) → 0 < length (output_bytes o ++ rest)
-output-size o rest =
-    let a = length-append (output_bytes o) rest in
-    let b = length-append (long_word o.value) (sized o.script) in
-    let c = wide64.len o.value in
-    omega (arith, a, b, c)
-
-pub outputs-apart : (xs ys : List TxOut) → AllByRecursion IsOutput xs → AllByRecursion IsOutput ys → flat_map output_bytes xs ≡ flat_map output_bytes ys → xs ≡ ys
-outputs-apart [] [] h k e = refl
-outputs-apart [] (y ∷ ys) h k e =
-    let n = ap length (e ∙ flat_map-cons output_bytes y ys) in
-    let m = output-size y (flat_map output_bytes ys) in
-    absurd (omega (arith, n, m))
-outputs-apart (x ∷ xs) [] h k e =
-    let n = ap length (sym (flat_map-cons output_bytes x xs) ∙ e) in
-    let m = output-size x (flat_map output_bytes xs) in
-    absurd (omega (arith, n, m))
-outputs-apart (x ∷ xs) (y ∷ ys) h k e =
-    let z : (long_word x.value ++ sized x.script) ++ flat_map output_bytes xs ≡ (long_word y.value ++ sized y.script) ++ flat_map output_bytes ys = sym (flat_map-cons output_bytes x xs) ∙ e ∙ flat_map-cons output_bytes y ys in
-    let u : long_word x.value ++ (sized x.script ++ flat_map output_bytes xs) ≡ long_word y.value ++ (sized y.script ++ flat_map output_bytes ys) =
-    sym (append_assoc (long_word x.value) (sized x.script) (flat_map output_bytes xs)) ∙ z ∙ append_assoc (long_word y.value) (sized y.script) (flat_map output_bytes ys) in
-    let r = split_left (long_word x.value) (long_word y.value) _ _ (wide64.len x.value ∙ sym (wide64.len y.value)) u in
-    let v = long-apart x.value y.value h.0.value k.0.value r.0 in
-    let q = sized-apart x.script y.script (flat_map output_bytes xs) (flat_map output_bytes ys) h.0.script k.0.script r.1 in
-    let c = q.0 in
-    let b = outputs-apart xs ys h.1 k.1 q.1 in
-    λ i. record { value = v i; script = c i } ∷ b i
-
-pub inputs_places : (is : List TxIn) → AllByRecursion IsInput is → AllPlaces is
-inputs_places [] h = tt
-inputs_places (i ∷ is) h = (h.0.prev, inputs_places is h.1)
 
 pub inputs_sequences : (is : List TxIn) → AllByRecursion IsInput is → AllSequences is
 inputs_sequences [] h = tt
@@ -236,7 +146,7 @@ preimage-apart hash size hs clear a b fa fb ha hb i j pi pj s t v u e =
     let m3 = size.size (hash (places_list tx)) in
     let m4 = wide32.len tx.version in
     omega (arith, l1, l2, l3, m1, m2, m3, m4) in
-    let r6 = split_left (front a i) (front b j) (sized s) (sized t) (len a i pi ∙ sym (len b j pj)) r5.0 in
+    let r6 = cut (front a i) (front b j) (sized s) (sized t) (len a i pi ∙ sym (len b j pj)) r5.0 in
     let r7 = split_right _ _ (place_bytes i.prev) (place_bytes j.prev) (place-size i.prev pi ∙ sym (place-size j.prev pj)) r6.0 in
     let r8 = split_right _ _ (double hash (sequences_list a)) (double hash (sequences_list b)) (d (sequences_list a) (sequences_list b)) r7.0 in
     let r9 = split_right (word a.version) (word b.version) (double hash (places_list a)) (double hash (places_list b)) (d (places_list a) (places_list b)) r8.0 in
@@ -245,8 +155,8 @@ preimage-apart hash size hs clear a b fa fb ha hb i j pi pj s t v u e =
     let outputs = double-apart hash hs clear (outputs_list a) (outputs_list b) ha.outputs ha.outputs_hash hb.outputs hb.outputs_hash r3.1 in
     record {
       version = word-apart a.version b.version fa.version fb.version r9.0;
-      places = places-apart a.inputs b.inputs fa.places fb.places places;
+      places = all_places a.inputs b.inputs fa.places fb.places places;
       sequences = sequences-apart a.inputs b.inputs fa.sequences fb.sequences sequences;
-      outputs = outputs-apart a.outputs b.outputs fa.outputs fb.outputs outputs;
+      outputs = all_outputs a.outputs b.outputs fa.outputs fb.outputs outputs;
       lock = word-apart a.lock b.lock fa.lock fb.lock r2.1;
     }

@@ -44,14 +44,12 @@ fn put_signed(alloc: Global, ops: &mut Vec<Op>, keys: &[[u8; 33]]) -> Result<(),
     let mut rest = keys;
     while let Some((key, others)) = rest.split_first() {
         put_bytes(alloc, ops, key)?;
-        put(
-            ops,
-            Op::Code(if others.is_empty() {
-                codes::CHECKSIG
-            } else {
-                codes::CHECKSIGVERIFY
-            }),
-        )?;
+        let code = if others.is_empty() {
+            codes::CHECKSIG
+        } else {
+            codes::CHECKSIGVERIFY
+        };
+        put(ops, Op::Code(code))?;
         rest = others;
     }
     Ok(())

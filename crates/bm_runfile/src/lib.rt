@@ -1,0 +1,21 @@
+//! Run files are read and printed: the run that the lines of a text spell, or the first line that is bad or one too many.
+#![tactic(auto)]
+
+mod error;
+mod event_words;
+mod events;
+mod header;
+mod labels;
+mod limits;
+mod lines;
+mod print;
+mod read;
+mod tuples;
+mod words;
+
+pub use error::RunError;
+pub use limits::{MOST_RUN_BYTES, run_limits_are_defined};
+pub use print::{print_event, print_header};
+pub use read::read_run;
+pub use spec_run::{Event, Header, HeldSecret, Run};
+pub use spec_text::RunLimit;

@@ -8,3 +8,4 @@ mod calculus;
 mod copies;
 #[cfg(test)]
 mod run_files;
+mod exchange;

@@ -8,4 +8,5 @@ mod calculus;
 mod copies;
 #[cfg(test)]
 mod run_files;
+#[cfg(test)]
 mod exchange;

@@ -7,6 +7,6 @@ mod calculus;
 #[cfg(test)]
 mod copies;
 #[cfg(test)]
-mod run_files;
-#[cfg(test)]
 mod exchange;
+#[cfg(test)]
+mod run_files;

@@ -1,8 +1,7 @@
 //! Run files read and print back, the first line that doesn't count is named, and the largest text is read.
 
 use bm_runfile::{
-    MOST_RUN_BYTES, RunError, RunLimit, print_event, print_header, read_run,
-    run_limits_are_defined,
+    MOST_RUN_BYTES, RunError, RunLimit, print_event, print_header, read_run, run_limits_are_defined,
 };
 use std::alloc::{AllocError, Global};
 use std::test::Fail;

@@ -167,6 +167,7 @@ pub fn play(alloc: Global, run: &Run) -> Result<Vec<u8>, AllocError>
         header.parties.as_slice(),
         header.honest.as_slice(),
         deposits,
+        &[],
     )?;
     let mut out = Vec::new(alloc);
     put_starts(alloc, &mut out, deposits)?;

@@ -1,0 +1,4 @@
+pub mod Allowing
+pub mod Bools
+pub mod Parts
+pub mod WellFormed

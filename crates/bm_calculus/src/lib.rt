@@ -1,9 +1,13 @@
 //! The contract calculus: configurations, which steps may be taken, and what they lead to.
 #![tactic(auto)]
 
+mod beginning;
+mod branches;
 pub mod config;
+mod lengths;
 mod moves;
 mod same;
+mod secrets;
 
-pub use config::{Config, StepError};
-pub use spec_calculus::{Deposit, Move, MoveAuthorisation, Owner, Step};
+pub use config::{Active, Config, StepError};
+pub use spec_calculus::{Move, Owner, Step};

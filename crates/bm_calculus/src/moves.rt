@@ -3,6 +3,7 @@
 ghost use Rattle.std.specs.Prelude.{◌≡◌, ◌+◌, ◌<◌, ◌^◌, ◌++◌, IfOk, OnOk, OnErr, length};
 ghost use Rattle.spec_data.specs.Lists as lists;
 ghost use Rattle.spec_calculus.specs.Moves as spec;
+ghost use Rattle.spec_calculus.specs.Same as same;
 ghost use Rattle.spec_calculus.specs.Steps as steps;
 
 use crate::same::{move_eq, owner_eq};
@@ -21,7 +22,8 @@ fn deposit_at(deposits: &[Deposit], number: u32) -> Option<Deposit>
     None
 }
 
-fn value_at(deposits: &[Deposit], number: u32) -> u64
+/// The value of the deposit of this number, 0 without one.
+pub fn value_at(deposits: &[Deposit], number: u32) -> u64
     ensures { result ≡ spec.value_at deposits.now number }
 {
     match deposit_at(deposits, number) {
@@ -37,6 +39,20 @@ fn owner_at(deposits: &[Deposit], number: u32) -> Owner
         None => Owner::Outside,
         Some(deposit) => deposit.owner,
     }
+}
+
+/// Whether there is a deposit of this number.
+pub fn is_live(deposits: &[Deposit], number: u32) -> bool
+    ensures { result ≡ spec.is_live deposits.now number }
+{
+    deposit_at(deposits, number).is_some()
+}
+
+/// Whether the party owns the deposit of this number.
+pub fn has_owner(deposits: &[Deposit], number: u32, party: &Name) -> bool
+    ensures { result ≡ same.owner_eq (spec.owner_at deposits.now number) (Owner.Party party.now) }
+{
+    owner_eq(&owner_at(deposits, number), &Owner::Party(*party))
 }
 
 fn are_distinct(numbers: &[u32]) -> bool
@@ -55,7 +71,7 @@ fn are_distinct(numbers: &[u32]) -> bool
 fn are_live(deposits: &[Deposit], inputs: &[u32]) -> bool
     ensures { result ≡ spec.are_live deposits.now inputs.now }
 {
-    inputs.iter().all(|n| deposit_at(deposits, *n).is_some())
+    inputs.iter().all(|n| is_live(deposits, *n))
 }
 
 fn spends_live(deposits: &[Deposit], inputs: &[u32]) -> bool
@@ -67,10 +83,7 @@ fn spends_live(deposits: &[Deposit], inputs: &[u32]) -> bool
 fn owns_one(deposits: &[Deposit], inputs: &[u32], party: &Name) -> bool
     ensures { result ≡ spec.owns_one deposits.now inputs.now party.now }
 {
-    let party = Owner::Party(*party);
-    inputs
-        .iter()
-        .any(|n| owner_eq(&owner_at(deposits, *n), &party))
+    inputs.iter().any(|n| has_owner(deposits, *n, party))
 }
 
 fn value_in(deposits: &[Deposit], inputs: &[u32]) -> u128

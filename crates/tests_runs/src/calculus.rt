@@ -31,7 +31,7 @@ fn a_deposit_moves(rt: HostRuntime) -> Result<(), Fail> {
     let alloc = rt.alloc();
     let a = Name::new(b"A").ok_or("no name")?;
     let b = Name::new(b"B").ok_or("no name")?;
-    let mut config = Config::opening(alloc, &[a, b], &[a], &[(a, 100)])?;
+    let mut config = Config::opening(alloc, &[a, b], &[a], &[(a, 100)], &[])?;
     let steps = [
         Step::AuthMove {
             party: a,

@@ -1,6 +1,7 @@
 -- A run that was read: what is known of it, where it begins, and its whole text.
-use Rattle.std.specs.Prelude.{ℕ, ◌+◌, ◌≤◌, ◌<◌, List, [], ◌∷◌, ◌++◌, length}
+use Rattle.std.specs.Prelude.{ℕ, ◌+◌, ◌≤◌, ◌<◌, List, [], ◌∷◌, ◌++◌, length, sum_by}
 use Rattle.std.specs.List.{AllByRecursion}
+use Rattle.spec_data.specs.Ranges.{max_money}
 use Rattle.spec_calculus.specs.Configuration.{Configuration}
 use Rattle.spec_calculus.specs.Steps as calculus
 use Rattle.spec_calculus.specs.declared.step.Step.{Step}
@@ -32,6 +33,7 @@ pub record IsSound (words : ℕ) (e : Event) : Type 0 where
 -- a run is within its limits; a line of the most bytes has 524,288 words at most
 pub record IsRun (run : Run) : Type 0 where
   pub deposits : length run.header.deposits ≤ 1000
+  pub money : sum_by (λ d. d.1) run.header.deposits ≤ max_money
   pub events : length run.events ≤ 10000
   pub sound : AllByRecursion (IsSound 524288) run.events
 

@@ -5,6 +5,7 @@ ghost use Rattle.std.specs.Option.{option_map};
 ghost use Rattle.std.specs.List.{list_all};
 ghost use Rattle.bitml.specs.Reading.{is_letter, is_name_byte, is_name, is_known, known, output_number, inputs_of, paid_of, give_of, mine_of, event_of, shown_inputs, made_give, made_mine, is_keyword, party_after, honest_after, deposit_after, header_after, Takes};
 ghost use Rattle.bitml.specs.Run.{IsSound};
+ghost use Rattle.spec_data.specs.Ranges.{max_money};
 
 use crate::event::{Event, Header, MAX_MONEY};
 use crate::lines::number_of;
@@ -240,6 +241,7 @@ fn is_known(parties: &[Name], word: &[u8]) -> bool
 fn take_party(header: &mut Header, words: &[&[u8]]) -> Result<bool, AllocError>
     ensures taken { IfOk result (λ taken. Takes header.old header.new taken (party_after header.old (map (λ w. w.now) words.now))) }
     ensures few { OnOk result (length header.old.deposits ≤ 1000 → length header.new.deposits ≤ 1000) }
+    ensures money { OnOk result (sum_by (λ d. d.1) header.old.deposits ≤ max_money → sum_by (λ d. d.1) header.new.deposits ≤ max_money) }
 {
     let [word] = words else {
         return Ok(false);
@@ -261,6 +263,7 @@ fn take_party(header: &mut Header, words: &[&[u8]]) -> Result<bool, AllocError>
 fn take_honest(header: &mut Header, words: &[&[u8]]) -> Result<bool, AllocError>
     ensures taken { IfOk result (λ taken. Takes header.old header.new taken (honest_after header.old (map (λ w. w.now) words.now))) }
     ensures few { OnOk result (length header.old.deposits ≤ 1000 → length header.new.deposits ≤ 1000) }
+    ensures money { OnOk result (sum_by (λ d. d.1) header.old.deposits ≤ max_money → sum_by (λ d. d.1) header.new.deposits ≤ max_money) }
 {
     let [word] = words else {
         return Ok(false);
@@ -283,9 +286,11 @@ fn total(deposits: &[(Name, u64)]) -> u128
 }
 
 /// Takes a line `deposit A v`.
+#[tactic(auto, using(std::proofs::lemmas::List::Sums::sum_by_push))]
 fn take_deposit(header: &mut Header, words: &[&[u8]]) -> Result<bool, AllocError>
     ensures taken { IfOk result (λ taken. Takes header.old header.new taken (deposit_after header.old (map (λ w. w.now) words.now))) }
     ensures few { OnOk result (length header.old.deposits ≤ 1000 → length header.new.deposits ≤ 1000) }
+    ensures money { OnOk result (sum_by (λ d. d.1) header.old.deposits ≤ max_money → sum_by (λ d. d.1) header.new.deposits ≤ max_money) }
 {
     let [party, amount] = words else {
         return Ok(false);
@@ -313,6 +318,7 @@ fn take_deposit(header: &mut Header, words: &[&[u8]]) -> Result<bool, AllocError
 pub fn take_header_line(header: &mut Header, words: &[&[u8]]) -> Result<bool, AllocError>
     ensures taken { IfOk result (λ taken. Takes header.old header.new taken (header_after header.old (map (λ w. w.now) words.now))) }
     ensures few { OnOk result (length header.old.deposits ≤ 1000 → length header.new.deposits ≤ 1000) }
+    ensures money { OnOk result (sum_by (λ d. d.1) header.old.deposits ≤ max_money → sum_by (λ d. d.1) header.new.deposits ≤ max_money) }
 {
     let [key, rest @ ..] = words else {
         return Ok(false);

@@ -1,11 +1,12 @@
 //! Reads a whole run, line by line.
 
-ghost use Rattle.std.specs.Prelude.{◌≡◌, ◌<◌, ◌≤◌, ◌+◌, ◌^◌, length, map, IfOk, IfSome, OnOk, Ok, Err};
+ghost use Rattle.std.specs.Prelude.{◌≡◌, ◌<◌, ◌≤◌, ◌+◌, ◌^◌, length, map, sum_by, IfOk, IfSome, OnOk, Ok, Err};
 ghost use Rattle.bitml.specs.declared.read_run.RunError.TheVariants.{Memory};
 ghost use Rattle.bitml.specs.Lines.{lines_of};
 ghost use Rattle.bitml.specs.Reading.{read_header, read_events, read_of, header_words, header_line, event_words, event_line, no_header, is_rule, LineGives, Gives};
 ghost use Rattle.bitml.specs.Run.{IsRun, IsSound};
 ghost use Rattle.std.specs.List.{AllByRecursion};
+ghost use Rattle.spec_data.specs.Ranges.{max_money};
 
 use crate::event::{Event, Header, MAX_LINE, Run};
 use crate::lines::{first_line, words_of};
@@ -51,6 +52,7 @@ enum Said {
 fn take_line(alloc: Global, header: &mut Header, line: &[u8]) -> Result<Said, AllocError>
     ensures said { IfOk result (λ said. LineGives header.new said header.old (header_line header.old line.now)) }
     ensures few { OnOk result (length header.old.deposits ≤ 1000 → length header.new.deposits ≤ 1000) }
+    ensures money { OnOk result (sum_by (λ d. d.1) header.old.deposits ≤ max_money → sum_by (λ d. d.1) header.new.deposits ≤ max_money) }
 {
     if line.len() > MAX_LINE {
         return Ok(Said::Bad);
@@ -62,6 +64,7 @@ fn take_line(alloc: Global, header: &mut Header, line: &[u8]) -> Result<Said, Al
 fn take_words(header: &mut Header, words: &[&[u8]]) -> Result<Said, AllocError>
     ensures said { IfOk result (λ said. LineGives header.new said header.old (header_words header.old (map (λ w. w.now) words.now))) }
     ensures few { OnOk result (length header.old.deposits ≤ 1000 → length header.new.deposits ≤ 1000) }
+    ensures money { OnOk result (sum_by (λ d. d.1) header.old.deposits ≤ max_money → sum_by (λ d. d.1) header.new.deposits ≤ max_money) }
 {
     if words.is_empty() {
         return Ok(Said::Empty);
@@ -89,6 +92,7 @@ fn read_header(alloc: Global, text: &[u8]) -> Result<(Header, &[u8], u64), RunEr
     ensures found { Gives (λ p. (p.0, lines_of p.1.now, p.2)) result (read_header no_header 1 (lines_of text.now)) }
     ensures line { IfOk result (λ p. p.2 + length p.1.now ≤ length text.now + 1) }
     ensures few { IfOk result (λ p. length p.0.deposits ≤ 1000) }
+    ensures money { IfOk result (λ p. sum_by (λ d. d.1) p.0.deposits ≤ max_money) }
 {
     let mut header = Header {
         parties: Seq::of(Vec::new(alloc)),

@@ -1,4 +1,7 @@
 pub mod Allowing
 pub mod Bools
 pub mod Parts
-pub mod WellFormed
+pub mod Reached
+pub mod Rows
+pub mod Search
+pub mod Taken

@@ -1,4 +1,4 @@
--- What the calls of this crate answer.
+-- What the calls of this crate answer; of this project's profile of BitML.
 use Rattle.std.specs.Borrow.{Bor}
 use Rattle.std.specs.Prelude.{Option, Some, None, ◌≡◌, ℕ, ◌<◌, ◌==◌, Bool, List, [], ◌∷◌, if◌then◌else◌}
 use Rattle.spec_calculus.specs.declared.step.Owner.{Owner}
@@ -52,3 +52,7 @@ advertised_with (a ∷ rest) contract = if a.contract == contract then Some a.bi
 abbrev pub with_revealed : Bool → Option (Option ℕ) → Option (Option ℕ × Bool)
 with_revealed revealed None = None
 with_revealed revealed (Some length) = Some (length, revealed)
+
+-- an active contract that stands at its root
+abbrev pub root_of : ℕ → ℕ → ℕ → ActiveContract
+root_of number contract balance = record { number = number; contract = contract; position = []; balance = balance }

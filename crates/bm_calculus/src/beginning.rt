@@ -6,8 +6,8 @@ ghost use Rattle.spec_data.specs.Lists.{look_up, is_among, first_false};
 ghost use Rattle.spec_terms.specs.Precondition as pres;
 ghost use Rattle.spec_calculus.specs.Beginning as spec;
 
-use crate::moves::{has_owner, is_live, value_at};
-use spec_calculus::{Advertised, Committed, Deposit, InitAuthorisation};
+use crate::deposits::Deposits;
+use spec_calculus::{Advertised, Committed, InitAuthorisation};
 use spec_data::{Name, OutOfMemory};
 use spec_terms::Pre;
 use std::alloc::Global;
@@ -19,16 +19,16 @@ pub fn is_advertised(advertised: &[Advertised], contract: u32) -> bool
     advertised.iter().any(|a| a.contract == contract)
 }
 
-fn fits_deposit(deposits: &[Deposit], number: u32, party: &Name, value: u64) -> bool
+fn fits_deposit(deposits: &Deposits, number: u32, party: &Name, value: u64) -> bool
     ensures { result ≡ spec.fits_deposit deposits.now number party.now value }
 {
-    is_live(deposits, number)
-        && has_owner(deposits, number, party)
-        && value_at(deposits, number) == value
+    deposits.is_live(number)
+        && deposits.has_owner(number, party)
+        && deposits.value_at(number) == value
 }
 
 fn binds_one(
-    deposits: &[Deposit],
+    deposits: &Deposits,
     name: &Name,
     party: &Name,
     value: u64,
@@ -39,7 +39,7 @@ fn binds_one(
     binding.0 == *name && fits_deposit(deposits, binding.1, party, value)
 }
 
-fn binds_each(deposits: &[Deposit], pre: &[Pre], bindings: &[(Name, u32)]) -> bool
+fn binds_each(deposits: &Deposits, pre: &[Pre], bindings: &[(Name, u32)]) -> bool
     ensures { result ≡ spec.binds_each deposits.now (pres.deposits pre.now) bindings.now }
 {
     let mut rest = bindings;
@@ -80,7 +80,7 @@ fn are_bound_apart(bindings: &[(Name, u32)]) -> bool
 }
 
 /// Whether the bindings are of a precondition's deposits, in its order, to different deposits that fit.
-pub fn binds(deposits: &[Deposit], pre: &[Pre], bindings: &[(Name, u32)]) -> bool
+pub fn binds(deposits: &Deposits, pre: &[Pre], bindings: &[(Name, u32)]) -> bool
     ensures { result ≡ spec.binds deposits.now pre.now bindings.now }
 {
     binds_each(deposits, pre, bindings) && are_bound_apart(bindings)
@@ -185,24 +185,24 @@ fn bound_to(bindings: &[(Name, u32)], name: &Name) -> Option<u32>
 }
 
 // Whether the name is bound to a live deposit.
-fn is_there(deposits: &[Deposit], bindings: &[(Name, u32)], name: &Name) -> bool
+fn is_there(deposits: &Deposits, bindings: &[(Name, u32)], name: &Name) -> bool
     ensures { result ≡ spec.is_there deposits.now (look_up name.now bindings.now) }
 {
     match bound_to(bindings, name) {
         None => false,
-        Some(number) => is_live(deposits, number),
+        Some(number) => deposits.is_live(number),
     }
 }
 
 /// Whether each of these names is bound to a live deposit.
-pub fn are_there(deposits: &[Deposit], bindings: &[(Name, u32)], names: &[Name]) -> bool
+pub fn are_there(deposits: &Deposits, bindings: &[(Name, u32)], names: &[Name]) -> bool
     ensures { result ≡ spec.are_there deposits.now bindings.now names.now }
 {
     names.iter().all(|x| is_there(deposits, bindings, x))
 }
 
 /// Whether each persistent deposit of a precondition is bound to a live deposit.
-pub fn are_all_there(deposits: &[Deposit], bindings: &[(Name, u32)], pre: &[Pre]) -> bool
+pub fn are_all_there(deposits: &Deposits, bindings: &[(Name, u32)], pre: &[Pre]) -> bool
     ensures { result ≡ spec.are_there deposits.now bindings.now (spec.persistent_names pre.now) }
 {
     for entry in pre {
@@ -271,7 +271,7 @@ fn has_persistent(pre: &[Pre], party: &Name, deposit: &Name) -> bool
 
 /// The first premise from the second on that fails where a party lets the contract take a deposit, or 0.
 pub fn allowing_fails(
-    deposits: &[Deposit],
+    deposits: &Deposits,
     bindings: &[(Name, u32)],
     pre: &[Pre],
     party: &Name,

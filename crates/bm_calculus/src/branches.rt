@@ -1,30 +1,16 @@
 //! Active contracts and their branches.
 
-ghost use Rattle.std.specs.Prelude.{◌≡◌, ◌^◌, ◌<◌, ◌+◌, ◌-◌, ◌++◌, ◌∷◌, [], Some, length, option_map, is_some, IfOk, OnOk, OnErr, unwrap_or};
-ghost use Rattle.spec_data.specs.Lists as lists;
+ghost use Rattle.std.specs.Prelude.{◌≡◌, ◌^◌, ◌<◌, ◌+◌, ◌-◌, ◌++◌, ◌∷◌, [], Some, length, option_map, is_some, IfOk, unwrap_or};
 ghost use Rattle.spec_terms.specs.Core.{asks as asks_in, puts_of as puts_in, reveals_of as reveals_in};
 ghost use Rattle.spec_calculus.specs.Branches as spec;
-ghost use Rattle.spec_calculus.specs.Moves.{kept};
 ghost use Rattle.bm_syntax.specs.View.{guarded, parts_view};
 
 use bm_syntax::{Guarded, Part, branch_at};
 use bm_wellformed::Checked;
-use spec_calculus::{ActiveContract, BranchAuthorisation, Deposit};
+use spec_calculus::{ActiveContract, BranchAuthorisation};
 use spec_data::{Name, OutOfMemory};
 use spec_terms::{Path, PathStep};
-use std::alloc::{AllocError, Global};
-
-/// The active contract of this number.
-pub fn active_at(active: &[ActiveContract], number: u32) -> Option<&ActiveContract>
-    ensures { option_map (λ a. a.now) result ≡ spec.active_at active.now number }
-{
-    for entry in active {
-        if entry.number == number {
-            return Some(entry);
-        }
-    }
-    None
-}
+use std::alloc::Global;
 
 /// The branch of this number at a position of a contract.
 pub fn branch_in<'a>(checked: &'a Checked, position: &Path, branch: u32) -> Option<&'a Guarded>
@@ -126,57 +112,6 @@ pub fn parts(core: &Guarded) -> &[Part]
     }
 }
 
-fn has_number(number: u32, numbers: &[u32]) -> bool
-    ensures { result ≡ lists.has_number number numbers.now }
-{
-    numbers.contains(&number)
-}
-
-/// The values of the deposits of these numbers, added up.
-pub fn gone_value(deposits: &[Deposit], numbers: &[u32]) -> u128
-    ensures value { result ≡ spec.total_value (spec.gone deposits.now numbers.now) }
-    ensures room { result < 2 ^ 127 }
-{
-    let mut total = 0;
-    for deposit in deposits {
-        if has_number(deposit.number, numbers) {
-            total += deposit.value as u128;
-        }
-    }
-    total
-}
-
-/// Removes the deposits of these numbers.
-pub fn remove(deposits: &mut Vec<Deposit>, numbers: &[u32])
-    ensures { deposits.new.items ≡ kept deposits.old.items numbers.now }
-{
-    deposits.retain(|d| !numbers.contains(&d.number));
-}
-
-/// Removes the active contract of this number.
-pub fn remove_active(active: &mut Vec<ActiveContract>, number: u32)
-    ensures { active.new.items ≡ spec.others active.old.items number }
-{
-    active.retain(|a| a.number != number);
-}
-
-/// Puts contracts in the place of the active one of this number.
-pub fn replace(
-    active: &mut Vec<ActiveContract>,
-    number: u32,
-    mut others: Vec<ActiveContract>,
-) -> Result<(), OutOfMemory>
-    ensures ok { OnOk result (active.new.items ≡ spec.others active.old.items number ++ others.items) }
-    ensures err { OnErr result (active.new.items ≡ active.old.items) }
-{
-    active.reserve(others.len())?;
-    active.retain(|a| a.number != number);
-    match active.append(&mut others) {
-        Ok(()) => Ok(()),
-        Err(_) => unreachable!(),
-    }
-}
-
 /// The path with one step more.
 pub fn longer(alloc: Global, path: &Path, step: PathStep) -> Result<Path, OutOfMemory>
     ensures { IfOk result (λ p. p ≡ path.now ++ step ∷ []) }
@@ -186,15 +121,11 @@ pub fn longer(alloc: Global, path: &Path, step: PathStep) -> Result<Path, OutOfM
     Ok(Path::of(steps))
 }
 
-/// What is left of a sum after the fee. A sum of checked contracts always fits.
-pub fn left(sum: u128, fee: u64) -> Result<u64, OutOfMemory>
-    ensures { IfOk result (λ v. v ≡ sum - fee) }
+/// What is left of a sum after the fee.
+pub fn left(sum: u64, fee: u64) -> u64
+    ensures { result ≡ sum - fee }
 {
-    let rest = sum.saturating_sub(fee as u128);
-    if rest > u64::MAX as u128 {
-        return Err(AllocError);
-    }
-    Ok(rest as u64)
+    sum.saturating_sub(fee)
 }
 
 /// An active contract for each part of a split at this path, named in order.

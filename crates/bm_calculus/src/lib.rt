@@ -4,10 +4,15 @@
 mod beginning;
 mod branches;
 pub mod config;
+mod contracts;
+mod deposits;
+mod effects;
 mod lengths;
 mod moves;
+mod premises;
 mod same;
 mod secrets;
+mod state;
 
 pub use config::{Active, Config, StepError};
 pub use spec_calculus::{Move, Owner, Step};

@@ -3,57 +3,13 @@
 ghost use Rattle.std.specs.Prelude.{◌≡◌, ◌+◌, ◌<◌, ◌^◌, ◌++◌, IfOk, OnOk, OnErr, length};
 ghost use Rattle.spec_data.specs.Lists as lists;
 ghost use Rattle.spec_calculus.specs.Moves as spec;
-ghost use Rattle.spec_calculus.specs.Same as same;
 ghost use Rattle.spec_calculus.specs.Steps as steps;
 
-use crate::same::{move_eq, owner_eq};
+use crate::deposits::Deposits;
+use crate::same::move_eq;
 use spec_calculus::{Deposit, Move, MoveAuthorisation, Owner};
 use spec_data::{Name, OutOfMemory};
 use std::alloc::Global;
-
-fn deposit_at(deposits: &[Deposit], number: u32) -> Option<Deposit>
-    ensures { result ≡ spec.deposit_at deposits.now number }
-{
-    for deposit in deposits {
-        if deposit.number == number {
-            return Some(*deposit);
-        }
-    }
-    None
-}
-
-/// The value of the deposit of this number, 0 without one.
-pub fn value_at(deposits: &[Deposit], number: u32) -> u64
-    ensures { result ≡ spec.value_at deposits.now number }
-{
-    match deposit_at(deposits, number) {
-        None => 0,
-        Some(deposit) => deposit.value,
-    }
-}
-
-fn owner_at(deposits: &[Deposit], number: u32) -> Owner
-    ensures { result ≡ spec.owner_at deposits.now number }
-{
-    match deposit_at(deposits, number) {
-        None => Owner::Outside,
-        Some(deposit) => deposit.owner,
-    }
-}
-
-/// Whether there is a deposit of this number.
-pub fn is_live(deposits: &[Deposit], number: u32) -> bool
-    ensures { result ≡ spec.is_live deposits.now number }
-{
-    deposit_at(deposits, number).is_some()
-}
-
-/// Whether the party owns the deposit of this number.
-pub fn has_owner(deposits: &[Deposit], number: u32, party: &Name) -> bool
-    ensures { result ≡ same.owner_eq (spec.owner_at deposits.now number) (Owner.Party party.now) }
-{
-    owner_eq(&owner_at(deposits, number), &Owner::Party(*party))
-}
 
 fn are_distinct(numbers: &[u32]) -> bool
     ensures { result ≡ lists.are_distinct numbers.now }
@@ -68,30 +24,30 @@ fn are_distinct(numbers: &[u32]) -> bool
     true
 }
 
-fn are_live(deposits: &[Deposit], inputs: &[u32]) -> bool
+fn are_live(deposits: &Deposits, inputs: &[u32]) -> bool
     ensures { result ≡ spec.are_live deposits.now inputs.now }
 {
-    inputs.iter().all(|n| is_live(deposits, *n))
+    inputs.iter().all(|n| deposits.is_live(*n))
 }
 
-fn spends_live(deposits: &[Deposit], inputs: &[u32]) -> bool
+fn spends_live(deposits: &Deposits, inputs: &[u32]) -> bool
     ensures { result ≡ spec.spends_live deposits.now inputs.now }
 {
     !inputs.is_empty() && are_distinct(inputs) && are_live(deposits, inputs)
 }
 
-fn owns_one(deposits: &[Deposit], inputs: &[u32], party: &Name) -> bool
+fn owns_one(deposits: &Deposits, inputs: &[u32], party: &Name) -> bool
     ensures { result ≡ spec.owns_one deposits.now inputs.now party.now }
 {
-    inputs.iter().any(|n| has_owner(deposits, *n, party))
+    inputs.iter().any(|n| deposits.has_owner(*n, party))
 }
 
-fn value_in(deposits: &[Deposit], inputs: &[u32]) -> u128
+fn value_in(deposits: &Deposits, inputs: &[u32]) -> u128
     ensures { result ≡ spec.value_in deposits.now inputs.now }
 {
     let mut total = 0;
     for input in inputs {
-        total += value_at(deposits, *input) as u128;
+        total += deposits.value_at(*input) as u128;
     }
     total
 }
@@ -102,7 +58,7 @@ fn value_out(outputs: &[(Owner, u64)]) -> u128
     outputs.iter().map(|o| o.1 as u128).sum()
 }
 
-fn pays(deposits: &[Deposit], action: &Move) -> bool
+fn pays(deposits: &Deposits, action: &Move) -> bool
     ensures { result ≡ spec.pays deposits.now action.now }
 {
     let outputs = action.outputs.as_slice();
@@ -126,14 +82,18 @@ fn has_agreed(authorised: &[MoveAuthorisation], action: &Move, owner: &Owner) ->
     }
 }
 
-fn all_agree(deposits: &[Deposit], authorised: &[MoveAuthorisation], action: &Move) -> bool
+fn all_agree(deposits: &Deposits, authorised: &[MoveAuthorisation], action: &Move) -> bool
     ensures { result ≡ spec.all_agree deposits.now authorised.now action.now }
 {
-    action.inputs.as_slice().iter().all(|n| has_agreed(authorised, action, &owner_at(deposits, *n)))
+    action
+        .inputs
+        .as_slice()
+        .iter()
+        .all(|n| has_agreed(authorised, action, &deposits.owner_at(*n)))
 }
 
 /// The first premise of a party's agreement to a move that fails, or 0.
-pub fn auth_move_fails(deposits: &[Deposit], party: &Name, action: &Move) -> u8
+pub fn auth_move_fails(deposits: &Deposits, party: &Name, action: &Move) -> u8
     ensures { result ≡ lists.first_false 1 (steps.auth_move_premises deposits.now party.now action.now) }
 {
     let inputs = action.inputs.as_slice();
@@ -147,7 +107,7 @@ pub fn auth_move_fails(deposits: &[Deposit], party: &Name, action: &Move) -> u8
 }
 
 /// The first premise of a move that fails, or 0.
-pub fn move_fails(deposits: &[Deposit], authorised: &[MoveAuthorisation], action: &Move) -> u8
+pub fn move_fails(deposits: &Deposits, authorised: &[MoveAuthorisation], action: &Move) -> u8
     ensures { result ≡ lists.first_false 1 (steps.move_premises deposits.now authorised.now action.now) }
 {
     if !spends_live(deposits, action.inputs.as_slice()) {
@@ -160,21 +120,6 @@ pub fn move_fails(deposits: &[Deposit], authorised: &[MoveAuthorisation], action
         return 3;
     }
     0
-}
-
-/// The deposits that aren't among these.
-pub fn kept(
-    alloc: Global,
-    deposits: &[Deposit],
-    numbers: &[u32],
-) -> Result<Vec<Deposit>, OutOfMemory>
-    ensures { IfOk result (λ v. v.items ≡ spec.kept deposits.now numbers.now) }
-{
-    deposits
-        .iter()
-        .copied()
-        .filter(|d| !numbers.contains(&d.number))
-        .collect(alloc)
 }
 
 /// Pushes a deposit for each output, named in order.

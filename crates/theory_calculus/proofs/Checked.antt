@@ -30,7 +30,7 @@ use Rattle.theory_calculus.proofs.Stands.{none_at, stands_next}
 -- ---- no fault
 
 -- none of these has a place
-abbrev AllNone : {K : Type 0} → List (K × Option Place) → Type 0
+abbrev pub AllNone : {K : Type 0} → List (K × Option Place) → Type 0
 AllNone [] = Unit {0}
 AllNone (f ∷ fs) = (f.1 ≡ None) × AllNone fs
 
@@ -38,7 +38,7 @@ map_none : {A B : Type 0} (f : A → B) (o : Option A) → option_map f o ≡ No
 map_none f None h = refl
 map_none f (Some x) h = cc
 
-none_found : {K : Type 0} (fs : List (K × Option Place)) → first_found fs ≡ None → AllNone fs
+pub none_found : {K : Type 0} (fs : List (K × Option Place)) → first_found fs ≡ None → AllNone fs
 none_found [] h = tt
 none_found {K} (f ∷ fs) h =
     let p = or_else-none {R = K × Place} (option_map (λ place. (f.0, place)) f.1) (first_found fs) h in

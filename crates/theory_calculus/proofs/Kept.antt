@@ -356,7 +356,7 @@ module _ (g : Configuration) (fine : IsFine g) where
 
 module _ (parties honest : List (List ℕ)) (deposits : List (List ℕ × ℕ)) (contracts : List Advert)
     (checked : AllByRecursion IsWellFormed contracts) where
-  opening_fine : IsFine (opening parties honest deposits contracts)
+  pub opening_fine : IsFine (opening parties honest deposits contracts)
   opening_fine =
       record {
         checked = checked;

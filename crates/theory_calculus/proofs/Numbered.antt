@@ -63,7 +63,7 @@ below_before m n k xs l h =
     all_then (λ x. nat_lt x m) (λ x. list_all (λ y. nat_lt x y) (numbers_from n k)) xs
     (λ x p. from_above x n k (let s : x < m = grind (arith, nat_tests, p) in omega (arith, s, l))) h
 
-grown_ascends : (n k : ℕ) (xs : List ℕ) → are_ascending xs ≡ true → AllBelow n xs → are_ascending (xs ++ numbers_from n k) ≡ true
+pub grown_ascends : (n k : ℕ) (xs : List ℕ) → are_ascending xs ≡ true → AllBelow n xs → are_ascending (xs ++ numbers_from n k) ≡ true
 grown_ascends n k xs a b = in_order-append nat_lt xs (numbers_from n k) a (from_ascends n k) (below_before n n k xs (omega arith) b)
 
 grown_below : (m n k : ℕ) (xs : List ℕ) → n + k ≤ m → AllBelow n xs → AllBelow m (xs ++ numbers_from n k)
@@ -117,7 +117,7 @@ made_numbers : (n : ℕ) (os : List (Owner × ℕ)) → map (λ (d : Deposit). d
 made_numbers n [] = refl
 made_numbers n (o ∷ os) = ap (λ ns. n ∷ ns) (made_numbers (n + 1) os)
 
-parts_numbers : (n contract : ℕ) (path : List PathStep) (k : ℕ) (vs : List ℕ)
+pub parts_numbers : (n contract : ℕ) (path : List PathStep) (k : ℕ) (vs : List ℕ)
     → map (λ (a : ActiveContract). a.number) (parts_made n contract path k vs) ≡ numbers_from n (length vs)
 parts_numbers n contract path k [] = refl
 parts_numbers n contract path k (v ∷ vs) = ap (λ ns. n ∷ ns) (parts_numbers (n + 1) contract path (k + 1) vs)
@@ -195,7 +195,7 @@ fewer_deposits n ds cs p r = record {
   apart = filtered_all (λ (d : Deposit). d.number) p (λ m. not (has_number m cs)) ds r.apart;
 }
 
-fewer_contracts : (n : ℕ) (ds : List ℕ) (cs : List ActiveContract) (p : ActiveContract → Bool) → Row n ds (a_names cs)
+pub fewer_contracts : (n : ℕ) (ds : List ℕ) (cs : List ActiveContract) (p : ActiveContract → Bool) → Row n ds (a_names cs)
     → Row n ds (a_names (filter p cs))
 fewer_contracts n ds cs p r = record {
   deposits = r.deposits;
@@ -212,7 +212,7 @@ add_deposits n k ds new cs e r =
     map-append (λ (d : Deposit). d.number) ds new ∙ ap (λ xs. d_names ds ++ xs) e in
     subst (λ xs. Row (n + k) xs cs) (sym z) (more_deposits n k (d_names ds) cs r)
 
-add_contracts : (n k : ℕ) (ds : List ℕ) (cs new : List ActiveContract) → a_names new ≡ numbers_from n k → Row n ds (a_names cs)
+pub add_contracts : (n k : ℕ) (ds : List ℕ) (cs new : List ActiveContract) → a_names new ≡ numbers_from n k → Row n ds (a_names cs)
     → Row (n + k) ds (a_names (cs ++ new))
 add_contracts n k ds cs new e r =
     let z : a_names (cs ++ new) ≡ a_names cs ++ numbers_from n k =
@@ -284,7 +284,7 @@ row_after g (steps.Withdraw output branch) r = withdrawn_row g output (active_at
 row_after g (steps.Split output branch) r =
     divided_row g output branch (active_at g.active output) (values_of (branch_at g output branch)) r
 
-row_from : (g : Configuration) → IsNumbered g → RowOf g
+pub row_from : (g : Configuration) → IsNumbered g → RowOf g
 row_from g h =
     record { deposits = h.deposits; active = h.active; deposits_below = h.deposits_below; active_below = h.active_below; apart = h.apart }
 

@@ -1,0 +1,71 @@
+-- What a binary search finds in a list by ascending numbers: what a walk over the whole list finds.
+use Rattle.std.proofs.Common.{◌≡◌, ℕ, zero, suc, ◌<◌, ◌≤◌, ◌≢◌, List, [], ◌∷◌, length, map, get_or, true, false, Some, None, Option, Result, Ok, Err, IfOk, IfErr, slice_get, refl, sym, ap, arith, inl, inr}
+use Rattle.std.specs.Prelude.{◌==◌, nat_lt, find}
+use Rattle.std.specs.List.{list_all}
+use Rattle.std.specs.List.Sorted.{IsSearchInRange, IsBinarySearchResult, IsNonDecreasingBy}
+use Rattle.std.specs.Ordering.{nat_cmp, ordering_index}
+use Rattle.std.proofs.lemmas.Bool.{and_parts}
+use Rattle.std.proofs.lemmas.Bool.Decides.{nat_tests}
+use Rattle.std.proofs.lemmas.Cmp.{ranked}
+use Rattle.theory_calculus.specs.InOrder.{are_ascending}
+
+module _ {X : Type 0} (name : X → ℕ) where
+  all_at : (n : ℕ) (xs : List X) (j : ℕ) (d : X) → list_all (λ m. nat_lt n m) (map name xs) ≡ true → j < length xs → n < name (get_or xs j d)
+  all_at n [] j d h l = absurd (omega (arith, l))
+  all_at n (x ∷ xs) zero d h l =
+      let p = and_parts (nat_lt n (name x)) (list_all (λ m. nat_lt n m) (map name xs)) h in grind (arith, nat_tests, p.0)
+  all_at n (x ∷ xs) (suc j) d h l =
+      let p = and_parts (nat_lt n (name x)) (list_all (λ m. nat_lt n m) (map name xs)) h in all_at n xs j d p.1 (omega (arith, l))
+
+  -- an earlier one has a smaller number
+  ascends_at : (xs : List X) (i j : ℕ) (d : X) → are_ascending (map name xs) ≡ true → i < j → j < length xs
+      → name (get_or xs i d) < name (get_or xs j d)
+  ascends_at [] i j d h l k = absurd (omega (arith, k))
+  ascends_at (x ∷ xs) i zero d h l k = absurd (omega (arith, l))
+  ascends_at (x ∷ xs) zero (suc j) d h l k =
+      let p = and_parts (list_all (λ m. nat_lt (name x) m) (map name xs)) (are_ascending (map name xs)) h in
+      all_at (name x) xs j d p.0 (omega (arith, k))
+  ascends_at (x ∷ xs) (suc i) (suc j) d h l k =
+      let p = and_parts (list_all (λ m. nat_lt (name x) m) (map name xs)) (are_ascending (map name xs)) h in
+      ascends_at xs i j d p.1 (omega (arith, l)) (omega (arith, k))
+
+  -- a number that none has isn't found
+  find_absent : (n : ℕ) (xs : List X) → ((j : ℕ) (d : X) → j < length xs → name (get_or xs j d) ≢ n) → find (λ x. name x == n) xs ≡ None
+  find_absent n [] h = refl
+  find_absent n (x ∷ xs) h =
+      let here : (name x == n) ≡ false = (let differs = h 0 x (omega arith) in grind (arith, nat_tests, differs)) in
+      rw here (find_absent n xs (λ j d l. h (suc j) d (omega (arith, l))))
+
+  -- the one that has the number is found
+  find_present : (n : ℕ) (xs : List X) (i : ℕ) (d : X) → are_ascending (map name xs) ≡ true → i < length xs → name (get_or xs i d) ≡ n
+      → slice_get xs i ≡ find (λ x. name x == n) xs
+  find_present n [] i d h l e = absurd (omega (arith, l))
+  find_present n (x ∷ xs) zero d h l e =
+      let here : (name x == n) ≡ true = grind (arith, nat_tests, e) in rw here refl
+  find_present n (x ∷ xs) (suc i) d h l e =
+      let p = and_parts (list_all (λ m. nat_lt (name x) m) (map name xs)) (are_ascending (map name xs)) h in
+      let less = all_at (name x) xs i d p.0 (omega (arith, l)) in
+      let here : (name x == n) ≡ false = grind (arith, nat_tests, less, e) in
+      rw here (find_present n xs i d p.1 (omega (arith, l)) e)
+
+  -- the comparisons with a number rise along the list, as a binary search asks
+  comparisons_rise : (n : ℕ) (xs : List X) → are_ascending (map name xs) ≡ true → IsNonDecreasingBy (λ x. ordering_index (nat_cmp (name x) n)) xs
+  comparisons_rise n xs h i j d le in_range =
+      let rise : name (get_or xs i d) ≤ name (get_or xs j d) =
+      grind (arith, ascends_at xs i j d h, λ (same : i ≡ j). ap (λ k. name (get_or xs k d)) same) in
+      grind (arith, nat_tests)
+
+  pub searched : (n : ℕ) (xs : List X) (r : Result ℕ ℕ) → are_ascending (map name xs) ≡ true → IsSearchInRange r (length xs)
+      → IsBinarySearchResult (λ x. nat_cmp (name x) n) xs r
+      → record { found : IfOk r (λ i. slice_get xs i ≡ find (λ x. name x == n) xs); absent : IfErr r (λ i. find (λ x. name x == n) xs ≡ None) }
+  searched n [] (Ok at) h in_range equal = absurd (omega (arith, in_range))
+  searched n (x ∷ xs) (Ok at) h in_range equal =
+      record { found = find_present n (x ∷ xs) at x h in_range (ranked (name (get_or (x ∷ xs) at x)) n _ (sym (equal x))); absent = tt }
+  searched n xs (Err at) h in_range parted = record { found = tt; absent = find_absent n xs none }
+    where
+      none : (j : ℕ) (d : X) → j < length xs → name (get_or xs j d) ≢ n
+      none j d l same =
+          let sides = parted (comparisons_rise n xs h) in
+          let before : j < at → name (get_or xs j d) < n = λ k. ranked (name (get_or xs j d)) n _ (sym (sides.0 j d (omega arith) k)) in
+          let beyond : at ≤ j → n < name (get_or xs j d) = λ k. ranked (name (get_or xs j d)) n _ (sym (sides.1 j d k l)) in
+          grind (arith, before, beyond, same)

@@ -1,0 +1,139 @@
+//! Active contracts, which are found by number.
+
+ghost use Rattle.std.specs.Prelude.{◌≡◌, ◌<◌, ◌++◌, ◌∷◌, [], nat_lt, map, true, option_map, slice_get, IfOk, IfErr, OnOk, OnErr, None};
+ghost use Rattle.std.specs.List.{list_all};
+ghost use Rattle.spec_calculus.specs.Branches as spec;
+ghost use Rattle.theory_calculus.specs.InOrder.{are_ascending};
+ghost use Rattle.bm_calculus.specs.Answers.{root_of};
+
+use spec_calculus::ActiveContract;
+use spec_data::OutOfMemory;
+use spec_terms::Path;
+use std::alloc::Global;
+use std::marker::Model;
+
+/// Active contracts by ascending numbers, and so each is found by halving. Clauses see the list.
+#[derive(Drop)]
+pub struct ActiveContracts {
+    items: Vec<ActiveContract>,
+}
+
+impl Model for ActiveContracts {
+    ghost use Rattle.std.specs.Prelude.{◌≡◌, List, map, true};
+    ghost use Rattle.spec_calculus.specs.declared.parts.ActiveContract.{ActiveContract as Plain};
+    ghost use Rattle.theory_calculus.specs.InOrder.{are_ascending};
+
+    ghost Value = { List Plain };
+
+    ghost view = { λ a. a.items.items };
+
+    ghost invariant = { λ a. are_ascending (map (λ d. d.number) a.items.items) ≡ true };
+}
+
+impl ActiveContracts {
+    /// No active contract.
+    pub fn none(alloc: Global) -> ActiveContracts
+        ensures { result ≡ [] }
+    {
+        ActiveContracts {
+            items: Vec::new(alloc),
+        }
+    }
+
+    /// The same active contracts.
+    pub fn copy(&self, alloc: Global) -> Result<ActiveContracts, OutOfMemory>
+        ensures { IfOk result (λ active. active ≡ self.now) }
+    {
+        let items = copies(alloc, &self.items)?;
+        Ok(ActiveContracts { items })
+    }
+
+    // The place of the active contract of this number.
+    fn place(&self, number: u32) -> Result<usize, usize>
+        ensures found { IfOk result (λ i. slice_get self.now i ≡ spec.active_at self.now number) }
+        ensures absent { IfErr result (λ _. spec.active_at self.now number ≡ None) }
+    {
+        self.items.binary_search_by_key(&number, |a| a.number)
+    }
+
+    /// The active contract of this number.
+    pub fn get(&self, number: u32) -> Option<&ActiveContract>
+        ensures { option_map (λ a. a.now) result ≡ spec.active_at self.now number }
+    {
+        match self.place(number) {
+            Ok(place) => self.items.get(place),
+            Err(_) => None,
+        }
+    }
+
+    /// Adds a contract at its root, which is named by a later number than all others.
+    #[tactic(auto, using(crate::proofs::Rows::push_ascends))]
+    pub fn begin(
+        &mut self,
+        alloc: Global,
+        number: u32,
+        contract: u32,
+        balance: u64,
+    ) -> Result<(), OutOfMemory>
+        requires last { list_all (λ n. nat_lt n number) (map (λ a. a.number) self.old) ≡ true }
+        ensures ok { OnOk result (self.new ≡ self.old ++ root_of number contract balance ∷ []) }
+        ensures err { OnErr result (self.new ≡ self.old) }
+    {
+        self.items.push(ActiveContract {
+            number,
+            contract,
+            position: Path::of(Vec::new(alloc)),
+            balance,
+        })?;
+        Ok(())
+    }
+
+    /// Removes the active contract of this number.
+    #[tactic(auto, using(theory_calculus::proofs::Numbered::filtered_ascends))]
+    pub fn remove(&mut self, number: u32)
+        ensures { self.new ≡ spec.others self.old number }
+    {
+        remove(&mut self.items, number);
+    }
+
+    /// Puts contracts with later numbers in the place of the active one of this number.
+    pub fn replace(&mut self, number: u32, others: Vec<ActiveContract>) -> Result<(), OutOfMemory>
+        requires ascending { are_ascending (map (λ a. a.number) (spec.others self.old number ++ others.items)) ≡ true }
+        ensures ok { OnOk result (self.new ≡ spec.others self.old number ++ others.items) }
+        ensures err { OnErr result (self.new ≡ self.old) }
+    {
+        replace(&mut self.items, number, others)
+    }
+}
+
+fn copies(alloc: Global, active: &[ActiveContract]) -> Result<Vec<ActiveContract>, OutOfMemory>
+    ensures { IfOk result (λ v. v.items ≡ active.now) }
+{
+    let mut held = Vec::new(alloc);
+    for entry in active {
+        held.push(entry.copy(alloc)?)?;
+    }
+    Ok(held)
+}
+
+fn remove(active: &mut Vec<ActiveContract>, number: u32)
+    ensures { active.new.items ≡ spec.others active.old.items number }
+{
+    active.retain(|a| a.number != number);
+}
+
+fn replace(
+    active: &mut Vec<ActiveContract>,
+    number: u32,
+    mut others: Vec<ActiveContract>,
+) -> Result<(), OutOfMemory>
+    ensures ok { OnOk result (active.new.items ≡ spec.others active.old.items number ++ others.items) }
+    ensures err { OnErr result (active.new.items ≡ active.old.items) }
+{
+    active.reserve(others.len())?;
+    active.retain(|a| a.number != number);
+    match active.append(&mut others) {
+        Ok(()) => Ok(()),
+        Err(_) => unreachable!(),
+    }
+}

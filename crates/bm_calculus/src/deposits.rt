@@ -1,0 +1,178 @@
+//! Live deposits, which are found by number.
+
+ghost use Rattle.std.specs.Prelude.{◌≡◌, ◌^◌, ◌<◌, ◌≤◌, ◌++◌, ◌∷◌, [], nat_lt, map, true, option_map, slice_get, IfOk, IfErr, OnOk, OnErr, None};
+ghost use Rattle.std.specs.List.{list_all};
+ghost use Rattle.spec_data.specs.Lists as lists;
+ghost use Rattle.spec_data.specs.Ranges.{max_money};
+ghost use Rattle.spec_calculus.specs.Moves as spec;
+ghost use Rattle.spec_calculus.specs.Branches.{gone, total_value};
+ghost use Rattle.spec_calculus.specs.Same as same;
+ghost use Rattle.theory_calculus.specs.InOrder.{are_ascending};
+
+use crate::same::owner_eq;
+use spec_calculus::{Deposit, Owner};
+use spec_data::{Name, OutOfMemory};
+use std::alloc::Global;
+use std::marker::Model;
+
+/// Live deposits by ascending numbers, and so each is found by halving. Clauses see the list.
+#[derive(Drop)]
+pub struct Deposits {
+    items: Vec<Deposit>,
+}
+
+impl Model for Deposits {
+    ghost use Rattle.std.specs.Prelude.{◌≡◌, List, map, true};
+    ghost use Rattle.spec_calculus.specs.declared.parts.Deposit.{Deposit as Plain};
+    ghost use Rattle.theory_calculus.specs.InOrder.{are_ascending};
+
+    ghost Value = { List Plain };
+
+    ghost view = { λ a. a.items.items };
+
+    ghost invariant = { λ a. are_ascending (map (λ d. d.number) a.items.items) ≡ true };
+}
+
+impl Deposits {
+    /// These deposits.
+    pub fn of(items: Vec<Deposit>) -> Deposits
+        requires ascending { are_ascending (map (λ d. d.number) items.items) ≡ true }
+        ensures { result ≡ items.items }
+    {
+        Deposits { items }
+    }
+
+    /// The same deposits.
+    pub fn copy(&self, alloc: Global) -> Result<Deposits, OutOfMemory>
+        ensures { IfOk result (λ deposits. deposits ≡ self.now) }
+    {
+        let items = Vec::from_slice(alloc, &self.items)?;
+        Ok(Deposits { items })
+    }
+
+    // The place of the deposit of this number.
+    fn place(&self, number: u32) -> Result<usize, usize>
+        ensures found { IfOk result (λ i. slice_get self.now i ≡ spec.deposit_at self.now number) }
+        ensures absent { IfErr result (λ _. spec.deposit_at self.now number ≡ None) }
+    {
+        self.items.binary_search_by_key(&number, |d| d.number)
+    }
+
+    /// The deposit of this number.
+    pub fn get(&self, number: u32) -> Option<&Deposit>
+        ensures { option_map (λ d. d.now) result ≡ spec.deposit_at self.now number }
+    {
+        match self.place(number) {
+            Ok(place) => self.items.get(place),
+            Err(_) => None,
+        }
+    }
+
+    /// Whether there is a deposit of this number.
+    pub fn is_live(&self, number: u32) -> bool
+        ensures { result ≡ spec.is_live self.now number }
+    {
+        self.get(number).is_some()
+    }
+
+    /// The value of the deposit of this number, 0 without one.
+    pub fn value_at(&self, number: u32) -> u64
+        ensures { result ≡ spec.value_at self.now number }
+    {
+        match self.get(number) {
+            None => 0,
+            Some(deposit) => deposit.value,
+        }
+    }
+
+    /// The owner of the deposit of this number, someone outside without one.
+    pub fn owner_at(&self, number: u32) -> Owner
+        ensures { result ≡ spec.owner_at self.now number }
+    {
+        match self.get(number) {
+            None => Owner::Outside,
+            Some(deposit) => deposit.owner,
+        }
+    }
+
+    /// Whether the party owns the deposit of this number.
+    pub fn has_owner(&self, number: u32, party: &Name) -> bool
+        ensures { result ≡ same.owner_eq (spec.owner_at self.now number) (Owner.Party party.now) }
+    {
+        owner_eq(&self.owner_at(number), &Owner::Party(*party))
+    }
+
+    /// The values of the deposits of these numbers, added up.
+    pub fn gone_value(&self, numbers: &[u32]) -> u64
+        requires within { total_value self.now ≤ max_money }
+        ensures { result ≡ total_value (gone self.now numbers.now) }
+    {
+        value_of(&self.items, numbers)
+    }
+
+    /// The deposits that aren't among these, with room for others.
+    pub fn kept(&self, alloc: Global, numbers: &[u32]) -> Result<Vec<Deposit>, OutOfMemory>
+        ensures { IfOk result (λ v. v.items ≡ spec.kept self.now numbers.now) }
+    {
+        kept(alloc, &self.items, numbers)
+    }
+
+    /// Removes the deposits of these numbers.
+    #[tactic(auto, using(theory_calculus::proofs::Numbered::filtered_ascends))]
+    pub fn remove(&mut self, numbers: &[u32])
+        ensures { self.new ≡ spec.kept self.old numbers.now }
+    {
+        remove(&mut self.items, numbers);
+    }
+
+    /// Adds a deposit of the party, which is named by a later number than all others.
+    #[tactic(auto, using(crate::proofs::Rows::push_ascends))]
+    pub fn pay(&mut self, number: u32, party: &Name, value: u64) -> Result<(), OutOfMemory>
+        requires last { list_all (λ n. nat_lt n number) (map (λ d. d.number) self.old) ≡ true }
+        ensures ok { OnOk result (self.new ≡ self.old ++ spec.made number ((Owner.Party party.now, value) ∷ [])) }
+        ensures err { OnErr result (self.new ≡ self.old) }
+    {
+        let owner = Owner::Party(*party);
+        self.items.push(Deposit {
+            number,
+            owner,
+            value,
+        })?;
+        Ok(())
+    }
+}
+
+fn has_number(number: u32, numbers: &[u32]) -> bool
+    ensures { result ≡ lists.has_number number numbers.now }
+{
+    numbers.contains(&number)
+}
+
+fn value_of(deposits: &[Deposit], numbers: &[u32]) -> u64
+    requires within { total_value deposits.now ≤ max_money }
+    ensures { result ≡ total_value (gone deposits.now numbers.now) }
+{
+    let mut total = 0;
+    for deposit in deposits {
+        if has_number(deposit.number, numbers) {
+            total += deposit.value;
+        }
+    }
+    total
+}
+
+fn kept(alloc: Global, deposits: &[Deposit], numbers: &[u32]) -> Result<Vec<Deposit>, OutOfMemory>
+    ensures { IfOk result (λ v. v.items ≡ spec.kept deposits.now numbers.now) }
+{
+    deposits
+        .iter()
+        .copied()
+        .filter(|d| !numbers.contains(&d.number))
+        .collect(alloc)
+}
+
+fn remove(deposits: &mut Vec<Deposit>, numbers: &[u32])
+    ensures { deposits.new.items ≡ spec.kept deposits.old.items numbers.now }
+{
+    deposits.retain(|d| !numbers.contains(&d.number));
+}

@@ -1,0 +1,233 @@
+//! The first premise that fails, for each kind of step.
+
+ghost use Rattle.std.specs.Prelude.{◌≡◌};
+ghost use Rattle.spec_data.specs.Lists.{first_false};
+ghost use Rattle.spec_calculus.specs.Steps as steps;
+ghost use Rattle.bm_calculus.specs.Reached.{IsReached};
+
+use crate::beginning::{
+    allowing_fails, are_all_there, are_init_authorised, are_there, bindings_of, binds,
+    have_committed, is_advertised, is_any_honest, is_told, lists_secrets, may_commit,
+};
+use crate::branches::{
+    branch_in, have_branch_authorised, is_put, is_split, is_withdraw, puts, reveals,
+};
+use crate::lengths::is_true;
+use crate::secrets::{are_revealed, is_revealed, length_at};
+use crate::state::{State, contract_at};
+use bm_syntax::{asks, core, lock};
+use spec_calculus::Step;
+use spec_data::{LAST_HEIGHT, Name, Seq};
+
+impl State {
+    pub fn advertise_fails(&self, contract: u32, bindings: &Seq<(Name, u32)>) -> u8
+        ensures { result ≡ steps.fails self.now (Step.Advertise contract bindings.now) }
+    {
+        let Some(checked) = contract_at(&self.contracts, contract) else {
+            return 1;
+        };
+        if is_advertised(&self.advertised, contract) {
+            return 1;
+        }
+        if !binds(&self.deposits, &checked.advert().pre, bindings.as_slice()) {
+            return 2;
+        }
+        if !is_any_honest(checked.parties(), &self.honest) {
+            return 3;
+        }
+        0
+    }
+
+    pub fn commit_fails(
+        &self,
+        contract: u32,
+        party: &Name,
+        lengths: &Seq<(Name, Option<u32>)>,
+    ) -> u8
+        ensures { result ≡ steps.fails self.now (Step.Commit contract party.now lengths.now) }
+    {
+        if !is_advertised(&self.advertised, contract) {
+            return 1;
+        }
+        let Some(checked) = contract_at(&self.contracts, contract) else {
+            return 2;
+        };
+        if !may_commit(checked.parties(), &self.committed, contract, party) {
+            return 2;
+        }
+        if !lists_secrets(party, &checked.advert().pre, lengths.as_slice()) {
+            return 3;
+        }
+        if !is_told(&self.honest, party, lengths.as_slice()) {
+            return 4;
+        }
+        0
+    }
+
+    pub fn auth_init_fails(&self, contract: u32, party: &Name, deposit: &Name) -> u8
+        ensures { result ≡ steps.fails self.now (Step.AuthInit contract party.now deposit.now) }
+    {
+        let Some(checked) = contract_at(&self.contracts, contract) else {
+            return 1;
+        };
+        if !have_committed(&self.committed, contract, checked.parties()) {
+            return 1;
+        }
+        let pre = &checked.advert().pre;
+        let bindings = bindings_of(&self.advertised, contract);
+        allowing_fails(&self.deposits, bindings, pre, party, deposit)
+    }
+
+    pub fn init_fails(&self, contract: u32) -> u8
+        ensures { result ≡ steps.fails self.now (Step.Init contract) }
+    {
+        let Some(checked) = contract_at(&self.contracts, contract) else {
+            return 1;
+        };
+        if !have_committed(&self.committed, contract, checked.parties()) {
+            return 1;
+        }
+        let pre = &checked.advert().pre;
+        if !are_all_there(&self.deposits, bindings_of(&self.advertised, contract), pre) {
+            return 2;
+        }
+        if !are_init_authorised(&self.init_authorised, contract, pre) {
+            return 3;
+        }
+        0
+    }
+
+    pub fn reveal_fails(&self, contract: u32, party: &Name, secret: &Name) -> u8
+        ensures { result ≡ steps.fails self.now (Step.Reveal contract party.now secret.now) }
+    {
+        let Some(length) = length_at(&self.committed, contract, party, secret) else {
+            return 1;
+        };
+        if length.is_none() {
+            return 2;
+        }
+        if is_revealed(&self.revealed, contract, party, secret) {
+            return 3;
+        }
+        0
+    }
+
+    pub fn auth_branch_fails(&self, party: &Name, output: u32, branch: u32) -> u8
+        ensures { result ≡ steps.fails self.now (Step.AuthBranch party.now output branch) }
+    {
+        let Some(active) = self.active.get(output) else {
+            return 1;
+        };
+        let Some(checked) = contract_at(&self.contracts, active.contract) else {
+            return 2;
+        };
+        let Some(taken) = branch_in(checked, &active.position, branch) else {
+            return 2;
+        };
+        if !asks(taken, party) {
+            return 3;
+        }
+        0
+    }
+
+    pub fn put_reveal_fails(&self, output: u32, branch: u32) -> u8
+        requires { IsReached self.now }
+        ensures { result ≡ steps.fails self.now (Step.PutReveal output branch) }
+    {
+        let Some(active) = self.active.get(output) else {
+            return 1;
+        };
+        let Some(checked) = contract_at(&self.contracts, active.contract) else {
+            return 2;
+        };
+        let Some(taken) = branch_in(checked, &active.position, branch) else {
+            return 2;
+        };
+        let pre = &checked.advert().pre;
+        let core = core(taken);
+        if !is_put(core) {
+            return 2;
+        }
+        if self.time < lock(taken) {
+            return 3;
+        }
+        if !have_branch_authorised(&self.branch_authorised, output, branch, taken) {
+            return 4;
+        }
+        if !are_there(
+            &self.deposits,
+            bindings_of(&self.advertised, active.contract),
+            puts(core),
+        ) {
+            return 5;
+        }
+        if !are_revealed(&self.revealed, active.contract, pre, reveals(core)) {
+            return 6;
+        }
+        if !is_true(&self.committed, active.contract, pre, core) {
+            return 7;
+        }
+        0
+    }
+
+    pub fn withdraw_fails(&self, output: u32, branch: u32) -> u8
+        ensures { result ≡ steps.fails self.now (Step.Withdraw output branch) }
+    {
+        let Some(active) = self.active.get(output) else {
+            return 1;
+        };
+        let Some(checked) = contract_at(&self.contracts, active.contract) else {
+            return 2;
+        };
+        let Some(taken) = branch_in(checked, &active.position, branch) else {
+            return 2;
+        };
+        if !is_withdraw(core(taken)) {
+            return 2;
+        }
+        if self.time < lock(taken) {
+            return 3;
+        }
+        if !have_branch_authorised(&self.branch_authorised, output, branch, taken) {
+            return 4;
+        }
+        0
+    }
+
+    pub fn split_fails(&self, output: u32, branch: u32) -> u8
+        ensures { result ≡ steps.fails self.now (Step.Split output branch) }
+    {
+        let Some(active) = self.active.get(output) else {
+            return 1;
+        };
+        let Some(checked) = contract_at(&self.contracts, active.contract) else {
+            return 2;
+        };
+        let Some(taken) = branch_in(checked, &active.position, branch) else {
+            return 2;
+        };
+        if !is_split(core(taken)) {
+            return 2;
+        }
+        if self.time < lock(taken) {
+            return 3;
+        }
+        if !have_branch_authorised(&self.branch_authorised, output, branch, taken) {
+            return 4;
+        }
+        0
+    }
+}
+
+/// The first premise of a delay that fails, or 0.
+pub fn delay_fails(time: u32, blocks: u32) -> u8
+    ensures { result ≡ first_false 1 (steps.delay_premises time blocks) }
+{
+    if blocks == 0 {
+        return 1;
+    }
+    if time as u64 + blocks as u64 > LAST_HEIGHT as u64 {
+        return 2;
+    }
+    0
+}

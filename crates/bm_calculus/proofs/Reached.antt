@@ -75,7 +75,8 @@ reached_opening g parties honest deposits contracts c l q =
 pub deposits_within : (g : Configuration) → IsWithinAllMoney g → total_value g.deposits ≤ max_money
 deposits_within g w = let t = w.total in omega (arith, t)
 
-pub joined_within : (g : Configuration) (output : ℕ) (a : ActiveContract) (ns : List ℕ) → IsWithinAllMoney g → Some a ≡ active_at g.active output
+pub joined_within : (g : Configuration) (output : ℕ) (a : ActiveContract) (ns : List ℕ) → IsWithinAllMoney g
+    → Some a ≡ active_at g.active output
     → a.balance + total_value (gone g.deposits ns) ≤ max_money
 joined_within g output a ns w e =
     subst (λ o. balance_of o + total_value (gone g.deposits ns) ≤ max_money) (sym e) (w.joined output ns)

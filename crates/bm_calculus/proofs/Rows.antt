@@ -13,7 +13,8 @@ use Rattle.spec_calculus.specs.Branches.{others, parts_made}
 use Rattle.spec_calculus.specs.Steps.{owned}
 use Rattle.theory_calculus.specs.InOrder.{are_ascending}
 use Rattle.theory_calculus.specs.Numbered.{IsNumbered, deposit_numbers}
-use Rattle.theory_calculus.proofs.Numbered.{numbers_from, grown_ascends, add_contracts, fewer_contracts, parts_numbers, row_from, numbered_after, opening_numbered}
+use Rattle.theory_calculus.proofs.Numbered.{numbers_from, grown_ascends, add_contracts, fewer_contracts, parts_numbers, row_from}
+use Rattle.theory_calculus.proofs.Numbered.{numbered_after, opening_numbered}
 
 pub push_ascends : {X : Type 0} (name : X → ℕ) (xs : List X) (x : X) → are_ascending (map name xs) ≡ true
     → list_all (λ n. nat_lt n (name x)) (map name xs) ≡ true → are_ascending (map name (xs ++ x ∷ [])) ≡ true

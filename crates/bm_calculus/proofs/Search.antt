@@ -1,5 +1,6 @@
 -- What a binary search finds in a list by ascending numbers: what a walk over the whole list finds.
-use Rattle.std.proofs.Common.{◌≡◌, ℕ, zero, suc, ◌<◌, ◌≤◌, ◌≢◌, List, [], ◌∷◌, length, map, get_or, true, false, Some, None, Option, Result, Ok, Err, IfOk, IfErr, slice_get, refl, sym, ap, arith, inl, inr}
+use Rattle.std.proofs.Common.{◌≡◌, ℕ, zero, suc, ◌<◌, ◌≤◌, ◌≢◌, List, [], ◌∷◌, length, map, get_or, true, false, Some, None, Option, Result}
+use Rattle.std.proofs.Common.{Ok, Err, IfOk, IfErr, slice_get, refl, sym, ap, arith, inl, inr}
 use Rattle.std.specs.Prelude.{◌==◌, nat_lt, find}
 use Rattle.std.specs.List.{list_all}
 use Rattle.std.specs.List.Sorted.{IsSearchInRange, IsBinarySearchResult, IsNonDecreasingBy}
@@ -10,7 +11,8 @@ use Rattle.std.proofs.lemmas.Cmp.{ranked}
 use Rattle.theory_calculus.specs.InOrder.{are_ascending}
 
 module _ {X : Type 0} (name : X → ℕ) where
-  all_at : (n : ℕ) (xs : List X) (j : ℕ) (d : X) → list_all (λ m. nat_lt n m) (map name xs) ≡ true → j < length xs → n < name (get_or xs j d)
+  all_at : (n : ℕ) (xs : List X) (j : ℕ) (d : X) → list_all (λ m. nat_lt n m) (map name xs) ≡ true → j < length xs
+      → n < name (get_or xs j d)
   all_at n [] j d h l = absurd (omega (arith, l))
   all_at n (x ∷ xs) zero d h l =
       let p = and_parts (nat_lt n (name x)) (list_all (λ m. nat_lt n m) (map name xs)) h in grind (arith, nat_tests, p.0)
@@ -49,7 +51,8 @@ module _ {X : Type 0} (name : X → ℕ) where
       rw here (find_present n xs i d p.1 (omega (arith, l)) e)
 
   -- the comparisons with a number rise along the list, as a binary search asks
-  comparisons_rise : (n : ℕ) (xs : List X) → are_ascending (map name xs) ≡ true → IsNonDecreasingBy (λ x. ordering_index (nat_cmp (name x) n)) xs
+  comparisons_rise : (n : ℕ) (xs : List X) → are_ascending (map name xs) ≡ true
+      → IsNonDecreasingBy (λ x. ordering_index (nat_cmp (name x) n)) xs
   comparisons_rise n xs h i j d le in_range =
       let rise : name (get_or xs i d) ≤ name (get_or xs j d) =
       grind (arith, ascends_at xs i j d h, λ (same : i ≡ j). ap (λ k. name (get_or xs k d)) same) in

@@ -1,4 +1,4 @@
--- What the calls of this crate answer; of this project's profile of BitML.
+-- What the calls of this crate answer.
 use Rattle.std.specs.Borrow.{Bor}
 use Rattle.std.specs.Prelude.{Option, Some, None, ◌≡◌, ℕ, ◌<◌, ◌==◌, Bool, List, [], ◌∷◌, if◌then◌else◌}
 use Rattle.spec_calculus.specs.declared.step.Owner.{Owner}

@@ -1,4 +1,4 @@
--- What is known of each configuration: legal steps have led to it from an opening; of this project's profile of BitML.
+-- What is known of each configuration: legal steps have led to it from an opening.
 use Rattle.std.specs.Prelude.{ℕ, ◌≤◌, List}
 use Rattle.std.specs.List.{AllByRecursion}
 use Rattle.spec_data.specs.Ranges.{max_money}

@@ -277,7 +277,9 @@ pub fn allowing_fails(
     party: &Name,
     deposit: &Name,
 ) -> u8
-    ensures { result ≡ first_false 2 (spec.has_persistent pre.now party.now deposit.now ∷ spec.is_there deposits.now (look_up deposit.now bindings.now) ∷ []) }
+    ensures { result ≡
+        first_false 2 (spec.has_persistent pre.now party.now deposit.now
+        ∷ spec.is_there deposits.now (look_up deposit.now bindings.now) ∷ []) }
 {
     if !has_persistent(pre, party, deposit) {
         return 2;

@@ -142,7 +142,9 @@ impl Config {
 
     /// The length that the party has committed for its secret, where one is known, and whether the secret is revealed.
     pub fn secret(&self, contract: u32, party: &Name, name: &Name) -> Option<(Option<u32>, bool)>
-        ensures { result ≡ with_revealed (branches.is_revealed self.now.revealed contract party.now name.now) (branches.length_at self.now.committed contract party.now name.now) }
+        ensures { result ≡
+            with_revealed (branches.is_revealed self.now.revealed contract party.now name.now)
+            (branches.length_at self.now.committed contract party.now name.now) }
     {
         let length = length_at(&self.state.committed, contract, party, name)?;
         let revealed = is_revealed(&self.state.revealed, contract, party, name);

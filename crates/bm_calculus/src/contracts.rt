@@ -1,6 +1,6 @@
 //! Active contracts, which are found by number.
 
-ghost use Rattle.std.specs.Prelude.{◌≡◌, ◌<◌, ◌++◌, ◌∷◌, [], nat_lt, map, true, option_map, slice_get, IfOk, IfErr, OnOk, OnErr, None};
+ghost use Rattle.std.specs.Prelude.{◌≡◌, ◌++◌, ◌∷◌, [], nat_lt, map, true, option_map, slice_get, IfOk, IfErr, OnOk, OnErr, None};
 ghost use Rattle.std.specs.List.{list_all};
 ghost use Rattle.spec_calculus.specs.Branches as spec;
 ghost use Rattle.theory_calculus.specs.InOrder.{are_ascending};

@@ -1,6 +1,7 @@
 //! Live deposits, which are found by number.
 
-ghost use Rattle.std.specs.Prelude.{◌≡◌, ◌^◌, ◌<◌, ◌≤◌, ◌++◌, ◌∷◌, [], nat_lt, map, true, option_map, slice_get, IfOk, IfErr, OnOk, OnErr, None};
+ghost use Rattle.std.specs.Prelude.{◌≡◌, ◌≤◌, ◌++◌, ◌∷◌, [], nat_lt, map, true, option_map, slice_get};
+ghost use Rattle.std.specs.Prelude.{IfOk, IfErr, OnOk, OnErr, None};
 ghost use Rattle.std.specs.List.{list_all};
 ghost use Rattle.spec_data.specs.Lists as lists;
 ghost use Rattle.spec_data.specs.Ranges.{max_money};
@@ -110,7 +111,7 @@ impl Deposits {
         value_of(&self.items, numbers)
     }
 
-    /// The deposits that aren't among these, with room for others.
+    /// The deposits that aren't among these.
     pub fn kept(&self, alloc: Global, numbers: &[u32]) -> Result<Vec<Deposit>, OutOfMemory>
         ensures { IfOk result (λ v. v.items ≡ spec.kept self.now numbers.now) }
     {

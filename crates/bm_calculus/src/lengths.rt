@@ -95,7 +95,9 @@ fn holds(pred: &Pred, lengths: &Lengths<'_>) -> bool
 /// Whether the predicate of a core is true of the lengths of the secrets that it reveals.
 pub fn is_true(committed: &[Committed], contract: u32, pre: &[Pre], core: &Guarded) -> bool
     requires bounded { is_bounded (test_of (guarded core.now)) ≡ true }
-    ensures { result ≡ spec.holds (secret_lengths committed.now contract pre.now (reveals_of (guarded core.now))) (test_of (guarded core.now)) }
+    ensures { result ≡
+        spec.holds (secret_lengths committed.now contract pre.now (reveals_of (guarded core.now)))
+        (test_of (guarded core.now)) }
 {
     match core {
         Guarded::PutReveal { reveals, test, .. } => {

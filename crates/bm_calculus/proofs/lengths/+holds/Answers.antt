@@ -9,5 +9,7 @@ use Rattle.bm_calculus.proofs.lengths.+holds.Goals as goal
 pub holds-second-requires : goal.holds-second-requires
 holds-second-requires t c =
     let seen : test c.args.pred.now ≡ both (test c.in-And.a.value) (test c.in-And.b.value) = search (rules, the_lemmas, c.in-And.is) in
-    let bounded = rw seen at c.requires.bounded in
-    (search (rules, the_lemmas, c.in-And.is, c.deref-in-And.ensures), rw c.deref-in-And.ensures (second_true (is_bounded (test c.in-And.a.value)) (is_bounded (test c.in-And.b.value)) bounded))
+    let bounded = rw seen at c.requires.bounded in (
+      search (rules, the_lemmas, c.in-And.is, c.deref-in-And.ensures),
+      rw c.deref-in-And.ensures (second_true (is_bounded (test c.in-And.a.value)) (is_bounded (test c.in-And.b.value)) bounded),
+    )

@@ -11,6 +11,7 @@ use Rattle.spec_calculus.specs.Steps.{fails}
 pub allowing : (g : Configuration) (contract : ℕ) (a : Advert) (party deposit : List ℕ) (n : ℕ)
     → Some a ≡ contract_at g.contracts contract
     → have_committed g.committed contract (participants a) ≡ true
-    → n ≡ first_false 2 (has_persistent a.pre party deposit ∷ is_there g.deposits (look_up deposit (bindings_of g.advertised contract)) ∷ [])
+    → n ≡ first_false 2 (has_persistent a.pre party deposit
+    ∷ is_there g.deposits (look_up deposit (bindings_of g.advertised contract)) ∷ [])
     → n ≡ fails g (AuthInit contract party deposit)
 allowing g contract a party deposit n there all rest = rw (← there, all) rest

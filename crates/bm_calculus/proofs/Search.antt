@@ -60,7 +60,10 @@ module _ {X : Type 0} (name : X → ℕ) where
 
   pub searched : (n : ℕ) (xs : List X) (r : Result ℕ ℕ) → are_ascending (map name xs) ≡ true → IsSearchInRange r (length xs)
       → IsBinarySearchResult (λ x. nat_cmp (name x) n) xs r
-      → record { found : IfOk r (λ i. slice_get xs i ≡ find (λ x. name x == n) xs); absent : IfErr r (λ i. find (λ x. name x == n) xs ≡ None) }
+      → record {
+        found : IfOk r (λ i. slice_get xs i ≡ find (λ x. name x == n) xs);
+        absent : IfErr r (λ i. find (λ x. name x == n) xs ≡ None);
+      }
   searched n [] (Ok at) h in_range equal = absurd (omega (arith, in_range))
   searched n (x ∷ xs) (Ok at) h in_range equal =
       record { found = find_present n (x ∷ xs) at x h in_range (ranked (name (get_or (x ∷ xs) at x)) n _ (sym (equal x))); absent = tt }

@@ -13,6 +13,9 @@ returns c =
     let pre : c.in-Some.checked.now.pre ≡ c.behind-checked.inside.pre.items =
     ap (λ (a : Advert). a.pre) (sym c.advert.ensures.value ∙ sym c.behind-checked.view_is) in
     let rest : c.allowing_fails.result
-    ≡ first_false 2 (has_persistent c.in-Some.checked.now.pre c.args.party.now c.args.deposit.now ∷ is_there c.args.self.now.deposits (look_up c.args.deposit.now (bindings_of c.args.self.now.advertised c.args.contract)) ∷ []) =
-    rw (← c.self.view_is, pre) (rw (c.deref-4.ensures.value, c.bindings_of-bindings.ensures, c.deref-3.ensures.value) at c.allowing_fails.ensures) in
-    allowing c.args.self.now c.args.contract c.in-Some.checked.now c.args.party.now c.args.deposit.now c.allowing_fails.result there all rest
+    ≡ first_false 2 (has_persistent c.in-Some.checked.now.pre c.args.party.now c.args.deposit.now
+    ∷ is_there c.args.self.now.deposits (look_up c.args.deposit.now (bindings_of c.args.self.now.advertised c.args.contract)) ∷ []) =
+    rw (← c.self.view_is, pre)
+    (rw (c.deref-4.ensures.value, c.bindings_of-bindings.ensures, c.deref-3.ensures.value) at c.allowing_fails.ensures) in
+    allowing c.args.self.now c.args.contract c.in-Some.checked.now c.args.party.now c.args.deposit.now
+    c.allowing_fails.result there all rest

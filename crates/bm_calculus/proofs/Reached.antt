@@ -15,7 +15,7 @@ use Rattle.spec_calculus.specs.Moves.{value_out}
 use Rattle.spec_calculus.specs.Branches.{active_at, balance_of, gone, total_value}
 use Rattle.spec_calculus.specs.Steps.{fails, effect, opening, owned, IsLegalRun}
 use Rattle.theory_calculus.specs.Numbered.{IsNumbered}
-use Rattle.theory_calculus.specs.Money.{total_money, IsWithinAllMoney}
+use Rattle.theory_calculus.specs.Money.{IsWithinAllMoney}
 use Rattle.theory_calculus.proofs.Sums.{made_value}
 use Rattle.theory_calculus.proofs.Numbered.{numbers_apart}
 use Rattle.theory_calculus.proofs.Kept.{money_stays_within}

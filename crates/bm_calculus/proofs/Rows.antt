@@ -1,5 +1,5 @@
 -- Lists by ascending numbers stay so.
-use Rattle.std.proofs.Common.{◌≡◌, ℕ, List, [], ◌∷◌, ◌++◌, length, map, true, not, refl, sym, ap, ◌∙◌, subst}
+use Rattle.std.proofs.Common.{◌≡◌, ℕ, List, [], ◌∷◌, ◌++◌, length, map, true, not, sym, ap, subst}
 use Rattle.std.specs.Prelude.{◌==◌, nat_lt}
 use Rattle.std.specs.List.{list_all}
 use Rattle.std.proofs.lemmas.List.{map-append}
@@ -13,7 +13,7 @@ use Rattle.spec_calculus.specs.Branches.{others, parts_made}
 use Rattle.spec_calculus.specs.Steps.{owned}
 use Rattle.theory_calculus.specs.InOrder.{are_ascending}
 use Rattle.theory_calculus.specs.Numbered.{IsNumbered, deposit_numbers}
-use Rattle.theory_calculus.proofs.Numbered.{numbers_from, grown_ascends, add_contracts, fewer_contracts, parts_numbers, row_from}
+use Rattle.theory_calculus.proofs.Numbered.{grown_ascends, add_contracts, fewer_contracts, parts_numbers, row_from}
 use Rattle.theory_calculus.proofs.Numbered.{numbered_after, opening_numbered}
 
 pub push_ascends : {X : Type 0} (name : X → ℕ) (xs : List X) (x : X) → are_ascending (map name xs) ≡ true

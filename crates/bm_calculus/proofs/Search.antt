@@ -1,6 +1,6 @@
 -- What a binary search finds in a list by ascending numbers: what a walk over the whole list finds.
-use Rattle.std.proofs.Common.{◌≡◌, ℕ, zero, suc, ◌<◌, ◌≤◌, ◌≢◌, List, [], ◌∷◌, length, map, get_or, true, false, Some, None, Option, Result}
-use Rattle.std.proofs.Common.{Ok, Err, IfOk, IfErr, slice_get, refl, sym, ap, arith, inl, inr}
+use Rattle.std.proofs.Common.{◌≡◌, ℕ, zero, suc, ◌<◌, ◌≤◌, ◌≢◌, List, [], ◌∷◌, length, map, get_or, true, false, None, Result}
+use Rattle.std.proofs.Common.{Ok, Err, IfOk, IfErr, slice_get, refl, sym, ap, arith}
 use Rattle.std.specs.Prelude.{◌==◌, nat_lt, find}
 use Rattle.std.specs.List.{list_all}
 use Rattle.std.specs.List.Sorted.{IsSearchInRange, IsBinarySearchResult, IsNonDecreasingBy}

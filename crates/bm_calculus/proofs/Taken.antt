@@ -1,5 +1,5 @@
 -- The expressions of a branch that may be taken are bounded: its contract has passed the check, and the branch stands in it.
-use Rattle.std.proofs.Common.{◌≡◌, ℕ, true, List, Some, sym, ap, ◌∙◌, subst}
+use Rattle.std.proofs.Common.{◌≡◌, ℕ, true, Some, sym, ap, ◌∙◌, subst}
 use Rattle.std.specs.Prelude.{is_some}
 use Rattle.std.proofs.lemmas.Bool.{not-false}
 use Rattle.spec_terms.specs.Advert.{Advert}

@@ -10,7 +10,7 @@ use crate::branches::{
     branch_in, has_branch_authorised, left, longer, parts, parts_made, payee, puts,
 };
 use crate::deposits::Deposits;
-use crate::moves::{forget, push_made};
+use crate::moves::{agree, forget, push_made};
 use crate::state::{State, contract_at};
 use bm_syntax::core;
 use spec_calculus::{
@@ -21,6 +21,16 @@ use spec_data::{Name, OutOfMemory, Seq};
 use spec_terms::PathStep;
 
 impl State {
+    /// The party has authorised the move.
+    pub fn agree(&mut self, party: &Name, action: &Move) -> Result<(), OutOfMemory>
+        ensures ok { OnOk result (self.new ≡ steps.effect self.old (Step.AuthMove party.now action.now)) }
+        ensures err { OnErr result (self.new ≡ self.old) }
+    {
+        agree(self.alloc, &mut self.move_authorised, party, action)?;
+        Ok(())
+    }
+
+    /// Deposits go, and one for each output comes.
     #[tactic(auto, using(crate::proofs::Rows::moved_ascends))]
     pub fn make(&mut self, action: &Move) -> Result<(), OutOfMemory>
         requires numbered { IsNumbered self.old }
@@ -37,6 +47,7 @@ impl State {
         Ok(())
     }
 
+    /// The contract is advertised, bound to these deposits.
     pub fn advertise(
         &mut self,
         contract: u32,
@@ -50,6 +61,7 @@ impl State {
         Ok(())
     }
 
+    /// The party has committed to its secrets of the contract.
     pub fn commit(
         &mut self,
         contract: u32,
@@ -68,6 +80,7 @@ impl State {
         Ok(())
     }
 
+    /// The contract may take the deposit.
     pub fn allow(&mut self, contract: u32, deposit: &Name) -> Result<(), OutOfMemory>
         ensures ok { OnOk result (self.new ≡ steps.effect self.old (Step.AuthInit contract [] deposit.now)) }
         ensures err { OnErr result (self.new ≡ self.old) }
@@ -82,6 +95,7 @@ impl State {
         Ok(())
     }
 
+    /// The contract's persistent deposits go, and it begins with what they hold less the fee.
     #[tactic(auto, using(crate::proofs::Reached::deposits_within))]
     pub fn begin(&mut self, contract: u32) -> Result<(), OutOfMemory>
         requires numbered { IsNumbered self.old }
@@ -103,6 +117,7 @@ impl State {
         Ok(())
     }
 
+    /// The secret is revealed.
     pub fn reveal(&mut self, contract: u32, party: &Name, secret: &Name) -> Result<(), OutOfMemory>
         ensures ok { OnOk result (self.new ≡ steps.effect self.old (Step.Reveal contract party.now secret.now)) }
         ensures err { OnErr result (self.new ≡ self.old) }
@@ -115,6 +130,7 @@ impl State {
         Ok(())
     }
 
+    /// The party has authorised the branch.
     pub fn allow_branch(
         &mut self,
         party: &Name,
@@ -135,6 +151,7 @@ impl State {
         Ok(())
     }
 
+    /// Deposits go into the contract, which goes on at the branch with what it holds less the fee.
     #[tactic(auto, using(crate::proofs::Reached::deposits_within, crate::proofs::Reached::joined_within, crate::proofs::Rows::one_ascends))]
     pub fn go_on(&mut self, output: u32, branch: u32) -> Result<(), OutOfMemory>
         requires numbered { IsNumbered self.old }
@@ -172,6 +189,7 @@ impl State {
         Ok(())
     }
 
+    /// The contract goes, and its balance less the fee is a deposit of the party.
     pub fn withdraw(&mut self, output: u32, branch: u32) -> Result<(), OutOfMemory>
         requires numbered { IsNumbered self.old }
         requires within { IsWithinAllMoney self.old }
@@ -199,6 +217,7 @@ impl State {
         Ok(())
     }
 
+    /// The contract goes, and one for each part of the branch comes.
     #[tactic(auto, using(crate::proofs::Parts::values_length, crate::proofs::Rows::parts_ascend))]
     pub fn split(&mut self, output: u32, branch: u32) -> Result<(), OutOfMemory>
         requires numbered { IsNumbered self.old }

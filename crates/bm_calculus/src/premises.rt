@@ -20,6 +20,7 @@ use spec_calculus::Step;
 use spec_data::{LAST_HEIGHT, Name, Seq};
 
 impl State {
+    /// The first premise of advertising a contract that fails, or 0.
     pub fn advertise_fails(&self, contract: u32, bindings: &Seq<(Name, u32)>) -> u8
         ensures { result ≡ steps.fails self.now (Step.Advertise contract bindings.now) }
     {
@@ -38,6 +39,7 @@ impl State {
         0
     }
 
+    /// The first premise of a party's commitment that fails, or 0.
     pub fn commit_fails(
         &self,
         contract: u32,
@@ -64,6 +66,7 @@ impl State {
         0
     }
 
+    /// The first premise of a party's letting the contract take its deposit that fails, or 0.
     pub fn auth_init_fails(&self, contract: u32, party: &Name, deposit: &Name) -> u8
         ensures { result ≡ steps.fails self.now (Step.AuthInit contract party.now deposit.now) }
     {
@@ -78,6 +81,7 @@ impl State {
         allowing_fails(&self.deposits, bindings, pre, party, deposit)
     }
 
+    /// The first premise of a contract's beginning that fails, or 0.
     pub fn init_fails(&self, contract: u32) -> u8
         ensures { result ≡ steps.fails self.now (Step.Init contract) }
     {
@@ -97,6 +101,7 @@ impl State {
         0
     }
 
+    /// The first premise of revealing a secret that fails, or 0.
     pub fn reveal_fails(&self, contract: u32, party: &Name, secret: &Name) -> u8
         ensures { result ≡ steps.fails self.now (Step.Reveal contract party.now secret.now) }
     {
@@ -112,6 +117,7 @@ impl State {
         0
     }
 
+    /// The first premise of a party's agreement to a branch that fails, or 0.
     pub fn auth_branch_fails(&self, party: &Name, output: u32, branch: u32) -> u8
         ensures { result ≡ steps.fails self.now (Step.AuthBranch party.now output branch) }
     {
@@ -130,6 +136,7 @@ impl State {
         0
     }
 
+    /// The first premise of a branch that puts deposits in or reveals secrets that fails, or 0.
     pub fn put_reveal_fails(&self, output: u32, branch: u32) -> u8
         requires { IsReached self.now }
         ensures { result ≡ steps.fails self.now (Step.PutReveal output branch) }
@@ -170,6 +177,7 @@ impl State {
         0
     }
 
+    /// The first premise of a branch that pays a party that fails, or 0.
     pub fn withdraw_fails(&self, output: u32, branch: u32) -> u8
         ensures { result ≡ steps.fails self.now (Step.Withdraw output branch) }
     {
@@ -194,6 +202,7 @@ impl State {
         0
     }
 
+    /// The first premise of a branch that divides the balance that fails, or 0.
     pub fn split_fails(&self, output: u32, branch: u32) -> u8
         ensures { result ≡ steps.fails self.now (Step.Split output branch) }
     {

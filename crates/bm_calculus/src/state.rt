@@ -11,7 +11,7 @@ ghost use Rattle.bm_calculus.specs.Reached.{IsReached};
 
 use crate::contracts::ActiveContracts;
 use crate::deposits::Deposits;
-use crate::moves::{agree, auth_move_fails, move_fails, push_made};
+use crate::moves::{auth_move_fails, move_fails, push_made};
 use crate::premises::delay_fails;
 use bm_wellformed::Checked;
 use spec_calculus::{
@@ -172,9 +172,7 @@ impl State {
     {
         match step {
             Step::Delay { blocks } => self.time += *blocks,
-            Step::AuthMove { party, action } => {
-                agree(self.alloc, &mut self.move_authorised, party, action)?;
-            }
+            Step::AuthMove { party, action } => self.agree(party, action)?,
             Step::Move { action } => self.make(action)?,
             Step::Advertise { contract, bindings } => self.advertise(*contract, bindings)?,
             Step::Commit {

@@ -1,4 +1,4 @@
-use Rattle.std.proofs.Common.{◌≡◌, rules, true}
+use Rattle.std.proofs.Common.{◌≡◌, rules}
 use Rattle.spec_terms.specs.Bound.{is_bounded}
 use Rattle.spec_terms.specs.Term.{both}
 use Rattle.bm_syntax.specs.View.{test}

@@ -3,6 +3,8 @@
 #![tactic(auto)]
 
 #[cfg(test)]
+mod nodes;
+#[cfg(test)]
 mod terms;
 #[cfg(test)]
 mod texts;

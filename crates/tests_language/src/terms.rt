@@ -15,11 +15,11 @@ fn advert(alloc: Global) -> Result<Advert, Fail> {
     Ok(read_advert(alloc, TEXT).map_err(|_| "refused")?)
 }
 
-/// The checked contract.
-fn checked(alloc: Global) -> Option<Checked> {
+/// The checked contract of a text.
+pub(crate) fn checked(alloc: Global, text: &[u8]) -> Option<Checked> {
     // What is read is within the limits of the reader, as the check requires.
     reader_theorem();
-    match read_advert(alloc, TEXT) {
+    match read_advert(alloc, text) {
         Ok(advert) => check(alloc, advert).ok(),
         Err(_) => None,
     }
@@ -37,7 +37,7 @@ fn parts(advert: &Advert) -> Option<(&Guarded, &Pred)> {
 #[test]
 fn terms_are_checked_and_copied(rt: HostRuntime) -> Result<(), Fail> {
     let alloc = rt.alloc();
-    let contract = checked(alloc).ok_or("refused")?;
+    let contract = checked(alloc, TEXT).ok_or("refused")?;
     let advert = advert(alloc)?;
     let (branch, test) = parts(&advert).ok_or("no condition")?;
     let done = [

@@ -9,7 +9,8 @@ use Rattle.std.proofs.Math.Seq.{get_or-append_seam, drop-cons}
 use Rattle.spec_bitcoin.specs.Spelling.{compact, sized, IsBytes}
 use Rattle.spec_bitcoin.specs.Reading.{◌>>=◌, byte_where, chunk, any, not_zero, number_at, wide_at, compact_from, compact_at, string_at}
 use Rattle.spec_data.proofs.ByteLemmas.{IsBytes-append}
-use Rattle.theory_bitcoin.proofs.Exact.{IsBytes-take, Exact, Seq, Nothing, One, Chunk, bind, pure, one, transfer, same_reader, a_chunk}
+use Rattle.theory_bitcoin.proofs.Exact.{IsBytes-take, Exact, One, Chunk, bind, pure, one, transfer, same_reader, a_chunk}
+use Rattle.theory_bitcoin.proofs.Languages.{Seq, Nothing}
 
 -- ---- numbers of a width
 

@@ -214,7 +214,7 @@ single_from b lt t n h (eight _ e) = let q : b ∷ t ≡ 255 ∷ to_le_bytes w64
 tail_is : (b : ℕ) (t u : List ℕ) → b ∷ t ≡ b ∷ u → t ≡ u
 tail_is b t u e = cc
 
-head_is : (a b : ℕ) (t u : List ℕ) → a ∷ t ≡ b ∷ u → a ≡ b
+pub head_is : (a b : ℕ) (t u : List ℕ) → a ∷ t ≡ b ∷ u → a ≡ b
 head_is a b t u e = cc
 
 two_to : (t : List ℕ) (n : ℕ) → Number w16 253 (2 ^ 16) t n → Form n → From 253 t n

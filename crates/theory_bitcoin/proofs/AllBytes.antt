@@ -1,8 +1,9 @@
 -- All of the bytes: a value, or the place where they go wrong.
-use Rattle.std.proofs.Common.{◌≡◌, ℕ, zero, suc, ◌+◌, ◌-◌, ◌<◌, ◌≤◌, List, [], ◌∷◌, ◌++◌, length, take, Result, Ok, Err, refl, sym, ap, subst, ◌∙◌, append_assoc, arith}
+use Rattle.std.proofs.Common.{◌≡◌, ℕ, ◌+◌, ◌-◌, ◌<◌, ◌≤◌, List, [], ◌∷◌, ◌++◌, length, take, Result, Ok, Err, refl, sym, ap, subst, ◌∙◌, append_assoc, arith}
 use Rattle.std.proofs.lemmas.List.{append-nil, length-append, take_at}
 use Rattle.spec_bitcoin.specs.Spelling.{IsBytes}
 use Rattle.theory_bitcoin.proofs.Exact.{Exact, ok_is}
+use Rattle.theory_bitcoin.proofs.Languages.{longer}
 
 -- the bytes spell nothing, and p is the length of their longest prefix that begins a text
 pub record BadAt {A : Type 0} (L : List ℕ → A → Type 0) (bytes : List ℕ) (p : ℕ) : Type 0 where
@@ -12,16 +13,6 @@ pub record BadAt {A : Type 0} (L : List ℕ → A → Type 0) (bytes : List ℕ)
   pub value : A
   pub begins : L (take p bytes ++ more) value
   pub longest : (q : ℕ) → p < q → q ≤ length bytes → (further : List ℕ) (a : A) → L (take q bytes ++ further) a → ⊥
-
--- a longer front goes past the next item
-pub longer : (front rest : List ℕ) (q : ℕ) → length front < q → q ≤ length (front ++ rest) → (c : ℕ) × (after : List ℕ) × (within : List ℕ) × (rest ≡ c ∷ after) × (take q (front ++ rest) ≡ front ++ c ∷ within)
-longer [] [] q lt le = absurd (omega arith)
-longer [] (c ∷ after) zero lt le = absurd (omega arith)
-longer [] (c ∷ after) (suc q) lt le = (c, after, take q after, refl, refl)
-longer (x ∷ front) rest zero lt le = absurd (omega arith)
-longer (x ∷ front) rest (suc q) lt le =
-    let w = longer front rest q (omega arith) (omega arith) in
-    (w.0, w.1, w.2, w.3, ap (λ (l : List ℕ). x ∷ l) w.4)
 
 abbrev w_front : List ℕ → ℕ → List ℕ → List ℕ → List ℕ
 w_front front c within further = front ++ c ∷ (within ++ further)

@@ -6,15 +6,17 @@ use Rattle.std.proofs.lemmas.Bool.{cases_lt, ltb-false, ltb-true, le-ltb}
 use Rattle.spec_bitcoin.specs.Spelling.{IsBytes}
 use Rattle.spec_data.proofs.ByteLemmas.{IsBytes-append}
 use Rattle.spec_bitcoin.specs.Reading.{◌>>=◌, byte_where, choose, chunk, many}
+use Rattle.theory_bitcoin.proofs.Languages.{Taken, Some_text, Seq, Nothing, cuts}
 
 pub IsBytes-back : (a b : List ℕ) → IsBytes (a ++ b) → IsBytes b
 IsBytes-back a b h i = subst (λ (n : ℕ). n < 256) (get_or-append-add a b i 0) (h (length a + i))
 
--- a part was taken from the front
-pub record Taken {A : Type 0} (L : List ℕ → A → Type 0) (bytes : List ℕ) (a : A) (rest : List ℕ) : Type 0 where
-  pub text : List ℕ
-  pub parts : bytes ≡ text ++ rest
-  pub spelled : L text a
+pub bytes_none : IsBytes []
+bytes_none i = omega arith
+
+pub bytes_cons : (b : ℕ) (bytes : List ℕ) → b < 256 → IsBytes bytes → IsBytes (b ∷ bytes)
+bytes_cons b bytes h t zero = h
+bytes_cons b bytes h t (suc i) = t i
 
 -- reading stopped before the rest
 pub record Stopped {A : Type 0} (L : List ℕ → A → Type 0) (bytes : List ℕ) (left : ℕ) : Type 0 where
@@ -27,11 +29,6 @@ pub record Stopped {A : Type 0} (L : List ℕ → A → Type 0) (bytes : List �
   pub begins : L (front ++ more) value
   pub stops : (c : ℕ) (after further : List ℕ) (a : A) → rest ≡ c ∷ after → L (front ++ c ∷ further) a → ⊥
 
-pub record Some_text {A : Type 0} (L : List ℕ → A → Type 0) : Type 0 where
-  pub text : List ℕ
-  pub value : A
-  pub spelled : L text value
-
 pub record Exact {A : Type 0} (L : List ℕ → A → Type 0) (read : List ℕ → Result (A × List ℕ) ℕ) : Type 0 where
   pub some : Some_text L
   pub again : (text rest : List ℕ) (a : A) → L text a → read (text ++ rest) ≡ Ok (a, rest)
@@ -39,27 +36,6 @@ pub record Exact {A : Type 0} (L : List ℕ → A → Type 0) (read : List ℕ �
   pub fails : (bytes : List ℕ) (left : ℕ) → IsBytes bytes → read bytes ≡ Err left → Stopped L bytes left
 
 -- ---- two parts
-
--- a text of the first language, and one of the second behind it
-pub record Seq {A C : Type 0} (F : List ℕ → A → Type 0) (K : A → List ℕ → C → Type 0) (text : List ℕ) (c : C) : Type 0 where
-  pub first : List ℕ
-  pub second : List ℕ
-  pub value : A
-  pub parts : text ≡ first ++ second
-  pub front : F first value
-  pub back : K value second c
-
--- of two ways to cut a list one goes further
-pub cuts : {X : Type 0} (a b c d : List X) → a ++ b ≡ c ++ d → ((m : List X) × (a ≡ c ++ m) × (d ≡ m ++ b)) ⊎ ((m : List X) × (c ≡ a ++ m) × (b ≡ m ++ d))
-cuts a b [] d e = inl (a, refl, sym e)
-cuts [] b (y ∷ c) d e = inr (y ∷ c, refl, e)
-cuts (x ∷ a) b (y ∷ c) d e =
-    let heads : x ≡ y = cc in
-    let tails : a ++ b ≡ c ++ d = cc in
-    elim (cuts a b c d tails) [
-      | inl w ↦ inl (w.0, cc, w.2)
-      | inr w ↦ inr (w.0, cc, w.2)
-    ]
 
 abbrev pub done : {A : Type 0} → A → Result A ℕ
 done x = Ok x
@@ -168,10 +144,6 @@ bind F K f k ef ek = record {
 }
 
 -- ---- a value with no text
-
-pub record Nothing {A : Type 0} (a : A) (text : List ℕ) (b : A) : Type 0 where
-  pub empty : text ≡ []
-  pub same : a ≡ b
 
 pub pure : {A : Type 0} (a : A) → Exact (Nothing a) (λ bytes. Ok (a, bytes))
 pure a = record {

@@ -9,7 +9,8 @@ use Rattle.std.proofs.Math.Seq.{get_or-append_seam, drop-cons}
 use Rattle.spec_bitcoin.specs.Spelling.{compact, sized, IsBytes}
 use Rattle.spec_bitcoin.specs.Reading.{◌>>=◌, byte_where, chunk, any, not_zero, number_at, wide_at, compact_from, compact_at, string_at}
 use Rattle.spec_data.proofs.ByteLemmas.{IsBytes-append}
-use Rattle.theory_bitcoin.proofs.Exact.{IsBytes-take, Exact, Seq, Nothing, One, Chunk, bind, pure, one, transfer, same_reader, a_chunk}
+use Rattle.theory_bitcoin.proofs.Exact.{IsBytes-take, Exact, One, Chunk, bind, pure, one, transfer, same_reader, a_chunk}
+use Rattle.theory_bitcoin.proofs.Languages.{Seq, Nothing}
 
 -- ---- numbers of a width
 
@@ -213,7 +214,7 @@ single_from b lt t n h (eight _ e) = let q : b ∷ t ≡ 255 ∷ to_le_bytes w64
 tail_is : (b : ℕ) (t u : List ℕ) → b ∷ t ≡ b ∷ u → t ≡ u
 tail_is b t u e = cc
 
-head_is : (a b : ℕ) (t u : List ℕ) → a ∷ t ≡ b ∷ u → a ≡ b
+pub head_is : (a b : ℕ) (t u : List ℕ) → a ∷ t ≡ b ∷ u → a ≡ b
 head_is a b t u e = cc
 
 two_to : (t : List ℕ) (n : ℕ) → Number w16 253 (2 ^ 16) t n → Form n → From 253 t n

@@ -11,9 +11,7 @@ use Rattle.spec_terms.specs.declared.path.PathStep.TheVariants.{Branch as To, Pa
 use Rattle.spec_bitcoin.specs.declared.label.Label.{Label}
 use Rattle.spec_bitcoin.specs.declared.label.Label.TheVariants as labels
 use Rattle.spec_bitcoin.specs.Keys.{step_text, label_text, IsStep, IsLabel}
-
-heads : (a b : ℕ) (t u : List ℕ) → a ∷ t ≡ b ∷ u → a ≡ b
-heads a b t u e = cc
+use Rattle.theory_bitcoin.proofs.Formats.{head_is}
 
 tails : (a b : ℕ) (t u : List ℕ) → a ∷ t ≡ b ∷ u → t ≡ u
 tails a b t u e = cc
@@ -43,7 +41,7 @@ cut [] (c ∷ es) (b ∷ x) y h k f g e = let same : b ≡ c = cc in absurd (f (
 cut (c ∷ ds) [] x [] h k f g e = cc
 cut (c ∷ ds) [] x (b ∷ y) h k f g e = let same : c ≡ b = cc in absurd (g (subst (IsInRange 48 57) same h.0))
 cut (c ∷ ds) (d ∷ es) x y h k f g e =
-    let same = heads c d (ds ++ x) (es ++ y) e in
+    let same = head_is c d (ds ++ x) (es ++ y) e in
     let r = cut ds es x y h.1 k.1 f g (tails c d (ds ++ x) (es ++ y) e) in
     ((λ i. same i ∷ r.0 i), r.1)
 
@@ -100,7 +98,7 @@ mark_below (Into k) = omega arith
 
 no_step : (step : PathStep) (x y : List ℕ) → 58 ∷ x ≡ step_text step ++ y → ⊥
 no_step step x y e =
-    let same : 58 ≡ mark step = heads 58 (mark step) x (decimal (number step) ++ y) (e ∙ step_is step y) in
+    let same : 58 ≡ mark step = head_is 58 (mark step) x (decimal (number step) ++ y) (e ∙ step_is step y) in
     omega (arith, same, mark_below step)
 
 -- steps by their mark and number
@@ -120,7 +118,7 @@ one_step : (s t : PathStep) (x y : List ℕ) → IsStep s → IsStep t → Ends 
 one_step s t x y h k f g e =
     let whole : mark s ∷ (decimal (number s) ++ x) ≡ mark t ∷ (decimal (number t) ++ y) = sym (step_is s x) ∙ e ∙ step_is t y in
     let r = two_decimals (number s) (number t) x y (number_below s h) (number_below t k) f g (tails (mark s) (mark t) (decimal (number s) ++ x) (decimal (number t) ++ y) whole) in
-    (same_step s t (heads (mark s) (mark t) (decimal (number s) ++ x) (decimal (number t) ++ y) whole) r.0, r.1)
+    (same_step s t (head_is (mark s) (mark t) (decimal (number s) ++ x) (decimal (number t) ++ y) whole) r.0, r.1)
 
 two_paths : (p q : List PathStep) (x y : List ℕ) → AllByRecursion IsStep p → AllByRecursion IsStep q → steps_before p (58 ∷ x) ≡ steps_before q (58 ∷ y) → (p ≡ q) × (x ≡ y)
 two_paths [] [] x y h k e = (refl, tails 58 58 x y e)
@@ -150,7 +148,7 @@ unfolding label_text
 deposit_is party = refl
 
 kinds_apart : (p x : List ℕ) → 68 ∷ (58 ∷ p) ≡ 66 ∷ (58 ∷ x) → ⊥
-kinds_apart p x e = omega (arith, heads 68 66 (58 ∷ p) (58 ∷ x) e)
+kinds_apart p x e = omega (arith, head_is 68 66 (58 ∷ p) (58 ∷ x) e)
 
 -- what stands behind the two first bytes
 behind : (a : ℕ) (x y : List ℕ) → a ∷ (58 ∷ x) ≡ a ∷ (58 ∷ y) → x ≡ y

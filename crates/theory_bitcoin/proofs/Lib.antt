@@ -3,6 +3,7 @@ pub mod Apart
 pub mod Exact
 pub mod Formats
 pub mod Labels
+pub mod Languages
 pub mod Parts
 pub mod Top
 pub mod Transactions

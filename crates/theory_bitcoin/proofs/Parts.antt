@@ -8,8 +8,9 @@ use Rattle.spec_bitcoin.specs.declared.tx.TxIn.{TxIn}
 use Rattle.spec_bitcoin.specs.declared.tx.TxOut.{TxOut}
 use Rattle.spec_bitcoin.specs.Spelling.{compact, sized, word, long_word, input_bytes, output_bytes, inputs_bytes, outputs_bytes, IsString, IsPlace, IsOutput}
 use Rattle.spec_bitcoin.specs.Reading.{◌>>=◌, chunk, many, any, not_zero, number_at, compact_at, string_at, input_at, inputs_at, output_at, outputs_at, plain_at, Body}
-use Rattle.theory_bitcoin.proofs.Exact.{Exact, Seq, Nothing, Chunk, Many, bind, pure, transfer, a_chunk, several}
+use Rattle.theory_bitcoin.proofs.Exact.{Exact, Chunk, Many, bind, pure, transfer, a_chunk, several}
 use Rattle.theory_bitcoin.proofs.Formats.{Number, number, wide32, wide64, Count, count, Text, a_string, counted_some, not_zero_head, form_of}
+use Rattle.theory_bitcoin.proofs.Languages.{Seq, Nothing}
 
 -- ---- values by their spelling
 

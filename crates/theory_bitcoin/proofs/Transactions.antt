@@ -10,10 +10,11 @@ use Rattle.spec_bitcoin.specs.declared.tx.TxOut.{TxOut}
 use Rattle.spec_bitcoin.specs.declared.tx.Tx.{Tx}
 use Rattle.spec_bitcoin.specs.Spelling.{word, input_bytes, inputs_bytes, witness_bytes, witnesses_bytes, is_filled, is_marked, stripped, marked, IsString, IsInput, IsTransaction, Spells}
 use Rattle.spec_bitcoin.specs.Reading.{◌>>=◌, byte_where, choose, number_at, compact_at, is_zero, is_one, inputs_at, plain_at, witnesses_at, with_witnesses, marked_at, transaction_at, Body}
-use Rattle.theory_bitcoin.proofs.Exact.{Exact, Seq, Nothing, One, Starts, bind, pure, one, either, transfer, ok_err}
+use Rattle.theory_bitcoin.proofs.Exact.{Exact, One, Starts, bind, pure, one, either, transfer, ok_err}
 use Rattle.theory_bitcoin.proofs.Formats.{Number, number, wide32}
 use Rattle.theory_bitcoin.proofs.Parts.{IsBare, AreOutputs, body_bytes, IsBody, Plain, the_body}
 use Rattle.theory_bitcoin.proofs.Witnesses.{IsWitness, Stacks, the_stacks, stacks_to, stacks_from, any_filled, filled_by}
+use Rattle.theory_bitcoin.proofs.Languages.{Seq, Nothing}
 
 -- ---- the marked form
 

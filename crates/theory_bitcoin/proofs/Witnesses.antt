@@ -6,9 +6,10 @@ use Rattle.std.proofs.lemmas.List.Concat.{flat_map-cons}
 use Rattle.std.proofs.lemmas.List.{append-nil}
 use Rattle.spec_bitcoin.specs.Spelling.{compact, sized, witness_bytes, is_filled, IsString}
 use Rattle.spec_bitcoin.specs.Reading.{◌>>=◌, many, any, not_zero, may_be, compact_at, string_at, witness_at, witnesses_at}
-use Rattle.theory_bitcoin.proofs.Exact.{Exact, Seq, Nothing, bind, pure}
+use Rattle.theory_bitcoin.proofs.Exact.{Exact, bind, pure}
 use Rattle.theory_bitcoin.proofs.Formats.{Count, count, counted_some, not_zero_head, form_of}
 use Rattle.theory_bitcoin.proofs.Parts.{Is, Are, the_many, the_string}
+use Rattle.theory_bitcoin.proofs.Languages.{Seq, Nothing}
 
 -- what has a spelling as a witness
 pub record IsWitness (items : List (List ℕ)) : Type 0 where

@@ -3,11 +3,10 @@ use Rattle.std.proofs.Common.{◌≡◌, ℕ, ◌+◌, ◌-◌, ◌<◌, ◌≤�
 use Rattle.std.specs.Prelude.{slice_get, is_some, if◌then◌else◌, nat_le}
 use Rattle.std.specs.List.{list_all}
 use Rattle.std.specs.Option.{option_and_then}
-use Rattle.std.proofs.lemmas.Bool.Decides.{nat_tests}
 use Rattle.std.proofs.lemmas.List.Sums.{sum_by-cons}
 use Rattle.spec_data.specs.Lists.{are_different}
 use Rattle.spec_terms.specs.Term as term
-use Rattle.spec_terms.specs.Term.{Contract, branches, Pred, always, auth, after, put_reveal, withdraw, split, Parts, no_part, part, parts_list}
+use Rattle.spec_terms.specs.Term.{branches, always, auth, after, put_reveal, withdraw, split, Parts, no_part, part, parts_list}
 use Rattle.spec_terms.specs.Core.{core, asks, lock, is_asked, puts_of, reveals_of, test_of}
 use Rattle.spec_terms.specs.Faults.{sum_of_parts}
 use Rattle.spec_terms.specs.Value.{holds}
@@ -33,6 +32,7 @@ use Rattle.spec_run.specs.Steps.{core_step}
 use Rattle.spec_run.specs.Statements.{IsKept}
 use Rattle.theory_calculus.proofs.Names.{all_among}
 use Rattle.theory_calculus.proofs.Members.{Is_in, no_false}
+use Rattle.theory_script.proofs.Scripts.Predicates.{within_of_test}
 use Rattle.theory_world.proofs.Ledger.Outputs.{active-at}
 use Rattle.theory_world.proofs.Later.{compiled_is}
 use Rattle.theory_world.proofs.Contracts.Standing.{term_branches}
@@ -42,9 +42,6 @@ use Rattle.theory_offers.proofs.Basis.Offered.{KeptOffers}
 use Rattle.theory_offers.proofs.Starts.{one_total}
 use Rattle.theory_offers.proofs.Takings.{MayTake}
 use Rattle.theory_offers.proofs.TakingLeads.{takes_kept}
-
-le_from : (m n : ℕ) → nat_le m n ≡ true → m ≤ n
-le_from m n h = grind (arith, nat_tests, h)
 
 -- the parts of a split are worth their sum
 parts_total : (hash : List ℕ → List ℕ) (st : Instance) (path : List PathStep) (k : ℕ) (ps : Parts) → bitcoin.total_of (part_outputs hash st path k ps) ≡ sum_of_parts ps
@@ -106,7 +103,7 @@ module _ (s : Setup) (setup : IsSetup s) (g : Configuration) (w : World) (agree 
     pub permitted : (b : term.Guarded) → branch_at g n i ≡ Some b → nat_le (lock b) g.time ≡ true → list_all (λ p. has_branch_authorised g.branch_authorised n i p) (asks b) ≡ true → Permitted b
     permitted b e l h = record {
       is_branch = sym branch_seen ∙ e;
-      reached = subst (λ t. lock b ≤ t) agree.time (le_from (lock b) g.time l);
+      reached = subst (λ t. lock b ≤ t) agree.time (within_of_test (lock b) g.time l);
       agreed = λ p k. all_among (λ x. has_branch_authorised g.branch_authorised n i x) (asks b) p h k;
     }
 

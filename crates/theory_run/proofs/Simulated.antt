@@ -71,8 +71,8 @@ opening_run s es run z = record {
   books = opening_keeps s run.setup run.opens;
 }
 
-abbrev kept_by : Setup → List (List ℕ) → List Record → Configuration → World → Type 0
-kept_by s z before g w = KeptRun s z g w
+abbrev pub kept_run : Setup → List (List ℕ) → List Record → Configuration → World → Type 0
+kept_run s z before g w = KeptRun s z g w
 
 -- ---- all steps in order
 
@@ -108,16 +108,20 @@ ends_agreed : (s : Setup) (ts : List Turn) (before : List Record) (g : Configura
 ends_agreed s [] before g w agree h = agree
 ends_agreed s (t ∷ ts) before g w agree h = ends_agreed s ts (before ++ record_in t ∷ []) t.configuration t.world h.0.agrees h.1
 
+-- each event is simulated, and keeps what a run keeps
+pub keeps_simulated : (s : Setup) (es : List Event) (run : IsRun s es) → Keeps s (simulated s) (kept_run s (run_posts s es)) (run_posts s es)
+keeps_simulated s es run = record {
+  step = λ before g w e k is calm unguessed begins. (
+    simulates s run.setup (run_posts s es) g w k e is calm unguessed begins,
+    run_after s run.setup (run_posts s es) g w k e is calm unguessed begins,
+  );
+}
+
 pub simulation : SimulationTheorem
 simulation s es run =
     let z = run_posts s es in
-    let keeps : Keeps s (simulated s) (kept_by s z) z = record {
-      step =
-          λ before g w e k is calm unguessed begins.
-          (simulates s run.setup z g w k e is calm unguessed begins, run_after s run.setup z g w k e is calm unguessed begins);
-    } in
     let agree = opening_agrees s run.setup run.opens in
-    let all = holds_throughout s (simulated s) (kept_by s z) es keeps run.events (opening_run s es run z) in
+    let all = holds_throughout s (simulated s) (kept_run s z) es (keeps_simulated s es run) run.events (opening_run s es run z) in
     let steps = joined s (course s es).turns [] (opening_configuration s) (opening_world s) all in
     record {
       opening = agree;

@@ -1,5 +1,5 @@
 -- What the offers rest on stays where a contract is advertised, and where a party commits.
-use Rattle.std.proofs.Common.{◌≡◌, ℕ, List, [], ◌∷◌, ◌++◌, true, false, Some, refl, sym, ap, ◌∙◌, subst, arith, inl, inr, append-nil}
+use Rattle.std.proofs.Common.{◌≡◌, ℕ, List, [], ◌∷◌, ◌++◌, true, false, Some, refl, sym, ap, ◌∙◌, subst, inl, inr, append-nil}
 use Rattle.std.specs.Prelude.{◌==◌, is_some}
 use Rattle.std.specs.Str.{bytes_eq}
 use Rattle.std.proofs.lemmas.Bool.{and_parts, or_left, or_cases, or_from, both_ways, eqb-true, false_from_ne_true}
@@ -16,18 +16,15 @@ use Rattle.spec_run.specs.Compiled.{compiled_instance}
 use Rattle.spec_run.specs.Advertising.{arranged}
 use Rattle.spec_run.specs.Committing.{secrets_at}
 use Rattle.theory_calculus.proofs.Names.{all_among}
+use Rattle.theory_calculus.proofs.Members.{some_there}
 use Rattle.theory_world.proofs.Tests.{any-append}
 use Rattle.theory_world.proofs.Later.{lasts_refl, compiled_is, bindings-more, compiled_stays}
 use Rattle.theory_run.proofs.Steps.CommitSteps.{Constant}
 use Rattle.theory_run.proofs.Facts.Kept.{KeptBook}
+use Rattle.theory_run.proofs.Facts.Promised.{arranged_named}
 use Rattle.theory_offers.proofs.Basis.Offered.{KeptOffers}
 use Rattle.theory_offers.proofs.Basis.Opening.{extends_offers}
 use Rattle.theory_world.proofs.Contracts.Endorsed.{in_joined}
-
--- what is found in an arranged list is one of its names
-arranged_named : (names : List (List ℕ)) (entries : List (List ℕ × List ℕ)) (name : List ℕ) → is_some (look_up name (arranged [] names entries)) ≡ true → is_among name names ≡ true
-arranged_named [] entries name h = cc
-arranged_named (x ∷ names) entries name h = grind (arith, h, arranged_named names entries name)
 
 pub advertise_offers : (s : Setup) (g : Configuration) (w : World) (k : ℕ) (bs : List (List ℕ × ℕ)) (hashed posted : List (List ℕ)) → KeptBook s g w → KeptOffers s g w
     → KeptOffers s (after_steps g (steps.Advertise k bs ∷ [])) (record w { advertised = w.advertised ++ record { contract = k; bindings = bs } ∷ []; hashed = hashed; posted = posted })
@@ -62,7 +59,7 @@ commit_offers s g g' w k party entries hashed posted kept more constant ei eb ad
     (λ p name i h. elim (in_joined w.promises (new ∷ []) p i) [
       | inl x ↦ more.named p name x h
       | inr x ↦ elim x [
-        | inl e ↦ (let q : is_some (look_up name (arranged [] (secrets_at s k party) entries)) ≡ true = subst (λ (y : Promise). is_some (look_up name y.digests) ≡ true) e h in subst (λ (y : Promise). is_among name (secrets_at s y.contract y.party) ≡ true) (sym e) (arranged_named (secrets_at s k party) entries name q))
+        | inl e ↦ (let q : is_some (look_up name (arranged [] (secrets_at s k party) entries)) ≡ true = subst (λ (y : Promise). is_some (look_up name y.digests) ≡ true) e h in subst (λ (y : Promise). is_among name (secrets_at s y.contract y.party) ≡ true) (sym e) (let y = some_there _ q in arranged_named [] (secrets_at s k party) entries name y.0 y.1))
         | inr e ↦ absurd e
       ]
     ])

@@ -80,7 +80,7 @@ module _ (s : Setup) (size : HashesBytes s.hash) (few_contracts : length s.contr
       taken s size g w kept fit check hs clear sub tx fits (scripts_none s size g w kept fit check hs clear sub tx fits spent acc all) (lists s size g w kept fit check hs clear sub tx fits spent acc all)
       fst.number fst.input fst.spends hi.script hd h hf p
 
-  pub first_taking : (h : ContractPosition) → fst.spends.output.holds ≡ Some h → Taking s size few_contracts g w kept fit check hs clear sub tx fits spent acc all h
+  unfoldable pub first_taking : (h : ContractPosition) → fst.spends.output.holds ≡ Some h → Taking s size few_contracts g w kept fit check hs clear sub tx fits spent acc all h
   first_taking h e =
       let hf = kept.held fst.number fst.spends.output h fst.spends.there e in
       let t = first_taken h hf in

@@ -7,7 +7,6 @@ use Rattle.std.proofs.lemmas.Bool.{and_from, ne_eqb}
 use Rattle.std.proofs.lemmas.Bool.Decides.{nat_tests}
 use Rattle.std.proofs.lemmas.List.Sums.{sum_by-cons}
 use Rattle.spec_data.specs.Lists.{is_among}
-use Rattle.spec_terms.specs.Term.{branches}
 use Rattle.spec_bitcoin.specs.declared.tx.TxIn.{TxIn}
 use Rattle.spec_bitcoin.specs.declared.tx.Tx.{Tx}
 use Rattle.spec_bitcoin.specs.Digests.{txid, digest}
@@ -21,7 +20,7 @@ use Rattle.spec_run.specs.Setup.{Setup}
 use Rattle.spec_run.specs.World.{ContractPosition, World, is_deposit, output_at}
 use Rattle.spec_run.specs.Owners.{deposit_value}
 use Rattle.spec_run.specs.Conditions.{HashesBytes}
-use Rattle.spec_run.specs.Ledger.{spend_from, made_from, branch_holds, position_path, items_of, initial_of, first_position, branch_count, first_number, first_witness, Kind, Begins, Takes, Moves, kind_by, kind_of, new_position}
+use Rattle.spec_run.specs.Ledger.{spend_from, made_from, branch_holds, position_path, items_of, initial_of, first_position, Kind, Begins, Takes, Moves, kind_by, kind_of, new_position}
 use Rattle.spec_run.specs.Steps.{kind_steps}
 use Rattle.theory_calculus.proofs.Members.{Is_in}
 use Rattle.theory_world.proofs.Ledger.Preimages.{IsNumbered}
@@ -35,12 +34,7 @@ use Rattle.theory_run.proofs.Facts.Kept.{KeptBook}
 use Rattle.theory_run.proofs.Accepted.Spending.{TransactionsFit, Checked}
 use Rattle.theory_run.proofs.Accepted.WhatItIs.{First, first, first_holds, held_is_first, initial_is}
 use Rattle.theory_run.proofs.Accepted.WhatItMakes.{Taking}
-use Rattle.theory_run.proofs.Accepted.Kinded.{under_script, participant_declared, counted, looked_branch, first_taken}
-use Rattle.theory_world.proofs.Contracts.Standing.{term_branches}
-use Rattle.theory_world.proofs.Contracts.Mentions.{branch_named, payee_mentioned}
-use Rattle.theory_script.proofs.Scripts.Chosen.{opened_is_chosen}
-use Rattle.spec_compiler.specs.Witness.{chosen, chosen_by}
-use Rattle.spec_terms.specs.declared.path.PathStep.TheVariants.{Branch as To}
+use Rattle.theory_run.proofs.Accepted.Kinded.{looked_branch, first_taken, first_taking, kind_taken}
 use Rattle.theory_run.proofs.Steps.Beginnings.{StepFrame, legal_begin, frame_begin, agree_begin}
 use Rattle.theory_run.proofs.Accepted.Tested.{PromisesNamed, among_stack}
 use Rattle.theory_run.proofs.Steps.Decided.{tested_by, branch_taken}
@@ -78,46 +72,18 @@ module _ (s : Setup) (size : HashesBytes s.hash) (few_contracts : length s.contr
 
   -- ---- the branch that is taken
 
-  pub taking_of : (h : ContractPosition) → fst.spends.output.holds ≡ Some h → Taking s size few_contracts g w kept fit check hs clear sub tx fits spent acc all h
-  taking_of h e =
-      let hf = kept.held fst.number fst.spends.output h fst.spends.there e in
-      let k = first_taken s size few_contracts g w kept fit check hs clear sub tx fits spent acc all h hf in
-      record {
-        holds = e;
-        fine = hf;
-        index = k.opened.i;
-        branch = k.opened.b;
-        there = k.opened.is_branch;
-        is = k.is;
-        payee = λ p c.
-            let l = term_branches s.hash hf.instance h.position hf.here hf.choice k.opened.i hf.stands ∙ k.opened.is_branch in
-            participant_declared s g w kept check h.contract hf.instance hf.compiled p (branch_named hf.instance.advert (h.position ++ To k.opened.i ∷ []) k.opened.b p l (payee_mentioned k.opened.b p c));
-      }
-
   -- the first witness opens it
   pub record HasOpened (h : ContractPosition) (t : Taking s size few_contracts g w kept fit check hs clear sub tx fits spent acc all h) : Type 0 where
     pub valid : List ℕ → List ℕ → Bool
     pub opens : Opens s.hash valid t.fine.instance h.position t.fine.choice (reverse (verdict.items_of fst.input.witness))
     pub same : opens.b ≡ t.branch
-    pub number : opens.i ≡ t.index
 
-  pub has_opened : (h : ContractPosition) (e : fst.spends.output.holds ≡ Some h) → HasOpened h (taking_of h e)
-  unfolding taking_of
+  pub has_opened : (h : ContractPosition) (e : fst.spends.output.holds ≡ Some h) → HasOpened h (first_taking s size few_contracts g w kept fit check hs clear sub tx fits spent acc all h e)
+  unfolding first_taking
   has_opened h e =
       let hf = kept.held fst.number fst.spends.output h fst.spends.there e in
       let k = first_taken s size few_contracts g w kept fit check hs clear sub tx fits spent acc all h hf in
-      record { valid = is_valid w.book (digest s.hash tx fst.input hf.here.output.script fst.spends.output.value); opens = k.opened; same = refl; number = refl }
-
-  kind_is : (h : ContractPosition) (e : fst.spends.output.holds ≡ Some h) → initial_of s w tx ≡ None → (t : Taking s size few_contracts g w kept fit check hs clear sub tx fits spent acc all h) → HasOpened h t → kind_of s w tx spent ≡ Takes h fst.number t.index
-  kind_is h e i t k =
-      let f = first_holds s size g w kept fit check hs clear sub tx fits spent acc all ∙ e in
-      let under = under_script fst.input.witness fst.spends.filled in
-      let ch : chosen_by (branch_count s h) fst.input.witness ≡ t.index =
-      ap (λ n. chosen_by n fst.input.witness) (counted s w h fst.spends.output t.fine) ∙ ap (chosen (length (branches t.fine.choice))) under
-      ∙ opened_is_chosen s.hash k.valid t.fine.instance h.position t.fine.choice (reverse (verdict.items_of fst.input.witness)) k.opens ∙ k.number in
-      (λ j. kind_by s tx spent (i j) (f j))
-      ∙ (λ j. Takes h (first_number (fst.spent_is j)) (chosen_by (branch_count s h) (first_witness (fst.inputs_is j))))
-      ∙ ap (Takes h fst.number) ch
+      record { valid = is_valid w.book (digest s.hash tx fst.input hf.here.output.script fst.spends.output.value); opens = k.opened; same = refl }
 
   module _ (c : Configuration) (con : Constant s c) (money : AgreeOnMoney s c w) (advertised : c.advertised ≡ w.advertised) where
     can_move : first_position w spent ≡ None → CanMove s c w money tx spent
@@ -162,9 +128,9 @@ module _ (s : Setup) (size : HashesBytes s.hash) (few_contracts : length s.contr
             agrees = λ next tips outs. agree_begin s g w kept check tx spent acc z c con money advertised committed k is next tips outs;
           }
 
-      lawful_branch : (h : ContractPosition) (e : fst.spends.output.holds ≡ Some h) → (let t = taking_of h e in IsLawful (Takes h fst.number t.index))
+      lawful_branch : (h : ContractPosition) (e : fst.spends.output.holds ≡ Some h) → (let t = first_taking s size few_contracts g w kept fit check hs clear sub tx fits spent acc all h e in IsLawful (Takes h fst.number t.index))
       lawful_branch h e =
-          let t = taking_of h e in
+          let t = first_taking s size few_contracts g w kept fit check hs clear sub tx fits spent acc all h e in
           let o = has_opened h e in
           let up : (u : List ℕ) → is_among u (reverse (verdict.items_of fst.input.witness)) ≡ true → is_among u after_it.posted ≡ true =
           λ u k. posts u (subst (λ xs. is_among u (flat_map (λ (i : TxIn). i.witness) xs) ≡ true) (sym fst.inputs_is) (first_strings (λ (i : TxIn). i.witness) fst.input fst.inputs u (among_stack u fst.input.witness k))) in
@@ -185,7 +151,7 @@ module _ (s : Setup) (size : HashesBytes s.hash) (few_contracts : length s.contr
           by_held i None e = subst IsLawful (sym (λ j. kind_by s tx spent (i j) (e j))) (lawful_move e)
           by_held i (Some h) e =
               let q = sym (first_holds s size g w kept fit check hs clear sub tx fits spent acc all) ∙ e in
-              subst IsLawful (sym (kind_is h q i (taking_of h q) (has_opened h q))) (lawful_branch h q)
+              subst IsLawful (sym (kind_taken s size few_contracts g w kept fit check hs clear sub tx fits spent acc all h q i)) (lawful_branch h q)
 
           by_initial : (o : Option ℕ) → initial_of s w tx ≡ o → IsLawful (kind_of s w tx spent)
           by_initial None i = by_held i (first_position w spent) refl

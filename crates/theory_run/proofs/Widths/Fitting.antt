@@ -1,5 +1,5 @@
 -- The numbers of compiled transactions are within their widths.
-use Rattle.std.proofs.Common.{◌≡◌, ℕ, zero, suc, ◌*◌, ◌<◌, ◌≤◌, List, [], ◌∷◌, length, map, true, Some, refl, sym, ap, ◌∙◌, subst, arith, inl, inr, length-append}
+use Rattle.std.proofs.Common.{◌≡◌, ℕ, ◌*◌, ◌<◌, ◌≤◌, List, [], ◌∷◌, length, map, true, Some, refl, sym, ap, ◌∙◌, subst, arith, inl, inr, length-append}
 use Rattle.std.specs.Prelude.{◌&&◌, nat_le, slice_get}
 use Rattle.std.specs.List.{list_all, AllByRecursion, flat_map}
 use Rattle.std.proofs.lemmas.Bool.{and_parts}
@@ -14,7 +14,7 @@ use Rattle.spec_terms.specs.Faults.{IsWellFormed}
 use Rattle.spec_terms.specs.declared.pre.Pre.{Pre}
 use Rattle.spec_terms.specs.declared.pre.Pre.TheVariants.{Persistent, Volatile, Secret}
 use Rattle.spec_bitcoin.specs.declared.tx.TxOut.{TxOut}
-use Rattle.spec_bitcoin.specs.Spelling.{IsBytes, IsPlace, IsInput, IsOutput, IsTransaction, long_word, sized, compact, output_bytes}
+use Rattle.spec_bitcoin.specs.Spelling.{IsPlace, IsInput, IsOutput, IsTransaction, long_word, sized, compact, output_bytes}
 use Rattle.spec_compiler.specs.Instance.{Instance, position_script}
 use Rattle.spec_compiler.specs.declared.unsigned.Spent.{Spent}
 use Rattle.spec_compiler.specs.Transactions.{input_of, tx_of, pays, deposit, persistent_deposits, root_value, initial_unsigned}
@@ -25,6 +25,7 @@ use Rattle.spec_run.specs.Conditions.{HashesBytes, IsSetup}
 use Rattle.spec_bitcoin.specs.Keys.{pay_to}
 use Rattle.std.proofs.lemmas.List.Concat.{flat_map-cons}
 use Rattle.theory_bitcoin.proofs.Formats.{wide64}
+use Rattle.theory_bitcoin.proofs.Exact.{bytes_cons, bytes_none}
 use Rattle.theory_calculus.proofs.Members.{Is_in, in_some}
 use Rattle.theory_calculus.proofs.Names.{persistent_deposit}
 use Rattle.theory_world.proofs.Ledger.Preimages.{IsNumbered, numbered}
@@ -39,20 +40,13 @@ use Rattle.theory_script.proofs.Balances.{root_little}
 
 -- ---- inputs and outputs
 
-no_bytes : IsBytes []
-no_bytes i = omega arith
-
-more_bytes : (b : ℕ) (bytes : List ℕ) → b < 256 → IsBytes bytes → IsBytes (b ∷ bytes)
-more_bytes b bytes h t zero = h
-more_bytes b bytes h t (suc i) = t i
-
 -- inputs that spend what lies at such places
 pub inputs_fit : (spends : List Spent) → ((x : Spent) → Is_in x spends → IsPlace x.outpoint) → AllByRecursion IsInput (map input_of spends)
 inputs_fit [] f = tt
 inputs_fit (x ∷ spends) f = (
   record {
     prev = f x (inl refl);
-    script_sig = record { bytes = no_bytes; size = omega arith };
+    script_sig = record { bytes = bytes_none; size = omega arith };
     sequence = omega arith;
     items = omega arith;
     witness = tt;
@@ -65,7 +59,7 @@ pub output_fits : (hash : List ℕ → List ℕ) → HashesBytes hash → (scrip
 output_fits hash size script value h = record {
   value = omega (arith, h);
   script = record {
-    bytes = more_bytes 0 (32 ∷ hash script) (omega arith) (more_bytes 32 (hash script) (omega arith) (size.bytes script));
+    bytes = bytes_cons 0 (32 ∷ hash script) (omega arith) (bytes_cons 32 (hash script) (omega arith) (size.bytes script));
     size = let l = size.size script in omega (arith, l);
   };
 }

@@ -20,7 +20,7 @@ use Rattle.theory_world.proofs.Hashed.{NoClash, all_more}
 use Rattle.theory_world.proofs.Book.{signed-append}
 use Rattle.theory_run.proofs.Following.{Keeps, run_posts, holds_throughout}
 use Rattle.theory_run.proofs.Facts.Bookkeeping.{checks}
-use Rattle.theory_run.proofs.Simulated.{KeptRun, run_after, opening_run}
+use Rattle.theory_run.proofs.Simulated.{run_after, opening_run, kept_run}
 use Rattle.theory_run.proofs.Worlds.OwnSigned.{signed_step}
 
 -- an event leaves the messages there, and the pairs under a party's key that it adds are those that the party signs
@@ -33,9 +33,6 @@ pub record SignsOwn (s : Setup) (w : World) (t : Turn) : Type 0 where
 
 abbrev signs_own : Setup → Claim
 signs_own s before g w t = SignsOwn s w t
-
-abbrev kept_run : Setup → List (List ℕ) → List Record → Configuration → World → Type 0
-kept_run s z before g w = KeptRun s z g w
 
 keeps_own : (s : Setup) → IsSetup s → (z : List (List ℕ)) → Keeps s (signs_own s) (kept_run s z) z
 keeps_own s setup z = record {

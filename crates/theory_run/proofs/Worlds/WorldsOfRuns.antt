@@ -6,7 +6,6 @@ use Rattle.std.proofs.lemmas.Bool.{and_from}
 use Rattle.spec_data.specs.Lists.{is_among}
 use Rattle.spec_calculus.specs.Configuration.{Configuration}
 use Rattle.spec_run.specs.declared.event.Event.{Event}
-use Rattle.spec_run.specs.declared.outcome.Record.{Record}
 use Rattle.spec_run.specs.Setup.{Setup}
 use Rattle.spec_run.specs.World.{World}
 use Rattle.spec_run.specs.Conditions.{are_all_among, IsEvent}
@@ -18,8 +17,8 @@ use Rattle.spec_run.specs.Statements.{IsRun, simulated}
 use Rattle.spec_run.proofs.Courses.{last_left}
 use Rattle.theory_run.specs.WorldsOfRuns.{HasMessages, HasCommitments, IsWorldOfRun, WorldsOfRuns, WorldsOfTurns}
 use Rattle.theory_world.proofs.Hashed.{among_head, among_tail}
-use Rattle.theory_run.proofs.Following.{Keeps, run_posts, kept_at_end}
-use Rattle.theory_run.proofs.Simulated.{KeptRun, run_after, simulates, opening_run}
+use Rattle.theory_run.proofs.Following.{run_posts, kept_at_end}
+use Rattle.theory_run.proofs.Simulated.{KeptRun, opening_run, kept_run, keeps_simulated}
 use Rattle.theory_run.proofs.Worlds.AllPassed.{AllPassed, all_passed}
 use Rattle.theory_run.proofs.Worlds.Hashed.{noted-append, hashed_after, posted_after}
 use Rattle.theory_run.proofs.Worlds.Own.{own_signatures}
@@ -32,9 +31,6 @@ every_among : (names known : List (List ℕ)) → ((t : List ℕ) → is_among t
 every_among [] known h = refl
 every_among (x ∷ names) known h = and_from _ _ (h x (among_head x names)) (every_among names known (λ t i. h t (among_tail t x names i)))
 
-abbrev kept_run : Setup → List (List ℕ) → List Record → Configuration → World → Type 0
-kept_run s z before g w = KeptRun s z g w
-
 module _ (s : Setup) (es : List Event) (run : IsRun s es) where
   z : List (List ℕ)
   z = run_posts s es
@@ -42,17 +38,9 @@ module _ (s : Setup) (es : List Event) (run : IsRun s es) where
   abbrev w : World
   w = last_world s es
 
-  keeps : Keeps s (simulated s) (kept_run s (run_posts s es)) (run_posts s es)
-  keeps = record {
-    step = λ before g w e k is calm unguessed begins. (
-      simulates s run.setup (run_posts s es) g w k e is calm unguessed begins,
-      run_after s run.setup (run_posts s es) g w k e is calm unguessed begins,
-    );
-  }
-
   -- what is kept holds of the last world
   kept : KeptRun s (run_posts s es) (last_configuration s es) (last_world s es)
-  kept = (kept_at_end s (simulated s) (kept_run s (run_posts s es)) es keeps run.events (opening_run s es run (run_posts s es))).holds
+  kept = (kept_at_end s (simulated s) (kept_run s (run_posts s es)) es (keeps_simulated s es run) run.events (opening_run s es run (run_posts s es))).holds
 
   -- it is the world that the events left
   left : last_world s es ≡ world_after (opening_world s) (played s es).passed

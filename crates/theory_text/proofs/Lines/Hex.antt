@@ -1,8 +1,9 @@
 -- The bytes that hexadecimal digits spell.
-use Rattle.std.proofs.Common.{◌≡◌, ℕ, zero, suc, ◌+◌, ◌-◌, ◌*◌, ◌<◌, Bool, true, false, List, [], ◌∷◌, length, Option, Some, None, refl, subst, arith}
+use Rattle.std.proofs.Common.{◌≡◌, ℕ, ◌+◌, ◌-◌, ◌*◌, ◌<◌, Bool, true, false, List, [], ◌∷◌, length, Option, Some, None, refl, subst, arith}
 use Rattle.std.specs.Prelude.{◌&&◌, if◌then◌else◌, nat_le}
 use Rattle.std.proofs.lemmas.Bool.Decides.{nat_tests}
 use Rattle.spec_bitcoin.specs.Spelling.{IsBytes}
+use Rattle.theory_bitcoin.proofs.Exact.{bytes_cons, bytes_none}
 use Rattle.spec_data.specs.Digits.{is_digit, hex_digit_value, hex_pair, onto, hex_bytes, read_hex}
 use Rattle.theory_text.proofs.Options.{some, some_is, none_some}
 
@@ -29,13 +30,6 @@ pair_small : (a b : Option ℕ) (v : ℕ) → hex_pair a b ≡ Some v → ((n : 
 pair_small (Some high) (Some low) v h f g = omega (arith, some_is (high * 16 + low) v h, f high refl, g low refl)
 pair_small (Some high) None v h f g = absurd (none_some v h)
 pair_small None b v h f g = absurd (none_some v h)
-
-bytes_cons : (b : ℕ) (bytes : List ℕ) → b < 256 → IsBytes bytes → IsBytes (b ∷ bytes)
-bytes_cons b bytes h t zero = h
-bytes_cons b bytes h t (suc i) = t i
-
-bytes_none : IsBytes []
-bytes_none i = omega arith
 
 -- so many bytes of so many digits
 pub record IsHex (digits said : List ℕ) : Type 0 where

@@ -14,7 +14,8 @@ use Rattle.spec_text.specs.Grammar.{SpellsChoice, SpellsPre, SpellsFee, Spells, 
 use Rattle.spec_text.specs.Reading.{Reads, ◌>>=◌}
 use Rattle.spec_text.specs.ReadContract.{choice_with, branch_at}
 use Rattle.spec_text.specs.ReadAdvert.{fee_at, advert_of, advert_at}
-use Rattle.theory_text.proofs.Told.Tells.{Tells, Some_text, Exact, Clear, Nothing, pure, Seq, seq, transfer, Behind, behind}
+use Rattle.theory_bitcoin.proofs.Languages.{Some_text, Nothing, Seq}
+use Rattle.theory_text.proofs.Told.Tells.{Tells, Exact, Clear, pure, seq, transfer, Behind, behind}
 use Rattle.theory_text.proofs.Told.FirstToken.{ended_told, narrow}
 use Rattle.theory_text.proofs.Told.Sees.{As, token, clear_as, that, the_symbol, numbered, the_number}
 use Rattle.theory_text.proofs.Told.Clears.{Clear_to, clear_to, clear_of, clear_pure, clear_seq, clear_from, clear_behind, clear_first, clear_zero}

@@ -9,7 +9,8 @@ use Rattle.spec_text.specs.declared.lexeme.Lexeme.{Lexeme}
 use Rattle.spec_text.specs.declared.lexeme.Lexeme.TheVariants.{Keyword as keyword, Symbol as symbol, Name as name, Number as number}
 use Rattle.spec_text.specs.Grammar.{SpellsHeading, SpellsBranch, SpellsChoice}
 use Rattle.spec_text.specs.ReadContract.{Heading}
-use Rattle.theory_text.proofs.Told.Tells.{Nothing, Seq, Behind}
+use Rattle.theory_bitcoin.proofs.Languages.{Nothing, Seq}
+use Rattle.theory_text.proofs.Told.Tells.{Behind}
 use Rattle.theory_text.proofs.Told.Sees.{As, that, named, numbered}
 use Rattle.theory_text.proofs.Told.Formulas.{tail_is}
 use Rattle.theory_text.proofs.Told.Headings.{headed, HeadedBy, Puts, Reveals, put_to, put_from, reveal_to, reveal_from}

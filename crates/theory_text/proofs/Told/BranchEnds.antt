@@ -10,7 +10,8 @@ use Rattle.spec_text.specs.declared.lexeme.Lexeme.TheVariants.{Keyword as keywor
 use Rattle.spec_text.specs.Grammar.{SpellsBranch, SpellsChoice}
 use Rattle.spec_text.specs.Reading.{taken, above}
 use Rattle.spec_text.specs.ReadContract.{goes_on, parts_go_on}
-use Rattle.theory_text.proofs.Told.Tells.{Clear, Seq, Behind}
+use Rattle.theory_bitcoin.proofs.Languages.{Seq}
+use Rattle.theory_text.proofs.Told.Tells.{Clear, Behind}
 use Rattle.theory_text.proofs.Told.Sees.{Sees, As, clear_as, marks, is_mark, that, the_symbol, the_name, numbered, the_number}
 use Rattle.theory_text.proofs.Told.Clears.{Clear_to, clear_to, clear_of, clear_less, clear_pure, clear_seq, clear_from, clear_none, clear_behind, clear_first, clear_zero}
 use Rattle.theory_text.proofs.Told.CountedTexts.{clear_after}

@@ -13,7 +13,8 @@ use Rattle.spec_text.specs.declared.lexeme.Lexeme.TheVariants.{Keyword as keywor
 use Rattle.spec_text.specs.Grammar.{SpellsBranch, SpellsChoice, StandsFor}
 use Rattle.spec_text.specs.Reading.{Reads, ◌>>=◌}
 use Rattle.spec_text.specs.ReadContract.{Heading, begins_branch, branch_limit, BranchReader, ChoiceReader, allowed_branch, branches_at, one_branch_at, choice_with, a_value, parts_at, auth_at, after_at, headed_at, put_at, reveal_at, withdraw_at, split_at, branch_at}
-use Rattle.theory_text.proofs.Told.Tells.{Tells, Some_text, Exact, pure, seq, transfer, Behind, behind}
+use Rattle.theory_bitcoin.proofs.Languages.{Some_text}
+use Rattle.theory_text.proofs.Told.Tells.{Tells, Exact, pure, seq, transfer, Behind, behind}
 use Rattle.theory_text.proofs.Told.FirstToken.{Begun, ended, ended_told, wrong_first, exceeded_first, stops_first, narrow}
 use Rattle.theory_text.proofs.Told.Sees.{token, clear_as, the_symbol, the_name, the_number}
 use Rattle.theory_text.proofs.Told.CountedTexts.{counted_some, counted_begun}

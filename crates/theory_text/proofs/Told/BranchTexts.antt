@@ -9,10 +9,11 @@ use Rattle.spec_text.specs.declared.lexeme.Lexeme.TheVariants.{Keyword as keywor
 use Rattle.spec_text.specs.Grammar.{SpellsBranch, SpellsChoice, SpellsMore, SpellsParts, StandsFor}
 use Rattle.spec_text.specs.Reading.{taken, wrong, above, small_number}
 use Rattle.spec_text.specs.ReadContract.{begins_branch, a_value}
+use Rattle.theory_bitcoin.proofs.Languages.{Some_text}
 use Rattle.spec_data.specs.Ranges.{max_money}
 use Rattle.std.specs.Prelude.{nat_le}
 use Rattle.spec_terms.specs.Readable.{count_of, count_under, count_of_parts}
-use Rattle.theory_text.proofs.Told.Tells.{Some_text, Behind}
+use Rattle.theory_text.proofs.Told.Tells.{Behind}
 use Rattle.theory_text.proofs.Told.FirstToken.{Begun}
 use Rattle.theory_text.proofs.Told.CountedTexts.{Counted}
 use Rattle.theory_text.proofs.Told.Formulas.{not_wrong}

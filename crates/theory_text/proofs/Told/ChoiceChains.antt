@@ -7,7 +7,8 @@ use Rattle.spec_text.specs.declared.token.Symbol.TheVariants as mark
 use Rattle.spec_text.specs.declared.lexeme.Lexeme.{Lexeme}
 use Rattle.spec_text.specs.declared.lexeme.Lexeme.TheVariants.{Symbol as symbol, Number as number}
 use Rattle.spec_text.specs.Grammar.{SpellsBranch, SpellsChoice, SpellsMore, SpellsParts, SpellsMoreParts}
-use Rattle.theory_text.proofs.Told.Tells.{Nothing, Seq, Behind}
+use Rattle.theory_bitcoin.proofs.Languages.{Nothing, Seq}
+use Rattle.theory_text.proofs.Told.Tells.{Behind}
 use Rattle.theory_text.proofs.Told.Sees.{As, that, numbered}
 use Rattle.theory_text.proofs.Told.Formulas.{head_is, tail_is}
 use Rattle.theory_text.proofs.Told.BranchTexts.{Branches, BranchText, ChoiceText, BranchesText, PartsText, branch_first}

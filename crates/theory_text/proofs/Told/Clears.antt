@@ -2,7 +2,8 @@
 use Rattle.std.proofs.Common.{◌≡◌, ℕ, suc, ◌+◌, ◌≤◌, List, [], ◌∷◌, ◌++◌, length, sym, ap, subst, ◌∙◌, append_assoc, arith}
 use Rattle.std.proofs.lemmas.List.{length-append}
 use Rattle.spec_text.specs.declared.lexeme.Lexeme.{Lexeme}
-use Rattle.theory_text.proofs.Told.Tells.{Clear, Nothing, Seq, Behind}
+use Rattle.theory_bitcoin.proofs.Languages.{Nothing, Seq}
+use Rattle.theory_text.proofs.Told.Tells.{Clear, Behind}
 
 -- each text of at most this length says where it ends and what it stands for
 pub record Clear_to {A : Type 0} (n : ℕ) (L : List Lexeme → A → Type 0) : Type 0 where

@@ -3,7 +3,8 @@ use Rattle.std.proofs.Common.{◌≡◌, ℕ, suc, ◌+◌, ◌-◌, ◌≤◌, 
 use Rattle.std.proofs.lemmas.List.{length-append}
 use Rattle.spec_text.specs.declared.lexeme.Lexeme.{Lexeme}
 use Rattle.spec_text.specs.Reading.{Seen}
-use Rattle.theory_text.proofs.Told.Tells.{Some_text, Behind, Seq}
+use Rattle.theory_bitcoin.proofs.Languages.{Some_text, Seq}
+use Rattle.theory_text.proofs.Told.Tells.{Behind}
 use Rattle.theory_text.proofs.Told.FirstToken.{Begun}
 use Rattle.theory_text.proofs.Told.Clears.{Clear_to}
 

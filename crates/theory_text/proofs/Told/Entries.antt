@@ -14,7 +14,8 @@ use Rattle.spec_text.specs.declared.lexeme.Lexeme.TheVariants.{Keyword as keywor
 use Rattle.spec_text.specs.Grammar.{entry, more_entries}
 use Rattle.spec_text.specs.Reading.{Reads, ◌>>=◌, taken, above}
 use Rattle.spec_text.specs.ReadAdvert.{EntryKind, persistent, volatile, secret, an_entry_kind, head_at, deposit_of, deposit_at, secret_at, entry_rest_at, Room, room_after, is_full, entry_limit, room_for, entry_at, entries_go_on, entries_at}
-use Rattle.theory_text.proofs.Told.Tells.{Taken, Told, Some_text, Exact, Clear, Nothing, pure, Seq, seq, transfer, before, stopped_in, moved}
+use Rattle.theory_bitcoin.proofs.Languages.{Taken, Some_text, Nothing, Seq}
+use Rattle.theory_text.proofs.Told.Tells.{Told, Exact, Clear, pure, seq, transfer, before, stopped_in, moved}
 use Rattle.theory_text.proofs.Told.FirstToken.{stands_itself}
 use Rattle.theory_text.proofs.Told.Sees.{Sees, As, token, clear_as, marks, is_mark, that, the_symbol, named, the_name, numbered, the_number}
 use Rattle.theory_text.proofs.Told.Clears.{Clear_to, clear_to, clear_of, clear_pure, clear_seq, clear_from, clear_zero}

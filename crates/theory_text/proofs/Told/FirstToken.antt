@@ -7,7 +7,8 @@ use Rattle.spec_text.specs.declared.lexeme.Lexeme.{Lexeme}
 use Rattle.spec_text.specs.declared.lexeme.Lexeme.TheVariants.{Keyword as keyword, Symbol as symbol, Name as name, Number as number, LongName as long_name, HugeNumber as huge_number}
 use Rattle.spec_text.specs.Grammar.{StandsFor}
 use Rattle.spec_text.specs.Reading.{Seen, taken, wrong, above, stop_seen, too_many}
-use Rattle.theory_text.proofs.Told.Tells.{Stopped, Told, Tells, Some_text, Behind}
+use Rattle.theory_bitcoin.proofs.Languages.{Some_text}
+use Rattle.theory_text.proofs.Told.Tells.{Stopped, Told, Tells, Behind, carried}
 
 -- every token stands for itself
 pub stands_itself : (c : Lexeme) → StandsFor c c
@@ -111,42 +112,27 @@ stops_first see L b w (c ∷ ts) = stop_at see L b w c ts (see c) refl
 
 -- ---- a smaller language, by the first token
 
-narrow_ends : {A : Type 0} (M L : List Lexeme → A → Type 0) (test : Lexeme → Bool) → (c : Lexeme) (ts : List Lexeme) → ((d : Lexeme) → StandsFor c d → test d ≡ false) → ((d : Lexeme) (t : List Lexeme) (a : A) → test d ≡ false → L (d ∷ t) a → M (d ∷ t) a)
-    → (front rest : List Lexeme) → c ∷ ts ≡ front ++ rest → (e d : Lexeme) (after further : List Lexeme) (a : A) → rest ≡ e ∷ after → StandsFor e d → (M (front ++ d ∷ further) a → ⊥) → L (front ++ d ∷ further) a → ⊥
-narrow_ends M L test c ts fair from [] rest parts e d after further a at stands stops l =
+narrow_from : {A : Type 0} (M L : List Lexeme → A → Type 0) (test : Lexeme → Bool) → (c : Lexeme) (ts : List Lexeme)
+    → ((d : Lexeme) → StandsFor c d → test d ≡ false) → ((d : Lexeme) (t : List Lexeme) (a : A) → test d ≡ false → L (d ∷ t) a → M (d ∷ t) a)
+    → (front rest : List Lexeme) → c ∷ ts ≡ front ++ rest → (e d : Lexeme) (after further : List Lexeme) (a : A) → rest ≡ e ∷ after
+    → StandsFor e d → L (front ++ d ∷ further) a → M (front ++ d ∷ further) a
+narrow_from M L test c ts fair from [] rest parts e d after further a at stands l =
     let same : c ≡ e = let p : c ∷ ts ≡ e ∷ after = parts ∙ at in cc in
-    stops (from d further a (fair d (subst (λ (z : Lexeme). StandsFor z d) (sym same) stands)) l)
-narrow_ends M L test c ts fair from (x ∷ front) rest parts e d after further a at stands stops l =
+    from d further a (fair d (subst (λ (z : Lexeme). StandsFor z d) (sym same) stands)) l
+narrow_from M L test c ts fair from (x ∷ front) rest parts e d after further a at stands l =
     let same : c ≡ x = cc in
     let plain : test x ≡ false = subst (λ (z : Lexeme). test z ≡ false) same (fair c (stands_itself c)) in
-    stops (from x (front ++ d ∷ further) a plain l)
+    from x (front ++ d ∷ further) a plain l
 
-narrow_at : {A : Type 0} (M L : List Lexeme → A → Type 0) (test : Lexeme → Bool) → (c : Lexeme) (ts : List Lexeme) → ((d : Lexeme) → StandsFor c d → test d ≡ false) → ((t : List Lexeme) (a : A) → M t a → L t a) → ((d : Lexeme) (t : List Lexeme) (a : A) → test d ≡ false → L (d ∷ t) a → M (d ∷ t) a)
-    → (r : Result (A × List Lexeme) Stop) → Told M (c ∷ ts) r → Told L (c ∷ ts) r
+narrow_at : {A : Type 0} (M L : List Lexeme → A → Type 0) (test : Lexeme → Bool) → (c : Lexeme) (ts : List Lexeme)
+    → ((d : Lexeme) → StandsFor c d → test d ≡ false) → ((t : List Lexeme) (a : A) → M t a → L t a)
+    → ((d : Lexeme) (t : List Lexeme) (a : A) → test d ≡ false → L (d ∷ t) a → M (d ∷ t) a) → (r : Result (A × List Lexeme) Stop)
+    → Told M (c ∷ ts) r → Told L (c ∷ ts) r
 narrow_at M L test c ts fair to from (Ok x) t = record { text = t.text; parts = t.parts; spelled = to t.text x.0 t.spelled }
-narrow_at M L test c ts fair to from (Err (stops.Syntax left)) s = record {
-  front = s.front;
-  rest = s.rest;
-  parts = s.parts;
-  left_is = s.left_is;
-  next = s.next;
-  more = s.more;
-  value = s.value;
-  begins = to (s.front ++ s.next ∷ s.more) s.value s.begins;
-  ends = λ e d after further a at stands l. narrow_ends M L test c ts fair from s.front s.rest s.parts e d after further a at stands (s.ends e d after further a at stands) l;
-}
-narrow_at M L test c ts fair to from (Err (stops.Limit w left)) s = record {
-  front = s.front;
-  next = s.next;
-  after = s.after;
-  parts = s.parts;
-  left_is = s.left_is;
-  meant = s.meant;
-  stands = s.stands;
-  more = s.more;
-  value = s.value;
-  begins = to (s.front ++ s.meant ∷ s.more) s.value s.begins;
-}
+narrow_at M L test c ts fair to from (Err e) s =
+    carried (λ a. a) M L (c ∷ ts) to
+    (λ front rest parts e d after further a at stands l. (a, narrow_from M L test c ts fair from front rest parts e d after further a at stands l))
+    (Err e) s
 
 -- Where the test fails at all for which the first token stands, the smaller language tells of the larger one.
 pub narrow : {A : Type 0} (M L : List Lexeme → A → Type 0) (test : Lexeme → Bool) → (c : Lexeme) (ts : List Lexeme) → ((d : Lexeme) → StandsFor c d → test d ≡ false) → ((t : List Lexeme) (a : A) → M t a → L t a) → ((d : Lexeme) (t : List Lexeme) (a : A) → test d ≡ false → L (d ∷ t) a → M (d ∷ t) a)

@@ -11,7 +11,8 @@ use Rattle.spec_text.specs.declared.lexeme.Lexeme.TheVariants.{Symbol as symbol,
 use Rattle.spec_text.specs.Grammar.{SpellsFormula, StandsFor}
 use Rattle.spec_text.specs.Reading.{◌>>=◌, Seen, taken, wrong, above, small_number, take_seen}
 use Rattle.spec_text.specs.ReadTest.{begins_formula, begun, a_sign, signed, constant_at, length_at, formula_at}
-use Rattle.theory_text.proofs.Told.Tells.{Tells, Some_text, Exact, Clear, Nothing, pure, Seq, seq, transfer, Behind, behind}
+use Rattle.theory_bitcoin.proofs.Languages.{Some_text, Nothing, Seq}
+use Rattle.theory_text.proofs.Told.Tells.{Tells, Exact, Clear, pure, seq, transfer, Behind, behind}
 use Rattle.theory_text.proofs.Told.FirstToken.{Begun, ended, wrong_first, exceeded_first, stops_first}
 use Rattle.theory_text.proofs.Told.Sees.{Sees, As, token, clear_as, marks, is_mark, that, the_symbol, named, the_name}
 use Rattle.theory_text.proofs.Told.Clears.{Clear_to, clear_to, clear_of, clear_pure, clear_seq, clear_from, clear_none, clear_first, clear_zero}

@@ -11,7 +11,8 @@ use Rattle.spec_text.specs.declared.lexeme.Lexeme.TheVariants.{Keyword as keywor
 use Rattle.spec_text.specs.Grammar.{names, SpellsTest, SpellsCondition, SpellsReveals, SpellsHeading}
 use Rattle.spec_text.specs.Reading.{taken, above}
 use Rattle.spec_text.specs.ReadContract.{ends_put, ends_reveal, Heading, condition_at, reveals_at, put_reveals_at, puts_at}
-use Rattle.theory_text.proofs.Told.Tells.{Exact, Clear, Nothing, pure, Seq, seq}
+use Rattle.theory_bitcoin.proofs.Languages.{Nothing, Seq}
+use Rattle.theory_text.proofs.Told.Tells.{Exact, Clear, pure, seq}
 use Rattle.theory_text.proofs.Told.Sees.{As, token, clear_as, marks, is_mark, that, the_symbol, the_keyword}
 use Rattle.theory_text.proofs.Told.Clears.{Clear_to, clear_to, clear_of, clear_pure, clear_seq}
 use Rattle.theory_text.proofs.Told.Formulas.{head_is, tail_is}

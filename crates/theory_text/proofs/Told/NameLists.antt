@@ -1,5 +1,5 @@
 -- What the reader of names behind commas tells, by the tokens that end the names.
-use Rattle.std.proofs.Common.{◌≡◌, ℕ, true, false, List, [], ◌∷◌, ◌++◌, Option, Some, None, Result, Ok, Err, refl, sym, ap, subst, ◌∙◌}
+use Rattle.std.proofs.Common.{◌≡◌, ℕ, true, false, List, [], ◌∷◌, ◌++◌, Option, Some, None, Result, Ok, refl, sym, ap, subst, ◌∙◌}
 use Rattle.spec_terms.specs.declared.limit.Limit.{Limit}
 use Rattle.spec_text.specs.declared.stop.Stop.{Stop}
 use Rattle.spec_text.specs.declared.stop.Stop.TheVariants as stops
@@ -8,7 +8,8 @@ use Rattle.spec_text.specs.declared.lexeme.Lexeme.{Lexeme}
 use Rattle.spec_text.specs.declared.lexeme.Lexeme.TheVariants.{Symbol as symbol, Name as name, LongName as long_name, HugeNumber as huge_number}
 use Rattle.spec_text.specs.Grammar.{more_names, StandsFor}
 use Rattle.spec_text.specs.Reading.{◌>>=◌, Seen, taken, wrong, above, take_seen, a_name, ending, comma_or, names_from}
-use Rattle.theory_text.proofs.Told.Tells.{Told, Tells, Some_text, Exact, Clear, Behind, behind, moved}
+use Rattle.theory_bitcoin.proofs.Languages.{Some_text}
+use Rattle.theory_text.proofs.Told.Tells.{Tells, Exact, Clear, Behind, behind, moved, carried}
 use Rattle.theory_text.proofs.Told.FirstToken.{Fair, Begun, ended, wrong_first, exceeded_first, stands_itself}
 use Rattle.theory_text.proofs.Told.Sees.{Sees, name_takes}
 use Rattle.theory_text.proofs.Told.Formulas.{head_is, tail_is}
@@ -183,41 +184,14 @@ names_begun tok e = record {
 
 -- ---- the reader
 
--- the values of a language changed
-mapped : {A B : Type 0} (f : A → B) (L : List Lexeme → A → Type 0) (M : List Lexeme → B → Type 0) → ((t : List Lexeme) (a : A) → L t a → M t (f a)) → ((t : List Lexeme) (b : B) → M t b → (a : A) × L t a)
-    → (ts : List Lexeme) (r : Result (A × List Lexeme) Stop) → Told L ts r → Told M ts (r >>= λ x. Ok (f (x.0), x.1))
-mapped f L M to from ts (Ok x) t = record { text = t.text; parts = t.parts; spelled = to t.text x.0 t.spelled }
-mapped f L M to from ts (Err (stops.Syntax left)) s = record {
-  front = s.front;
-  rest = s.rest;
-  parts = s.parts;
-  left_is = s.left_is;
-  next = s.next;
-  more = s.more;
-  value = f s.value;
-  begins = to (s.front ++ s.next ∷ s.more) s.value s.begins;
-  ends = λ c d after further b at stands m. let p = from (s.front ++ d ∷ further) b m in s.ends c d after further p.0 at stands p.1;
-}
-mapped f L M to from ts (Err (stops.Limit w left)) s = record {
-  front = s.front;
-  next = s.next;
-  after = s.after;
-  parts = s.parts;
-  left_is = s.left_is;
-  meant = s.meant;
-  stands = s.stands;
-  more = s.more;
-  value = f s.value;
-  begins = to (s.front ++ s.meant ∷ s.more) s.value s.begins;
-}
-
 name_from : {E : Type 0} (tok : E → Lexeme) (x : List ℕ) (t : List Lexeme) (xs : List (List ℕ)) (e : E) → Listed tok (name x ∷ t) xs e → (a : List (List ℕ) × E) × Later tok t a
 name_from tok x t [] e l = absurd l
 name_from tok x t (y ∷ xs) e l = ((xs, e), tail_is (name x) (name y) t _ l)
 
 name_step : {E : Type 0} (tok : E → Lexeme) (x : List ℕ) (ts : List Lexeme) (r : Result ((List (List ℕ) × E) × List Lexeme) Stop) → Tells (Later tok) ts r → Tells (Names tok) (name x ∷ ts) (r >>= λ z. Ok ((x ∷ z.0.0, z.0.1), z.1))
 name_step {E} tok x ts r h = behind (name x) (Names tok) ts (r >>= λ z. Ok ((x ∷ z.0.0, z.0.1), z.1)) (record {
-  told = mapped (λ (v : List (List ℕ) × E). (x ∷ v.0, v.1)) (Later tok) (Behind (name x) (Names tok)) (λ t v l. ap (λ (u : List Lexeme). name x ∷ u) l) (λ t v l. name_from tok x t v.0 v.1 l) ts r h.told;
+  told = carried (λ (v : List (List ℕ) × E). (x ∷ v.0, v.1)) (Later tok) (Behind (name x) (Names tok)) ts (λ t v l. ap (λ (u : List Lexeme). name x ∷ u) l)
+      (λ front rest parts c d after further v at stands l. name_from tok x (front ++ d ∷ further) v.0 v.1 l) r h.told;
 })
 
 names_at : {E : Type 0} (tok : E → Lexeme) (ends : Lexeme → Seen E) → Ends tok ends → (c : Lexeme) (ts : List Lexeme) → Tells (Later tok) ts (names_from ends false ts) → (s : Seen (List ℕ)) → a_name c ≡ s

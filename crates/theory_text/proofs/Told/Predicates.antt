@@ -11,7 +11,8 @@ use Rattle.spec_text.specs.declared.lexeme.Lexeme.TheVariants.{Keyword as keywor
 use Rattle.spec_text.specs.Grammar.{SpellsFormula, SpellsTest, StandsFor}
 use Rattle.spec_text.specs.Reading.{taken, wrong, above}
 use Rattle.spec_text.specs.ReadTest.{begins_formula, begins_test, a_relation, related, comparison_at, test_at}
-use Rattle.theory_text.proofs.Told.Tells.{Tells, Some_text, Exact, Clear, Nothing, pure, Seq, seq, transfer, Behind, behind}
+use Rattle.theory_bitcoin.proofs.Languages.{Some_text, Nothing, Seq}
+use Rattle.theory_text.proofs.Told.Tells.{Tells, Exact, Clear, pure, seq, transfer, Behind, behind}
 use Rattle.theory_text.proofs.Told.FirstToken.{Begun, ended, stops_first, narrow}
 use Rattle.theory_text.proofs.Told.Sees.{Sees, As, token, clear_as, marks, is_mark, that, the_symbol, the_keyword}
 use Rattle.theory_text.proofs.Told.Clears.{Clear_to, clear_to, clear_of, clear_pure, clear_seq, clear_from, clear_first, clear_zero, clear_behind}

@@ -11,7 +11,8 @@ use Rattle.spec_text.specs.declared.lexeme.Lexeme.{Lexeme}
 use Rattle.spec_text.specs.declared.lexeme.Lexeme.TheVariants.{Keyword as keyword, Symbol as symbol, Name as name, Number as number, LongName as long_name, HugeNumber as huge_number}
 use Rattle.spec_text.specs.Grammar.{StandsFor}
 use Rattle.spec_text.specs.Reading.{Seen, taken, wrong, above, take_seen, token_by, symbol_number, keyword_number, is_symbol, is_keyword, seen_if, a_symbol, a_keyword, a_name, small_number, a_number}
-use Rattle.theory_text.proofs.Told.Tells.{Tells, Some_text, Exact, Clear}
+use Rattle.theory_bitcoin.proofs.Languages.{Some_text}
+use Rattle.theory_text.proofs.Told.Tells.{Tells, Exact, Clear}
 use Rattle.theory_text.proofs.Told.FirstToken.{exceeded_first}
 
 -- a test takes for each value one token

@@ -1,5 +1,5 @@
 -- All tokens of a text: what is found, and where reading stops.
-use Rattle.std.proofs.Common.{◌≡◌, ℕ, zero, suc, ◌+◌, ◌-◌, ◌<◌, ◌≤◌, List, [], ◌∷◌, ◌++◌, length, take, Result, Ok, Err, refl, sym, ap, subst, ◌∙◌, append_assoc, arith}
+use Rattle.std.proofs.Common.{◌≡◌, ℕ, suc, ◌+◌, ◌-◌, ◌<◌, ◌≤◌, List, [], ◌∷◌, ◌++◌, length, take, Result, Ok, Err, refl, sym, ap, subst, ◌∙◌, append_assoc, arith}
 use Rattle.std.proofs.lemmas.List.{append-nil, length-append, take_at}
 use Rattle.spec_terms.specs.Advert.{Advert}
 use Rattle.spec_terms.specs.declared.limit.Limit.{Limit}
@@ -10,20 +10,11 @@ use Rattle.spec_text.specs.Grammar.{Spells, Begins, StandsFor, StandFor}
 use Rattle.spec_text.specs.Reading.{◌>>=◌}
 use Rattle.spec_text.specs.ReadAdvert.{advert_at, if_last, advert_of_all}
 use Rattle.spec_text.specs.Statements.{IsSyntaxAt, IsLimitAt}
-use Rattle.theory_text.proofs.Told.Tells.{Taken, Stopped, Exceeded, Told}
+use Rattle.theory_bitcoin.proofs.Languages.{Taken, longer}
+use Rattle.theory_text.proofs.Told.Tells.{Stopped, Exceeded, Told}
 use Rattle.theory_text.proofs.Told.FirstToken.{stands_itself}
 use Rattle.theory_text.proofs.Told.AdvertReaders.{advert_clear, advert_exact}
 use Rattle.theory_text.proofs.Told.PlainTexts.{Plain, plain_front, plain_advert, stands_front, stand_themselves, stand_and_one}
-
--- a longer front goes past the next token
-longer : (front rest : List Lexeme) (q : ℕ) → length front < q → q ≤ length (front ++ rest) → (c : Lexeme) × (after : List Lexeme) × (within : List Lexeme) × (rest ≡ c ∷ after) × (take q (front ++ rest) ≡ front ++ c ∷ within)
-longer [] [] q lt le = absurd (omega arith)
-longer [] (c ∷ after) zero lt le = absurd (omega arith)
-longer [] (c ∷ after) (suc q) lt le = (c, after, take q after, refl, refl)
-longer (x ∷ front) rest zero lt le = absurd (omega arith)
-longer (x ∷ front) rest (suc q) lt le =
-    let w = longer front rest q (omega arith) (omega arith) in
-    (w.0, w.1, w.2, w.3, ap (λ (l : List Lexeme). x ∷ l) w.4)
 
 -- no advert goes on after this front with the next token
 abbrev Ended : List Lexeme → List Lexeme → Type 0

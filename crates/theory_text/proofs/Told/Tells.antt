@@ -1,19 +1,14 @@
 -- What the answer of a reader tells of a language, and how readers in sequence compose.
-use Rattle.std.proofs.Common.{◌≡◌, ℕ, suc, List, [], ◌∷◌, ◌++◌, length, Result, Ok, Err, refl, sym, ap, subst, ◌∙◌, append_assoc, inl, inr, ◌⊎◌}
+use Rattle.std.proofs.Common.{◌≡◌, ℕ, suc, List, [], ◌∷◌, ◌++◌, length, Result, Ok, Err, refl, sym, ap, subst, ◌∙◌, append_assoc, inl, inr}
 use Rattle.std.proofs.lemmas.List.{append-nil}
 use Rattle.spec_text.specs.declared.stop.Stop.{Stop}
 use Rattle.spec_text.specs.declared.stop.Stop.TheVariants as stops
 use Rattle.spec_text.specs.declared.lexeme.Lexeme.{Lexeme}
 use Rattle.spec_text.specs.Grammar.{StandsFor}
 use Rattle.spec_text.specs.Reading.{◌>>=◌}
+use Rattle.theory_bitcoin.proofs.Languages.{Taken, Some_text, Seq, Nothing, cuts}
 
 -- ---- the laws
-
--- a text was taken from the front
-pub record Taken {A : Type 0} (L : List Lexeme → A → Type 0) (ts : List Lexeme) (a : A) (rest : List Lexeme) : Type 0 where
-  pub text : List Lexeme
-  pub parts : ts ≡ text ++ rest
-  pub spelled : L text a
 
 -- Reading stopped before the rest: what came begins a longer text, and no text goes on with what the next token
 -- stands for.
@@ -50,11 +45,6 @@ Told L ts (Err (stops.Limit w left)) = Exceeded L ts left
 pub record Tells {A : Type 0} (L : List Lexeme → A → Type 0) (ts : List Lexeme) (r : Result (A × List Lexeme) Stop) : Type 0 where
   pub told : Told L ts r
 
-pub record Some_text {A : Type 0} (L : List Lexeme → A → Type 0) : Type 0 where
-  pub text : List Lexeme
-  pub value : A
-  pub spelled : L text value
-
 -- the answers of a reader tell of the language, and this isn't empty
 pub record Exact {A : Type 0} (L : List Lexeme → A → Type 0) (read : List Lexeme → Result (A × List Lexeme) Stop) : Type 0 where
   pub some : Some_text L
@@ -66,26 +56,11 @@ pub record Clear {A : Type 0} (L : List Lexeme → A → Type 0) : Type 0 where
 
 -- ---- tools
 
-cuts : {X : Type 0} (a b c d : List X) → a ++ b ≡ c ++ d → ((m : List X) × (a ≡ c ++ m) × (d ≡ m ++ b)) ⊎ ((m : List X) × (c ≡ a ++ m) × (b ≡ m ++ d))
-cuts a b [] d e = inl (a, refl, sym e)
-cuts [] b (y ∷ c) d e = inr (y ∷ c, refl, e)
-cuts (x ∷ a) b (y ∷ c) d e =
-    let heads : x ≡ y = cc in
-    let tails : a ++ b ≡ c ++ d = cc in
-    elim (cuts a b c d tails) [
-      | inl w ↦ inl (w.0, cc, w.2)
-      | inr w ↦ inr (w.0, cc, w.2)
-    ]
-
 not_empty : {X : Type 0} (m : List X) (c : X) (x : List X) → m ++ c ∷ x ≡ [] → ⊥
 not_empty [] c x e = absurd cc
 not_empty (b ∷ m) c x e = absurd cc
 
 -- ---- a value with no text
-
-pub record Nothing {A : Type 0} (a : A) (text : List Lexeme) (b : A) : Type 0 where
-  pub empty : text ≡ []
-  pub same : a ≡ b
 
 pub pure : {A : Type 0} (a : A) → Exact (Nothing a) (λ ts. Ok (a, ts))
 pure a = record {
@@ -94,14 +69,6 @@ pure a = record {
 }
 
 -- ---- two parts
-
-pub record Seq {A Y : Type 0} (F : List Lexeme → A → Type 0) (K : A → List Lexeme → Y → Type 0) (text : List Lexeme) (v : Y) : Type 0 where
-  pub first : List Lexeme
-  pub second : List Lexeme
-  pub value : A
-  pub parts : text ≡ first ++ second
-  pub front : F first value
-  pub back : K value second v
 
 -- what ends inside of a text is no text
 pub whole : {A : Type 0} (F : List Lexeme → A → Type 0) → Clear F → (front more first m : List Lexeme) (next : Lexeme) (a b : A) → F first a → F (front ++ next ∷ more) b → front ≡ first ++ m → ⊥
@@ -210,21 +177,27 @@ seq {F = F} {K = K} {f = f} {k = k} clear ef ek = record {
 
 -- ---- the same language or reader said otherwise
 
--- the new language has the texts of the old one, and no others that begin as the tokens do
-pub moved : {A : Type 0} (L M : List Lexeme → A → Type 0) (ts : List Lexeme) → ((t : List Lexeme) (a : A) → L t a → M t a) → ((t : List Lexeme) (a : A) → M t a → L t a) → (r : Result (A × List Lexeme) Stop) → Told L ts r → Told M ts r
-moved L M ts to from (Ok x) t = record { text = t.text; parts = t.parts; spelled = to t.text x.0 t.spelled }
-moved L M ts to from (Err (stops.Syntax left)) s = record {
+-- the values of a language changed, where a text of the new one that begins as the tokens do comes from one of the old
+pub carried : {A B : Type 0} (f : A → B) (L : List Lexeme → A → Type 0) (M : List Lexeme → B → Type 0) (ts : List Lexeme)
+    → ((t : List Lexeme) (a : A) → L t a → M t (f a))
+    → ((front rest : List Lexeme) → ts ≡ front ++ rest → (c d : Lexeme) (after further : List Lexeme) (b : B) → rest ≡ c ∷ after → StandsFor c d
+    → M (front ++ d ∷ further) b → (a : A) × L (front ++ d ∷ further) a)
+    → (r : Result (A × List Lexeme) Stop) → Told L ts r → Told M ts (r >>= λ x. Ok (f (x.0), x.1))
+carried f L M ts to from (Ok x) t = record { text = t.text; parts = t.parts; spelled = to t.text x.0 t.spelled }
+carried f L M ts to from (Err (stops.Syntax left)) s = record {
   front = s.front;
   rest = s.rest;
   parts = s.parts;
   left_is = s.left_is;
   next = s.next;
   more = s.more;
-  value = s.value;
+  value = f s.value;
   begins = to (s.front ++ s.next ∷ s.more) s.value s.begins;
-  ends = λ c d after further a at stands m. s.ends c d after further a at stands (from (s.front ++ d ∷ further) a m);
+  ends = λ c d after further b at stands m.
+      let p = from s.front s.rest s.parts c d after further b at stands m in
+      s.ends c d after further p.0 at stands p.1;
 }
-moved L M ts to from (Err (stops.Limit w left)) s = record {
+carried f L M ts to from (Err (stops.Limit w left)) s = record {
   front = s.front;
   next = s.next;
   after = s.after;
@@ -233,9 +206,16 @@ moved L M ts to from (Err (stops.Limit w left)) s = record {
   meant = s.meant;
   stands = s.stands;
   more = s.more;
-  value = s.value;
+  value = f s.value;
   begins = to (s.front ++ s.meant ∷ s.more) s.value s.begins;
 }
+
+-- the new language has the texts of the old one, and no others that begin as the tokens do
+pub moved : {A : Type 0} (L M : List Lexeme → A → Type 0) (ts : List Lexeme) → ((t : List Lexeme) (a : A) → L t a → M t a)
+    → ((t : List Lexeme) (a : A) → M t a → L t a) → (r : Result (A × List Lexeme) Stop) → Told L ts r → Told M ts r
+moved L M ts to from (Ok x) t = record { text = t.text; parts = t.parts; spelled = to t.text x.0 t.spelled }
+moved L M ts to from (Err e) s =
+    carried (λ a. a) L M ts to (λ front rest parts c d after further b at stands m. (b, from (front ++ d ∷ further) b m)) (Err e) s
 
 pub transfer : {A : Type 0} {L : List Lexeme → A → Type 0} {read : List Lexeme → Result (A × List Lexeme) Stop} (M : List Lexeme → A → Type 0) → ((t : List Lexeme) (a : A) → L t a → M t a) → ((t : List Lexeme) (a : A) → M t a → L t a) → Exact L read → Exact M read
 transfer {L = L} {read = read} M to from x = record {

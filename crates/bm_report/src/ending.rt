@@ -61,7 +61,8 @@ fn put_place(
     number: u32,
     contract: u32,
 ) -> Result<(), OutOfMemory>
-    ensures { OnOk result (out.new.items ≡ out.old.items ++ (codes "contract " ++ (output_text number ++ (codes " " ++ decimal contract)))) }
+    ensures { OnOk result (out.new.items ≡ out.old.items ++ (codes "contract "
+        ++ (output_text number ++ (codes " " ++ decimal contract)))) }
 {
     put(out, b"contract ")?;
     put_output(alloc, out, number)?;
@@ -140,7 +141,8 @@ pub fn put_tip(
     tip: u32,
     live: &[(u32, u64)],
 ) -> Result<(), OutOfMemory>
-    ensures { OnOk result (out.new.items ≡ out.old.items ++ (codes "end" ++ (newline ++ (codes "tip " ++ (decimal tip ++ (newline ++ flat_map spec.live_line live.now)))))) }
+    ensures { OnOk result (out.new.items ≡ out.old.items ++ (codes "end" ++ (newline
+        ++ (codes "tip " ++ (decimal tip ++ (newline ++ flat_map spec.live_line live.now)))))) }
 {
     put(out, b"end\n")?;
     put_number_line(alloc, out, b"tip ", tip)?;
@@ -156,7 +158,8 @@ pub fn put_moment(
     deposits: &[Deposit],
     active: &[ActiveContract],
 ) -> Result<(), OutOfMemory>
-    ensures { OnOk result (out.new.items ≡ out.old.items ++ (codes "time " ++ (decimal time ++ (newline ++ (flat_map spec.deposit_line deposits.now ++ flat_map spec.contract_line active.now))))) }
+    ensures { OnOk result (out.new.items ≡ out.old.items ++ (codes "time " ++ (decimal time ++ (newline
+        ++ (flat_map spec.deposit_line deposits.now ++ flat_map spec.contract_line active.now))))) }
 {
     put_number_line(alloc, out, b"time ", time)?;
     put_deposits(alloc, out, deposits)?;

@@ -22,7 +22,8 @@ fn put_up_to(
 ) -> Result<(), OutOfMemory>
     requires deposits { length deposits.now < 2 ^ 32 }
     requires entries { length entries.now + 1 < 2 ^ 64 }
-    ensures { OnOk result (out.new.items ≡ out.old.items ++ (spec.start_lines 0 deposits.now ++ (spec.entries_text 1 entries.now ++ spec.event_line (length entries.now + 1) event.now))) }
+    ensures { OnOk result (out.new.items ≡ out.old.items ++ (spec.start_lines 0 deposits.now
+        ++ (spec.entries_text 1 entries.now ++ spec.event_line (length entries.now + 1) event.now))) }
 {
     put_start(alloc, out, deposits)?;
     put_entries(alloc, out, 1, entries)?;
@@ -41,7 +42,8 @@ pub fn guessed_text(
 ) -> Result<Vec<u8>, OutOfMemory>
     requires deposits { length header.now.deposits < 2 ^ 32 }
     requires entries { length entries.now + 1 < 2 ^ 64 }
-    ensures { IfOk result (λ text. text.items ≡ spec.report_text header.now.deposits entries.now (guessed event.now party.now secret.now)) }
+    ensures { IfOk result (λ text. text.items ≡ spec.report_text header.now.deposits entries.now
+        (guessed event.now party.now secret.now)) }
 {
     let mut out = Vec::new(alloc);
     put_up_to(alloc, &mut out, header.deposits.as_slice(), entries, event)?;
@@ -61,7 +63,8 @@ pub fn collided_text(
 ) -> Result<Vec<u8>, OutOfMemory>
     requires deposits { length header.now.deposits < 2 ^ 32 }
     requires entries { length entries.now + 1 < 2 ^ 64 }
-    ensures { IfOk result (λ text. text.items ≡ spec.report_text header.now.deposits entries.now (collided (Some event.now) earlier.now later.now)) }
+    ensures { IfOk result (λ text. text.items ≡ spec.report_text header.now.deposits entries.now
+        (collided (Some event.now) earlier.now later.now)) }
 {
     let mut out = Vec::new(alloc);
     put_up_to(alloc, &mut out, header.deposits.as_slice(), entries, event)?;

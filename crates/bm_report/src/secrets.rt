@@ -52,7 +52,8 @@ fn length_at(
 }
 
 fn is_this(revealed: &Revealed, contract: u32, party: &Name, secret: &Name) -> bool
-    ensures { result ≡ (revealed.now.contract == contract) && bytes_eq revealed.now.party party.now && bytes_eq revealed.now.secret secret.now }
+    ensures { result ≡ (revealed.now.contract == contract) && bytes_eq revealed.now.party party.now
+        && bytes_eq revealed.now.secret secret.now }
 {
     revealed.contract == contract && revealed.party == *party && revealed.secret == *secret
 }
@@ -77,7 +78,8 @@ fn put_secret_head(
     party: &Name,
     secret: &Name,
 ) -> Result<(), OutOfMemory>
-    ensures { OnOk result (out.new.items ≡ out.old.items ++ (codes "secret " ++ (contract_party_text contract party.now ++ (codes " " ++ (secret.now ++ codes " "))))) }
+    ensures { OnOk result (out.new.items ≡ out.old.items ++ (codes "secret "
+        ++ (contract_party_text contract party.now ++ (codes " " ++ (secret.now ++ codes " "))))) }
 {
     put(out, b"secret ")?;
     put_contract_party(alloc, out, contract, party)?;

@@ -128,7 +128,8 @@ fn put_taken(
     branch: u32,
     made: &[(u32, u64)],
 ) -> Result<(), OutOfMemory>
-    ensures { OnOk result (out.new.items ≡ out.old.items ++ (word.now ++ (spec.branch_text output branch ++ spec.leads_text (map (λ m. m.0) made.now)))) }
+    ensures { OnOk result (out.new.items ≡ out.old.items
+        ++ (word.now ++ (spec.branch_text output branch ++ spec.leads_text (map (λ m. m.0) made.now)))) }
 {
     put(out, word)?;
     put_branch(alloc, out, output, branch)?;
@@ -155,7 +156,8 @@ fn put_move(
     inputs: &[u32],
     outputs: &[(Owner, u64)],
 ) -> Result<(), OutOfMemory>
-    ensures { OnOk result (out.new.items ≡ out.old.items ++ (codes "move" ++ (outputs_text inputs.now ++ (codes " ->" ++ spec.owned_text outputs.now)))) }
+    ensures { OnOk result (out.new.items ≡ out.old.items
+        ++ (codes "move" ++ (outputs_text inputs.now ++ (codes " ->" ++ spec.owned_text outputs.now)))) }
 {
     put(out, b"move")?;
     put_outputs(alloc, out, inputs)?;
@@ -184,7 +186,8 @@ fn put_commit(
     party: &Name,
     lengths: &[(Name, Option<u32>)],
 ) -> Result<(), OutOfMemory>
-    ensures { OnOk result (out.new.items ≡ out.old.items ++ (codes "commit " ++ (contract_party_text contract party.now ++ spec.lengths_text lengths.now))) }
+    ensures { OnOk result (out.new.items ≡ out.old.items
+        ++ (codes "commit " ++ (contract_party_text contract party.now ++ spec.lengths_text lengths.now))) }
 {
     put(out, b"commit ")?;
     put_contract_party(alloc, out, contract, party)?;
@@ -201,7 +204,8 @@ fn put_party_name(
     party: &Name,
     name: &Name,
 ) -> Result<(), OutOfMemory>
-    ensures { OnOk result (out.new.items ≡ out.old.items ++ (word.now ++ (contract_party_text contract party.now ++ (codes " " ++ name.now)))) }
+    ensures { OnOk result (out.new.items ≡ out.old.items
+        ++ (word.now ++ (contract_party_text contract party.now ++ (codes " " ++ name.now)))) }
 {
     put(out, word)?;
     put_contract_party(alloc, out, contract, party)?;
@@ -216,7 +220,8 @@ fn put_init(
     contract: u32,
     made: &[(u32, u64)],
 ) -> Result<(), OutOfMemory>
-    ensures { OnOk result (out.new.items ≡ out.old.items ++ (codes "init " ++ (decimal contract ++ spec.leads_text (map (λ m. m.0) made.now)))) }
+    ensures { OnOk result (out.new.items ≡ out.old.items
+        ++ (codes "init " ++ (decimal contract ++ spec.leads_text (map (λ m. m.0) made.now)))) }
 {
     put_word_number(alloc, out, b"init ", contract)?;
     put_leads(alloc, out, made)
@@ -230,7 +235,8 @@ fn put_auth_branch(
     output: u32,
     branch: u32,
 ) -> Result<(), OutOfMemory>
-    ensures { OnOk result (out.new.items ≡ out.old.items ++ (codes "authbranch " ++ (party.now ++ (codes " " ++ spec.branch_text output branch)))) }
+    ensures { OnOk result (out.new.items ≡ out.old.items
+        ++ (codes "authbranch " ++ (party.now ++ (codes " " ++ spec.branch_text output branch)))) }
 {
     put(out, b"authbranch ")?;
     put(out, party.bytes())?;

@@ -10,7 +10,6 @@ mod limits;
 mod lines;
 mod print;
 mod read;
-mod tuples;
 mod words;
 
 pub use error::RunError;

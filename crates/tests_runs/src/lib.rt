@@ -8,3 +8,7 @@ mod calculus;
 mod copies;
 #[cfg(test)]
 mod exchange;
+#[cfg(test)]
+mod report;
+#[cfg(test)]
+mod run_files;

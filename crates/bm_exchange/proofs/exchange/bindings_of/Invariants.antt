@@ -8,6 +8,6 @@ use Rattle.bm_exchange.proofs.exchange.bindings_of.Given as goal
 abbrev pub invariant-loop-told : goal.invariant-loop-told
 invariant-loop-told l = record {
   there : list_any (λ a. a.contract == l.contract) (drop l.told-index l.advertised)
-    ≡ list_any (λ a. a.contract == l.contract) l.advertised;
+      ≡ list_any (λ a. a.contract == l.contract) l.advertised;
   bindings : bindings_at (drop l.told-index l.advertised) l.contract ≡ bindings_at l.advertised l.contract;
 }

@@ -1,0 +1,103 @@
+//! Run files read and print back, the first line that doesn't count is named, and the largest text is read.
+
+use bm_runfile::{
+    MOST_RUN_BYTES, RunError, RunLimit, print_event, print_header, read_run, run_limits_are_defined,
+};
+use std::alloc::{AllocError, Global};
+use std::test::Fail;
+
+const HEADER: &[u8] =
+    b"party A\nparty B\nhonest A\nsecret A a 00ff\ndeposit A 5\ndeposit B 0\n--\n";
+
+const CONTRACT_EVENTS: &[u8] =
+    b"advertise 0 x=#0 y=#1\ncommit 0 A\ncommit 0 B b=00000000000000000000000000000000000000000000000000000000000000ff\nendorse 0 A\ninit 0 B\nauthorise B #2 1\nreveal 0 A a\nfire init 0\nfire #3 0\n";
+
+const OTHER_EVENTS: &[u8] =
+    b"post 0a0b\nsign B B:0:r.1/2:Q 00000000000000000000000000000000000000000000000000000000000000ff\nsign B D:B 00000000000000000000000000000000000000000000000000000000000000ff\ngive A #0 #1 -> B 2 A 3\nappend ff\nmine 4294967295\n";
+
+/// Why a text is no run; nothing if it is one.
+fn fault(alloc: Global, text: &[u8]) -> Option<RunError> {
+    // The constant here is the bound of the definitions.
+    run_limits_are_defined();
+    if text.len() > MOST_RUN_BYTES {
+        return None;
+    }
+    match read_run(alloc, text) {
+        Ok(_) => None,
+        Err(error) => Some(error),
+    }
+}
+
+/// What is printed of the run of a text.
+fn printed(alloc: Global, text: &[u8]) -> Result<Vec<u8>, RunError> {
+    if text.len() > MOST_RUN_BYTES {
+        return Err(RunError::Memory);
+    }
+    let run = read_run(alloc, text)?;
+    let mut printed = print_header(alloc, &run.header)?;
+    for event in run.events.as_slice() {
+        let line = print_event(alloc, event)?;
+        printed.extend_from_slice(line.as_slice())?;
+        printed.push(b'\n')?;
+    }
+    Ok(printed)
+}
+
+#[test]
+fn every_kind_of_line_prints_back(rt: HostRuntime) -> Result<(), Fail> {
+    let mut text = Vec::from_slice(rt.alloc(), HEADER)?;
+    text.extend_from_slice(CONTRACT_EVENTS)?;
+    text.extend_from_slice(OTHER_EVENTS)?;
+    let again = printed(rt.alloc(), text.as_slice()).map_err(|_| "refused")?;
+    assert_eq!(rt; again.as_slice(), text.as_slice());
+    Ok(())
+}
+
+#[test]
+fn the_first_line_that_does_not_count_is_named(rt: HostRuntime) -> Result<(), Fail> {
+    let bad: [(&[u8], u32); 10] = [
+        (b"", 1),
+        (b"party A\n", 2),
+        (b"party A\r\n\t \n party A\n--", 3),
+        (b"party if\n--\n", 1),
+        (b"party A\nsecret A a 00\n--\n", 2),
+        (b"party A\ndeposit A 2100000000000000\ndeposit A 1\n--\n", 3),
+        (b"--\nmine 1\nmine 0\nnothing", 3),
+        (b"party A\n--\ngive A -> A 1\n", 3),
+        (b"--\nfire init 00\n", 2),
+        (b"party A\n--\nsign A D:A:B 00\n", 3),
+    ];
+    for (text, line) in bad {
+        assert_eq!(rt; fault(rt.alloc(), text), Some(RunError::BadLine(line)));
+    }
+    assert_eq!(rt; fault(rt.alloc(), b"party A\n--"), None);
+    Ok(())
+}
+
+/// Ten thousand events on lines of 830 bytes.
+fn largest(alloc: Global) -> Result<Vec<u8>, AllocError> {
+    let mut text = Vec::from_slice(alloc, HEADER)?;
+    for _ in 0..10_000 {
+        text.extend_from_slice(b"give A")?;
+        for _ in 0..60 {
+            text.extend_from_slice(b" #12345")?;
+        }
+        text.extend_from_slice(b" ->")?;
+        for _ in 0..40 {
+            text.extend_from_slice(b" B 1234567")?;
+        }
+        text.push(b'\n')?;
+    }
+    Ok(text)
+}
+
+#[test]
+fn the_largest_text_is_read(rt: HostRuntime) -> Result<(), Fail> {
+    let mut text = largest(rt.alloc())?;
+    assert!(rt; text.len() == 8_300_068);
+    assert_eq!(rt; fault(rt.alloc(), text.as_slice()), None);
+    text.extend_from_slice(b"mine 1\n")?;
+    let more = fault(rt.alloc(), text.as_slice());
+    assert_eq!(rt; more, Some(RunError::Limit(RunLimit::Events, 10_008)));
+    Ok(())
+}

@@ -93,7 +93,9 @@ impl Exchange {
 
     /// Adds a contract with its bindings, in the precondition's order.
     pub fn advertise(&mut self, contract: u32, bindings: &[(Name, u32)]) -> Result<(), OutOfMemory>
-        ensures ok { OnOk result (self.new ≡ record self.old { advertised = self.old.advertised ++ record { contract = contract; bindings = bindings.now } ∷ [] }) }
+        ensures ok { OnOk result (self.new ≡ record self.old {
+          advertised = self.old.advertised ++ record { contract = contract; bindings = bindings.now } ∷ [];
+        }) }
         ensures err { OnErr result (self.new ≡ self.old) }
     {
         let advertised = advertised_with(self.alloc, contract, bindings)?;
@@ -108,7 +110,9 @@ impl Exchange {
         party: Name,
         digests: &[(Name, [u8; 32])],
     ) -> Result<(), OutOfMemory>
-        ensures ok { OnOk result (self.new ≡ record self.old { promises = self.old.promises ++ record { contract = contract; party = party; digests = digests.now } ∷ [] }) }
+        ensures ok { OnOk result (self.new ≡ record self.old {
+          promises = self.old.promises ++ record { contract = contract; party = party; digests = digests.now } ∷ [];
+        }) }
         ensures err { OnErr result (self.new ≡ self.old) }
     {
         let promised = promised_with(self.alloc, contract, party, digests)?;

@@ -1,5 +1,6 @@
 -- Names that are found in a list, and words that are names.
-use Rattle.std.proofs.Common.{◌≡◌, ℕ, ◌<◌, ◌≤◌, ◌↔◌, true, ◌&&◌, ◌||◌, not, List, [], ◌∷◌, length, drop, get_or, Option, Some, None, refl, sym, ap, ◌∙◌, suc, arith}
+use Rattle.std.proofs.Common.{◌≡◌, ℕ, ◌<◌, ◌≤◌, ◌↔◌, true, ◌&&◌, ◌||◌, not, List, [], ◌∷◌, length, drop, get_or, Option, Some, None, refl}
+use Rattle.std.proofs.Common.{sym, ap, ◌∙◌, suc, arith}
 use Rattle.std.specs.Prelude.{IsSome, IfSome, nat_le}
 use Rattle.std.specs.Str.{bytes_eq}
 use Rattle.std.proofs.Math.Seq.{drop-cons}
@@ -27,12 +28,14 @@ made_name : (word : List ℕ) (made : Option (List ℕ)) → IsSome made → IfS
 made_name word None h e = absurd cc
 made_name word (Some n) h e = ap Some e
 
-name_parts : (word : List ℕ) → is_name word ≡ true → (is_word word && (nat_le (length word) most_name_bytes && not (is_among word keywords))) ≡ true
+name_parts : (word : List ℕ) → is_name word ≡ true
+    → (is_word word && (nat_le (length word) most_name_bytes && not (is_among word keywords))) ≡ true
 unfolding is_name
 name_parts word h = h
 
 -- a word that is a name has 1 to 32 bytes
-pub name_made : (word : List ℕ) (made : Option (List ℕ)) → is_name word ≡ true → (IsSome made ↔ ((0 < length word) × (length word ≤ 32))) → IfSome made (λ n. n ≡ word) → made ≡ a_name word
+pub name_made : (word : List ℕ) (made : Option (List ℕ)) → is_name word ≡ true → (IsSome made ↔ ((0 < length word) × (length word ≤ 32)))
+    → IfSome made (λ n. n ≡ word) → made ≡ a_name word
 name_made word made h sized e =
     let parts = and_parts (is_word word) (nat_le (length word) 32 && not (is_among word keywords)) (name_parts word h) in
     let few = and_parts (nat_le (length word) 32) (not (is_among word keywords)) parts.1 in

@@ -3,7 +3,8 @@
 ghost use Rattle.std.specs.Prelude.{◌≡◌, ◌∷◌, [], ◌&&◌, not, map, sum_by, Some};
 ghost use Rattle.std.specs.List.{list_any};
 ghost use Rattle.spec_data.specs.Lists.{is_among};
-ghost use Rattle.spec_text.specs.RunFile.{party_line, honest_line, secret_line, deposit_line, rule_line, header_words, header_line, is_taken, held_secret, secret_of};
+ghost use Rattle.spec_text.specs.RunFile.{party_line, honest_line, secret_line, deposit_line, rule_line, header_words, header_line};
+ghost use Rattle.spec_text.specs.RunFile.{is_taken, held_secret, secret_of};
 ghost use Rattle.bm_runfile.specs.Gives.{Grows, SaysRule, SaysHeader};
 ghost use Rattle.bm_runfile.specs.Rooms.{party_room, honest_room, secret_by, secret_room};
 ghost use Rattle.spec_data.specs.Digits.{read_hex};
@@ -13,7 +14,6 @@ ghost use Rattle.spec_text.specs.Words.{given};
 use crate::error::LineError;
 use crate::limits::{MOST_DEPOSITS, MOST_LINE_BYTES, MOST_PARTIES, MOST_SECRETS};
 use crate::lines::words_of;
-use crate::tuples::{one_word, three_words};
 use crate::words::{a_name, amount, one_of, read_bytes};
 use spec_data::{Bytes, MAX_MONEY, Name};
 use spec_run::{Header, HeldSecret};
@@ -64,13 +64,12 @@ fn add_party(header: &mut Header, word: &[u8]) -> Result<(), LineError>
 }
 
 /// `party A`
-#[tactic(auto, using(crate::proofs::OtherLengths::party_one, crate::proofs::OtherLengths::party_other))]
 fn take_party(header: &mut Header, words: &[&[u8]]) -> Result<(), LineError>
     ensures { Grows header.old header.new result (party_line header.old (map (λ w. w.now) words.now)) }
 {
-    match one_word(words) {
-        Some(word) => add_party(header, word),
-        None => Err(LineError::Bad),
+    match words {
+        [word] => add_party(header, word),
+        _ => Err(LineError::Bad),
     }
 }
 
@@ -101,13 +100,12 @@ fn add_honest(header: &mut Header, word: &[u8]) -> Result<(), LineError>
 }
 
 /// `honest A`
-#[tactic(auto, using(crate::proofs::OtherLengths::honest_one, crate::proofs::OtherLengths::honest_other))]
 fn take_honest(header: &mut Header, words: &[&[u8]]) -> Result<(), LineError>
     ensures { Grows header.old header.new result (honest_line header.old (map (λ w. w.now) words.now)) }
 {
-    match one_word(words) {
-        Some(word) => add_honest(header, word),
-        None => Err(LineError::Bad),
+    match words {
+        [word] => add_honest(header, word),
+        _ => Err(LineError::Bad),
     }
 }
 
@@ -191,13 +189,12 @@ fn read_secret(
 }
 
 /// `secret A a HEX`
-#[tactic(auto, using(crate::proofs::OtherLengths::secret_three, crate::proofs::OtherLengths::secret_other))]
 fn take_secret(alloc: Global, header: &mut Header, words: &[&[u8]]) -> Result<(), LineError>
     ensures { Grows header.old header.new result (secret_line header.old (map (λ w. w.now) words.now)) }
 {
-    match three_words(words) {
-        Some((party, name, text)) => read_secret(alloc, header, party, name, text),
-        None => Err(LineError::Bad),
+    match words {
+        [party, name, text] => read_secret(alloc, header, party, name, text),
+        _ => Err(LineError::Bad),
     }
 }
 

@@ -10,12 +10,13 @@ mod limits;
 mod lines;
 mod print;
 mod read;
-mod tuples;
 mod words;
 
 pub use error::RunError;
 pub use limits::{MOST_RUN_BYTES, run_limits_are_defined};
-pub use print::{print_event, print_header};
+pub use print::{
+    print_event, print_header, put_bindings, put_contract_party, put_event, put_output, put_outputs,
+};
 pub use read::read_run;
 pub use spec_run::{Event, Header, HeldSecret, Run};
 pub use spec_text::RunLimit;

@@ -14,7 +14,8 @@ use spec_data::{Name, OutOfMemory};
 use spec_run::{Event, Header, HeldSecret};
 use std::alloc::Global;
 
-fn put_output(alloc: Global, out: &mut Vec<u8>, number: u32) -> Result<(), OutOfMemory>
+/// An output by its number, as `#n`.
+pub fn put_output(alloc: Global, out: &mut Vec<u8>, number: u32) -> Result<(), OutOfMemory>
     ensures { OnOk result (out.new.items ≡ out.old.items ++ spec.output_text number) }
 {
     put(out, b"#")?;
@@ -36,7 +37,8 @@ fn put_spaced_output(alloc: Global, out: &mut Vec<u8>, number: u32) -> Result<()
     put_output(alloc, out, number)
 }
 
-fn put_outputs(alloc: Global, out: &mut Vec<u8>, numbers: &[u32]) -> Result<(), OutOfMemory>
+/// Outputs by their numbers, a space before each.
+pub fn put_outputs(alloc: Global, out: &mut Vec<u8>, numbers: &[u32]) -> Result<(), OutOfMemory>
     ensures { OnOk result (out.new.items ≡ out.old.items ++ spec.outputs_text numbers.now) }
 {
     for number in numbers {
@@ -60,7 +62,8 @@ fn put_binding(
     put_output(alloc, out, output)
 }
 
-fn put_bindings(
+/// Names with the outputs that they are bound to, a space before each.
+pub fn put_bindings(
     alloc: Global,
     out: &mut Vec<u8>,
     bindings: &[(Name, u32)],
@@ -120,8 +123,9 @@ fn put_shares(alloc: Global, out: &mut Vec<u8>, shares: &[(Name, u64)]) -> Resul
     Ok(())
 }
 
+/// A contract by its number, and a party.
 #[tactic(auto, using(std::proofs::Common::append_assoc))]
-fn put_contract_party(
+pub fn put_contract_party(
     alloc: Global,
     out: &mut Vec<u8>,
     contract: u32,
@@ -283,7 +287,8 @@ fn put_fire(alloc: Global, out: &mut Vec<u8>, output: u32, branch: u32) -> Resul
     put_decimal(alloc, out, branch as u64)
 }
 
-fn put_event(alloc: Global, out: &mut Vec<u8>, event: &Event) -> Result<(), OutOfMemory>
+/// The canonical line of an event at the end of a text, without its end.
+pub fn put_event(alloc: Global, out: &mut Vec<u8>, event: &Event) -> Result<(), OutOfMemory>
     ensures { OnOk result (out.new.items ≡ out.old.items ++ spec.event_text event.now) }
 {
     match event {

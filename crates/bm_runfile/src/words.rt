@@ -85,7 +85,7 @@ fn is_word(word: &[u8]) -> bool
 }
 
 #[tactic(auto, unfolding(spec_terms::specs::Readable::is_name))]
-fn is_name(word: &[u8]) -> bool
+pub(crate) fn is_name(word: &[u8]) -> bool
     ensures { result ≡ is_name word.now }
 {
     is_word(word) && word.len() <= 32 && !is_keyword(word)

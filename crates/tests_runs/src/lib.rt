@@ -9,4 +9,6 @@ mod copies;
 #[cfg(test)]
 mod exchange;
 #[cfg(test)]
+mod report;
+#[cfg(test)]
 mod run_files;

@@ -8,6 +8,7 @@ use Rattle.bm_exchange.proofs.promised.digests_of.Given as goal
 -- what the commitments that are left have is what all have
 abbrev pub invariant-loop-promise : goal.invariant-loop-promise
 invariant-loop-promise l = record {
-  there : list_any (is_promise_of l.contract l.party) (drop l.promise-index l.promises) ≡ list_any (is_promise_of l.contract l.party) l.promises;
+  there : list_any (is_promise_of l.contract l.party) (drop l.promise-index l.promises)
+      ≡ list_any (is_promise_of l.contract l.party) l.promises;
   digests : digests_by (drop l.promise-index l.promises) l.contract l.party ≡ digests_by l.promises l.contract l.party;
 }

@@ -1,0 +1,86 @@
+//! The text of a run that is halted.
+
+ghost use Rattle.std.specs.Prelude.{◌≡◌, ◌<◌, ◌+◌, ◌^◌, ◌++◌, [], Some, None, length, IfOk, OnOk};
+ghost use Rattle.spec_text.specs.PlayText as spec;
+ghost use Rattle.spec_text.specs.PlayText.{guessed, collided};
+
+use crate::ending::{put_collided, put_guessed};
+use crate::entries::{put_entries, put_event_line, put_start};
+use bm_runfile::{Event, Header};
+use spec_data::{Name, OutOfMemory};
+use spec_text::Entry;
+use std::alloc::Global;
+
+/// The lines of the opening, of all entries, and of the event behind them.
+#[tactic(auto, using(std::proofs::Common::append_assoc))]
+fn put_up_to(
+    alloc: Global,
+    out: &mut Vec<u8>,
+    deposits: &[(Name, u64)],
+    entries: &[Entry],
+    event: &Event,
+) -> Result<(), OutOfMemory>
+    requires deposits { length deposits.now < 2 ^ 32 }
+    requires entries { length entries.now + 1 < 2 ^ 64 }
+    ensures { OnOk result (out.new.items ≡ out.old.items ++ (spec.start_lines 0 deposits.now
+        ++ (spec.entries_text 1 entries.now ++ spec.event_line (length entries.now + 1) event.now))) }
+{
+    put_start(alloc, out, deposits)?;
+    put_entries(alloc, out, 1, entries)?;
+    put_event_line(alloc, out, entries.len() as u64 + 1, event)
+}
+
+/// The text of a run in which this event guesses a secret.
+#[tactic(auto, using(std::proofs::Common::append_assoc))]
+pub fn guessed_text(
+    alloc: Global,
+    header: &Header,
+    entries: &[Entry],
+    event: &Event,
+    party: &Name,
+    secret: &Name,
+) -> Result<Vec<u8>, OutOfMemory>
+    requires deposits { length header.now.deposits < 2 ^ 32 }
+    requires entries { length entries.now + 1 < 2 ^ 64 }
+    ensures { IfOk result (λ text. text.items ≡ spec.report_text header.now.deposits entries.now
+        (guessed event.now party.now secret.now)) }
+{
+    let mut out = Vec::new(alloc);
+    put_up_to(alloc, &mut out, header.deposits.as_slice(), entries, event)?;
+    put_guessed(&mut out, party, secret)?;
+    Ok(out)
+}
+
+/// The text of a run in which this event collides: two different strings have one digest, the earlier first.
+#[tactic(auto, using(std::proofs::Common::append_assoc))]
+pub fn collided_text(
+    alloc: Global,
+    header: &Header,
+    entries: &[Entry],
+    event: &Event,
+    earlier: &[u8],
+    later: &[u8],
+) -> Result<Vec<u8>, OutOfMemory>
+    requires deposits { length header.now.deposits < 2 ^ 32 }
+    requires entries { length entries.now + 1 < 2 ^ 64 }
+    ensures { IfOk result (λ text. text.items ≡ spec.report_text header.now.deposits entries.now
+        (collided (Some event.now) earlier.now later.now)) }
+{
+    let mut out = Vec::new(alloc);
+    put_up_to(alloc, &mut out, header.deposits.as_slice(), entries, event)?;
+    put_collided(alloc, &mut out, earlier, later)?;
+    Ok(out)
+}
+
+/// The text of a run whose opening collides: the two strings alone, the earlier first.
+pub fn collided_opening_text(
+    alloc: Global,
+    earlier: &[u8],
+    later: &[u8],
+) -> Result<Vec<u8>, OutOfMemory>
+    ensures { IfOk result (λ text. text.items ≡ spec.report_text [] [] (collided None earlier.now later.now)) }
+{
+    let mut out = Vec::new(alloc);
+    put_collided(alloc, &mut out, earlier, later)?;
+    Ok(out)
+}

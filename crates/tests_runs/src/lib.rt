@@ -6,3 +6,5 @@
 mod calculus;
 #[cfg(test)]
 mod copies;
+#[cfg(test)]
+mod timed_commitment;

@@ -14,8 +14,8 @@ fn away(alloc: Global, to: Name) -> Result<Move, OutOfMemory> {
     Ok(Move { inputs, outputs })
 }
 
-// The answer to a step that makes few deposits.
-fn answer(config: &mut Config, step: &Step) -> Option<Result<(), StepError>> {
+/// The answer to a step that makes few deposits.
+pub fn answer(config: &mut Config, step: &Step) -> Option<Result<(), StepError>> {
     if config.next() > 1000 {
         return None;
     }

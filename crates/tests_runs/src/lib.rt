@@ -12,3 +12,5 @@ mod exchange;
 mod report;
 #[cfg(test)]
 mod run_files;
+#[cfg(test)]
+mod timed_commitment;

@@ -30,7 +30,7 @@ struct Names {
     secret: Name,
 }
 
-fn names() -> Option<Names> {
+fn all_names() -> Option<Names> {
     Some(Names {
         a: Name::new(b"A")?,
         b: Name::new(b"B")?,
@@ -91,7 +91,7 @@ fn begun(alloc: Global, names: &Names) -> Result<Option<Config>, OutOfMemory> {
 #[test]
 fn the_secret_gives_it_back(rt: HostRuntime) -> Result<(), Fail> {
     let alloc = rt.alloc();
-    let names = names().ok_or("no names")?;
+    let names = all_names().ok_or("no names")?;
     let (a, secret) = (names.a, names.secret);
     let mut config = begun(alloc, &names)?.ok_or("not begun")?;
     assert_eq!(rt; config.secret(0, &a, &secret), Some((Some(16), false)));
@@ -120,7 +120,7 @@ fn the_secret_gives_it_back(rt: HostRuntime) -> Result<(), Fail> {
 #[test]
 fn the_time_gives_it_away(rt: HostRuntime) -> Result<(), Fail> {
     let alloc = rt.alloc();
-    let names = names().ok_or("no names")?;
+    let names = all_names().ok_or("no names")?;
     let mut config = begun(alloc, &names)?.ok_or("not begun")?;
     let withdraw = Step::Withdraw {
         output: 2,

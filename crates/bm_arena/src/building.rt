@@ -140,14 +140,10 @@ fn put_branch(
             put_node(alloc, arena, path, asked, height, core)?;
             put_choice(alloc, arena, path, next)
         }
-        Guarded::Withdraw { party } => put_node(
-            alloc,
-            arena,
-            path,
-            asked,
-            height,
-            Core::Withdraw { party: *party },
-        ),
+        Guarded::Withdraw { party } => {
+            let core = Core::Withdraw { party: *party };
+            put_node(alloc, arena, path, asked, height, core)
+        }
         Guarded::Split { parts } => put_split(alloc, arena, path, asked, height, parts),
     }
 }

@@ -1,8 +1,7 @@
 //! Run files read and print back, the first line that doesn't count is named, and the largest text is read.
 
 use bm_runfile::{
-    MOST_RUN_BYTES, RunError, RunLimit, print_event, print_header, read_run,
-    run_limits_are_defined,
+    MOST_RUN_BYTES, RunError, RunLimit, print_event, print_header, read_run, run_limits_are_defined,
 };
 use std::alloc::{AllocError, Global};
 use std::test::Fail;
@@ -66,7 +65,10 @@ fn the_first_line_that_does_not_count_is_named(rt: HostRuntime) -> Result<(), Fa
         (b"--\nmine 1\nmine 0\nnothing", 3),
         (b"party A\n--\ngive A -> A 1\n", 3),
         (b"--\nfire init 00\n", 2),
-        (b"party A\n--\nsign A D:A:B 00\n", 3),
+        (
+            b"party A\n--\nsign A D:A:B 00000000000000000000000000000000000000000000000000000000000000ff\n",
+            3,
+        ),
     ];
     for (text, line) in bad {
         assert_eq!(rt; fault(rt.alloc(), text), Some(RunError::BadLine(line)));

@@ -4,6 +4,7 @@ ghost use Rattle.std.specs.Prelude.{◌≡◌, map};
 ghost use Rattle.spec_text.specs.EventLines.{event_by, event_of};
 ghost use Rattle.spec_text.specs.RunFile.{event_words, event_of_line};
 ghost use Rattle.bm_runfile.specs.Gives.{Reads, SaysEvent};
+ghost use Rattle.bm_runfile.specs.OtherEvents.{other_event_by};
 
 use crate::error::{LineError, WordError};
 use crate::event_words::{
@@ -15,6 +16,36 @@ use spec_data::Name;
 use spec_run::Event;
 use spec_text::RunLimit;
 use std::alloc::Global;
+
+/// The event of a line by its first word, one of the last six.
+fn other_event_by<'a>(
+    alloc: Global,
+    word: &[u8],
+    parties: &[Name],
+    words: &'a [&'a [u8]],
+) -> Result<Event, WordError>
+    ensures { Reads (λ e. e) result (other_event_by word.now parties.now (map (λ w. w.now) words.now)) }
+{
+    if word == b"post".as_slice() {
+        return post(alloc, parties, words);
+    }
+    if word == b"sign".as_slice() {
+        return sign(alloc, parties, words);
+    }
+    if word == b"give".as_slice() {
+        return give(alloc, parties, words);
+    }
+    if word == b"append".as_slice() {
+        return append(alloc, parties, words);
+    }
+    if word == b"fire".as_slice() {
+        return fire(parties, words).ok_or(WordError::Bad);
+    }
+    if word == b"mine".as_slice() {
+        return mine(parties, words).ok_or(WordError::Bad);
+    }
+    Err(WordError::Bad)
+}
 
 /// The event of a line by its first word.
 fn event_by<'a>(
@@ -43,25 +74,7 @@ fn event_by<'a>(
     if word == b"reveal".as_slice() {
         return reveal(parties, words).ok_or(WordError::Bad);
     }
-    if word == b"post".as_slice() {
-        return post(alloc, parties, words);
-    }
-    if word == b"sign".as_slice() {
-        return sign(alloc, parties, words);
-    }
-    if word == b"give".as_slice() {
-        return give(alloc, parties, words);
-    }
-    if word == b"append".as_slice() {
-        return append(alloc, parties, words);
-    }
-    if word == b"fire".as_slice() {
-        return fire(parties, words).ok_or(WordError::Bad);
-    }
-    if word == b"mine".as_slice() {
-        return mine(parties, words).ok_or(WordError::Bad);
-    }
-    Err(WordError::Bad)
+    other_event_by(alloc, word, parties, words)
 }
 
 /// The event that the words of a line spell.

@@ -65,7 +65,10 @@ fn the_first_line_that_does_not_count_is_named(rt: HostRuntime) -> Result<(), Fa
         (b"--\nmine 1\nmine 0\nnothing", 3),
         (b"party A\n--\ngive A -> A 1\n", 3),
         (b"--\nfire init 00\n", 2),
-        (b"party A\n--\nsign A D:A:B 00\n", 3),
+        (
+            b"party A\n--\nsign A D:A:B 00000000000000000000000000000000000000000000000000000000000000ff\n",
+            3,
+        ),
     ];
     for (text, line) in bad {
         assert_eq!(rt; fault(rt.alloc(), text), Some(RunError::BadLine(line)));

@@ -1,5 +1,7 @@
 //! What a played run prints. What each call prints is proved, and not that it succeeds.
 
+ghost use Rattle.std.specs.Prelude.{◌≡◌, ◌<◌, ◌^◌, length, IfOk};
+
 use bm_report::{
     collided_opening_text, collided_text, guessed_text, put_entries, put_moment, put_offers,
     put_secrets, put_start, put_tip,
@@ -12,11 +14,15 @@ use spec_text::Entry;
 use std::alloc::Global;
 use std::test::Fail;
 
-fn list<T: Copy + Drop>(alloc: Global, items: &[T]) -> Result<Seq<T>, OutOfMemory> {
+fn list<T: Copy + Drop>(alloc: Global, items: &[T]) -> Result<Seq<T>, OutOfMemory>
+    ensures { IfOk result (λ list. list ≡ items.now) }
+{
     Ok(Seq::of(Vec::from_slice(alloc, items)?))
 }
 
-fn header(alloc: Global, party: Name) -> Result<Header, OutOfMemory> {
+fn header(alloc: Global, party: Name) -> Result<Header, OutOfMemory>
+    ensures { IfOk result (λ header. length header.deposits < 2 ^ 32) }
+{
     Ok(Header {
         parties: list(alloc, &[party])?,
         honest: list(alloc, &[party])?,

@@ -27,7 +27,8 @@ pub record Nothing {X A : Type 0} (a : A) (text : List X) (b : A) : Type 0 where
   pub same : a ≡ b
 
 -- of two ways to cut a list one goes further
-pub cuts : {X : Type 0} (a b c d : List X) → a ++ b ≡ c ++ d → ((m : List X) × (a ≡ c ++ m) × (d ≡ m ++ b)) ⊎ ((m : List X) × (c ≡ a ++ m) × (b ≡ m ++ d))
+pub cuts : {X : Type 0} (a b c d : List X) → a ++ b ≡ c ++ d
+    → ((m : List X) × (a ≡ c ++ m) × (d ≡ m ++ b)) ⊎ ((m : List X) × (c ≡ a ++ m) × (b ≡ m ++ d))
 cuts a b [] d e = inl (a, refl, sym e)
 cuts [] b (y ∷ c) d e = inr (y ∷ c, refl, e)
 cuts (x ∷ a) b (y ∷ c) d e =

@@ -133,7 +133,8 @@ pub looked_in : {V : Type 0} (ps : List (List ℕ × V)) (name : List ℕ) (v : 
 looked_in [] name v h = cc
 looked_in (p ∷ ps) name v h = by_test (bytes_eq (p.0) name) refl h (looked_in ps name v)
   where
-    by_test : (b : Bool) → bytes_eq (p.0) name ≡ b → (if b then Some (p.1) else look_up name ps) ≡ Some v → (look_up name ps ≡ Some v → Is_in (name, v) ps) → Is_in (name, v) (p ∷ ps)
+    by_test : (b : Bool) → bytes_eq (p.0) name ≡ b → (if b then Some (p.1) else look_up name ps) ≡ Some v
+        → (look_up name ps ≡ Some v → Is_in (name, v) ps) → Is_in (name, v) (p ∷ ps)
     by_test true e q ih = let z : p.1 ≡ v = cc in let n = sym (bytes-true (p.0) name e) in let y = sym z in inl (λ i. (n i, y i))
     by_test false e q ih = inr (ih q)
 
@@ -143,7 +144,8 @@ in_named (q ∷ ps) p (inl e) = or_left _ _ (subst (λ x. bytes_eq (q.0) x ≡ t
 in_named (q ∷ ps) p (inr i) = or_right (bytes_eq (q.0) (p.0)) _ (in_named ps p i)
 
 -- among different names the first is the only one
-pub in_looked : {V : Type 0} (ps : List (List ℕ × V)) (p : List ℕ × V) → are_different (names_of ps) ≡ true → Is_in p ps → look_up (p.0) ps ≡ Some (p.1)
+pub in_looked : {V : Type 0} (ps : List (List ℕ × V)) (p : List ℕ × V) → are_different (names_of ps) ≡ true → Is_in p ps
+    → look_up (p.0) ps ≡ Some (p.1)
 in_looked [] p d i = absurd i
 in_looked {V} (q ∷ ps) p d (inl e) =
     let here : look_up (q.0) (q ∷ ps) ≡ Some (q.1) = rw (bytes_refl (q.0)) refl in
@@ -151,14 +153,17 @@ in_looked {V} (q ∷ ps) p d (inl e) =
 in_looked (q ∷ ps) p d (inr i) =
     let a = and_parts (not (is_among (q.0) (names_of ps))) (are_different (names_of ps)) d in
     let n = in_named ps p i in
-    let f : bytes_eq (q.0) (p.0) ≡ false = false_from_ne_true _ (λ t. both_ways _ (not-true _ a.0) (subst (λ x. is_among x (names_of ps) ≡ true) (sym (bytes-true (q.0) (p.0) t)) n)) in
+    let f : bytes_eq (q.0) (p.0) ≡ false =
+    false_from_ne_true _ (λ t. both_ways _ (not-true _ a.0) (subst (λ x. is_among x (names_of ps) ≡ true) (sym (bytes-true (q.0) (p.0) t)) n)) in
     rw f (in_looked ps p a.1 i)
 
 pub named_looked : {V : Type 0} (ps : List (List ℕ × V)) (name : List ℕ) → is_among name (names_of ps) ≡ true → (v : V) × (look_up name ps ≡ Some v)
 named_looked [] name h = cc
 named_looked {V} (p ∷ ps) name h = by_test (bytes_eq (p.0) name) h (named_looked ps name)
   where
-    by_test : (b : Bool) → (b || is_among name (names_of ps)) ≡ true → (is_among name (names_of ps) ≡ true → (v : V) × (look_up name ps ≡ Some v)) → (v : V) × ((if b then Some (p.1) else look_up name ps) ≡ Some v)
+    by_test : (b : Bool) → (b || is_among name (names_of ps)) ≡ true
+        → (is_among name (names_of ps) ≡ true → (v : V) × (look_up name ps ≡ Some v))
+        → (v : V) × ((if b then Some (p.1) else look_up name ps) ≡ Some v)
     by_test true q ih = (p.1, refl)
     by_test false q ih = ih q
 

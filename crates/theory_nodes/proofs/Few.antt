@@ -1,10 +1,10 @@
 -- A contract that a text can spell has few nodes.
-use Rattle.std.proofs.Common.{◌≡◌, ℕ, ◌+◌, ◌*◌, ◌≤◌, List, [], ◌∷◌, length, Bool, true, false, refl, arith}
+use Rattle.std.proofs.Common.{◌≡◌, ℕ, ◌+◌, ◌*◌, ◌≤◌, true, refl, arith}
 use Rattle.std.specs.Prelude.{nat_le, ◌&&◌}
 use Rattle.std.specs.List.{list_all}
 use Rattle.std.proofs.lemmas.Bool.{and_parts}
-use Rattle.spec_terms.specs.Term.{Guarded, auth, after, put_reveal, withdraw, split, Contract, no_branch, branch, branches, Parts, no_part, part}
-use Rattle.spec_terms.specs.Readable.{is_name, is_readable_count, are_readable, is_readable_branch, are_readable_parts, is_readable_split, is_whole_prefix, is_readable_test, is_readable_contract, is_some_list, count_of, count_under, count_of_parts, most_branches, most_depth, most_choices, depth_of_choice, is_readable_pre}
+use Rattle.spec_terms.specs.Term.{Guarded, auth, after, put_reveal, withdraw, split, Contract, no_branch, branch, Parts, no_part, part}
+use Rattle.spec_terms.specs.Readable.{is_name, is_readable_count, are_readable, is_readable_branch, are_readable_parts, is_readable_split, is_whole_prefix, is_readable_test, is_readable_contract, count_of, count_under, count_of_parts, most_branches, most_depth, depth_of_choice, is_readable_pre}
 use Rattle.spec_terms.specs.Advert.{Advert}
 use Rattle.spec_terms.specs.Faults.{IsWellFormed}
 use Rattle.spec_data.specs.Ranges.{max_money, last_height}

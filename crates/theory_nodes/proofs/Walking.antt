@@ -1,23 +1,21 @@
 -- A walk over the nodes makes the transactions of the term.
-use Rattle.std.proofs.Common.{◌≡◌, ℕ, zero, suc, ◌+◌, List, [], ◌∷◌, ◌++◌, length, map, Option, Some, None, refl, sym, ap, ◌∙◌, arith, append_assoc, append-nil}
+use Rattle.std.proofs.Common.{◌≡◌, ℕ, ◌+◌, List, [], ◌∷◌, ◌++◌, length, map, refl, sym, ap, ◌∙◌, arith, append_assoc, append-nil}
 use Rattle.std.proofs.lemmas.List.{map-append}
 use Rattle.std.specs.Prelude.{slice_get, replicate}
 use Rattle.spec_terms.specs.Term as term
 use Rattle.spec_terms.specs.Term.{auth, after, put_reveal, withdraw, split, Contract, no_branch, branch, branches, Parts, no_part, part}
 use Rattle.spec_terms.specs.Core.{core, lock}
 use Rattle.spec_terms.specs.declared.path.PathStep.{PathStep}
-use Rattle.spec_terms.specs.declared.path.PathStep.TheVariants.{Branch as To, Part as Into}
 use Rattle.spec_bitcoin.specs.Scripts.{encode}
-use Rattle.spec_bitcoin.specs.declared.tx.TxOut.{TxOut}
-use Rattle.spec_compiler.specs.Scripts.{Demands, demands_of, demands_from, output_ops}
+use Rattle.spec_compiler.specs.Scripts.{demands_of, demands_from, output_ops}
 use Rattle.spec_compiler.specs.declared.unsigned.Unsigned.{Unsigned}
 use Rattle.spec_compiler.specs.Instance.{Instance, branch_keys, branch_path, position_script}
 use Rattle.spec_compiler.specs.Transactions.{Standing, pays, part_position, part_outputs, core_unsigned, continued_value, continued, part_standing, put_deposits, output_outpoint, initial_unsigned, root_value, root_standing}
-use Rattle.spec_compiler.specs.Compilation.{choice_transactions, branch_transactions, parts_transactions, path_transactions, choice_scripts, branch_scripts, parts_scripts, scripts}
+use Rattle.spec_compiler.specs.Compilation.{choice_transactions, branch_transactions, parts_transactions, path_transactions, choice_scripts, branch_scripts, parts_scripts}
 use Rattle.spec_nodes.specs.Nodes.{Node, choice_node, branch_node, asks_once, branch_count, branches_count, parts_count, choice_count, nodes_of, branch_numbers, part_numbers, branches_nodes, branch_nodes, parts_nodes, choice_nodes, choice_head, deed_of}
 use Rattle.theory_nodes.proofs.Begins.{Begins, begins_left, begins_right, begins_get, length-branch_nodes, length-choice_nodes, below_nodes, branch_nodes-core}
 use Rattle.theory_nodes.specs.declared.waiting.Waiting.{Waiting}
-use Rattle.theory_nodes.specs.Walk.{spent_of, node_demands, deed_demands, node_script, script_of, node_unsigned, deed_outputs, deed_waits, parts_wait, walk, next_stack, made_by, root_waits, node_paths, listed_scripts, NodesGiveTransactions, NodesGivePaths, NodesGiveScripts}
+use Rattle.theory_nodes.specs.Walk.{spent_of, node_demands, deed_demands, node_script, script_of, node_unsigned, parts_wait, walk, next_stack, made_by, root_waits, node_paths, listed_scripts, NodesGiveTransactions, NodesGivePaths, NodesGiveScripts}
 
 module _ (hash : List ℕ → List ℕ) (s : Instance) (ns : List Node) where
   abbrev pub script : ℕ → List ℕ

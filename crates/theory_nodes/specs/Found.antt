@@ -1,5 +1,5 @@
 -- What is claimed of a contract's numbered nodes: which number a path leads to, and how many there are.
-use Rattle.std.specs.Prelude.{ℕ, ◌≤◌, List}
+use Rattle.std.specs.Prelude.{◌≤◌, List}
 use Rattle.spec_terms.specs.Term.{Contract}
 use Rattle.spec_terms.specs.Advert.{Advert}
 use Rattle.spec_terms.specs.Paths.{at, contract_under}

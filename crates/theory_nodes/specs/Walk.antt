@@ -1,8 +1,7 @@
 -- The transactions of a contract, made in one walk over its numbered nodes, and what is claimed of that walk.
 use Rattle.std.specs.Prelude.{◌≡◌, ℕ, ◌+◌, ◌-◌, List, [], ◌∷◌, ◌++◌, length, map, replicate, Option, Some, None, slice_get}
-use Rattle.spec_terms.specs.Term.{Pred, always}
+use Rattle.spec_terms.specs.Term.{always}
 use Rattle.spec_terms.specs.declared.path.PathStep.{PathStep}
-use Rattle.spec_bitcoin.specs.declared.tx.OutPoint.{OutPoint}
 use Rattle.spec_bitcoin.specs.declared.tx.TxOut.{TxOut}
 use Rattle.spec_bitcoin.specs.Scripts.{encode}
 use Rattle.spec_compiler.specs.Scripts.{Demands, demands, output_ops}

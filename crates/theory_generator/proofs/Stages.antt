@@ -5,7 +5,7 @@ use Rattle.std.specs.List.{AllByRecursion}
 use Rattle.spec_terms.specs.Term.{Pred, Contract, after, put_reveal, withdraw, equal, constant, length_of}
 use Rattle.spec_terms.specs.Paths.{position, at_branch}
 use Rattle.spec_terms.specs.Precondition.{persistent, volatile}
-use Rattle.spec_terms.specs.Balance.{Funded, funded, branches_funded, root_balance, all_funded}
+use Rattle.spec_terms.specs.Balance.{Funded, as_funded, branches_funded, root_balance, all_funded}
 use Rattle.spec_terms.specs.Faults.{first_place}
 use Rattle.spec_terms.specs.declared.path.PathStep.{PathStep}
 use Rattle.spec_terms.specs.declared.path.PathStep.TheVariants.{Branch as To}
@@ -33,19 +33,19 @@ abbrev pub held_balance : ℤ
 held_balance = pos 1000000
 
 abbrev pub here : List PathStep → Contract → Funded
-here path c = funded path held_balance (position c)
+here path c = as_funded path held_balance (position c)
 
 abbrev pub asked : ℕ → ℕ → Pred
 asked j n = equal (length_of (secret_name j)) (constant n)
 
 abbrev pub revealing : List PathStep → ℕ → ℕ → Contract → Funded
-revealing path j n next = funded path held_balance (at_branch (put_reveal [] (secret_name j ∷ []) (asked j n) next))
+revealing path j n next = as_funded path held_balance (at_branch (put_reveal [] (secret_name j ∷ []) (asked j n) next))
 
 abbrev pub late : List PathStep → ℕ → Funded
-late path j = funded path held_balance (at_branch (after (10 * j) (withdraw party_b)))
+late path j = as_funded path held_balance (at_branch (after (10 * j) (withdraw party_b)))
 
 abbrev pub last : List PathStep → Funded
-last path = funded path held_balance (at_branch (withdraw party_a))
+last path = as_funded path held_balance (at_branch (withdraw party_a))
 
 -- the test is true of no position and no branch of stages up to this number
 pub record ClearsStages (most : ℕ) (test : Funded → Bool) : Type 0 where
@@ -84,7 +84,7 @@ all_clear ms test made c =
     let volatile' = no_volatile 1 ms in
     let root = stages 1 ms in
     let all : all_funded (made_advert ms) ≡ here [] root ∷ branches_funded [] 0 [] held_balance 0 root =
-    λ i. funded [] (balance i) (position root) ∷ branches_funded (volatile' i) 0 [] (balance i) 0 root in
+    λ i. as_funded [] (balance i) (position root) ∷ branches_funded (volatile' i) 0 [] (balance i) 0 root in
     subst (Clear test) (sym all) (c.positions [] 1 ms made, stages_clear (length ms) test c [] 1 ms made (omega arith) (omega arith))
 
 pub no_place : (ms : List Made) (test : Funded → Bool) → AreMade 1 ms → ClearsStages (length ms) test

@@ -1,4 +1,4 @@
--- What each operation makes of the two stacks, as Bitcoin's script has it, for the opcodes of this project's profile.
+-- What each operation makes of the two stacks, as Bitcoin's script has it, for the opcodes of contracts.
 use Rattle.std.specs.Prelude.{ℕ, List, [], ◌∷◌, length, Bool, true, false, not, ◌&&◌, if◌then◌else◌, ◌||◌, slice_get, Option, Some, None}
 use Rattle.std.specs.Prelude.{◌==◌, ℤ, pos, negsuc, ◌+ℤ◌, ◌-ℤ◌, int_lt, int_le}
 use Rattle.std.specs.Ordering.{int_eq}

@@ -40,9 +40,17 @@ IsLabel (Branch contract path party) = (contract < 2 ^ 32) × AllByRecursion IsS
 abbrev pub key_of : (List ℕ → List ℕ) → Label → List ℕ
 key_of hash label = 2 ∷ hash (label_text label)
 
+-- bytes of a key: a compressed public key, as the witness programs of BIP 143 ask
+abbrev pub key_bytes : ℕ
+key_bytes = 33
+
+-- the byte of CHECKSIG in Bitcoin's script
+abbrev pub checksig_byte : ℕ
+checksig_byte = 0xac
+
 -- the script of a deposit: a push of the key, and CHECKSIG
 abbrev pub deposit_script : List ℕ → List ℕ
-deposit_script key = 33 ∷ (key ++ 172 ∷ [])
+deposit_script key = key_bytes ∷ (key ++ checksig_byte ∷ [])
 
 -- what an output pays to whose script has this hash
 abbrev pub pay_to : List ℕ → List ℕ

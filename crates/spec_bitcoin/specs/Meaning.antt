@@ -1,8 +1,9 @@
--- The meaning of a script, as Bitcoin's consensus runs it, narrowed to the opcodes of this project's profile: a recursion on the tree of blocks, with all limits.
+-- The meaning of a script, as Bitcoin's consensus runs it, for the opcodes of contracts: a recursion on the tree of blocks, with all limits.
 use Rattle.std.specs.Prelude.{ℕ, ◌+◌, List, [], ◌∷◌, length, reverse, Bool, true, false, not, ◌&&◌, if◌then◌else◌, nat_le, nat_lt, count_by}
 use Rattle.std.specs.Prelude.{Option, Some, None}
 use Rattle.std.specs.List.{list_all}
 use Rattle.std.specs.Option.{option_and_then, option_map_or}
+use Rattle.spec_data.specs.Ranges.{most_script_bytes, most_operations, most_item_bytes, most_items}
 use Rattle.spec_bitcoin.specs.declared.script.Op.{Op}
 use Rattle.spec_bitcoin.specs.declared.script.Op.TheVariants.{Push, Code}
 use Rattle.spec_bitcoin.specs.Opcodes.{opcode_of}
@@ -14,7 +15,7 @@ use Rattle.spec_bitcoin.specs.Scripts.{script_ops}
 
 -- the stacks, where both together hold at most 1,000 items
 abbrev pub within_limit : Stacks → Option Stacks
-within_limit s = if nat_le (length s.main + length s.alt) 1000 then Some s else None
+within_limit s = if nat_le (length s.main + length s.alt) most_items then Some s else None
 
 -- an operation that runs
 abbrev pub act : (Item → Item) → (Item → Item → Bool) → Op → Stacks → Option Stacks
@@ -57,9 +58,9 @@ meaning hash valid ops stack = succeeds (outcome hash valid ops stack)
 
 -- ---- the bytes of a script
 
--- the push has at most 520 bytes
+-- the push has no more bytes than an item
 abbrev pub is_short_push : Op → Bool
-is_short_push (Push item) = nat_le (length item) 520
+is_short_push (Push item) = nat_le (length item) most_item_bytes
 is_short_push (Code c) = true
 
 -- the operation counts against the limit, whether it runs or not
@@ -69,10 +70,10 @@ is_counted (Code c) = nat_lt 0x60 c
 
 -- no push is too long, and at most 201 operations count
 abbrev pub within_limits : List Op → Bool
-within_limits ops = list_all is_short_push ops && nat_le (count_by is_counted ops) 201
+within_limits ops = list_all is_short_push ops && nat_le (count_by is_counted ops) most_operations
 
 -- whether a script is true on a stack, given from its bottom; the hash, and which signature is valid for which key, are given
 unfoldable pub script_meaning : (Item → Item) → (Item → Item → Bool) → List ℕ → List Item → Bool
 script_meaning hash valid script stack =
-    nat_le (length script) 10000
+    nat_le (length script) most_script_bytes
     && option_map_or (λ ops. within_limits ops && meaning hash valid ops (reverse stack)) (script_ops script) false

@@ -2,6 +2,7 @@
 use Rattle.std.specs.Prelude.{ℕ, zero, suc, ◌+◌, ◌*◌, ◌/◌, ◌%◌, List, [], ◌∷◌, ◌++◌, length, drop, slice_range, nat_le, nat_lt, ◌==◌, ◌&&◌}
 use Rattle.std.specs.Prelude.{Bool, if◌then◌else◌, Option, Some, None, is_some, ℤ, pos, negsuc}
 use Rattle.std.specs.Option.{option_map, option_and_then}
+use Rattle.spec_data.specs.Ranges.{most_item_bytes}
 use Rattle.spec_bitcoin.specs.declared.script.Op.{Op}
 use Rattle.spec_bitcoin.specs.declared.script.Op.TheVariants.{Push, Code}
 use Rattle.spec_bitcoin.specs.Opcodes.{opcode_of}
@@ -73,9 +74,9 @@ abbrev pub encode : List Op → List ℕ
 encode [] = []
 encode (op ∷ ops) = encode_op op ++ encode ops
 
--- a push of at most 520 bytes, or an opcode of the profile
+-- a push of no more bytes than an item, or an opcode of the profile
 abbrev pub is_written : Op → Bool
-is_written (Push item) = nat_le (length item) 520
+is_written (Push item) = nat_le (length item) most_item_bytes
 is_written (Code c) = nat_lt 78 c && is_some (opcode_of c)
 
 -- 1 where the operation counts against the limit, else 0

@@ -1,4 +1,4 @@
-//! Bitcoin as this project sees it: transactions, scripts, keys and the ledger's verdict, as plain data and definitions.
+//! Bitcoin's transactions, scripts, keys and the ledger's verdict, as plain data and definitions.
 #![tactic(auto)]
 
 pub mod label;

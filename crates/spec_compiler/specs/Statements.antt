@@ -4,6 +4,7 @@ use Rattle.std.specs.Prelude.{Some, ◌==◌}
 use Rattle.std.specs.List.{list_all}
 use Rattle.std.specs.Str.{bytes_eq}
 pub use Rattle.spec_data.specs.Hashes.{IsHash}
+use Rattle.spec_data.specs.Ranges.{least_secret_bytes, most_item_bytes, most_script_bytes, most_operations}
 use Rattle.spec_terms.specs.Term as term
 use Rattle.spec_terms.specs.Term.{Contract, branches}
 use Rattle.spec_terms.specs.Core.{core, reveals_of, test_of}
@@ -16,7 +17,7 @@ use Rattle.spec_terms.specs.declared.path.PathStep.{PathStep}
 use Rattle.spec_bitcoin.specs.Effects.{truth}
 use Rattle.spec_bitcoin.specs.Scripts.{script_ops, counted}
 use Rattle.spec_bitcoin.specs.Meaning.{script_meaning}
-use Rattle.spec_bitcoin.specs.Keys.{deposit_script}
+use Rattle.spec_bitcoin.specs.Keys.{key_bytes, deposit_script}
 use Rattle.spec_compiler.specs.Scripts.{digest_of, output_ops}
 use Rattle.spec_compiler.specs.Instance.{Instance, people, branch_path, branch_keys, position_demands, position_script}
 use Rattle.spec_compiler.specs.Witness.{selection, witness_stack, chosen}
@@ -30,9 +31,9 @@ are_valid valid [] (key ∷ keys) = false
 are_valid valid (signature ∷ signatures) [] = false
 are_valid valid (signature ∷ signatures) (key ∷ keys) = valid signature key && are_valid valid signatures keys
 
--- a string of 16 to 520 bytes with this digest
+-- a string with as many bytes as a secret may have, 16 to 520, and this digest
 abbrev pub is_secret : (List ℕ → List ℕ) → List ℕ → List ℕ → Bool
-is_secret hash secret digest = (nat_le 16 (length secret) && nat_le (length secret) 520) && bytes_eq (hash secret) digest
+is_secret hash secret digest = (nat_le least_secret_bytes (length secret) && nat_le (length secret) most_item_bytes) && bytes_eq (hash secret) digest
 
 -- one such string for each digest
 abbrev pub are_secrets : (List ℕ → List ℕ) → List (List ℕ) → List (List ℕ) → Bool
@@ -41,11 +42,11 @@ are_secrets hash [] (digest ∷ digests) = false
 are_secrets hash (secret ∷ strings) [] = false
 are_secrets hash (secret ∷ strings) (digest ∷ digests) = is_secret hash secret digest && are_secrets hash strings digests
 
--- the length that each name has, by the byte counts of its strings: 16 less
+-- the length that each name has, by the byte counts of its strings: less by the fewest bytes of a secret
 abbrev pub lengths_of : List (List ℕ) → List ℕ → List (List ℕ × ℕ)
 lengths_of [] counts = []
 lengths_of (name ∷ names) [] = []
-lengths_of (name ∷ names) (count ∷ counts) = (name, count - 16) ∷ lengths_of names counts
+lengths_of (name ∷ names) (count ∷ counts) = (name, count - least_secret_bytes) ∷ lengths_of names counts
 
 -- the lengths of the secrets of these names
 abbrev pub secret_lengths : List (List ℕ) → List (List ℕ) → List (List ℕ × ℕ)
@@ -81,7 +82,7 @@ has_size n bytes = length bytes == n
 
 -- a string that a witness may have below its script
 abbrev pub is_short : List ℕ → Bool
-is_short item = nat_le (length item) 520
+is_short item = nat_le (length item) most_item_bytes
 
 -- the contract passed the check, each of its secrets is committed to by a digest of 32 bytes, and the branches are those of the position
 pub record IsCompiled (s : Instance) (position : List PathStep) (choice : Contract) : Type 0 where
@@ -117,8 +118,8 @@ OpenedIsChosen =
 pub record HasCost (hash : List ℕ → List ℕ) (s : Instance) (position : List PathStep) (choice : Contract) : Type 0 where
   pub bytes : length (position_script hash s position choice) ≡ (cost (length (people s)) choice).bytes
   pub operations : counted (output_ops (position_demands hash s position choice)) ≡ (cost (length (people s)) choice).operations
-  pub few_bytes : length (position_script hash s position choice) ≤ 10000
-  pub few_operations : counted (output_ops (position_demands hash s position choice)) ≤ 201
+  pub few_bytes : length (position_script hash s position choice) ≤ most_script_bytes
+  pub few_operations : counted (output_ops (position_demands hash s position choice)) ≤ most_operations
   pub spells : script_ops (position_script hash s position choice) ≡ Some (output_ops (position_demands hash s position choice))
 
 abbrev pub SizeTheorem : Type 0
@@ -148,5 +149,5 @@ WitnessOpens =
 -- the script of a deposit is true on a stack exactly where the stack is one signature that is valid for its key
 abbrev pub DepositMeaning : Type 0
 DepositMeaning = (hash : List ℕ → List ℕ) (valid : List ℕ → List ℕ → Bool) (key : List ℕ) (stack : List (List ℕ))
-    → length key ≡ 33 → list_all is_short stack ≡ true
+    → length key ≡ key_bytes → list_all is_short stack ≡ true
     → script_meaning hash valid (deposit_script key) stack ≡ are_valid valid (reverse stack) (key ∷ [])

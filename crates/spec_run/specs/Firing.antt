@@ -12,7 +12,6 @@ use Rattle.spec_compiler.specs.declared.prepared.Prepared.{Prepared}
 use Rattle.spec_compiler.specs.Instance.{Instance, branch_keys, position_script}
 use Rattle.spec_compiler.specs.Scripts.{digest_of}
 use Rattle.spec_compiler.specs.Transactions.{prepared, initial_unsigned}
-use Rattle.spec_compiler.specs.ByPath.{prepared_at}
 use Rattle.spec_compiler.specs.Endorsements.{put_owner}
 use Rattle.spec_compiler.specs.Witness.{witness_of}
 use Rattle.spec_run.specs.declared.outcome.Reason.{Reason}
@@ -22,7 +21,7 @@ use Rattle.spec_run.specs.World.{ContractPosition, World, live_position_at}
 use Rattle.spec_run.specs.Compiled.{compiled_instance}
 use Rattle.spec_run.specs.Revealing.{fitting}
 use Rattle.spec_run.specs.Ledger.{reaches, position_path, contract_in, count_of}
-use Rattle.spec_run.specs.Signing.{branch_if_live, first_digest}
+use Rattle.spec_run.specs.Signing.{branch_if_live, first_digest, prepared_if_compiled}
 use Rattle.spec_run.specs.Giving.{deposit_witness}
 use Rattle.spec_run.specs.Draft.{Draft, refused, unless}
 
@@ -153,11 +152,6 @@ taking_of_parts s w held branch None choice b made = None
 taking_of_parts s w held branch (Some instance) None b made = None
 taking_of_parts s w held branch (Some instance) (Some choice) None made = None
 taking_of_parts s w held branch (Some instance) (Some choice) (Some b) None = None
-
--- the transaction of a path, where the contract is compiled
-abbrev pub prepared_if_compiled : Setup → Option Instance → List PathStep → Option Prepared
-prepared_if_compiled s None path = None
-prepared_if_compiled s (Some instance) path = prepared_at s.hash instance path
 
 -- the transaction of this branch of what is held, with its witnesses
 abbrev pub taking_of_position : Setup → World → Option ContractPosition → ℕ → Option Tx

@@ -3,6 +3,7 @@ use Rattle.std.specs.Prelude.{ℕ, ◌+◌, ◌-◌, List, [], ◌∷◌, ◌++�
 use Rattle.std.specs.Prelude.{option_map, is_some}
 use Rattle.std.specs.List.{filter}
 use Rattle.spec_data.specs.Lists.{look_up}
+use Rattle.spec_data.specs.Ranges.{least_secret_bytes}
 use Rattle.spec_terms.specs.Advert.{Advert}
 use Rattle.spec_terms.specs.Precondition.{secrets}
 use Rattle.spec_calculus.specs.declared.parts.Revealed.{Revealed}
@@ -48,7 +49,7 @@ newly_shown s w next = filter (λ x. shown s next x && not (shown s w x)) (all_s
 
 -- the length of a secret with these bytes
 abbrev pub secret_size : List ℕ → ℕ
-secret_size bytes = length bytes - 16
+secret_size bytes = length bytes - least_secret_bytes
 
 -- the length of a party's secret with this digest, in a run that posts these strings: an honest party's own, and another's by the first string that fits
 abbrev pub length_in_run : Setup → List (List ℕ) → List ℕ → List ℕ → List ℕ → Option ℕ

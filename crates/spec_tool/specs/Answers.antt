@@ -1,5 +1,4 @@
--- What the program answers to words and to what the reads of its files answered: a status and a text, for every command; of this
--- project's profile.
+-- What the program answers to words and to what the reads of its files answered: a status and a text, for every command.
 --
 --  0  otherwise
 --  1  a contract file is refused

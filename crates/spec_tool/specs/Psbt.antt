@@ -1,4 +1,4 @@
--- Partially signed transactions by BIP 174, in this project's subset: their data and their bytes.
+-- Partially signed transactions by BIP 174, with one signature an input and few fields: their data and their bytes.
 use Rattle.std.specs.Prelude.{◌≡◌, ℕ, List, [], ◌∷◌, ◌++◌, length, Bool, true, false, not, ◌&&◌}
 use Rattle.std.specs.Prelude.{◌||◌, ◌==◌, nat_lt, if◌then◌else◌, Option, Some, None, is_some, Result, Ok, Err}
 use Rattle.std.specs.List.{flat_map, list_all, AllByRecursion}

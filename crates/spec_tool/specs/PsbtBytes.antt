@@ -1,4 +1,4 @@
--- Partially signed transactions by BIP 174, in this project's subset: how they are read and written, and two of them combined.
+-- Partially signed transactions by BIP 174, with one signature an input and few fields: how they are read, written and combined.
 use Rattle.std.specs.Prelude.{ℕ, zero, suc, ◌+◌, List, [], ◌∷◌, ◌++◌, length, map, replicate, Bool, true, false, not, ◌||◌, ◌==◌}
 use Rattle.std.specs.Prelude.{if◌then◌else◌, Option, Some, None, Result, Ok, Err}
 use Rattle.std.specs.List.{flat_map, list_any}

@@ -1,5 +1,5 @@
 -- What is claimed of commands whose files are there: they answer to the texts of these, and well-formed files without a halt give the
--- status 0; of this project's profile.
+-- status 0.
 use Rattle.std.specs.Prelude.{◌≡◌, ℕ, List, [], ◌∷◌, Option, Some, None, Ok}
 use Rattle.spec_data.specs.Digits.{onto}
 use Rattle.spec_data.specs.Lists.{look_up}

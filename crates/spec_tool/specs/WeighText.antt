@@ -1,5 +1,5 @@
 -- What `weigh` prints: a contract's transactions with their weights as one line of compact JSON (RFC 8259), its keys in alphabetical
--- order; of this project's profile.
+-- order.
 use Rattle.std.specs.Prelude.{ℕ, List, [], ◌∷◌, ◌++◌, map, reverse, Option, Some, None, codes}
 use Rattle.std.specs.Fmt.{decimal}
 use Rattle.std.specs.List.{join_by}

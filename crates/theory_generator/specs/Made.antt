@@ -1,4 +1,4 @@
--- What is claimed of the contracts that are made from a number; of this project's profile.
+-- What is claimed of the contracts that are made from a number.
 use Rattle.std.specs.Prelude.{◌≡◌, ℕ, ◌≤◌, true, Ok}
 use Rattle.spec_terms.specs.Faults.{IsWellFormed}
 use Rattle.spec_terms.specs.Readable.{is_readable}

@@ -1,4 +1,4 @@
--- What is claimed of the runs that are made from a number; of this project's profile.
+-- What is claimed of the runs that are made from a number.
 use Rattle.std.specs.Prelude.{◌≡◌, ℕ, ◌+◌, ◌*◌, ◌≤◌, List, [], ◌∷◌, length, None, Ok}
 use Rattle.spec_run.specs.Event.{opening_collision}
 use Rattle.spec_run.specs.Conditions.{HashesBytes}

@@ -1,4 +1,4 @@
--- What may still come in a contract text, token by token and without any limit; of this project's profile.
+-- What may still come in a contract text, token by token and without any limit.
 use Rattle.std.specs.Prelude.{ℕ, suc, List, [], ◌∷◌, ◌++◌, if◌then◌else◌, Option, Some, None}
 use Rattle.spec_data.specs.Ranges.{max_money, last_height}
 use Rattle.spec_text.specs.declared.token.Keyword.{Keyword}

@@ -1,4 +1,4 @@
--- The limits that the tokens of a contract text exceed, in order, and where its grammar ends; of this project's profile.
+-- The limits that the tokens of a contract text exceed, in order, and where its grammar ends.
 use Rattle.std.specs.Prelude.{ℕ, suc, List, [], ◌∷◌, ◌++◌, length, if◌then◌else◌, nat_le, Option, Some, None}
 use Rattle.spec_data.specs.Ranges.{max_money}
 use Rattle.spec_terms.specs.Readable.{greatest_constant, most_depth, most_branches, most_choices, most_parts, most_deposits, most_secrets}

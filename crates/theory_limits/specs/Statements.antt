@@ -1,4 +1,4 @@
--- What is claimed of the limits of contract text; of this project's profile.
+-- What is claimed of the limits of contract text.
 use Rattle.std.specs.Prelude.{◌≡◌, ℕ, ◌-◌, ◌≤◌, List, [], ◌∷◌, length, true, Some, None, Ok, Err}
 use Rattle.spec_terms.specs.Advert.{Advert}
 use Rattle.spec_terms.specs.Readable.{is_readable}

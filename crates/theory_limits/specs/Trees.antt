@@ -1,4 +1,4 @@
--- The limits that an advert exceeds as a tree, in the order of its text; of this project's profile.
+-- The limits that an advert exceeds as a tree, in the order of its text.
 use Rattle.std.specs.Prelude.{ℕ, suc, ◌+◌, List, [], ◌∷◌, ◌++◌}
 use Rattle.spec_data.specs.Ranges.{max_money, last_height}
 use Rattle.spec_terms.specs.Term.{Expr, constant, length_of, plus, minus, Pred, always, both, negation, equal, less, Guarded, auth, after, put_reveal, withdraw, split, Contract, no_branch, branch, Parts, no_part, part}

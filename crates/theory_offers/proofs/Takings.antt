@@ -29,7 +29,8 @@ use Rattle.spec_run.specs.Setup.{Setup, contract_at}
 use Rattle.spec_run.specs.World.{ContractPosition, Output, World, live_position_at, bindings_at}
 use Rattle.spec_run.specs.Compiled.{compiled_instance}
 use Rattle.spec_run.specs.Conditions.{IsSetup}
-use Rattle.spec_run.specs.Firing.{branch_signatures, shown_strings, first_unshown, branch_witness, taking_witnesses, taking_transaction, taking_of_parts, taking_of_position, prepared_if_compiled}
+use Rattle.spec_run.specs.Firing.{branch_signatures, shown_strings, first_unshown, branch_witness, taking_witnesses, taking_transaction, taking_of_parts, taking_of_position}
+use Rattle.spec_run.specs.Signing.{prepared_if_compiled}
 use Rattle.spec_run.specs.Ledger.{verdict_in, contract_in, position_path, position_branch}
 use Rattle.spec_run.specs.Steps.{names_deposit}
 use Rattle.theory_calculus.proofs.Names.{bytes_refl}

@@ -1,6 +1,7 @@
 -- What is claimed of the limits that Bitcoin's consensus sets to scripts: that of a position meets none of them, whether it opens or not.
 use Rattle.std.specs.Prelude.{◌≡◌, ℕ, ◌+◌, ◌≤◌, List, [], ◌∷◌, length, Bool, true, not, if◌then◌else◌, Option, Some, None, reverse}
 use Rattle.std.specs.Option.{option_and_then}
+use Rattle.spec_data.specs.Ranges.{most_script_bytes}
 use Rattle.spec_terms.specs.Term.{Contract}
 use Rattle.spec_terms.specs.declared.path.PathStep.{PathStep}
 use Rattle.spec_bitcoin.specs.declared.script.Op.{Op}
@@ -20,7 +21,7 @@ ops_at hash s position choice = output_ops (position_demands hash s position cho
 
 -- few bytes, which are read as operations; no push is too long, few operations count, and there are few of them in all
 pub record MeetsNoLimit (hash : List ℕ → List ℕ) (s : Instance) (position : List PathStep) (choice : Contract) : Type 0 where
-  pub bytes : length (position_script hash s position choice) ≤ 10000
+  pub bytes : length (position_script hash s position choice) ≤ most_script_bytes
   pub reads : script_ops (position_script hash s position choice) ≡ Some (ops_at hash s position choice)
   pub limits : within_limits (ops_at hash s position choice) ≡ true
   pub few : length (ops_at hash s position choice) ≤ 402

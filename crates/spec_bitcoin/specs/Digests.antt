@@ -1,4 +1,5 @@
--- The txid of a transaction, by BIP 141, and the digest that a signature signs, by BIP 143 with the hash type ALL; and the strings that are hashed to make them, in order.
+-- The txid of a transaction, by BIP 141, and the digest that a signature signs, by BIP 143 with the hash type ALL; and the strings
+-- that are hashed to make them, in order.
 use Rattle.std.specs.Prelude.{ℕ, List, [], ◌∷◌, ◌++◌, slice_get}
 use Rattle.std.specs.List.{flat_map}
 use Rattle.std.specs.Option.{option_map_or}

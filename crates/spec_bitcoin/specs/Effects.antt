@@ -132,7 +132,8 @@ within_of [] = None
 within_of (top ∷ []) = None
 within_of (top ∷ low ∷ []) = None
 within_of (top ∷ low ∷ x ∷ rest) =
-    with_number (number_of_item x) (λ n. with_number (number_of_item low) (λ a. with_number (number_of_item top) (λ b. Some (item_of_number (number_of_bool (int_le a n && int_lt n b)) ∷ rest))))
+    with_number (number_of_item x) (λ n. with_number (number_of_item low)
+        (λ a. with_number (number_of_item top) (λ b. Some (item_of_number (number_of_bool (int_le a n && int_lt n b)) ∷ rest))))
 
 -- ---- both stacks
 

@@ -1,4 +1,5 @@
--- The meaning of a script, as Bitcoin's consensus runs it, for the opcodes of contracts: a recursion on the tree of blocks, with all limits.
+-- The meaning of a script, as Bitcoin's consensus runs it, for the opcodes of contracts: a recursion on the tree of blocks, with
+-- all limits.
 use Rattle.std.specs.Prelude.{ℕ, ◌+◌, List, [], ◌∷◌, length, reverse, Bool, true, false, not, ◌&&◌, if◌then◌else◌, nat_le, nat_lt, count_by}
 use Rattle.std.specs.Prelude.{Option, Some, None}
 use Rattle.std.specs.List.{list_all}
@@ -26,7 +27,8 @@ act hash valid (Code c) s = option_and_then within_limit (effect hash valid (opc
 abbrev pub pop_condition : Bool → Stacks → Option (Bool × Stacks)
 pop_condition negated s = elim s.main as (λ _. Option (Bool × Stacks)) [
   | [] ↦ None
-  | x ∷ rest ↦ option_and_then (λ (t : Stacks). Some (if negated then not (truth x) else truth x, t)) (within_limit (record { main = rest; alt = s.alt }))
+  | x ∷ rest ↦ option_and_then (λ (t : Stacks). Some (if negated then not (truth x) else truth x, t))
+      (within_limit (record { main = rest; alt = s.alt }))
 ]
 
 -- what the operations and blocks make of the stacks, where none fails
@@ -35,7 +37,8 @@ abbrev mutual
   run hash valid End s = Some s
   run hash valid (Plain op rest) s = option_and_then (run hash valid rest) (act hash valid op s)
   run hash valid (Block negated sections rest) s =
-      option_and_then (run hash valid rest) (option_and_then (λ (p : Bool × Stacks). run_sections hash valid sections p.0 p.1) (pop_condition negated s))
+      option_and_then (run hash valid rest)
+          (option_and_then (λ (p : Bool × Stacks). run_sections hash valid sections p.0 p.1) (pop_condition negated s))
 
   -- the sections at even places run where the flag says so, and else those at odd places
   pub run_sections : (Item → Item) → (Item → Item → Bool) → Sections → Bool → Stacks → Option Stacks

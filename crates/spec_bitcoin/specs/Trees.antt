@@ -1,4 +1,5 @@
--- The operations of a script as a tree of blocks, as Bitcoin's script reads them: a block is an IF or NOTIF with its sections, cut at each ELSE of that block.
+-- The operations of a script as a tree of blocks, as Bitcoin's script reads them: a block is an IF or NOTIF with its sections, cut
+-- at each ELSE of that block.
 use Rattle.std.specs.Prelude.{List, [], ◌∷◌, Bool, true, false, Option, Some, None}
 use Rattle.spec_bitcoin.specs.declared.script.Op.{Op}
 use Rattle.spec_bitcoin.specs.declared.script.Op.TheVariants.{Push, Code}
@@ -20,7 +21,8 @@ mutual
     NoMore : Sections
     Section : (items : Items) → (others : Sections) → Sections
 
--- what the operations from some place on say: of each block that is open there the section from that place on and the sections after it, innermost block first, and then what stands outside of blocks
+-- what the operations from some place on say: of each block that is open there the section from that place on and the sections
+-- after it, innermost block first, and then what stands outside of blocks
 pub data Open : Type 0 where
   Outside : (items : Items) → Open
   Inside : (items : Items) → (others : Sections) → (outer : Open) → Open

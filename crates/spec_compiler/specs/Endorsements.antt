@@ -70,7 +70,8 @@ all_met book wanted = list_all (is_met book) wanted
 
 -- ---- a contract
 
--- all that it needs: path by path in the order of the text, for each the participants whom the branch doesn't ask, then the owners of its puts
+-- all that it needs: path by path in the order of the text, for each the participants whom the branch doesn't ask, then the owners
+-- of its puts
 abbrev pub needed : (List ℕ → List ℕ) → Instance → List Need
 needed hash s = needs hash s.contract s.advert (compilation hash s).paths
 

@@ -33,7 +33,8 @@ are_valid valid (signature ∷ signatures) (key ∷ keys) = valid signature key 
 
 -- a string with as many bytes as a secret may have, 16 to 520, and this digest
 abbrev pub is_secret : (List ℕ → List ℕ) → List ℕ → List ℕ → Bool
-is_secret hash secret digest = (nat_le least_secret_bytes (length secret) && nat_le (length secret) most_item_bytes) && bytes_eq (hash secret) digest
+is_secret hash secret digest =
+    (nat_le least_secret_bytes (length secret) && nat_le (length secret) most_item_bytes) && bytes_eq (hash secret) digest
 
 -- one such string for each digest
 abbrev pub are_secrets : (List ℕ → List ℕ) → List (List ℕ) → List (List ℕ) → Bool

@@ -67,7 +67,8 @@ given_output s o = record { value = o.1; script = paid_to s (o.0) }
 
 -- the transaction without witnesses
 abbrev pub unsigned_gift : Setup → World → List ℕ → List (List ℕ × ℕ) → Tx
-unsigned_gift s w inputs outputs = record { version = 2; inputs = map (given_input w) inputs; outputs = map (given_output s) outputs; lock = 0 }
+unsigned_gift s w inputs outputs =
+    record { version = 2; inputs = map (given_input w) inputs; outputs = map (given_output s) outputs; lock = 0 }
 
 -- the digest of the input that spends the output of this number
 abbrev pub given_digest : Setup → World → List ℕ → Tx → ℕ → List ℕ

@@ -51,7 +51,8 @@ newly_shown s w next = filter (λ x. shown s next x && not (shown s w x)) (all_s
 abbrev pub secret_size : List ℕ → ℕ
 secret_size bytes = length bytes - least_secret_bytes
 
--- the length of a party's secret with this digest, in a run that posts these strings: an honest party's own, and another's by the first string that fits
+-- the length of a party's secret with this digest, in a run that posts these strings: an honest party's own, and another's by the
+-- first string that fits
 abbrev pub length_in_run : Setup → List (List ℕ) → List ℕ → List ℕ → List ℕ → Option ℕ
 length_in_run s strings party name digest =
     if is_honest s party then option_map secret_size (held_secret s party name) else option_map secret_size (fitting s strings digest)

@@ -153,7 +153,8 @@ prepared_if_compiled s (Some instance) path = prepared_at s.hash instance path
 abbrev pub authorising_pairs : Setup → World → List ℕ → Option ContractPosition → ℕ → List Pair
 authorising_pairs s w party None branch = []
 authorising_pairs s w party (Some held) branch =
-    branch_pair s party held.contract (position_path held branch) (prepared_if_compiled s (compiled_instance s w held.contract) (position_path held branch))
+    branch_pair s party held.contract (position_path held branch)
+        (prepared_if_compiled s (compiled_instance s w held.contract) (position_path held branch))
 
 abbrev pub authorise_draft : Setup → World → List ℕ → ℕ → ℕ → Draft
 authorise_draft s w party output branch =

@@ -106,7 +106,8 @@ pub record IsKept (s : Setup) (g : Configuration) (w : World) (offer : Offer) : 
   pub accepts : verdict_in s w tx ≡ verdicts.Accepted spent made
   pub leads : LeadsTo s g w offer.event offer.step (event s w offer.event)
 
--- every enabled and authorised contract step after a run has a compiled transaction that the ledger accepts, and its event leads to the step
+-- every enabled and authorised contract step after a run has a compiled transaction that the ledger accepts, and its event leads to
+-- the step
 abbrev pub OffersTheorem : Type 0
 OffersTheorem = (s : Setup) (es : List Event) → IsRun s es
     → (offer : Offer) → Contains (offers (last_configuration s es)) offer → IsKept s (last_configuration s es) (last_world s es) offer

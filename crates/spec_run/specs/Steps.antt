@@ -164,6 +164,7 @@ outcome_steps s strings g w next e tx outcomes.Done = done_steps s strings w nex
 outcome_steps s strings g w next e tx (outcomes.Accepted spent made lock) = accepted_steps s g w next spent tx
 outcome_steps s strings g w next e tx (outcomes.Refused reason) = []
 
--- the steps of an event that came to this and left the second world. The configuration is the one before the event, and the strings are those that are posted in the whole run
+-- the steps of an event that came to this and left the second world. The configuration is the one before the event, and the strings
+-- are those that are posted in the whole run
 abbrev pub steps_of : Setup → List (List ℕ) → Configuration → World → World → Event → Draft → List Step
 steps_of s strings g w next e d = outcome_steps s strings g w next e d.tx d.outcome

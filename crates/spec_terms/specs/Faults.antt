@@ -133,7 +133,8 @@ abbrev pub is_short : ℕ → ℤ → Subterm → Bool
 is_short fee balance (position c) = int_lt balance (pos 0)
 is_short fee balance (at_branch b) = is_withdraw (core b) && int_lt balance (pos fee)
 
--- FeeShort: a static balance is negative, or a position with a withdraw branch has one below the fee; at the position or the withdraw branch
+-- FeeShort: a static balance is negative, or a position with a withdraw branch has one below the fee; at the position or the
+-- withdraw branch
 abbrev pub fee_short : Advert → Option Place
 fee_short a = first_place (λ s. is_short a.fee s.balance s.subterm) (all_funded a)
 

@@ -18,16 +18,20 @@ abbrev pub SpellsFormula : List Lexeme → Expr → Type 0
 SpellsFormula t (constant n) = t ≡ number n ∷ []
 SpellsFormula t (length_of secret) = t ≡ symbol mark.Bar ∷ name secret ∷ symbol mark.Bar ∷ []
 SpellsFormula t (plus e f) =
-    (te : List Lexeme) × (tf : List Lexeme) × (t ≡ symbol mark.LeftParen ∷ (te ++ symbol mark.Plus ∷ (tf ++ symbol mark.RightParen ∷ []))) × SpellsFormula te e × SpellsFormula tf f
+    (te : List Lexeme) × (tf : List Lexeme) × (t ≡ symbol mark.LeftParen ∷ (te ++ symbol mark.Plus ∷ (tf ++ symbol mark.RightParen ∷ [])))
+        × SpellsFormula te e × SpellsFormula tf f
 SpellsFormula t (minus e f) =
-    (te : List Lexeme) × (tf : List Lexeme) × (t ≡ symbol mark.LeftParen ∷ (te ++ symbol mark.Minus ∷ (tf ++ symbol mark.RightParen ∷ []))) × SpellsFormula te e × SpellsFormula tf f
+    (te : List Lexeme) × (tf : List Lexeme) × (t ≡ symbol mark.LeftParen ∷ (te ++ symbol mark.Minus ∷ (tf ++ symbol mark.RightParen ∷ [])))
+        × SpellsFormula te e × SpellsFormula tf f
 
 -- the tokens that spell a predicate
 abbrev pub SpellsTest : List Lexeme → Pred → Type 0
 SpellsTest t always = t ≡ keyword word.True ∷ []
 SpellsTest t (negation p) = (tp : List Lexeme) × (t ≡ keyword word.Not ∷ tp) × SpellsTest tp p
 SpellsTest t (both p q) =
-    (tp : List Lexeme) × (tq : List Lexeme) × (t ≡ symbol mark.LeftBracket ∷ (tp ++ keyword word.And ∷ (tq ++ symbol mark.RightBracket ∷ []))) × SpellsTest tp p × SpellsTest tq q
+    (tp : List Lexeme) × (tq : List Lexeme)
+        × (t ≡ symbol mark.LeftBracket ∷ (tp ++ keyword word.And ∷ (tq ++ symbol mark.RightBracket ∷ [])))
+        × SpellsTest tp p × SpellsTest tq q
 SpellsTest t (equal e f) =
     (te : List Lexeme) × (tf : List Lexeme) × (t ≡ te ++ symbol mark.Equal ∷ tf) × SpellsFormula te e × SpellsFormula tf f
 SpellsTest t (less e f) =
@@ -78,7 +82,8 @@ abbrev mutual
   pub SpellsChoice : List Lexeme → Contract → Type 0
   SpellsChoice t no_branch = ⊥
   SpellsChoice t (branch b bs) =
-      (SpellsBranch t b × (bs ≡ no_branch)) ⊎ ((tb : List Lexeme) × (tm : List Lexeme) × (t ≡ symbol mark.LeftParen ∷ (tb ++ (tm ++ symbol mark.RightParen ∷ []))) × SpellsBranch tb b × SpellsMore tm bs)
+      (SpellsBranch t b × (bs ≡ no_branch)) ⊎ ((tb : List Lexeme) × (tm : List Lexeme)
+          × (t ≡ symbol mark.LeftParen ∷ (tb ++ (tm ++ symbol mark.RightParen ∷ []))) × SpellsBranch tb b × SpellsMore tm bs)
 
   -- further branches, each behind a plus
   pub SpellsMore : List Lexeme → Contract → Type 0
@@ -90,13 +95,15 @@ abbrev mutual
   pub SpellsParts : List Lexeme → Parts → Type 0
   SpellsParts t no_part = ⊥
   SpellsParts t (part value next ps) =
-      (tn : List Lexeme) × (tm : List Lexeme) × (t ≡ number value ∷ symbol mark.Arrow ∷ (tn ++ tm)) × SpellsChoice tn next × SpellsMoreParts tm ps
+      (tn : List Lexeme) × (tm : List Lexeme) × (t ≡ number value ∷ symbol mark.Arrow ∷ (tn ++ tm))
+          × SpellsChoice tn next × SpellsMoreParts tm ps
 
   -- further parts, each behind a comma
   pub SpellsMoreParts : List Lexeme → Parts → Type 0
   SpellsMoreParts t no_part = t ≡ []
   SpellsMoreParts t (part value next ps) =
-      (tn : List Lexeme) × (tm : List Lexeme) × (t ≡ symbol mark.Comma ∷ number value ∷ symbol mark.Arrow ∷ (tn ++ tm)) × SpellsChoice tn next × SpellsMoreParts tm ps
+      (tn : List Lexeme) × (tm : List Lexeme) × (t ≡ symbol mark.Comma ∷ number value ∷ symbol mark.Arrow ∷ (tn ++ tm))
+          × SpellsChoice tn next × SpellsMoreParts tm ps
 
 -- ---- adverts
 

@@ -53,7 +53,8 @@ deposit_line d =
 abbrev pub contract_line : ActiveContract → List ℕ
 contract_line a =
     codes "contract "
-    ++ (output_text a.number ++ (codes " " ++ (decimal a.contract ++ (codes " " ++ (path_text a.position ++ (codes " " ++ (decimal a.balance ++ newline)))))))
+    ++ (output_text a.number ++ (codes " "
+        ++ (decimal a.contract ++ (codes " " ++ (path_text a.position ++ (codes " " ++ (decimal a.balance ++ newline)))))))
 
 abbrev pub shown_word : Bool → List ℕ
 shown_word true = codes "revealed"
@@ -64,7 +65,8 @@ abbrev pub secret_line : ℕ → List ℕ → List ℕ → Bool → Option (Opti
 secret_line k a s revealed None = []
 secret_line k a s revealed (Some length) =
     codes "secret "
-    ++ (contract_party_text k a ++ (codes " " ++ (s ++ (codes " " ++ (length_text length ++ (codes " " ++ (shown_word revealed ++ newline)))))))
+    ++ (contract_party_text k a
+        ++ (codes " " ++ (s ++ (codes " " ++ (length_text length ++ (codes " " ++ (shown_word revealed ++ newline)))))))
 
 -- the line of a secret of contract k; secrets have their party behind their name
 abbrev pub secret_line_of : Configuration → ℕ → List ℕ × List ℕ → List ℕ

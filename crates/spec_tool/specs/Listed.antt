@@ -49,7 +49,8 @@ path_signers instance path = option_map_or (branch_signers instance.contract ins
 -- ---- the transactions
 
 abbrev pub initial_listed : (List ℕ → List ℕ) → Instance → Listed
-initial_listed hash instance = record { which = names.Init; draft = initial_unsigned hash instance; signers = initial_signers instance.advert }
+initial_listed hash instance =
+    record { which = names.Init; draft = initial_unsigned hash instance; signers = initial_signers instance.advert }
 
 abbrev pub path_listed : Instance → List PathStep → Unsigned → Listed
 path_listed instance path draft = record { which = names.At path; draft = draft; signers = path_signers instance path }

@@ -1,4 +1,5 @@
--- What is claimed of the bytes that are hashed for a transaction: they tell it, but for its witnesses; of the formats of BIP 144 and BIP 143.
+-- What is claimed of the bytes that are hashed for a transaction: they tell it, but for its witnesses; of the formats of BIP 144
+-- and BIP 143.
 use Rattle.std.specs.Prelude.{◌≡◌, ℕ, ◌<◌, ◌^◌, List, [], length, map}
 use Rattle.std.specs.List.{AllByRecursion}
 use Rattle.spec_bitcoin.specs.declared.tx.TxIn.{TxIn}

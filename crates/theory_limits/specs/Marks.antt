@@ -7,8 +7,10 @@ use Rattle.spec_terms.specs.declared.limit.Limit.TheVariants as limits
 use Rattle.spec_text.specs.declared.token.Keyword.TheVariants as word
 use Rattle.spec_text.specs.declared.token.Symbol.TheVariants as mark
 use Rattle.spec_text.specs.declared.lexeme.Lexeme.{Lexeme}
-use Rattle.spec_text.specs.declared.lexeme.Lexeme.TheVariants.{Keyword as keyword, Symbol as symbol, Number as number, LongName as long_name, HugeNumber as huge_number}
-use Rattle.theory_limits.specs.Awaited.{Awaited, a_name, a_number, formula, test, wrapped, branch, contract, part, entry, fee_or_contract, Next, next, an_advert}
+use Rattle.spec_text.specs.declared.lexeme.Lexeme.TheVariants.{Keyword as keyword, Symbol as symbol, Number as number}
+use Rattle.spec_text.specs.declared.lexeme.Lexeme.TheVariants.{LongName as long_name, HugeNumber as huge_number}
+use Rattle.theory_limits.specs.Awaited.{Awaited, a_name, a_number, formula, test, wrapped, branch, contract, part, entry, fee_or_contract}
+use Rattle.theory_limits.specs.Awaited.{Next, next, an_advert}
 
 -- ---- what one token exceeds
 

@@ -1,9 +1,11 @@
 -- The limits that an advert exceeds as a tree, in the order of its text.
 use Rattle.std.specs.Prelude.{ℕ, suc, ◌+◌, List, [], ◌∷◌, ◌++◌}
 use Rattle.spec_data.specs.Ranges.{max_money, last_height}
-use Rattle.spec_terms.specs.Term.{Expr, constant, length_of, plus, minus, Pred, always, both, negation, equal, less, Guarded, auth, after, put_reveal, withdraw, split, Contract, no_branch, branch, Parts, no_part, part}
+use Rattle.spec_terms.specs.Term.{Expr, constant, length_of, plus, minus, Pred, always, both, negation, equal, less, Guarded, auth, after}
+use Rattle.spec_terms.specs.Term.{put_reveal, withdraw, split, Contract, no_branch, branch, Parts, no_part, part}
 use Rattle.spec_terms.specs.Advert.{Advert}
-use Rattle.spec_terms.specs.Readable.{greatest_constant, most_depth, most_branches, most_choices, most_parts, most_deposits, most_secrets, count_of, count_under}
+use Rattle.spec_terms.specs.Readable.{greatest_constant, most_depth, most_branches, most_choices, most_parts, most_deposits, most_secrets}
+use Rattle.spec_terms.specs.Readable.{count_of, count_under}
 use Rattle.spec_terms.specs.declared.pre.Pre.{Pre}
 use Rattle.spec_terms.specs.declared.pre.Pre.TheVariants.{Persistent, Volatile, Secret}
 use Rattle.spec_terms.specs.declared.limit.Limit.{Limit}

@@ -1,7 +1,9 @@
 //! What each opcode makes of the two stacks.
 
 ghost use Rattle.std.specs.Prelude.{◌≡◌, List, ℕ, Bool, IfOk, Some, None, if◌then◌else◌, pos, negsuc, ◌≤ℤ◌};
-ghost use Rattle.spec_bitcoin.specs.Effects.{result_of as binary_result, effect, verify_of, drop_of, dup_of, equal_of, hash_of, check_sig_of, swap_of, size_of, pick_of, number_of_bool, binary_of, not_of, within_of, moved_to_alt, moved_from_alt, truth, item_of_bool};
+ghost use Rattle.spec_bitcoin.specs.Effects.{result_of as binary_result, effect, verify_of, drop_of, dup_of, equal_of, hash_of};
+ghost use Rattle.spec_bitcoin.specs.Effects.{check_sig_of, swap_of, size_of, pick_of, number_of_bool, binary_of, not_of};
+ghost use Rattle.spec_bitcoin.specs.Effects.{within_of, moved_to_alt, moved_from_alt, truth, item_of_bool};
 
 use crate::top_first::Stack;
 use bm_hash::Hash32;
@@ -239,7 +241,8 @@ fn within(alloc: Global, main: &mut Stack<Bytes>) -> Result<bool, OutOfMemory>
 }
 
 fn to_alt(main: &mut Stack<Bytes>, alt: &mut Stack<Bytes>) -> Result<bool, OutOfMemory>
-    ensures { IfOk result (λ done. moved_to_alt main.old alt.old ≡ (if done then Some (record { main = main.new; alt = alt.new }) else None)) }
+    ensures { IfOk result (λ done. moved_to_alt main.old alt.old
+        ≡ (if done then Some (record { main = main.new; alt = alt.new }) else None)) }
 {
     let Some(x) = main.pop() else {
         return Ok(false);
@@ -249,7 +252,8 @@ fn to_alt(main: &mut Stack<Bytes>, alt: &mut Stack<Bytes>) -> Result<bool, OutOf
 }
 
 fn from_alt(main: &mut Stack<Bytes>, alt: &mut Stack<Bytes>) -> Result<bool, OutOfMemory>
-    ensures { IfOk result (λ done. moved_from_alt main.old alt.old ≡ (if done then Some (record { main = main.new; alt = alt.new }) else None)) }
+    ensures { IfOk result (λ done. moved_from_alt main.old alt.old
+        ≡ (if done then Some (record { main = main.new; alt = alt.new }) else None)) }
 {
     let Some(x) = alt.pop() else {
         return Ok(false);
@@ -263,7 +267,8 @@ fn hash_twice<H: Hash32>(
     hash: &H,
     main: &mut Stack<Bytes>,
 ) -> Result<bool, OutOfMemory>
-    ensures { IfOk result (λ done. hash_of (λ x. H.digest_of hash.now (H.digest_of hash.now x)) main.old ≡ (if done then Some main.new else None)) }
+    ensures { IfOk result (λ done. hash_of (λ x. H.digest_of hash.now (H.digest_of hash.now x)) main.old
+        ≡ (if done then Some main.new else None)) }
 {
     let Some(x) = main.pop() else {
         return Ok(false);
@@ -283,7 +288,8 @@ pub(crate) fn apply<H: Hash32, C: SigCheck>(
     main: &mut Stack<Bytes>,
     alt: &mut Stack<Bytes>,
 ) -> Result<bool, OutOfMemory>
-    ensures { IfOk result (λ done. effect (H.digest_of hash.now) (C.valid check.now) (Some opcode) main.old alt.old ≡ (if done then Some (record { main = main.new; alt = alt.new }) else None)) }
+    ensures { IfOk result (λ done. effect (H.digest_of hash.now) (C.valid check.now) (Some opcode) main.old alt.old
+        ≡ (if done then Some (record { main = main.new; alt = alt.new }) else None)) }
 {
     Ok(match opcode {
         Opcode::Constant(number) => {

@@ -14,12 +14,16 @@ use spec_bitcoin::Kind;
 use spec_data::{Bytes, OutOfMemory};
 use std::alloc::Global;
 
-// Both stacks hold at most 1,000 items together.
+// The items of both stacks together, by Bitcoin's consensus.
+const MOST_ITEMS: usize = 1_000;
+
+// Both stacks hold no more items together than they may.
 fn is_within_limit(main: &Stack<Bytes>, alt: &Stack<Bytes>) -> bool
-    ensures { within_limit (record { main = main.now; alt = alt.now }) ≡ (if result then Some (record { main = main.now; alt = alt.now }) else None) }
+    ensures { within_limit (record { main = main.now; alt = alt.now })
+        ≡ (if result then Some (record { main = main.now; alt = alt.now }) else None) }
 {
     let main_len = main.len();
-    main_len <= 1000 && alt.len() <= 1000 - main_len
+    main_len <= MOST_ITEMS && alt.len() <= MOST_ITEMS - main_len
 }
 
 // An operation that runs.
@@ -31,7 +35,8 @@ fn run_op<H: Hash32, C: SigCheck>(
     main: &mut Stack<Bytes>,
     alt: &mut Stack<Bytes>,
 ) -> Result<bool, OutOfMemory>
-    ensures { IfOk result (λ done. act (H.digest_of hash.now) (C.valid check.now) op.now (record { main = main.old; alt = alt.old }) ≡ (if done then Some (record { main = main.new; alt = alt.new }) else None)) }
+    ensures { IfOk result (λ done. act (H.digest_of hash.now) (C.valid check.now) op.now (record { main = main.old; alt = alt.old })
+        ≡ (if done then Some (record { main = main.new; alt = alt.new }) else None)) }
 {
     let done = match op {
         Op::Push(item) => {
@@ -53,7 +58,9 @@ fn begin_block(
     alt: &Stack<Bytes>,
     conditions: &mut Stack<bool>,
 ) -> Result<bool, OutOfMemory>
-    ensures { IfOk result (λ goes_on. (hash : List ℕ → List ℕ) (valid : List ℕ → List ℕ → Bool) → Does hash valid (put_if negated) conditions.old (record { main = main.old; alt = alt.now }) goes_on conditions.new (record { main = main.new; alt = alt.now })) }
+    ensures { IfOk result (λ goes_on. (hash : List ℕ → List ℕ) (valid : List ℕ → List ℕ → Bool) → Does hash valid
+        (put_if negated) conditions.old (record { main = main.old; alt = alt.now }) goes_on conditions.new
+        (record { main = main.new; alt = alt.now })) }
 {
     if !conditions.all_hold() {
         conditions.push(false)?;
@@ -68,7 +75,8 @@ fn begin_block(
 
 // An ELSE.
 fn toggle(conditions: &mut Stack<bool>) -> Result<bool, OutOfMemory>
-    ensures { IfOk result (λ goes_on. (hash : List ℕ → List ℕ) (valid : List ℕ → List ℕ → Bool) (s : Stacks) → Does hash valid put_else conditions.old s goes_on conditions.new s) }
+    ensures { IfOk result (λ goes_on. (hash : List ℕ → List ℕ) (valid : List ℕ → List ℕ → Bool) (s : Stacks)
+        → Does hash valid put_else conditions.old s goes_on conditions.new s) }
 {
     let Some(condition) = conditions.pop() else {
         return Ok(false);
@@ -79,7 +87,8 @@ fn toggle(conditions: &mut Stack<bool>) -> Result<bool, OutOfMemory>
 
 // An ENDIF.
 fn end_block(conditions: &mut Stack<bool>) -> bool
-    ensures { (hash : List ℕ → List ℕ) (valid : List ℕ → List ℕ → Bool) (s : Stacks) → Does hash valid put_endif conditions.old s result conditions.new s }
+    ensures { (hash : List ℕ → List ℕ) (valid : List ℕ → List ℕ → Bool) (s : Stacks)
+        → Does hash valid put_endif conditions.old s result conditions.new s }
 {
     conditions.pop().is_some()
 }
@@ -110,7 +119,8 @@ fn step<H: Hash32, C: SigCheck>(
     alt: &mut Stack<Bytes>,
     conditions: &mut Stack<bool>,
 ) -> Result<bool, OutOfMemory>
-    ensures { IfOk result (λ goes_on. Does (H.digest_of hash.now) (C.valid check.now) (put_op op.now) conditions.old (record { main = main.old; alt = alt.old }) goes_on conditions.new (record { main = main.new; alt = alt.new })) }
+    ensures { IfOk result (λ goes_on. Does (H.digest_of hash.now) (C.valid check.now) (put_op op.now) conditions.old
+        (record { main = main.old; alt = alt.old }) goes_on conditions.new (record { main = main.new; alt = alt.new })) }
 {
     match kind_at(op) {
         Kind::Begins(negated) => begin_block(negated, main, alt, conditions),
@@ -137,7 +147,8 @@ fn has_succeeded(main: &Stack<Bytes>) -> bool
 
 // No block is open, and one item is left, which counts as true.
 fn is_true_end(main: &Stack<Bytes>, conditions: &Stack<bool>) -> bool
-    ensures { (hash : List ℕ → List ℕ) (valid : List ℕ → List ℕ → Bool) (alt : List (List ℕ)) → result ≡ succeeds (resume hash valid (read []) conditions.now (record { main = main.now; alt = alt })) }
+    ensures { (hash : List ℕ → List ℕ) (valid : List ℕ → List ℕ → Bool) (alt : List (List ℕ)) → result
+        ≡ succeeds (resume hash valid (read []) conditions.now (record { main = main.now; alt = alt })) }
 {
     conditions.len() == 0 && has_succeeded(main)
 }

@@ -3,7 +3,8 @@
 ghost use Rattle.std.specs.Prelude.{◌≡◌, ◌≤◌, ℕ, IfOk, OnOk, OnErr, Some, None, Ok, length};
 ghost use Rattle.std.specs.Option.{option_copied};
 ghost use Rattle.spec_data.specs.Lists.{look_up};
-ghost use Rattle.bm_io.specs.Files.{Reads, CausesTooLong, Causes, IsUnlessMemory, shown, within, answer_of, no_files, with_file, after_read};
+ghost use Rattle.bm_io.specs.Files.{Reads, CausesTooLong, Causes, IsUnlessMemory, shown, within, answer_of, no_files, with_file};
+ghost use Rattle.bm_io.specs.Files.{after_read};
 
 use crate::files::{Files, ReadError};
 use spec_data::{Bytes, OutOfMemory};
@@ -51,7 +52,8 @@ impl MemFiles {
 
     /// Adds a file, or gives it new bytes.
     pub fn add(&mut self, name: &str, bytes: &[u8]) -> Result<(), OutOfMemory>
-        ensures ok { OnOk result (self.new ≡ record self.old { told = record self.old.told { files = with_file name.now bytes.now self.old.told.files } }) }
+        ensures ok { OnOk result (self.new
+            ≡ record self.old { told = record self.old.told { files = with_file name.now bytes.now self.old.told.files } }) }
         ensures err { OnErr result (self.new ≡ self.old) }
     {
         let bytes = Bytes::from_slice(self.alloc, bytes)?;

@@ -30,7 +30,8 @@ unfilled_refusal k input = if length input.script_sig == 0 then NotWitnessScript
 
 -- the hashes of an input that has a witness and spends this output
 abbrev pub hashes_with : (List ℕ → List ℕ) → Tx → TxIn → TxOut → InputHashes
-hashes_with hash tx input output = record { script = hash (script_of input.witness); digest = digest hash tx input (script_of input.witness) output.value }
+hashes_with hash tx input output =
+    record { script = hash (script_of input.witness); digest = digest hash tx input (script_of input.witness) output.value }
 
 -- the conditions on input k, in their order, where it has a witness, and these are its hashes
 abbrev pub row_with : (List ℕ → List ℕ) → List Pair → InputHashes → ℕ → TxIn → TxOut → List (Bool × Refusal)

@@ -36,7 +36,8 @@ fn hash_spending<H: Hash32 + Drop>(
     requires lists { lists.now ≡ hashes_of (H.digest_of trail.old.hasher) tx.now }
     ensures script { IfOk result (λ hashes. hashes.script ≡ H.digest_of trail.old.hasher script.now) }
     ensures digest { IfOk result (λ hashes. hashes.digest ≡ spec.digest (H.digest_of trail.old.hasher) tx.now input.now script.now value) }
-    ensures trail { Hashes H.digest_of trail.old trail.new (script.now ∷ spec.digest_strings (H.digest_of trail.old.hasher) tx.now input.now script.now value) result }
+    ensures trail { Hashes H.digest_of trail.old trail.new
+        (script.now ∷ spec.digest_strings (H.digest_of trail.old.hasher) tx.now input.now script.now value) result }
 {
     let program = trail.hash(script)?;
     let digest = digest_of_input(alloc, trail, tx, lists, input, script, value)?;
@@ -59,7 +60,8 @@ pub(crate) fn hash_input<H: Hash32 + Drop>(
     requires lists { lists.now ≡ hashes_of (H.digest_of trail.old.hasher) tx.now }
     requires clear { evidence_of (H.digest_of trail.old.hasher) trail.old.messages ≡ None }
     ensures hashes { IfOk result (λ hashes. hashes ≡ input_hashes (H.digest_of trail.old.hasher) live.now.entries tx.now input.now) }
-    ensures trail { Hashes H.digest_of trail.old trail.new (input_strings (H.digest_of trail.old.hasher) live.now.entries tx.now input.now) result }
+    ensures trail { Hashes H.digest_of trail.old trail.new
+        (input_strings (H.digest_of trail.old.hasher) live.now.entries tx.now input.now) result }
 {
     if input.witness.is_empty() {
         return Ok(None);

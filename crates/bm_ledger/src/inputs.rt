@@ -111,7 +111,8 @@ pub(crate) fn refused_input<H: Hash32>(
     input: &TxIn,
     hashes: &Option<InputHashes>,
 ) -> Result<Option<Refusal>, OutOfMemory>
-    ensures { IfOk result (λ r. r ≡ option_and_then (λ p. spending_refusal (H.digest_of hasher.now) book.now k input.now hashes.now p.1) (at_place live.now.entries input.now.prev)) }
+    ensures { IfOk result (λ r. r ≡ option_and_then (λ p. spending_refusal (H.digest_of hasher.now) book.now k input.now hashes.now p.1)
+        (at_place live.now.entries input.now.prev)) }
 {
     let Some(spent) = find(live, &input.prev) else {
         return Ok(None);

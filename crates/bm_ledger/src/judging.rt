@@ -42,7 +42,9 @@ fn or_refused<H: Hash32>(
     input: &TxIn,
     hashes: &Option<InputHashes>,
 ) -> Result<Option<Refusal>, OutOfMemory>
-    ensures { IfOk result (λ r. r ≡ or_else first (option_and_then (λ p. spending_refusal (H.digest_of hasher.now) book.now k input.now hashes.now p.1) (at_place live.now.entries input.now.prev))) }
+    ensures { IfOk result (λ r. r ≡ or_else first
+        (option_and_then (λ p. spending_refusal (H.digest_of hasher.now) book.now k input.now hashes.now p.1)
+        (at_place live.now.entries input.now.prev))) }
 {
     if let Some(refusal) = first {
         return Ok(Some(refusal));
@@ -63,8 +65,10 @@ fn judge_inputs<H: Hash32 + Drop>(
     requires few { length tx.now.inputs < 2 ^ 32 }
     requires lists { lists.now ≡ hashes_of (H.digest_of trail.old.hasher) tx.now }
     requires clear { evidence_of (H.digest_of trail.old.hasher) trail.old.messages ≡ None }
-    ensures first { IfOk result (λ r. r ≡ or_else whole (inputs_refusal (H.digest_of trail.old.hasher) book.now live.now.entries tx.now 0 tx.now.inputs)) }
-    ensures trail { Hashes H.digest_of trail.old trail.new (flat_map (input_strings (H.digest_of trail.old.hasher) live.now.entries tx.now) tx.now.inputs) result }
+    ensures first { IfOk result (λ r. r
+        ≡ or_else whole (inputs_refusal (H.digest_of trail.old.hasher) book.now live.now.entries tx.now 0 tx.now.inputs)) }
+    ensures trail { Hashes H.digest_of trail.old trail.new
+        (flat_map (input_strings (H.digest_of trail.old.hasher) live.now.entries tx.now) tx.now.inputs) result }
 {
     let inputs = tx.inputs.as_slice();
     let mut first = whole;
@@ -84,7 +88,8 @@ fn judge_inputs<H: Hash32 + Drop>(
     Ok(first)
 }
 
-/// The txid of a transaction, and the first condition of acceptance that it fails. It hashes the strings of the transaction, whatever the answer.
+/// The txid of a transaction, and the first condition of acceptance that it fails. It hashes the strings of the transaction,
+/// whatever the answer.
 pub(crate) fn examine<H: Hash32 + Drop>(
     alloc: Global,
     trail: &mut Trail<H>,
@@ -95,8 +100,10 @@ pub(crate) fn examine<H: Hash32 + Drop>(
 ) -> Result<Judged, TrailError>
     requires few { length tx.now.inputs < 2 ^ 32 }
     ensures id { IfOk result (λ judged. judged.txid ≡ digests.txid (H.digest_of trail.old.hasher) tx.now) }
-    ensures refusal { IfOk result (λ judged. judged.refusal ≡ refusal_of (H.digest_of trail.old.hasher) book.now tip live.now.entries tx.now) }
-    ensures trail { Hashes H.digest_of trail.old trail.new (transaction_strings (H.digest_of trail.old.hasher) live.now.entries tx.now) result }
+    ensures refusal { IfOk result (λ judged. judged.refusal
+        ≡ refusal_of (H.digest_of trail.old.hasher) book.now tip live.now.entries tx.now) }
+    ensures trail { Hashes H.digest_of trail.old trail.new
+        (transaction_strings (H.digest_of trail.old.hasher) live.now.entries tx.now) result }
 {
     let id = txid(alloc, trail, tx)?;
     let lists = shared(alloc, trail, tx)?;

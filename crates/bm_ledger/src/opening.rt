@@ -34,7 +34,8 @@ pub(crate) fn opening_txid<H: Hash32 + Drop>(
     outputs: &[TxOut],
 ) -> Result<[u8; 32], TrailError>
     ensures id { IfOk result (λ d. d ≡ spec.txid (H.digest_of trail.old.hasher) (spec.opening_transaction outputs.now)) }
-    ensures trail { Hashes H.digest_of trail.old trail.new (spec.txid_strings (H.digest_of trail.old.hasher) (spec.opening_transaction outputs.now)) result }
+    ensures trail { Hashes H.digest_of trail.old trail.new
+        (spec.txid_strings (H.digest_of trail.old.hasher) (spec.opening_transaction outputs.now)) result }
 {
     if trail.has_collided() {
         return Err(TrailError::Collided);

@@ -88,7 +88,8 @@ fn add_output(
 ) -> Result<(), OutOfMemory>
     requires room { births + vout < 2 ^ 32 }
     requires new { at_place live.old.entries (record { txid = txid.now; vout = vout }) ≡ None }
-    ensures ok { OnOk result (live.new.entries ≡ live.old.entries ++ (record { txid = txid.now; vout = vout }, (births + vout, output.now)) ∷ []) }
+    ensures ok { OnOk result (live.new.entries ≡ live.old.entries
+        ++ (record { txid = txid.now; vout = vout }, (births + vout, output.now)) ∷ []) }
     ensures err { OnErr result (live.new.entries ≡ live.old.entries) }
 {
     let place = OutPoint { txid: *txid, vout };
@@ -96,7 +97,8 @@ fn add_output(
     Ok(())
 }
 
-/// Adds the outputs of a transaction at the end, the first with this birth number. Where memory is refused for one of them, those before it are cut off again.
+/// Adds the outputs of a transaction at the end, the first with this birth number. Where memory is refused for one of them, those
+/// before it are cut off again.
 pub(crate) fn add_outputs(
     alloc: Global,
     live: &mut Live,
@@ -138,7 +140,8 @@ pub(crate) fn replace_spent(
 ) -> Result<(), OutOfMemory>
     requires room { births + length tx.now.outputs < 2 ^ 32 }
     requires new { IsNewTxid live.old.entries txid.now }
-    ensures ok { OnOk result (live.new.entries ≡ without (live.old.entries ++ born births txid.now 0 tx.now.outputs) (map (λ i. i.prev) tx.now.inputs)) }
+    ensures ok { OnOk result (live.new.entries
+        ≡ without (live.old.entries ++ born births txid.now 0 tx.now.outputs) (map (λ i. i.prev) tx.now.inputs)) }
     ensures err { OnErr result (live.new.entries ≡ live.old.entries) }
 {
     add_outputs(alloc, live, births, txid, tx.outputs.as_slice())?;

@@ -55,8 +55,10 @@ impl Ledger {
         outputs: &[TxOut],
     ) -> Result<Ledger, TrailError>
         requires { length outputs.now < 2 ^ 32 }
-        ensures opened { IfOk result (λ ledger. ledger ≡ opening_chain (digests.txid (H.digest_of trail.old.hasher) (digests.opening_transaction outputs.now)) outputs.now) }
-        ensures trail { Hashes H.digest_of trail.old trail.new (digests.txid_strings (H.digest_of trail.old.hasher) (digests.opening_transaction outputs.now)) result }
+        ensures opened { IfOk result (λ ledger. ledger
+            ≡ opening_chain (digests.txid (H.digest_of trail.old.hasher) (digests.opening_transaction outputs.now)) outputs.now) }
+        ensures trail { Hashes H.digest_of trail.old trail.new
+            (digests.txid_strings (H.digest_of trail.old.hasher) (digests.opening_transaction outputs.now)) result }
     {
         let txid = opening_txid(alloc, trail, outputs)?;
         let live = first_outputs(alloc, &txid, outputs)?;
@@ -153,13 +155,15 @@ impl Ledger {
     ) -> Result<Option<Refusal>, TrailError>
         requires few { length tx.now.inputs < 2 ^ 32 }
         ensures refusal { IfOk result (λ r. r ≡ spec.refusal_of (H.digest_of trail.old.hasher) book.now self.now.tip self.now.live tx.now) }
-        ensures trail { Hashes H.digest_of trail.old trail.new (spec.transaction_strings (H.digest_of trail.old.hasher) self.now.live tx.now) result }
+        ensures trail { Hashes H.digest_of trail.old trail.new
+            (spec.transaction_strings (H.digest_of trail.old.hasher) self.now.live tx.now) result }
     {
         let judged = self.examine(trail, book, tx)?;
         Ok(judged.refusal)
     }
 
-    /// The txid of a transaction, and why `try_append` would refuse it, if it would. It hashes the strings of the transaction, whatever the answer.
+    /// The txid of a transaction, and why `try_append` would refuse it, if it would. It hashes the strings of the transaction,
+    /// whatever the answer.
     pub fn examine<H: Hash32 + Drop>(
         &self,
         trail: &mut Trail<H>,
@@ -168,8 +172,10 @@ impl Ledger {
     ) -> Result<Judged, TrailError>
         requires few { length tx.now.inputs < 2 ^ 32 }
         ensures id { IfOk result (λ j. j.txid ≡ digests.txid (H.digest_of trail.old.hasher) tx.now) }
-        ensures refusal { IfOk result (λ j. j.refusal ≡ spec.refusal_of (H.digest_of trail.old.hasher) book.now self.now.tip self.now.live tx.now) }
-        ensures trail { Hashes H.digest_of trail.old trail.new (spec.transaction_strings (H.digest_of trail.old.hasher) self.now.live tx.now) result }
+        ensures refusal { IfOk result (λ j. j.refusal
+            ≡ spec.refusal_of (H.digest_of trail.old.hasher) book.now self.now.tip self.now.live tx.now) }
+        ensures trail { Hashes H.digest_of trail.old trail.new
+            (spec.transaction_strings (H.digest_of trail.old.hasher) self.now.live tx.now) result }
     {
         examine(self.alloc, trail, book, self.tip, &self.outputs, tx)
     }
@@ -198,11 +204,13 @@ impl Ledger {
     ) -> Result<Verdict, TrailError>
         requires few { length tx.now.inputs < 2 ^ 32 }
         requires room { self.old.births + length tx.now.outputs < 2 ^ 32 }
-        requires new { spec.refusal_of (H.digest_of trail.old.hasher) book.now self.old.tip self.old.live tx.now ≡ None → IsNewTxid self.old.live (digests.txid (H.digest_of trail.old.hasher) tx.now) }
+        requires new { spec.refusal_of (H.digest_of trail.old.hasher) book.now self.old.tip self.old.live tx.now
+            ≡ None → IsNewTxid self.old.live (digests.txid (H.digest_of trail.old.hasher) tx.now) }
         ensures verdict { IfOk result (λ v. v ≡ spec.verdict (H.digest_of trail.old.hasher) book.now self.old tx.now) }
         ensures chain { IfOk result (λ v. self.new ≡ after_verdict (H.digest_of trail.old.hasher) self.old tx.now v) }
         ensures same { OnErr result (self.new ≡ self.old) }
-        ensures trail { Hashes H.digest_of trail.old trail.new (spec.transaction_strings (H.digest_of trail.old.hasher) self.old.live tx.now) result }
+        ensures trail { Hashes H.digest_of trail.old trail.new
+            (spec.transaction_strings (H.digest_of trail.old.hasher) self.old.live tx.now) result }
     {
         let judged = self.examine(trail, book, tx)?;
         if let Some(refusal) = judged.refusal {

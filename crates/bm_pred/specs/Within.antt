@@ -1,4 +1,5 @@
--- How far the values of expressions are from zero: the greatest bound as a fact of each expression of a test, and a bound as one of each value.
+-- How far the values of expressions are from zero: the greatest bound as a fact of each expression of a test, and a bound as one of
+-- each value.
 use Rattle.std.specs.Prelude.{ℕ, ◌≤◌, List, All, unsigned_abs}
 use Rattle.spec_data.specs.Ranges.{most_item_bytes}
 use Rattle.spec_terms.specs.Term.{Expr, Pred, always, both, negation, equal, less}

@@ -1,4 +1,5 @@
-//! Predicates of the lengths of secrets: whether they are true, how far their expressions can get from zero, and the size of the scripts that test them.
+//! Predicates of the lengths of secrets: whether they are true, how far their expressions can get from zero, and the size of the
+//! scripts that test them.
 #![tactic(auto)]
 
 pub mod bounds;

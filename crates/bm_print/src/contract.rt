@@ -100,7 +100,8 @@ fn put_parts(out: &mut Vec<u8>, parts: &[Part]) -> Result<(), OutOfMemory>
 
 #[cycle(print)]
 fn put_part(out: &mut Vec<u8>, part: &Part) -> Result<(), OutOfMemory>
-    ensures { OnOk result (out.new.items ≡ out.old.items ++ (decimal part.now.value ++ (codes " -> " ++ spec.choice_text (contract part.now.next)))) }
+    ensures { OnOk result (out.new.items ≡ out.old.items
+        ++ (decimal part.now.value ++ (codes " -> " ++ spec.choice_text (contract part.now.next)))) }
 {
     put_number(out, part.value)?;
     put(out, b" -> ")?;

@@ -5,7 +5,9 @@
 
 ghost use Rattle.std.specs.Prelude.{◌≡◌};
 ghost use Rattle.bm_syntax.specs.View.{guarded, contract, choice_view, parts_view};
-ghost use Rattle.spec_text.specs.ReadContract.{branch_limit as limit_of_branch, allowed_branch, branches_at, one_branch_at, choice_with, parts_at, auth_at, after_at, headed_at, put_at, reveal_at, withdraw_at, split_at, branch_at};
+ghost use Rattle.spec_text.specs.ReadContract.{branch_limit as limit_of_branch, allowed_branch, branches_at, one_branch_at};
+ghost use Rattle.spec_text.specs.ReadContract.{choice_with, parts_at, auth_at, after_at, headed_at, put_at, reveal_at};
+ghost use Rattle.spec_text.specs.ReadContract.{withdraw_at, split_at, branch_at};
 ghost use Rattle.bm_reader.specs.Gives.{Gives};
 ghost use Rattle.bm_reader.specs.HeadingView.{heading};
 
@@ -101,7 +103,8 @@ fn allowed_of(
     more: u32,
     lexemes: &[Lexeme],
 ) -> Result<(Guarded, u32, &[Lexeme]), ReadError>
-    ensures { Gives (λ x. ((guarded x.0, x.1), x.2.now)) result (allowed_branch (branch_at depth) (limit_of_branch depth budget more) budget lexemes.now) }
+    ensures { Gives (λ x. ((guarded x.0, x.1), x.2.now)) result
+        (allowed_branch (branch_at depth) (limit_of_branch depth budget more) budget lexemes.now) }
 {
     match branch_limit(depth, budget, more) {
         Some(limit) => Err(ReadError::Stop(too_many_branches(limit, lexemes))),
@@ -178,7 +181,8 @@ fn headed_of(
     budget: u32,
     lexemes: &[Lexeme],
 ) -> Result<(Guarded, u32, &[Lexeme]), ReadError>
-    ensures { Gives (λ x. ((guarded x.0, x.1), x.2.now)) result (headed_at (choice_with (branch_at depth) depth) (heading head) budget lexemes.now) }
+    ensures { Gives (λ x. ((guarded x.0, x.1), x.2.now)) result
+        (headed_at (choice_with (branch_at depth) depth) (heading head) budget lexemes.now) }
 {
     let (next, left, rest) = choice_of(alloc, depth, budget, lexemes)?;
     Ok((boxed_put_reveal(alloc, head, next)?, left, rest))
@@ -249,7 +253,8 @@ fn parts_of(
     budget: u32,
     lexemes: &[Lexeme],
 ) -> Result<(Vec<Part>, u32, &[Lexeme]), ReadError>
-    ensures { Gives (λ x. ((parts_view x.0.items, x.1), x.2.now)) result (parts_at (choice_with (branch_at depth) depth) more budget lexemes.now) }
+    ensures { Gives (λ x. ((parts_view x.0.items, x.1), x.2.now)) result
+        (parts_at (choice_with (branch_at depth) depth) more budget lexemes.now) }
 {
     if more == 0 {
         return Err(ReadError::Stop(too_many_parts(lexemes)));

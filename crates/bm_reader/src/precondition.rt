@@ -3,7 +3,8 @@
 ghost use Rattle.std.specs.Prelude.{◌≡◌, ◌+◌, IfOk};
 ghost use Rattle.spec_text.specs.Reading.{token_by};
 ghost use Rattle.spec_terms.specs.Readable.{most_deposits, most_secrets};
-ghost use Rattle.spec_text.specs.ReadAdvert.{an_entry_kind, head_at, deposit_at, secret_at, entry_rest_at, entry_at, entries_go_on, entries_at, fee_at};
+ghost use Rattle.spec_text.specs.ReadAdvert.{an_entry_kind, head_at, deposit_at, secret_at, entry_rest_at, entry_at};
+ghost use Rattle.spec_text.specs.ReadAdvert.{entries_go_on, entries_at, fee_at};
 ghost use Rattle.bm_reader.specs.Gives.{Gives};
 ghost use Rattle.bm_reader.specs.Entries.{entry_kind, room, room_behind, added};
 
@@ -137,7 +138,8 @@ fn add_entry<'a>(
     space: Space,
     lexemes: &'a [Lexeme],
 ) -> Result<(Space, &'a [Lexeme]), ReadError>
-    ensures gives { Gives (λ x. ((entries.new.items, room x.0), x.1.now)) result (added entries.old.items (entry_at (room space) lexemes.now)) }
+    ensures gives { Gives (λ x. ((entries.new.items, room x.0), x.1.now)) result
+        (added entries.old.items (entry_at (room space) lexemes.now)) }
     ensures less { IfOk result (λ x. (x.0.deposits + x.0.secrets) + 1 ≡ space.deposits + space.secrets) }
 {
     let ((party, kind), rest) = head_of(lexemes)?;
@@ -164,7 +166,8 @@ fn more_of(lexemes: &[Lexeme]) -> Result<(bool, &[Lexeme]), ReadError>
 
 /// The entries of a precondition, up to the brace that closes it.
 pub fn entries_of(alloc: Global, lexemes: &[Lexeme]) -> Result<(Vec<Pre>, &[Lexeme]), ReadError>
-    ensures { Gives (λ x. (x.0.items, x.1.now)) result (entries_at (most_deposits + most_secrets) (most_deposits, most_secrets) lexemes.now) }
+    ensures { Gives (λ x. (x.0.items, x.1.now)) result
+        (entries_at (most_deposits + most_secrets) (most_deposits, most_secrets) lexemes.now) }
 {
     let mut entries = Vec::new(alloc);
     let mut space = Space {

@@ -4,7 +4,8 @@ ghost use Rattle.std.specs.Prelude.{◌≡◌, ◌≤◌, Bool, IfOk};
 ghost use Rattle.bm_syntax.specs.View.{formula, test};
 ghost use Rattle.spec_terms.specs.Term.{both, negation};
 ghost use Rattle.spec_text.specs.Reading.{token_by, too_many};
-ghost use Rattle.spec_text.specs.ReadTest.{begins_formula, begins_test, a_sign, a_relation, signed, related, constant_at, length_at, formula_at, comparison_at, test_at};
+ghost use Rattle.spec_text.specs.ReadTest.{begins_formula, begins_test, a_sign, a_relation, signed, related, constant_at};
+ghost use Rattle.spec_text.specs.ReadTest.{length_at, formula_at, comparison_at, test_at};
 ghost use Rattle.bm_reader.specs.Brackets.{sum_at, negation_at, conjunction_at};
 ghost use Rattle.bm_reader.specs.Gives.{Gives};
 

@@ -141,7 +141,8 @@ fn secret_by(owner: Option<Name>, name: Option<Name>, bytes: Vec<u8>) -> Option<
 
 /// The secret of these words, if it is of an honest party, and new.
 fn new_secret(header: &Header, party: &[u8], name: &[u8], bytes: Vec<u8>) -> Option<HeldSecret>
-    ensures { result ≡ given ((is_among party.now header.now.honest && is_name name.now) && not (list_any (is_taken party.now name.now bytes.items) header.now.secrets)) (held_secret party.now name.now bytes.items) }
+    ensures { result ≡ given ((is_among party.now header.now.honest && is_name name.now)
+        && not (list_any (is_taken party.now name.now bytes.items) header.now.secrets)) (held_secret party.now name.now bytes.items) }
 {
     if any_taken(party, name, bytes.as_slice(), header.secrets.as_slice()) {
         return None;

@@ -175,7 +175,8 @@ fn put_commit(
     party: &Name,
     digests: &[(Name, [u8; 32])],
 ) -> Result<(), OutOfMemory>
-    ensures { OnOk result (out.new.items ≡ out.old.items ++ (codes "commit " ++ (spec.contract_party_text contract party.now ++ spec.digests_text digests.now))) }
+    ensures { OnOk result (out.new.items ≡ out.old.items
+        ++ (codes "commit " ++ (spec.contract_party_text contract party.now ++ spec.digests_text digests.now))) }
 {
     put(out, b"commit ")?;
     put_contract_party(alloc, out, contract, party)?;
@@ -190,7 +191,8 @@ fn put_authorise(
     output: u32,
     branch: u32,
 ) -> Result<(), OutOfMemory>
-    ensures { OnOk result (out.new.items ≡ out.old.items ++ (codes "authorise " ++ (party.now ++ (codes " " ++ (spec.output_text output ++ (codes " " ++ decimal branch)))))) }
+    ensures { OnOk result (out.new.items ≡ out.old.items
+        ++ (codes "authorise " ++ (party.now ++ (codes " " ++ (spec.output_text output ++ (codes " " ++ decimal branch)))))) }
 {
     put(out, b"authorise ")?;
     put(out, party.bytes())?;
@@ -208,7 +210,8 @@ fn put_reveal(
     party: &Name,
     secret: &Name,
 ) -> Result<(), OutOfMemory>
-    ensures { OnOk result (out.new.items ≡ out.old.items ++ (codes "reveal " ++ (spec.contract_party_text contract party.now ++ (codes " " ++ secret.now)))) }
+    ensures { OnOk result (out.new.items ≡ out.old.items
+        ++ (codes "reveal " ++ (spec.contract_party_text contract party.now ++ (codes " " ++ secret.now)))) }
 {
     put(out, b"reveal ")?;
     put_contract_party(alloc, out, contract, party)?;
@@ -237,7 +240,8 @@ fn put_sign(
     label: &Label,
     digest: &[u8; 32],
 ) -> Result<(), OutOfMemory>
-    ensures { OnOk result (out.new.items ≡ out.old.items ++ (codes "sign " ++ (party.now ++ (codes " " ++ (label_text label.now ++ (codes " " ++ hex_text digest.now)))))) }
+    ensures { OnOk result (out.new.items ≡ out.old.items
+        ++ (codes "sign " ++ (party.now ++ (codes " " ++ (label_text label.now ++ (codes " " ++ hex_text digest.now)))))) }
 {
     put(out, b"sign ")?;
     put(out, party.bytes())?;
@@ -255,7 +259,8 @@ fn put_give(
     inputs: &[u32],
     outputs: &[(Name, u64)],
 ) -> Result<(), OutOfMemory>
-    ensures { OnOk result (out.new.items ≡ out.old.items ++ (codes "give " ++ (party.now ++ (spec.outputs_text inputs.now ++ (codes " ->" ++ spec.shares_text outputs.now))))) }
+    ensures { OnOk result (out.new.items ≡ out.old.items
+        ++ (codes "give " ++ (party.now ++ (spec.outputs_text inputs.now ++ (codes " ->" ++ spec.shares_text outputs.now))))) }
 {
     put(out, b"give ")?;
     put(out, party.bytes())?;

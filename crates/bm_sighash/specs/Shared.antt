@@ -9,7 +9,8 @@ use Rattle.bm_sighash.specs.declared.list_hashes.ListHashes.{ListHashes}
 
 -- the double hashes of the three lists
 abbrev pub hashes_of : (List ℕ → List ℕ) → Tx → ListHashes
-hashes_of hash tx = record { prevouts = double hash (places_list tx); sequences = double hash (sequences_list tx); outputs = double hash (outputs_list tx) }
+hashes_of hash tx =
+    record { prevouts = double hash (places_list tx); sequences = double hash (sequences_list tx); outputs = double hash (outputs_list tx) }
 
 -- what is hashed for the double hashes of three messages
 abbrev pub strings_of : (List ℕ → List ℕ) → List ℕ → List ℕ → List ℕ → List (List ℕ)

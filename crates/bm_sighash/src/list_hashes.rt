@@ -61,8 +61,14 @@ fn hash_lists<H: Hash32 + Drop>(
     counters: &[u8],
     made: &[u8],
 ) -> Result<ListHashes, TrailError>
-    ensures hashes { IfOk result (λ hashes. hashes ≡ (let hash = H.digest_of trail.old.hasher in record { prevouts = spec.double hash places.now; sequences = spec.double hash counters.now; outputs = spec.double hash made.now })) }
-    ensures trail { Hashes H.digest_of trail.old trail.new (strings_of (H.digest_of trail.old.hasher) places.now counters.now made.now) result }
+    ensures hashes { IfOk result (λ hashes. hashes ≡ (let hash = H.digest_of trail.old.hasher in
+        record {
+          prevouts = spec.double hash places.now;
+          sequences = spec.double hash counters.now;
+          outputs = spec.double hash made.now;
+        })) }
+    ensures trail { Hashes H.digest_of trail.old trail.new
+        (strings_of (H.digest_of trail.old.hasher) places.now counters.now made.now) result }
 {
     let prevouts = trail.double(places)?;
     let sequences = trail.double(counters)?;

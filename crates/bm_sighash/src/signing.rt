@@ -52,7 +52,8 @@ pub fn digest_of_input<H: Hash32 + Drop>(
 ) -> Result<[u8; 32], TrailError>
     requires shared { shared.now ≡ hashes_of (H.digest_of trail.old.hasher) tx.now }
     ensures digest { IfOk result (λ d. d ≡ spec.digest (H.digest_of trail.old.hasher) tx.now input.now script.now value) }
-    ensures trail { Hashes H.digest_of trail.old trail.new (spec.digest_strings (H.digest_of trail.old.hasher) tx.now input.now script.now value) result }
+    ensures trail { Hashes H.digest_of trail.old trail.new
+        (spec.digest_strings (H.digest_of trail.old.hasher) tx.now input.now script.now value) result }
 {
     if trail.has_collided() {
         return Err(TrailError::Collided);
@@ -76,7 +77,8 @@ pub fn digest<H: Hash32 + Drop>(
     requires input { input < length tx.now.inputs }
     requires shared { shared.now ≡ hashes_of (H.digest_of trail.old.hasher) tx.now }
     ensures digest { IfOk result (λ d. d ≡ spec.digest_at (H.digest_of trail.old.hasher) tx.now input script.now value) }
-    ensures trail { Hashes H.digest_of trail.old trail.new (strings_at (H.digest_of trail.old.hasher) tx.now input script.now value) result }
+    ensures trail { Hashes H.digest_of trail.old trail.new
+        (strings_at (H.digest_of trail.old.hasher) tx.now input script.now value) result }
 {
     let signed = &tx.inputs.as_slice()[input];
     digest_of_input(alloc, trail, tx, shared, signed, script, value)

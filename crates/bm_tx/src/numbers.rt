@@ -3,7 +3,8 @@
 ghost use Rattle.std.specs.Prelude.{◌≡◌, ◌^◌, length, IfOk};
 ghost use Rattle.std.specs.Int.{w16, w32, w64};
 ghost use Rattle.bm_tx.specs.Giving.{Gives};
-ghost use Rattle.spec_bitcoin.specs.Reading.{chunk, byte_where, number_at, wide_at, compact_at, compact_from, string_at, any, not_zero, may_be};
+ghost use Rattle.spec_bitcoin.specs.Reading.{chunk, byte_where, number_at, wide_at, compact_at, compact_from, string_at, any};
+ghost use Rattle.spec_bitcoin.specs.Reading.{not_zero, may_be};
 
 use crate::fault::ReadError;
 use spec_data::Bytes;

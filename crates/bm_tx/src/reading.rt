@@ -3,7 +3,8 @@
 ghost use Rattle.std.specs.Prelude.{◌≡◌, ◌-◌, ◌||◌, ℕ, List, false, length, IfOk, Ok, Err};
 ghost use Rattle.bm_tx.specs.Giving.{Gives, after_marker, filled_at};
 ghost use Rattle.spec_bitcoin.specs.Spelling.{is_filled};
-ghost use Rattle.spec_bitcoin.specs.Reading.{chunk, many, choose, is_zero, input_at, output_at, string_at, witness_at, may_be, plain_at, marked_at, transaction_at, all_at};
+ghost use Rattle.spec_bitcoin.specs.Reading.{chunk, many, choose, is_zero, input_at, output_at, string_at, witness_at, may_be};
+ghost use Rattle.spec_bitcoin.specs.Reading.{plain_at, marked_at, transaction_at, all_at};
 ghost use Rattle.spec_bitcoin.specs.Reading as spec;
 
 use crate::fault::{ReadError, TxError};

@@ -4,6 +4,7 @@ use Rattle.std.specs.Prelude.{if◌then◌else◌, slice_get}
 use Rattle.std.specs.List.{list_any, list_all}
 use Rattle.std.specs.Str.{bytes_eq}
 use Rattle.spec_data.specs.Lists.{is_among, look_up}
+use Rattle.spec_data.specs.Ranges.{most_secret_length}
 use Rattle.spec_terms.specs.Advert.{Advert}
 use Rattle.spec_terms.specs.Parties.{participants}
 use Rattle.spec_terms.specs.Precondition.{Holding, deposits as deposits_of, persistent, secrets_of, names_of}
@@ -85,7 +86,7 @@ have_committed committed contract parties = list_all (λ p. has_committed commit
 -- whether a secret may have this length; none stands for one that isn't known
 abbrev pub is_fair : Option ℕ → Bool
 is_fair None = true
-is_fair (Some length) = nat_le length 504
+is_fair (Some length) = nat_le length most_secret_length
 
 -- whether the lengths are of these secrets, in order, each a fair one
 abbrev pub lists_each : List (List ℕ) → List (List ℕ × Option ℕ) → Bool

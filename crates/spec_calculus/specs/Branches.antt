@@ -7,6 +7,7 @@ use Rattle.spec_data.specs.Lists.{has_number, look_up}
 use Rattle.spec_terms.specs.Advert.{Advert}
 use Rattle.spec_terms.specs.Term.{Guarded, auth, after, put_reveal, withdraw, split, Parts, no_part, part, Pred, always}
 use Rattle.spec_terms.specs.Core.{core, asks, lock, puts_of as core_puts, reveals_of as core_reveals, test_of as core_test}
+pub use Rattle.spec_terms.specs.Core.{is_withdraw_core}
 use Rattle.spec_terms.specs.Paths.{at}
 use Rattle.spec_terms.specs.Precondition.{secrets}
 use Rattle.spec_terms.specs.declared.pre.Pre.{Pre}
@@ -128,14 +129,6 @@ is_put_core (auth party body) = false
 is_put_core (after height body) = false
 is_put_core (withdraw party) = false
 is_put_core (split parts) = false
-
--- whether a core pays a party
-abbrev pub is_withdraw_core : Guarded → Bool
-is_withdraw_core (withdraw party) = true
-is_withdraw_core (auth party body) = false
-is_withdraw_core (after height body) = false
-is_withdraw_core (put_reveal puts reveals test next) = false
-is_withdraw_core (split parts) = false
 
 -- whether a core divides the balance
 abbrev pub is_split_core : Guarded → Bool

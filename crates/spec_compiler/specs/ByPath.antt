@@ -13,12 +13,12 @@ use Rattle.spec_compiler.specs.Transactions.{Standing, prepared, continued_value
 
 -- what stands at the end of a path: a position with its branches, or branch i of a position
 pub data PathEnd : Type 0 where
-  at_position : (here : Standing) → (choice : Contract) → PathEnd
+  at_position : (here : Standing) → (contract : Contract) → PathEnd
   at_branch : (here : Standing) → (i : ℕ) → (b : term.Guarded) → PathEnd
 
 -- branch i of a position
 abbrev pub branch_end : Standing → Contract → ℕ → Option PathEnd
-branch_end here choice i = option_map (at_branch here i) (slice_get (branches choice) i)
+branch_end here contract i = option_map (at_branch here i) (slice_get (branches contract) i)
 
 -- the position at which a branch with this core goes on
 abbrev pub continued_end : (List ℕ → List ℕ) → Instance → Standing → ℕ → term.Guarded → term.Guarded → Option (Standing × Contract)
@@ -45,8 +45,8 @@ part_end hash s here i b k (after height body) = None
 
 -- one step further
 abbrev pub next_end : (List ℕ → List ℕ) → Instance → PathStep → PathEnd → Option PathEnd
-next_end hash s (To i) (at_position here choice) = branch_end here choice i
-next_end hash s (Into k) (at_position here choice) = None
+next_end hash s (To i) (at_position here contract) = branch_end here contract i
+next_end hash s (Into k) (at_position here contract) = None
 next_end hash s (To j) (at_branch here i b) =
     option_and_then (λ (p : Standing × Contract). branch_end p.0 p.1 j) (continued_end hash s here i b (core b))
 next_end hash s (Into k) (at_branch here i b) = part_end hash s here i b k (core b)
@@ -61,12 +61,12 @@ end_at hash s path = end_from hash s (at_position (root_standing hash s) s.adver
 
 -- the position with its branches
 abbrev pub as_position : (List ℕ → List ℕ) → Instance → PathEnd → Option (Standing × Contract)
-as_position hash s (at_position here choice) = Some (here, choice)
+as_position hash s (at_position here contract) = Some (here, contract)
 as_position hash s (at_branch here i b) = continued_end hash s here i b (core b)
 
 -- the transaction of the branch
 abbrev pub as_unsigned : (List ℕ → List ℕ) → Instance → PathEnd → Option Unsigned
-as_unsigned hash s (at_position here choice) = None
+as_unsigned hash s (at_position here contract) = None
 as_unsigned hash s (at_branch here i b) = Some (branch_unsigned hash s here i b)
 
 -- the position of this name, with its branches

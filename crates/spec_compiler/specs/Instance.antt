@@ -43,8 +43,8 @@ deposit_key hash party = key_of hash (labels.Deposit party)
 
 -- what the script of each branch of a position asks for
 abbrev pub position_demands : (List ℕ → List ℕ) → Instance → List PathStep → Contract → List Demands
-position_demands hash s position choice = demands_from (λ i. branch_keys hash s (branch_path position i)) s.hashes 0 (branches choice)
+position_demands hash s position contract = demands_from (λ i. branch_keys hash s (branch_path position i)) s.hashes 0 (branches contract)
 
 -- the script of a position
 unfoldable pub position_script : (List ℕ → List ℕ) → Instance → List PathStep → Contract → List ℕ
-position_script hash s position choice = encode (output_ops (position_demands hash s position choice))
+position_script hash s position contract = encode (output_ops (position_demands hash s position contract))

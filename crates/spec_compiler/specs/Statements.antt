@@ -57,18 +57,18 @@ secret_lengths names strings = lengths_of names (map length strings)
 
 -- the stack, from its top, is selectors of a branch of the position, its secrets and its signatures
 pub record Opens (hash : List ℕ → List ℕ) (valid : List ℕ → List ℕ → Bool)
-    (s : Instance) (position : List PathStep) (choice : Contract) (stack : List (List ℕ)) : Type 0 where
+    (s : Instance) (position : List PathStep) (contract : Contract) (stack : List (List ℕ)) : Type 0 where
   -- the branch and its number
   pub i : ℕ
   pub b : term.Guarded
-  pub is_branch : slice_get (branches choice) i ≡ Some b
+  pub is_branch : slice_get (branches contract) i ≡ Some b
   -- the three groups
   pub selectors : List (List ℕ)
   pub strings : List (List ℕ)
   pub signatures : List (List ℕ)
   pub is_stack : stack ≡ selectors ++ (strings ++ signatures)
   -- the selectors choose the branch
-  pub selects : map truth selectors ≡ selection i (length (branches choice))
+  pub selects : map truth selectors ≡ selection i (length (branches contract))
   -- the secrets are those that it reveals, and its predicate is true of their lengths
   pub fits : are_secrets hash strings (map (digest_of s.hashes) (reveals_of (core b))) ≡ true
   pub predicate : holds (secret_lengths (reveals_of (core b)) strings) (test_of (core b)) ≡ true
@@ -86,53 +86,53 @@ abbrev pub is_short : List ℕ → Bool
 is_short item = nat_le (length item) most_item_bytes
 
 -- the contract passed the check, each of its secrets is committed to by a digest of 32 bytes, and the branches are those of the position
-pub record IsCompiled (s : Instance) (position : List PathStep) (choice : Contract) : Type 0 where
+pub record IsCompiled (s : Instance) (position : List PathStep) (contract : Contract) : Type 0 where
   pub checked : IsWellFormed s.advert
   pub committed : list_all (λ name. has_size 32 (digest_of s.hashes name)) (names_of (secrets s.advert.pre)) ≡ true
-  pub is_position : contract_under s.advert.root position ≡ Some choice
+  pub is_position : contract_under s.advert.root position ≡ Some contract
 
 -- ---- the theorems
 
 -- the script of a position is true on a stack, given from its bottom, exactly where the stack opens a branch of the position
 pub record OpensExactly (hash : List ℕ → List ℕ) (valid : List ℕ → List ℕ → Bool)
-    (s : Instance) (position : List PathStep) (choice : Contract) (stack : List (List ℕ)) : Type 0 where
-  pub true_opens : script_meaning hash valid (position_script hash s position choice) stack ≡ true
-      → Opens hash valid s position choice (reverse stack)
-  pub opens_true : Opens hash valid s position choice (reverse stack)
-      → script_meaning hash valid (position_script hash s position choice) stack ≡ true
+    (s : Instance) (position : List PathStep) (contract : Contract) (stack : List (List ℕ)) : Type 0 where
+  pub true_opens : script_meaning hash valid (position_script hash s position contract) stack ≡ true
+      → Opens hash valid s position contract (reverse stack)
+  pub opens_true : Opens hash valid s position contract (reverse stack)
+      → script_meaning hash valid (position_script hash s position contract) stack ≡ true
 
 -- for every hash, every judge of signatures, every position of a checked contract and every stack of short items
 abbrev pub ScriptTheorem : Type 0
 ScriptTheorem =
     (hash : List ℕ → List ℕ) (valid : List ℕ → List ℕ → Bool)
-    (s : Instance) (position : List PathStep) (choice : Contract) (stack : List (List ℕ))
-    → IsHash hash → IsCompiled s position choice → list_all is_short stack ≡ true → OpensExactly hash valid s position choice stack
+    (s : Instance) (position : List PathStep) (contract : Contract) (stack : List (List ℕ))
+    → IsHash hash → IsCompiled s position contract → list_all is_short stack ≡ true → OpensExactly hash valid s position contract stack
 
 -- the branch that a stack chooses is the branch that it opens
 abbrev pub OpenedIsChosen : Type 0
 OpenedIsChosen =
     (hash : List ℕ → List ℕ) (valid : List ℕ → List ℕ → Bool)
-    (s : Instance) (position : List PathStep) (choice : Contract) (stack : List (List ℕ))
-    → (opened : Opens hash valid s position choice stack) → chosen (length (branches choice)) stack ≡ opened.i
+    (s : Instance) (position : List PathStep) (contract : Contract) (stack : List (List ℕ))
+    → (opened : Opens hash valid s position contract stack) → chosen (length (branches contract)) stack ≡ opened.i
 
 -- a script has the bytes and counted operations of its cost, meets no limit of scripts, and its bytes spell its operations
-pub record HasCost (hash : List ℕ → List ℕ) (s : Instance) (position : List PathStep) (choice : Contract) : Type 0 where
-  pub bytes : length (position_script hash s position choice) ≡ (cost (length (people s)) choice).bytes
-  pub operations : counted (output_ops (position_demands hash s position choice)) ≡ (cost (length (people s)) choice).operations
-  pub few_bytes : length (position_script hash s position choice) ≤ most_script_bytes
-  pub few_operations : counted (output_ops (position_demands hash s position choice)) ≤ most_operations
-  pub spells : script_ops (position_script hash s position choice) ≡ Some (output_ops (position_demands hash s position choice))
+pub record HasCost (hash : List ℕ → List ℕ) (s : Instance) (position : List PathStep) (contract : Contract) : Type 0 where
+  pub bytes : length (position_script hash s position contract) ≡ (cost (length (people s)) contract).bytes
+  pub operations : counted (output_ops (position_demands hash s position contract)) ≡ (cost (length (people s)) contract).operations
+  pub few_bytes : length (position_script hash s position contract) ≤ most_script_bytes
+  pub few_operations : counted (output_ops (position_demands hash s position contract)) ≤ most_operations
+  pub spells : script_ops (position_script hash s position contract) ≡ Some (output_ops (position_demands hash s position contract))
 
 abbrev pub SizeTheorem : Type 0
 SizeTheorem =
-    (hash : List ℕ → List ℕ) (s : Instance) (position : List PathStep) (choice : Contract) → IsHash hash → IsCompiled s position choice
-    → HasCost hash s position choice
+    (hash : List ℕ → List ℕ) (s : Instance) (position : List PathStep) (contract : Contract) → IsHash hash → IsCompiled s position contract
+    → HasCost hash s position contract
 
 -- what is handed to a witness of branch i: its signatures by participant, and its secrets by reveal
 pub record Fills (hash : List ℕ → List ℕ) (valid : List ℕ → List ℕ → Bool)
-    (s : Instance) (position : List PathStep) (choice : Contract) (i : ℕ) (signatures strings : List (List ℕ)) : Type 0 where
+    (s : Instance) (position : List PathStep) (contract : Contract) (i : ℕ) (signatures strings : List (List ℕ)) : Type 0 where
   pub b : term.Guarded
-  pub is_branch : slice_get (branches choice) i ≡ Some b
+  pub is_branch : slice_get (branches contract) i ≡ Some b
   pub fits : are_secrets hash strings (map (digest_of s.hashes) (reveals_of (core b))) ≡ true
   pub predicate : holds (secret_lengths (reveals_of (core b)) strings) (test_of (core b)) ≡ true
   pub signed : are_valid valid signatures (branch_keys hash s (branch_path position i)) ≡ true
@@ -142,10 +142,10 @@ pub record Fills (hash : List ℕ → List ℕ) (valid : List ℕ → List ℕ �
 abbrev pub WitnessOpens : Type 0
 WitnessOpens =
     (hash : List ℕ → List ℕ) (valid : List ℕ → List ℕ → Bool)
-    (s : Instance) (position : List PathStep) (choice : Contract) (i : ℕ) (signatures strings : List (List ℕ))
-    → IsHash hash → IsCompiled s position choice → Fills hash valid s position choice i signatures strings
-    → script_meaning hash valid (position_script hash s position choice)
-    (witness_stack signatures strings i (length (branches choice))) ≡ true
+    (s : Instance) (position : List PathStep) (contract : Contract) (i : ℕ) (signatures strings : List (List ℕ))
+    → IsHash hash → IsCompiled s position contract → Fills hash valid s position contract i signatures strings
+    → script_meaning hash valid (position_script hash s position contract)
+    (witness_stack signatures strings i (length (branches contract))) ≡ true
 
 -- the script of a deposit is true on a stack exactly where the stack is one signature that is valid for its key
 abbrev pub DepositMeaning : Type 0

@@ -39,6 +39,10 @@ most_name_bytes = 32
 abbrev pub least_secret_bytes : ℕ
 least_secret_bytes = 16
 
+-- the greatest length of a secret in the calculus, which counts the bytes above the fewest
+abbrev pub most_secret_length : ℕ
+most_secret_length = 504
+
 -- ---- runs
 
 -- contracts of a run

@@ -24,6 +24,7 @@ use Rattle.spec_run.specs.Secrets.{shown}
 abbrev pub deposit_in : Setup → ℕ → Output → Option Deposit
 deposit_in s k o = if is_deposit (Some o) then Some record { number = k; owner = owner_by s o.script; value = o.value } else None
 
+-- what lies at a live output as an active contract
 abbrev pub active_by : ℕ → ℕ → Option ContractPosition → Option ActiveContract
 active_by k value None = None
 active_by k value (Some held) = Some record { number = k; contract = held.contract; position = held.position; balance = value }
@@ -55,6 +56,7 @@ abbrev pub compiled_outpoint : Setup → Option Instance → List PathStep → O
 compiled_outpoint s None position = None
 compiled_outpoint s (Some instance) position = outpoint_at s.hash instance position
 
+-- whether what is held lies at this place, where there is something
 abbrev pub is_placed_by : Setup → World → OutPoint → Option ContractPosition → Bool
 is_placed_by s w outpoint None = true
 is_placed_by s w outpoint (Some held) = is_outpoint outpoint (compiled_outpoint s (compiled_instance s w held.contract) held.position)
@@ -72,16 +74,16 @@ abbrev pub promised_pair : Promise → ℕ × List ℕ
 promised_pair p = (p.contract, p.party)
 
 pub record Agree (s : Setup) (g : Configuration) (w : World) : Type 0 where
-  -- the time is the tip, and the next name is the next birth number
+  -- 1 the time is the tip, and the next name is the next birth number
   pub time : g.time ≡ w.tip
   pub next : g.next ≡ length w.outputs
-  -- the deposits are the live outputs that are no contract outputs, with their owners and values
+  -- 2 the deposits are the live outputs that are no contract outputs, with their owners and values
   pub deposits : g.deposits ≡ deposits_from s 0 w.outputs
-  -- the active contracts are the live contract outputs, with contract, position and value, and these lie where they were compiled to
+  -- 3 the active contracts are the live contract outputs, with contract, position and value, and these lie where they were compiled to
   pub active : g.active ≡ actives_from 0 w.outputs
   pub placed : list_all (is_placed s w) w.outputs ≡ true
-  -- a secret is revealed exactly where it is committed and a string that fits it is posted
+  -- 4 a secret is revealed exactly where it is committed and a string that fits it is posted
   pub revealed : (x : Revealed) → is_revealed g.revealed x.contract x.party x.secret ≡ shown s w x
-  -- the same contracts are advertised with the same bindings, and the same parties have committed
+  -- 5 the same contracts are advertised with the same bindings, and the same parties have committed
   pub advertised : g.advertised ≡ w.advertised
   pub committed : map committed_pair g.committed ≡ map promised_pair w.promises

@@ -4,6 +4,7 @@ use Rattle.std.specs.List.{list_all, list_any, AllByRecursion}
 use Rattle.std.specs.Str.{bytes_eq}
 use Rattle.spec_data.specs.Lists.{is_among, are_different}
 use Rattle.spec_terms.specs.Faults.{IsWellFormed}
+pub use Rattle.spec_terms.specs.Faults.{are_among as are_all_among}
 pub use Rattle.spec_data.specs.Hashes.{HashesBytes}
 use Rattle.spec_bitcoin.specs.Spelling.{IsBytes}
 use Rattle.spec_data.specs.Ranges.{max_money, most_contracts, most_parties, most_header_deposits, most_header_secrets, most_piece_bytes}
@@ -21,10 +22,6 @@ use Rattle.spec_run.specs.Setup.{Setup, is_declared}
 abbrev pub are_held_apart : List HeldSecret → Bool
 are_held_apart [] = true
 are_held_apart (x ∷ xs) = not (list_any (λ y. bytes_eq y.party x.party && bytes_eq y.name x.name) xs) && are_held_apart xs
-
--- whether each element of the first list stands in the second
-abbrev pub are_all_among : List (List ℕ) → List (List ℕ) → Bool
-are_all_among names known = list_all (λ name. is_among name known) names
 
 -- a header as a run file can have it
 pub record IsHeader (header : Header) : Type 0 where

@@ -67,7 +67,7 @@ abbrev pub append_read : Setup → World → Result Tx ℕ → Draft
 append_read s w (Ok tx) = reaches s w w tx
 append_read s w (Err place) = refused w [] (reason.BadTx place)
 
--- the height stays within its bound
+-- `mine n`: the height stays within its bound
 abbrev pub mine_row : World → ℕ → List (Bool × Reason)
 mine_row w blocks = (not (nat_le (w.tip + blocks) last_height), reason.TimeLimit) ∷ []
 

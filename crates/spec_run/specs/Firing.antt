@@ -53,7 +53,7 @@ initial_transaction s instance =
     with_witnesses (prepared s.hash (initial_unsigned s.hash instance)).tx
         (initial_witnesses s instance (prepared s.hash (initial_unsigned s.hash instance)))
 
--- the contract is there, and it is compiled
+-- `fire init K`: the contract is there, and it is compiled
 abbrev pub fire_init_row : Setup → World → ℕ → List (Bool × Reason)
 fire_init_row s w contract =
     (not (has_contract s contract), reason.NoContract)
@@ -104,7 +104,7 @@ abbrev pub unknown_at : Setup → World → ℕ → ℕ → Option (List ℕ)
 unknown_at s w output branch =
     unknown_secret s w (position_instance s w (live_position_at w output)) (branch_if_live s (live_position_at w output) branch)
 
--- there is an active contract of this number, it has the branch, and the branch's secrets are known
+-- `fire #n i`: there is an active contract of this number, it has the branch, and the branch's secrets are known
 abbrev pub fire_row : Setup → World → ℕ → ℕ → List (Bool × Reason)
 fire_row s w output branch =
     (not (is_some (live_position_at w output)), reason.NotActive)

@@ -6,6 +6,7 @@ use Rattle.spec_bitcoin.specs.declared.tx.TxOut.{TxOut}
 use Rattle.spec_bitcoin.specs.declared.tx.Tx.{Tx}
 use Rattle.spec_bitcoin.specs.Digests.{digest}
 use Rattle.spec_bitcoin.specs.Keys.{Pair, signature_of}
+use Rattle.spec_bitcoin.specs.Verdict.{number_or_zero}
 use Rattle.spec_data.specs.Ranges.{max_money}
 use Rattle.spec_calculus.specs.declared.step.Owner.TheVariants.{Party}
 use Rattle.spec_calculus.specs.Same.{owner_eq}
@@ -33,10 +34,6 @@ abbrev pub first_foreign : Setup → World → List ℕ → List ℕ → Option 
 first_foreign s w party [] = None
 first_foreign s w party (n ∷ ns) = if owner_eq (owner_of s (output_at w n)) (Party party) then first_foreign s w party ns else Some n
 
-abbrev pub number_or_zero : Option ℕ → ℕ
-number_or_zero None = 0
-number_or_zero (Some n) = n
-
 -- what these deposits are worth
 abbrev pub value_in : World → List ℕ → ℕ
 value_in w inputs = sum_by (λ n. deposit_value (output_at w n)) inputs
@@ -45,7 +42,8 @@ value_in w inputs = sum_by (λ n. deposit_value (output_at w n)) inputs
 abbrev pub value_out : List (List ℕ × ℕ) → ℕ
 value_out outputs = sum_by (λ o. o.1) outputs
 
--- the inputs are live deposits, the party's own and different, and pay for the outputs; one output above the most makes their sum exceed it
+-- `give A #n .. -> B v ..`: the inputs are live deposits, the party's own and different, and pay for the outputs; one output above
+-- the most makes their sum exceed it
 abbrev pub give_row : Setup → World → List ℕ → List ℕ → List (List ℕ × ℕ) → List (Bool × Reason)
 give_row s w party inputs outputs =
     (is_some (first_dead w inputs), reason.NotLiveOutput (number_or_zero (first_dead w inputs)))

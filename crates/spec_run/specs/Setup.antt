@@ -4,8 +4,8 @@ use Rattle.std.specs.Option.{is_some}
 use Rattle.std.specs.Str.{bytes_eq}
 use Rattle.spec_data.specs.Lists.{is_among}
 use Rattle.spec_terms.specs.Advert.{Advert}
-use Rattle.spec_terms.specs.Parties.{participants}
 use Rattle.spec_terms.specs.declared.pre.Pre.{Pre}
+pub use Rattle.spec_calculus.specs.Beginning.{pre_of, participants_of as people_of}
 use Rattle.spec_run.specs.declared.header.Header.{Header}
 use Rattle.spec_run.specs.declared.header.HeldSecret.{HeldSecret}
 
@@ -35,19 +35,11 @@ contract_at s contract = slice_get s.contracts contract
 abbrev pub has_contract : Setup → ℕ → Bool
 has_contract s contract = is_some (contract_at s contract)
 
--- the precondition of a contract, nothing without one
-abbrev pub pre_of : Option Advert → List Pre
-pre_of None = []
-pre_of (Some advert) = advert.pre
-
--- the participants of a contract, nobody without one
-abbrev pub people_of : Option Advert → List (List ℕ)
-people_of None = []
-people_of (Some advert) = participants advert
-
+-- its precondition, nothing without one
 abbrev pub pre_at : Setup → ℕ → List Pre
 pre_at s contract = pre_of (contract_at s contract)
 
+-- its participants, nobody without one
 abbrev pub people_at : Setup → ℕ → List (List ℕ)
 people_at s contract = people_of (contract_at s contract)
 

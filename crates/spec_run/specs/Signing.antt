@@ -53,7 +53,7 @@ abbrev pub endorsing_pairs : Setup → List ℕ → Option Instance → List Pai
 endorsing_pairs s party None = []
 endorsing_pairs s party (Some instance) = pairs_of_party party (needs_at s instance)
 
--- the contract is there, the party takes part, and all have committed
+-- `endorse K A`: the contract is there, the party takes part, and all have committed
 abbrev pub endorse_row : Setup → World → ℕ → List ℕ → List (Bool × Reason)
 endorse_row s w contract party =
     (not (has_contract s contract), reason.NoContract)
@@ -96,7 +96,7 @@ abbrev pub not_endorsed : Option Need → Reason
 not_endorsed None = reason.NotEndorsed [] []
 not_endorsed (Some need) = reason.NotEndorsed need.path need.party
 
--- as for an endorsement, and an honest party waits for all of them
+-- `init K A`: as for an endorsement, and an honest party waits for all of them
 abbrev pub init_row : Setup → World → ℕ → List ℕ → List (Bool × Reason)
 init_row s w contract party =
     (not (has_contract s contract), reason.NoContract)
@@ -122,7 +122,7 @@ abbrev pub branch_if_live : Setup → Option ContractPosition → ℕ → Option
 branch_if_live s None branch = None
 branch_if_live s (Some held) branch = position_branch s held branch
 
--- there is an active contract of this number, it has the branch, and the branch asks the party
+-- `authorise A #n i`: there is an active contract of this number, it has the branch, and the branch asks the party
 abbrev pub authorise_row : Setup → World → List ℕ → ℕ → ℕ → List (Bool × Reason)
 authorise_row s w party output branch =
     (not (is_some (live_position_at w output)), reason.NotActive)
@@ -168,7 +168,7 @@ abbrev pub label_party : Label → List ℕ
 label_party (labels.Deposit party) = party
 label_party (labels.Branch contract path party) = party
 
--- the party isn't honest, and the label is its own
+-- `sign B LABEL HEX64`: the party isn't honest, and the label is its own
 abbrev pub sign_row : Setup → List ℕ → Label → List (Bool × Reason)
 sign_row s party label =
     (is_honest s party, reason.Honest)

@@ -105,11 +105,15 @@ branch_steps g people output branch (Some b) =
 
 -- the steps of an accepted transaction, by what it is
 abbrev pub kind_steps : Setup → Configuration → World → Tx → List ℕ → Kind → List Step
+-- the initial transaction of a contract: AuthInit for each persistent deposit that isn't authorised, then Init
 kind_steps s g w tx spent (Begins contract) = begin_steps s g contract
+-- another transaction that spends a contract output: AuthBranch for each who is asked and hasn't authorised, then the branch's step
 kind_steps s g w tx spent (Takes held output branch) =
     branch_steps g (people_at s held.contract) output branch (position_branch s held branch)
+-- every other: AuthMove for each party that owns an input, then Move
 kind_steps s g w tx spent Moves = move_steps s w tx spent
 
+-- before these the secrets that the transaction shows are revealed
 abbrev pub accepted_steps : Setup → Configuration → World → World → List ℕ → Option Tx → List Step
 accepted_steps s g w next spent None = []
 accepted_steps s g w next spent (Some tx) = reveals s w next ++ kind_steps s g w tx spent (kind_of s w tx spent)
@@ -141,24 +145,33 @@ commit_lengths s strings contract party digests =
 
 -- the steps of an event that is done, from one world to the next, in a run that posts these strings
 abbrev pub done_steps : Setup → List (List ℕ) → World → World → Event → List Step
+-- Advertise, its bindings in the precondition's order
 done_steps s strings w next (events.Advertise contract bindings) =
     steps.Advertise contract (arranged 0 (deposit_names s contract) bindings) ∷ []
+-- Commit, then Reveal for each of its secrets that has a fitting posted string
 done_steps s strings w next (events.Commit contract party digests) =
     steps.Commit contract party (commit_lengths s strings contract party digests) ∷ reveals s w next
+-- none
 done_steps s strings w next (events.Endorse contract party) = []
+-- AuthInit for each persistent deposit of the party whose bound output is live
 done_steps s strings w next (events.Init contract party) = init_steps s w contract party
+-- AuthBranch
 done_steps s strings w next (events.Authorise party output branch) = steps.AuthBranch party output branch ∷ []
+-- Reveal for each committed secret whose fitting string came to be posted
 done_steps s strings w next (events.Reveal contract party secret) = reveals s w next
 done_steps s strings w next (events.Post bytes) = reveals s w next
+-- none; what is handed to the ledger isn't done but accepted
 done_steps s strings w next (events.Sign party label digest) = []
 done_steps s strings w next (events.Give party inputs outputs) = []
 done_steps s strings w next (events.Append bytes) = []
 done_steps s strings w next (events.FireInit contract) = []
 done_steps s strings w next (events.Fire output branch) = []
+-- Delay
 done_steps s strings w next (events.Mine blocks) = steps.Delay blocks ∷ []
 
 -- ---- all events
 
+-- a refused event has none
 abbrev pub outcome_steps : Setup → List (List ℕ) → Configuration → World → World → Event → Option Tx → Outcome → List Step
 outcome_steps s strings g w next e tx outcomes.Done = done_steps s strings w next e
 outcome_steps s strings g w next e tx (outcomes.Accepted spent made lock) = accepted_steps s g w next spent tx

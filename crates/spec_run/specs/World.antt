@@ -6,6 +6,7 @@ use Rattle.std.specs.Str.{bytes_eq}
 use Rattle.spec_terms.specs.declared.path.PathStep.{PathStep}
 use Rattle.spec_bitcoin.specs.declared.tx.OutPoint.{OutPoint}
 use Rattle.spec_calculus.specs.declared.parts.Advertised.{Advertised}
+pub use Rattle.spec_calculus.specs.Beginning.{bindings_of as bindings_at}
 
 -- what a contract output stands for: a contract by its number, and a position of it
 pub record ContractPosition : Type 0 where
@@ -63,11 +64,6 @@ abbrev pub live_position_at : World → ℕ → Option ContractPosition
 live_position_at w number = live_position (output_at w number)
 
 -- ---- advertised contracts
-
--- the bindings of an advertised contract, none where it isn't
-abbrev pub bindings_at : List Advertised → ℕ → List (List ℕ × ℕ)
-bindings_at [] contract = []
-bindings_at (a ∷ rest) contract = if a.contract == contract then a.bindings else bindings_at rest contract
 
 -- whether the contract is advertised
 abbrev pub is_advertised : World → ℕ → Bool

@@ -1,5 +1,5 @@
 -- What a branch asks for before it goes, and what it then does.
-use Rattle.std.specs.Prelude.{ℕ, max, List, [], ◌∷◌, Bool, Option, Some, None}
+use Rattle.std.specs.Prelude.{ℕ, max, List, [], ◌∷◌, Bool, true, false, Option, Some, None}
 use Rattle.spec_data.specs.Lists.{is_among}
 use Rattle.spec_terms.specs.Term.{Pred, always, Guarded, auth, after, put_reveal, withdraw, split, Contract}
 
@@ -56,6 +56,14 @@ test_of (auth party body) = always
 test_of (after height body) = always
 test_of (withdraw party) = always
 test_of (split parts) = always
+
+-- whether it pays a party
+abbrev pub is_withdraw_core : Guarded → Bool
+is_withdraw_core (withdraw party) = true
+is_withdraw_core (auth party body) = false
+is_withdraw_core (after height body) = false
+is_withdraw_core (put_reveal puts reveals test next) = false
+is_withdraw_core (split parts) = false
 
 -- the contract that a put or reveal goes on with
 abbrev pub continuation : Guarded → Option Contract

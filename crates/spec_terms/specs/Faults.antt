@@ -7,6 +7,7 @@ use Rattle.spec_data.specs.Lists.{is_among, are_different, first_answer, or_else
 use Rattle.spec_terms.specs.Term.{Guarded, auth, after, put_reveal, withdraw, split, Contract, Parts, no_part, part}
 use Rattle.spec_terms.specs.Advert.{Advert}
 use Rattle.spec_terms.specs.Core.{core, puts_of, reveals_of, test_of}
+pub use Rattle.spec_terms.specs.Core.{is_withdraw_core as is_withdraw}
 use Rattle.spec_terms.specs.Paths.{Subterm, position, at_branch}
 use Rattle.spec_terms.specs.Precondition.{persistent, volatile, secrets, names_of, name_in, owners_of}
 use Rattle.spec_terms.specs.Parties.{participants}
@@ -119,15 +120,6 @@ is_uneven fee balance (withdraw party) = false
 -- SplitSum: a split's parts and the fee don't sum to the static balance of its position; at the branch
 abbrev pub split_sum : Advert → Option Place
 split_sum a = first_place (λ s. at_core (is_uneven a.fee s.balance) s.subterm) (all_funded a)
-
--- whether the core is a withdraw
-abbrev pub is_withdraw : Guarded → Bool
-is_withdraw (withdraw party) = true
-is_withdraw (auth party body) = false
-is_withdraw (after height body) = false
-is_withdraw (put_reveal puts reveals test next) = false
-is_withdraw (split parts) = false
-
 -- whether a position's balance is negative, or a withdraw's is below the fee
 abbrev pub is_short : ℕ → ℤ → Subterm → Bool
 is_short fee balance (position c) = int_lt balance (pos 0)

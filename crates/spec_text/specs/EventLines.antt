@@ -1,6 +1,7 @@
 -- The events that the lines of a run file spell.
 use Rattle.std.specs.Prelude.{ℕ, List, [], ◌∷◌, Bool, true, false, ◌&&◌, if◌then◌else◌, nat_le, Option, Some, None, codes}
 use Rattle.std.specs.Str.{bytes_eq}
+pub use Rattle.spec_terms.specs.Readable.{is_some_list}
 use Rattle.spec_run.specs.declared.event.Event.{Event}
 use Rattle.spec_run.specs.declared.event.Event.TheVariants as events
 use Rattle.spec_data.specs.Digits.{read_hex, onto}
@@ -82,10 +83,6 @@ abbrev pub shares : List (List ℕ) → List (List ℕ) → Option (List (List �
 shares parties [] = Some []
 shares parties (party ∷ []) = None
 shares parties (party ∷ value ∷ words) = onto (one_of parties party >>= λ a. amount value >>= λ v. Some (a, v)) (shares parties words)
-
-abbrev pub is_some_list : {A : Type 0} → List A → Bool
-is_some_list [] = false
-is_some_list (x ∷ xs) = true
 
 -- `give A #n .. -> B v ..`, with an input and an output
 abbrev pub give : LineReader

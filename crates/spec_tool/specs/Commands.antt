@@ -6,6 +6,7 @@ use Rattle.spec_terms.specs.Advert.{Advert}
 use Rattle.spec_run.specs.declared.event.Event.{Event}
 use Rattle.spec_run.specs.declared.event.Run.{Run}
 use Rattle.spec_run.specs.Setup.{Setup}
+use Rattle.spec_data.specs.Ranges.{most_contracts}
 use Rattle.spec_data.specs.Digits.{read_decimal}
 use Rattle.spec_text.specs.Words.{◌>>=◌, given, path}
 use Rattle.spec_text.specs.Limits.{most_text_bytes, most_run_bytes}
@@ -45,10 +46,6 @@ pub data Command : Type 0 where
   audit : (run : List ℕ) → (contract : List ℕ) → (file : List ℕ) → Command
   -- goes on with a run by the rules of a strategy
   auto : (run : List ℕ) → (contract : List ℕ) → (strategy : List ℕ) → Command
-
--- the contracts that one run may have
-abbrev pub most_contracts : ℕ
-most_contracts = 16
 
 -- the greatest size of a made run
 abbrev pub most_size : ℕ

@@ -3,6 +3,7 @@ use Rattle.std.specs.Prelude.{◌≡◌, ℕ, ◌+◌, ◌*◌, ◌≤◌, List,
 use Rattle.std.specs.Prelude.{if◌then◌else◌}
 use Rattle.std.specs.List.{AllByRecursion}
 use Rattle.std.specs.Option.{option_map_or}
+use Rattle.spec_data.specs.Ranges.{least_secret_bytes, most_item_bytes}
 use Rattle.spec_terms.specs.Advert.{Advert}
 use Rattle.spec_terms.specs.Core.{core, reveals_of}
 use Rattle.spec_terms.specs.Parties.{participants}
@@ -30,13 +31,6 @@ weight_of tx = 3 * length (stripped tx) + length (spelling tx)
 -- a signature's size in bytes
 abbrev pub signature_size : ℕ
 signature_size = 66
-
--- the sizes of secrets, in bytes
-abbrev pub least_secret : ℕ
-least_secret = 16
-
-abbrev pub most_secret : ℕ
-most_secret = 520
 
 -- the witness of a deposit, by its signature
 abbrev pub deposit_full : List ℕ → Spent → List (List ℕ)
@@ -108,7 +102,8 @@ exactly n = record { least = n; most = n }
 
 -- the least and the greatest weight of a path's transaction
 abbrev pub path_weight : Advert → List PathStep → Unsigned → Weight
-path_weight advert path d = record { least = weight_with advert path least_secret d; most = weight_with advert path most_secret d }
+path_weight advert path d =
+    record { least = weight_with advert path least_secret_bytes d; most = weight_with advert path most_item_bytes d }
 
 abbrev pub added : Weight → Weight → Weight
 added a b = record { least = a.least + b.least; most = a.most + b.most }
@@ -146,8 +141,8 @@ abbrev pub IsSignature : List ℕ → Type 0
 IsSignature item = length item ≡ signature_size
 
 pub record IsSecret (item : List ℕ) : Type 0 where
-  pub long : least_secret ≤ length item
-  pub short : length item ≤ most_secret
+  pub long : least_secret_bytes ≤ length item
+  pub short : length item ≤ most_item_bytes
 
 -- full witnesses of the initial transaction
 pub record IsInitialFull (d : Unsigned) (witnesses : List (List (List ℕ))) : Type 0 where

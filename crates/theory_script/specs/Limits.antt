@@ -17,23 +17,23 @@ use Rattle.spec_compiler.specs.Statements.{IsHash, IsCompiled}
 
 -- the operations of a position's script
 abbrev pub ops_at : (List ℕ → List ℕ) → Instance → List PathStep → Contract → List Op
-ops_at hash s position choice = output_ops (position_demands hash s position choice)
+ops_at hash s position contract = output_ops (position_demands hash s position contract)
 
 -- few bytes, which are read as operations; no push is too long, few operations count, and there are few of them in all
-pub record MeetsNoLimit (hash : List ℕ → List ℕ) (s : Instance) (position : List PathStep) (choice : Contract) : Type 0 where
-  pub bytes : length (position_script hash s position choice) ≤ most_script_bytes
-  pub reads : script_ops (position_script hash s position choice) ≡ Some (ops_at hash s position choice)
-  pub limits : within_limits (ops_at hash s position choice) ≡ true
-  pub few : length (ops_at hash s position choice) ≤ 402
+pub record MeetsNoLimit (hash : List ℕ → List ℕ) (s : Instance) (position : List PathStep) (contract : Contract) : Type 0 where
+  pub bytes : length (position_script hash s position contract) ≤ most_script_bytes
+  pub reads : script_ops (position_script hash s position contract) ≡ Some (ops_at hash s position contract)
+  pub limits : within_limits (ops_at hash s position contract) ≡ true
+  pub few : length (ops_at hash s position contract) ≤ 402
   -- so what the script means is what its operations make of the stack
   pub means : (valid : List ℕ → List ℕ → Bool) (stack : List (List ℕ))
-      → script_meaning hash valid (position_script hash s position choice) stack
-      ≡ meaning hash valid (ops_at hash s position choice) (reverse stack)
+      → script_meaning hash valid (position_script hash s position contract) stack
+      ≡ meaning hash valid (ops_at hash s position contract) (reverse stack)
 
 -- of every position of a checked contract
 abbrev pub NoLimitIsMet : Type 0
-NoLimitIsMet = (hash : List ℕ → List ℕ) (s : Instance) (position : List PathStep) (choice : Contract)
-    → IsHash hash → IsCompiled s position choice → MeetsNoLimit hash s position choice
+NoLimitIsMet = (hash : List ℕ → List ℕ) (s : Instance) (position : List PathStep) (contract : Contract)
+    → IsHash hash → IsCompiled s position contract → MeetsNoLimit hash s position contract
 
 -- ---- the limit on items
 

@@ -26,15 +26,16 @@ ScriptsAreListed = (hash : List ℕ → List ℕ) (s : Instance) (position : Lis
     → at_path position (compilation hash s).scripts ≡ option_map (λ p. p.0.output.script) (position_at hash s position)
 
 -- a position of a contract, as it stands on the chain: its path, its branches, and its script
-pub record StandsAt (hash : List ℕ → List ℕ) (s : Instance) (position : List PathStep) (here : Standing) (choice : Contract) : Type 0 where
+pub record StandsAt (hash : List ℕ → List ℕ) (s : Instance) (position : List PathStep) (here : Standing)
+    (contract : Contract) : Type 0 where
   pub path : here.position ≡ position
-  pub branches : contract_under s.advert.root position ≡ Some choice
-  pub script : here.output.script ≡ position_script hash s position choice
+  pub branches : contract_under s.advert.root position ≡ Some contract
+  pub script : here.output.script ≡ position_script hash s position contract
 
 -- what is found by a path stands there
 abbrev pub PositionsStand : Type 0
-PositionsStand = (hash : List ℕ → List ℕ) (s : Instance) (position : List PathStep) (here : Standing) (choice : Contract)
-    → position_at hash s position ≡ Some (here, choice) → StandsAt hash s position here choice
+PositionsStand = (hash : List ℕ → List ℕ) (s : Instance) (position : List PathStep) (here : Standing) (contract : Contract)
+    → position_at hash s position ≡ Some (here, contract) → StandsAt hash s position here contract
 
 -- whether a path is one of these
 abbrev pub is_path_among : List PathStep → List (List PathStep) → Bool

@@ -30,10 +30,10 @@ IsKept advert d = paid_out d + advert.fee ≡ paid_in d
 pub record KeepsMoney (hash : List ℕ → List ℕ) (s : Instance) : Type 0 where
   pub initial : IsKept s.advert (initial_unsigned hash s)
   pub paths : (path : List PathStep) (d : Unsigned) → unsigned_at hash s path ≡ Some d → IsKept s.advert d
-  pub static : (position : List PathStep) (here : Standing) (choice : Contract) → position_at hash s position ≡ Some (here, choice)
-      → Contains (all_funded s.advert) (as_funded position (pos here.output.value) (spots.position choice))
-  pub positions : (position : List PathStep) (here : Standing) (choice : Contract) (i : ℕ) (b : Guarded)
-      → position_at hash s position ≡ Some (here, choice) → slice_get (branches choice) i ≡ Some b
+  pub static : (position : List PathStep) (here : Standing) (contract : Contract) → position_at hash s position ≡ Some (here, contract)
+      → Contains (all_funded s.advert) (as_funded position (pos here.output.value) (spots.position contract))
+  pub positions : (position : List PathStep) (here : Standing) (contract : Contract) (i : ℕ) (b : Guarded)
+      → position_at hash s position ≡ Some (here, contract) → slice_get (branches contract) i ≡ Some b
       → Pays s.advert here.output.value (core b)
 
 -- of every contract that passed the check

@@ -103,45 +103,45 @@ module _ (hash : List ℕ → List ℕ) (s : Instance) where
       (within_all (part_within path (k + 1) ps j p e) (within_back (part_scripts path k c) (parts_scripts hash s path (k + 1) ps)))
 
   -- what stands at the path has its scripts in the list
-  abbrev Held : List PathStep → PathEnd → Type 0
-  Held path (at_position here c) = (here.position ≡ path) × Within ((here.position, position_script hash s here.position c) ∷ choice_scripts hash s here.position 0 c) (scripts hash s)
-  Held path (at_branch here i b) = (branch_path here.position i ≡ path) × Within (branch_scripts hash s (branch_path here.position i) b) (scripts hash s)
+  abbrev Listed : List PathStep → PathEnd → Type 0
+  Listed path (at_position here c) = (here.position ≡ path) × Within ((here.position, position_script hash s here.position c) ∷ choice_scripts hash s here.position 0 c) (scripts hash s)
+  Listed path (at_branch here i b) = (branch_path here.position i ≡ path) × Within (branch_scripts hash s (branch_path here.position i) b) (scripts hash s)
 
-  abbrev IfHeld : List PathStep → Option PathEnd → Type 0
-  IfHeld path None = Unit {0}
-  IfHeld path (Some p) = Held path p
+  abbrev IfListed : List PathStep → Option PathEnd → Type 0
+  IfListed path None = Unit {0}
+  IfListed path (Some p) = Listed path p
 
-  held_branch : (path : List PathStep) (here : Standing) (c : Contract) (j : ℕ) (o : Option term.Guarded) → slice_get (branches c) j ≡ o → branch_path here.position j ≡ path → Within (choice_scripts hash s here.position 0 c) (scripts hash s) → IfHeld path (option_map (at_branch here j) o)
-  held_branch path here c j None e same w = tt
-  held_branch path here c j (Some b) e same w =
+  listed_branch : (path : List PathStep) (here : Standing) (c : Contract) (j : ℕ) (o : Option term.Guarded) → slice_get (branches c) j ≡ o → branch_path here.position j ≡ path → Within (choice_scripts hash s here.position 0 c) (scripts hash s) → IfListed path (option_map (at_branch here j) o)
+  listed_branch path here c j None e same w = tt
+  listed_branch path here c j (Some b) e same w =
       let z : 0 + j ≡ j = omega arith in
       (same, within_all (subst (λ (n : ℕ). Within (branch_scripts hash s (branch_path here.position n) b) (choice_scripts hash s here.position 0 c)) z (branch_within here.position 0 c j b e)) w)
 
-  held_part : (path : List PathStep) (made : Unsigned) (ps : Parts) (k : ℕ) (o : Option (ℕ × Contract)) → slice_get (parts_list ps) k ≡ o → Within (parts_scripts hash s path 0 ps) (scripts hash s) → IfHeld (part_position path k) (option_map (λ (p : ℕ × Contract). at_position (part_standing hash s path made k p.0 p.1) p.1) o)
-  held_part path made ps k None e w = tt
-  held_part path made ps k (Some p) e w =
+  listed_part : (path : List PathStep) (made : Unsigned) (ps : Parts) (k : ℕ) (o : Option (ℕ × Contract)) → slice_get (parts_list ps) k ≡ o → Within (parts_scripts hash s path 0 ps) (scripts hash s) → IfListed (part_position path k) (option_map (λ (p : ℕ × Contract). at_position (part_standing hash s path made k p.0 p.1) p.1) o)
+  listed_part path made ps k None e w = tt
+  listed_part path made ps k (Some p) e w =
       let z : 0 + k ≡ k = omega arith in
       (refl, within_all (subst (λ (n : ℕ). Within (part_scripts path n p.1) (parts_scripts hash s path 0 ps)) z (part_within path 0 ps k p e)) w)
 
-  held_core : (path : List PathStep) (here : Standing) (i : ℕ) (w c : term.Guarded) (step : PathStep) → core w ≡ c → branch_path here.position i ≡ path → Within (from (branch_path here.position i) c) (scripts hash s) → IfHeld (path ++ step ∷ []) (next_core hash s here i w c step)
-  held_core path here i w (put_reveal puts reveals test next) (To j) e same h =
-      rw e (held_branch (path ++ To j ∷ []) _ next j (slice_get (branches next) j) refl (ap (λ (p : List PathStep). p ++ To j ∷ []) same) (within_all (within_more _ (choice_scripts hash s (branch_path here.position i) 0 next)) h))
-  held_core path here i w (put_reveal puts reveals test next) (Into k) e same h = tt
-  held_core path here i w (split parts) (To j) e same h = tt
-  held_core path here i w (split parts) (Into k) e same h = rw e (subst (λ (p : List PathStep). IfHeld (p ++ Into k ∷ []) (option_map (λ (q : ℕ × Contract). at_position (part_standing hash s (branch_path here.position i) (core_unsigned hash s here i (lock w) (split parts)) k q.0 q.1) q.1) (slice_get (parts_list parts) k))) same (held_part (branch_path here.position i) (core_unsigned hash s here i (lock w) (split parts)) parts k (slice_get (parts_list parts) k) refl h))
-  held_core path here i w (auth party body) (To j) e same h = tt
-  held_core path here i w (auth party body) (Into k) e same h = tt
-  held_core path here i w (after height body) (To j) e same h = tt
-  held_core path here i w (after height body) (Into k) e same h = tt
-  held_core path here i w (withdraw party) (To j) e same h = tt
-  held_core path here i w (withdraw party) (Into k) e same h = tt
+  listed_core : (path : List PathStep) (here : Standing) (i : ℕ) (w c : term.Guarded) (step : PathStep) → core w ≡ c → branch_path here.position i ≡ path → Within (from (branch_path here.position i) c) (scripts hash s) → IfListed (path ++ step ∷ []) (next_core hash s here i w c step)
+  listed_core path here i w (put_reveal puts reveals test next) (To j) e same h =
+      rw e (listed_branch (path ++ To j ∷ []) _ next j (slice_get (branches next) j) refl (ap (λ (p : List PathStep). p ++ To j ∷ []) same) (within_all (within_more _ (choice_scripts hash s (branch_path here.position i) 0 next)) h))
+  listed_core path here i w (put_reveal puts reveals test next) (Into k) e same h = tt
+  listed_core path here i w (split parts) (To j) e same h = tt
+  listed_core path here i w (split parts) (Into k) e same h = rw e (subst (λ (p : List PathStep). IfListed (p ++ Into k ∷ []) (option_map (λ (q : ℕ × Contract). at_position (part_standing hash s (branch_path here.position i) (core_unsigned hash s here i (lock w) (split parts)) k q.0 q.1) q.1) (slice_get (parts_list parts) k))) same (listed_part (branch_path here.position i) (core_unsigned hash s here i (lock w) (split parts)) parts k (slice_get (parts_list parts) k) refl h))
+  listed_core path here i w (auth party body) (To j) e same h = tt
+  listed_core path here i w (auth party body) (Into k) e same h = tt
+  listed_core path here i w (after height body) (To j) e same h = tt
+  listed_core path here i w (after height body) (Into k) e same h = tt
+  listed_core path here i w (withdraw party) (To j) e same h = tt
+  listed_core path here i w (withdraw party) (Into k) e same h = tt
 
-  held_next : (path : List PathStep) (p : PathEnd) (step : PathStep) → Held path p → IfHeld (path ++ step ∷ []) (next_end hash s step p)
-  held_next path (at_position here c) (To j) h = held_branch (path ++ To j ∷ []) here c j (slice_get (branches c) j) refl (ap (λ (p : List PathStep). p ++ To j ∷ []) h.0) (within_all (within_more _ (choice_scripts hash s here.position 0 c)) h.1)
-  held_next path (at_position here c) (Into k) h = tt
-  held_next path (at_branch here i b) step h =
-      subst (λ (o : Option PathEnd). IfHeld (path ++ step ∷ []) o) (sym (is_next_core hash s here i b step))
-      (held_core path here i b (core b) step refl h.0 (subst (λ (es : List (List PathStep × List ℕ)). Within es (scripts hash s)) (scripts_are (branch_path here.position i) b) h.1))
+  listed_next : (path : List PathStep) (p : PathEnd) (step : PathStep) → Listed path p → IfListed (path ++ step ∷ []) (next_end hash s step p)
+  listed_next path (at_position here c) (To j) h = listed_branch (path ++ To j ∷ []) here c j (slice_get (branches c) j) refl (ap (λ (p : List PathStep). p ++ To j ∷ []) h.0) (within_all (within_more _ (choice_scripts hash s here.position 0 c)) h.1)
+  listed_next path (at_position here c) (Into k) h = tt
+  listed_next path (at_branch here i b) step h =
+      subst (λ (o : Option PathEnd). IfListed (path ++ step ∷ []) o) (sym (is_next_core hash s here i b step))
+      (listed_core path here i b (core b) step refl h.0 (subst (λ (es : List (List PathStep × List ℕ)). Within es (scripts hash s)) (scripts_are (branch_path here.position i) b) h.1))
 
   -- a position that stands at the path is in the list
   own_script : (path : List PathStep) (here : Standing) (i : ℕ) (d c : term.Guarded) (v : List ℕ) → Within (from path c) (scripts hash s) → option_map script_of (continued_end hash s here i d c) ≡ Some v → has_path path (scripts hash s) ≡ true
@@ -151,23 +151,23 @@ module _ (hash : List ℕ → List ℕ) (s : Instance) where
   own_script path here i d (auth party body) v h e = cc
   own_script path here i d (after height body) v h e = cc
 
-  own_position : (path : List PathStep) (p : PathEnd) (v : List ℕ) → Held path p → option_map script_of (as_position hash s p) ≡ Some v → has_path path (scripts hash s) ≡ true
+  own_position : (path : List PathStep) (p : PathEnd) (v : List ℕ) → Listed path p → option_map script_of (as_position hash s p) ≡ Some v → has_path path (scripts hash s) ≡ true
   own_position path (at_position here c) v h e =
       subst (λ (q : List PathStep). has_path q (scripts hash s) ≡ true) h.0 (h.1.has here.position (or_left _ (has_path here.position (choice_scripts hash s here.position 0 c)) (path_same here.position)))
   own_position path (at_branch here i b) v h e =
       subst (λ (q : List PathStep). has_path q (scripts hash s) ≡ true) h.0
       (own_script (branch_path here.position i) here i b (core b) v (subst (λ (es : List (List PathStep × List ℕ)). Within es (scripts hash s)) (scripts_are (branch_path here.position i) b) h.1) e)
 
-  reached_if : (path steps : List PathStep) (v : List ℕ) (o : Option PathEnd) → IfHeld path o → ((p : PathEnd) → Held path p → option_map script_of (option_and_then (as_position hash s) (end_from hash s p steps)) ≡ Some v → has_path (path ++ steps) (scripts hash s) ≡ true)
+  reached_if : (path steps : List PathStep) (v : List ℕ) (o : Option PathEnd) → IfListed path o → ((p : PathEnd) → Listed path p → option_map script_of (option_and_then (as_position hash s) (end_from hash s p steps)) ≡ Some v → has_path (path ++ steps) (scripts hash s) ≡ true)
       → option_map script_of (option_and_then (as_position hash s) (option_and_then (λ (p : PathEnd). end_from hash s p steps) o)) ≡ Some v → has_path (path ++ steps) (scripts hash s) ≡ true
   reached_if path steps v None h k e = cc
   reached_if path steps v (Some p) h k e = k p h e
 
-  reached : (path steps : List PathStep) (v : List ℕ) (p : PathEnd) → Held path p → option_map script_of (option_and_then (as_position hash s) (end_from hash s p steps)) ≡ Some v → has_path (path ++ steps) (scripts hash s) ≡ true
+  reached : (path steps : List PathStep) (v : List ℕ) (p : PathEnd) → Listed path p → option_map script_of (option_and_then (as_position hash s) (end_from hash s p steps)) ≡ Some v → has_path (path ++ steps) (scripts hash s) ≡ true
   reached path [] v p h e = subst (λ (q : List PathStep). has_path q (scripts hash s) ≡ true) (sym (append-nil path)) (own_position path p v h e)
   reached path (step ∷ steps) v p h e =
       subst (λ (q : List PathStep). has_path q (scripts hash s) ≡ true) (append_assoc path (step ∷ []) steps)
-      (reached_if (path ++ step ∷ []) steps v (next_end hash s step p) (held_next path p step h) (λ q k l. reached (path ++ step ∷ []) steps v q k l) e)
+      (reached_if (path ++ step ∷ []) steps v (next_end hash s step p) (listed_next path p step h) (λ q k l. reached (path ++ step ∷ []) steps v q k l) e)
 
   pub scripts_are_listed : (position : List PathStep) → at_path position (scripts hash s) ≡ script_at position
   scripts_are_listed position = list_is script_at position (scripts hash s) scripts_right (λ v e. reached [] position v (at_position (root_standing hash s) s.advert.root) (refl, within_same (scripts hash s)) e)

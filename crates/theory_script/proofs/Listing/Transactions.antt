@@ -198,58 +198,58 @@ module _ (hash : List ℕ → List ℕ) (s : Instance) where
       (within_all (part_within path made (k + 1) ps j p e) (within_back (choice_transactions hash s (part_standing hash s path made k v c) 0 c) (parts_transactions hash s path made (k + 1) ps)))
 
   -- what stands at the path has its transactions in the list
-  abbrev Held : List PathStep → PathEnd → Type 0
-  Held path (at_position here c) = (here.position ≡ path) × Within (choice_transactions hash s here 0 c) (path_transactions hash s)
-  Held path (at_branch here i b) = (branch_path here.position i ≡ path) × Within (branch_transactions hash s here i (lock b) b) (path_transactions hash s)
+  abbrev Listed : List PathStep → PathEnd → Type 0
+  Listed path (at_position here c) = (here.position ≡ path) × Within (choice_transactions hash s here 0 c) (path_transactions hash s)
+  Listed path (at_branch here i b) = (branch_path here.position i ≡ path) × Within (branch_transactions hash s here i (lock b) b) (path_transactions hash s)
 
-  abbrev IfHeld : List PathStep → Option PathEnd → Type 0
-  IfHeld path None = Unit {0}
-  IfHeld path (Some p) = Held path p
+  abbrev IfListed : List PathStep → Option PathEnd → Type 0
+  IfListed path None = Unit {0}
+  IfListed path (Some p) = Listed path p
 
-  held_branch : (path : List PathStep) (here : Standing) (c : Contract) (j : ℕ) (o : Option term.Guarded) → slice_get (branches c) j ≡ o → branch_path here.position j ≡ path → Within (choice_transactions hash s here 0 c) (path_transactions hash s) → IfHeld path (option_map (at_branch here j) o)
-  held_branch path here c j None e same w = tt
-  held_branch path here c j (Some b) e same w =
+  listed_branch : (path : List PathStep) (here : Standing) (c : Contract) (j : ℕ) (o : Option term.Guarded) → slice_get (branches c) j ≡ o → branch_path here.position j ≡ path → Within (choice_transactions hash s here 0 c) (path_transactions hash s) → IfListed path (option_map (at_branch here j) o)
+  listed_branch path here c j None e same w = tt
+  listed_branch path here c j (Some b) e same w =
       let z : 0 + j ≡ j = omega arith in
       (same, within_all (subst (λ (n : ℕ). Within (branch_transactions hash s here n (lock b) b) (choice_transactions hash s here 0 c)) z (branch_within here 0 c j b e)) w)
 
-  held_part : (path : List PathStep) (made : Unsigned) (ps : Parts) (k : ℕ) (o : Option (ℕ × Contract)) → slice_get (parts_list ps) k ≡ o → Within (parts_transactions hash s path made 0 ps) (path_transactions hash s) → IfHeld (part_position path k) (option_map (λ (p : ℕ × Contract). at_position (part_standing hash s path made k p.0 p.1) p.1) o)
-  held_part path made ps k None e w = tt
-  held_part path made ps k (Some p) e w =
+  listed_part : (path : List PathStep) (made : Unsigned) (ps : Parts) (k : ℕ) (o : Option (ℕ × Contract)) → slice_get (parts_list ps) k ≡ o → Within (parts_transactions hash s path made 0 ps) (path_transactions hash s) → IfListed (part_position path k) (option_map (λ (p : ℕ × Contract). at_position (part_standing hash s path made k p.0 p.1) p.1) o)
+  listed_part path made ps k None e w = tt
+  listed_part path made ps k (Some p) e w =
       let z : 0 + k ≡ k = omega arith in
       (refl, within_all (subst (λ (n : ℕ). Within (choice_transactions hash s (part_standing hash s path made n p.0 p.1) 0 p.1) (parts_transactions hash s path made 0 ps)) z (part_within path made 0 ps k p e)) w)
 
   -- one step further from a branch, by its core
-  held_core : (path : List PathStep) (here : Standing) (i : ℕ) (w c : term.Guarded) (step : PathStep) → core w ≡ c → branch_path here.position i ≡ path → Within (under here i (lock w) c) (path_transactions hash s) → IfHeld (path ++ step ∷ []) (next_core hash s here i w c step)
-  held_core path here i w (put_reveal puts reveals test next) (To j) e same h = rw e (held_branch (path ++ To j ∷ []) _ next j (slice_get (branches next) j) refl (ap (λ (p : List PathStep). p ++ To j ∷ []) same) h)
-  held_core path here i w (put_reveal puts reveals test next) (Into k) e same h = tt
-  held_core path here i w (split parts) (To j) e same h = tt
-  held_core path here i w (split parts) (Into k) e same h = rw e (subst (λ (p : List PathStep). IfHeld (p ++ Into k ∷ []) (option_map (λ (q : ℕ × Contract). at_position (part_standing hash s (branch_path here.position i) (core_unsigned hash s here i (lock w) (split parts)) k q.0 q.1) q.1) (slice_get (parts_list parts) k))) same (held_part (branch_path here.position i) _ parts k (slice_get (parts_list parts) k) refl h))
-  held_core path here i w (auth party body) (To j) e same h = tt
-  held_core path here i w (auth party body) (Into k) e same h = tt
-  held_core path here i w (after height body) (To j) e same h = tt
-  held_core path here i w (after height body) (Into k) e same h = tt
-  held_core path here i w (withdraw party) (To j) e same h = tt
-  held_core path here i w (withdraw party) (Into k) e same h = tt
+  listed_core : (path : List PathStep) (here : Standing) (i : ℕ) (w c : term.Guarded) (step : PathStep) → core w ≡ c → branch_path here.position i ≡ path → Within (under here i (lock w) c) (path_transactions hash s) → IfListed (path ++ step ∷ []) (next_core hash s here i w c step)
+  listed_core path here i w (put_reveal puts reveals test next) (To j) e same h = rw e (listed_branch (path ++ To j ∷ []) _ next j (slice_get (branches next) j) refl (ap (λ (p : List PathStep). p ++ To j ∷ []) same) h)
+  listed_core path here i w (put_reveal puts reveals test next) (Into k) e same h = tt
+  listed_core path here i w (split parts) (To j) e same h = tt
+  listed_core path here i w (split parts) (Into k) e same h = rw e (subst (λ (p : List PathStep). IfListed (p ++ Into k ∷ []) (option_map (λ (q : ℕ × Contract). at_position (part_standing hash s (branch_path here.position i) (core_unsigned hash s here i (lock w) (split parts)) k q.0 q.1) q.1) (slice_get (parts_list parts) k))) same (listed_part (branch_path here.position i) _ parts k (slice_get (parts_list parts) k) refl h))
+  listed_core path here i w (auth party body) (To j) e same h = tt
+  listed_core path here i w (auth party body) (Into k) e same h = tt
+  listed_core path here i w (after height body) (To j) e same h = tt
+  listed_core path here i w (after height body) (Into k) e same h = tt
+  listed_core path here i w (withdraw party) (To j) e same h = tt
+  listed_core path here i w (withdraw party) (Into k) e same h = tt
 
-  held_next : (path : List PathStep) (p : PathEnd) (step : PathStep) → Held path p → IfHeld (path ++ step ∷ []) (next_end hash s step p)
-  held_next path (at_position here c) (To j) h = held_branch (path ++ To j ∷ []) here c j (slice_get (branches c) j) refl (ap (λ (p : List PathStep). p ++ To j ∷ []) h.0) h.1
-  held_next path (at_position here c) (Into k) h = tt
-  held_next path (at_branch here i b) step h =
-      subst (λ (o : Option PathEnd). IfHeld (path ++ step ∷ []) o) (sym (is_next_core hash s here i b step)) (held_core path here i b (core b) step refl h.0 (within_all (under_within here i (lock b) b) h.1))
+  listed_next : (path : List PathStep) (p : PathEnd) (step : PathStep) → Listed path p → IfListed (path ++ step ∷ []) (next_end hash s step p)
+  listed_next path (at_position here c) (To j) h = listed_branch (path ++ To j ∷ []) here c j (slice_get (branches c) j) refl (ap (λ (p : List PathStep). p ++ To j ∷ []) h.0) h.1
+  listed_next path (at_position here c) (Into k) h = tt
+  listed_next path (at_branch here i b) step h =
+      subst (λ (o : Option PathEnd). IfListed (path ++ step ∷ []) o) (sym (is_next_core hash s here i b step)) (listed_core path here i b (core b) step refl h.0 (within_all (under_within here i (lock b) b) h.1))
 
-  reached_if : (path steps : List PathStep) (d : Unsigned) (o : Option PathEnd) → IfHeld path o → ((p : PathEnd) → Held path p → option_and_then (as_unsigned hash s) (end_from hash s p steps) ≡ Some d → has_path (path ++ steps) (path_transactions hash s) ≡ true)
+  reached_if : (path steps : List PathStep) (d : Unsigned) (o : Option PathEnd) → IfListed path o → ((p : PathEnd) → Listed path p → option_and_then (as_unsigned hash s) (end_from hash s p steps) ≡ Some d → has_path (path ++ steps) (path_transactions hash s) ≡ true)
       → option_and_then (as_unsigned hash s) (option_and_then (λ (p : PathEnd). end_from hash s p steps) o) ≡ Some d → has_path (path ++ steps) (path_transactions hash s) ≡ true
   reached_if path steps d None h k e = cc
   reached_if path steps d (Some p) h k e = k p h e
 
-  reached : (path steps : List PathStep) (d : Unsigned) (p : PathEnd) → Held path p → option_and_then (as_unsigned hash s) (end_from hash s p steps) ≡ Some d → has_path (path ++ steps) (path_transactions hash s) ≡ true
+  reached : (path steps : List PathStep) (d : Unsigned) (p : PathEnd) → Listed path p → option_and_then (as_unsigned hash s) (end_from hash s p steps) ≡ Some d → has_path (path ++ steps) (path_transactions hash s) ≡ true
   reached path [] d (at_position here c) h e = cc
   reached path [] d (at_branch here i b) h e =
       let has = h.1.has (branch_path here.position i) (own_path here i (lock b) b) in
       subst (λ (q : List PathStep). has_path q (path_transactions hash s) ≡ true) (h.0 ∙ sym (append-nil path)) has
   reached path (step ∷ steps) d p h e =
       subst (λ (q : List PathStep). has_path q (path_transactions hash s) ≡ true) (append_assoc path (step ∷ []) steps)
-      (reached_if (path ++ step ∷ []) steps d (next_end hash s step p) (held_next path p step h) (λ q k l. reached (path ++ step ∷ []) steps d q k l) e)
+      (reached_if (path ++ step ∷ []) steps d (next_end hash s step p) (listed_next path p step h) (λ q k l. reached (path ++ step ∷ []) steps d q k l) e)
 
   transactions_listed : (path : List PathStep) → at_path path (path_transactions hash s) ≡ unsigned_at hash s path
   transactions_listed path = list_is (unsigned_at hash s) path (path_transactions hash s) transactions_right (λ d e. reached [] path d (at_position (root_standing hash s) s.advert.root) (refl, within_same (path_transactions hash s)) e)

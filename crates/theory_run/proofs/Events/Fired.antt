@@ -24,6 +24,7 @@ use Rattle.spec_run.specs.Conditions.{HashesBytes, IsPiece}
 use Rattle.spec_run.specs.Draft.{settled}
 use Rattle.spec_run.specs.Ledger.{verdict_in, strings_of, reason_of, accepted, judged, reaches, contract_in, position_path, position_branch, branch_in}
 use Rattle.spec_run.specs.Firing.{initial_by, initial_witnesses, initial_transaction, taking_of_parts, taking_witnesses, taking_transaction, taking_of_position, reaches_if, fire_init_row, fire_init_draft, fire_row, fire_draft}
+use Rattle.spec_run.specs.Signing.{prepared_if_compiled}
 use Rattle.spec_run.specs.Event.{append_read}
 use Rattle.spec_run.specs.Steps.{steps_of}
 use Rattle.theory_bitcoin.proofs.Top.{read_is_spelled}

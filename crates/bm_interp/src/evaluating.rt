@@ -12,12 +12,11 @@ use bm_ops::{Op, ScriptError, decode_script};
 use spec_data::{Bytes, OutOfMemory};
 use std::alloc::{AllocError, Global};
 
-// The bytes of an item that is pushed, the operations of a script that count, and its bytes, by Bitcoin's consensus.
+// The bytes of an item that is pushed, and the operations of a script that count, by Bitcoin's consensus.
 const MOST_ITEM_BYTES: usize = 520;
 
 const MOST_OPERATIONS: usize = 201;
 
-const MOST_SCRIPT_BYTES: usize = 10_000;
 
 fn is_short(op: &Op) -> bool
     ensures { result ≡ is_short_push op.now }
@@ -80,7 +79,7 @@ pub fn eval<H: Hash32, C: SigCheck>(
 ) -> Result<bool, OutOfMemory>
     ensures { IfOk result (λ valid. valid ≡ script_meaning (H.digest_of hash.now) (C.valid check.now) script.now stack.now) }
 {
-    if script.len() > MOST_SCRIPT_BYTES {
+    if script.len() > 10_000 {
         return Ok(false);
     }
     let ops = match decode_script(alloc, script) {

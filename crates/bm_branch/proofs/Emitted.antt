@@ -6,7 +6,8 @@ use Rattle.spec_compiler.specs.Witness.{selectors}
 use Rattle.spec_bitcoin.specs.declared.script.Op.{Op}
 use Rattle.spec_bitcoin.specs.declared.script.Op.TheVariants.{Code}
 use Rattle.spec_compiler.specs.Scripts.{choice_ops}
-use Rattle.spec_bitcoin.specs.Scripts.{encode_op, encode}
+use Rattle.spec_bitcoin.specs.Scripts.{encode}
+use Rattle.spec_bitcoin.proofs.EncodeLemmas.{encode-append}
 
 -- ---- copies
 
@@ -41,11 +42,6 @@ selectors_none i n h =
     rw t (reverse-same i [])
 
 -- ---- positions
-
-encode-append : (xs ys : List Op) → encode (xs ++ ys) ≡ encode xs ++ encode ys
-encode-append [] ys = refl
-encode-append (op ∷ xs) ys =
-    ap (λ bs. encode_op op ++ bs) (encode-append xs ys) ∙ sym (append_assoc (encode_op op) (encode xs) (encode ys))
 
 -- the bytes of a choice between these operations and others, written one piece after another
 pub choice_bytes : (start b1 b2 b3 b4 b5 : List ℕ) (ops : List Op) (others : List (List Op)) → 0 < length others

@@ -1,14 +1,12 @@
 -- Which label a text is of, by its pieces.
-use Rattle.std.proofs.Common.{◌≡◌, ℕ, ◌<◌, ◌≤◌, List, [], ◌∷◌, ◌++◌, length, refl, sym, ap, subst, ◌∙◌, arith, append_assoc}
+use Rattle.std.proofs.Common.{◌≡◌, ℕ, ◌<◌, ◌≤◌, List, [], ◌∷◌, ◌++◌, length, refl, sym, ap, subst, ◌∙◌}
 use Rattle.std.specs.Fmt.{decimal}
-use Rattle.std.specs.Prelude.{flat_map}
 use Rattle.spec_terms.specs.declared.path.PathStep.{PathStep}
 use Rattle.spec_bitcoin.specs.declared.label.Label.TheVariants.{Deposit, Branch}
-use Rattle.spec_bitcoin.specs.Keys.{step_text, label_text}
+use Rattle.spec_bitcoin.proofs.StepLemmas.{tails, two_paths, branch_is, deposit_is, kinds_apart, behind_both}
 use Rattle.bm_keys.specs.Pieces.{NoStart, IsNumberAt, steps_before, IsPathAt, NoPathAt}
 use Rattle.bm_keys.specs.Labels.{IsParty, IsTextOf, NoLabel, NoKind, IsContractAt, NoContractAt}
 use Rattle.bm_keys.proofs.NumberAt.{one_number}
-use Rattle.bm_keys.proofs.Steps.{heads, tails, one_rest}
 
 -- ---- the number of a contract
 
@@ -28,23 +26,6 @@ one_contract text r s m n h k =
     tails 114 114 r s (tails 58 58 (114 ∷ r) (114 ∷ s) one.1)
 
 -- ---- the texts of both kinds
-
-regroup : (a b c d e f : List ℕ) → a ++ b ++ c ++ d ++ e ++ f ≡ a ++ (b ++ (c ++ (d ++ (e ++ f))))
-regroup a b c d e f = simp append_assoc
-
-branch_is : (contract : ℕ) (path : List PathStep) (party : List ℕ) → label_text (Branch contract path party) ≡ 66 ∷ (58 ∷ (decimal contract ++ (58 ∷ (114 ∷ steps_before path (58 ∷ party)))))
-unfolding label_text
-branch_is contract path party = regroup (66 ∷ (58 ∷ [])) (decimal contract) (58 ∷ []) (114 ∷ flat_map step_text path) (58 ∷ []) party
-
-deposit_is : (party : List ℕ) → label_text (Deposit party) ≡ 68 ∷ (58 ∷ party)
-unfolding label_text
-deposit_is party = refl
-
-kinds_apart : (x y : List ℕ) → 68 ∷ (58 ∷ x) ≡ 66 ∷ (58 ∷ y) → ⊥
-kinds_apart x y e = omega (arith, heads 68 66 (58 ∷ x) (58 ∷ y) e)
-
-behind_both : (a : ℕ) (x y : List ℕ) → a ∷ (58 ∷ x) ≡ a ∷ (58 ∷ y) → x ≡ y
-behind_both a x y e = tails 58 58 x y (tails a a (58 ∷ x) (58 ∷ y) e)
 
 pub no_kind : (text : List ℕ) → NoKind 68 text → NoKind 66 text → NoLabel text
 no_kind text no_deposit no_branch (Deposit p) h = no_deposit p (h.same ∙ deposit_is p)
@@ -90,6 +71,6 @@ pub no_branch_party : (text rest party : List ℕ) (n : ℕ) (path : List PathSt
 no_branch_party text rest party n path h k none (Deposit p) l = no_deposit_here text p l
 no_branch_party text rest party n path h k none (Branch m other p) l =
     let left = one_contract text rest (steps_before other (58 ∷ p)) n m h (contract_of text p m other l) in
-    let same : party ≡ p = one_rest path other party p k.fits l.fits.1 (sym k.same ∙ left) in
+    let same : party ≡ p = (two_paths path other party p k.fits l.fits.1 (sym k.same ∙ left)).1 in
     let named = subst IsParty (sym same) l.named in
     none (named.some, named.few)

@@ -1,3 +1,3 @@
-mod NumberAt
+pub mod NumberAt
 mod Steps
 mod LabelLemmas

@@ -3,19 +3,16 @@ use Rattle.std.proofs.Common.{◌≡◌, ℕ, suc, ◌+◌, ◌<◌, ◌≤◌, 
 use Rattle.std.specs.Prelude.{◌&&◌, ◌==◌, if◌then◌else◌, nat_lt, get_or}
 use Rattle.std.specs.List.{list_all}
 use Rattle.std.specs.Fmt.{decimal}
-use Rattle.std.proofs.lemmas.Str.Parse.{IsNumeralModel, numerals_by_fold, tells_all_ascii_digits}
-use Rattle.std.proofs.lemmas.Fmt.{decimal-digits_value, digits_decimal, decimal_injective}
+use Rattle.std.proofs.lemmas.Fmt.{decimal-digits_value}
 use Rattle.std.proofs.lemmas.List.{take-append-drop}
 use Rattle.std.proofs.lemmas.Bool.{lt-ltb}
 use Rattle.std.proofs.lemmas.Bool.Decides.{nat_tests}
-use Rattle.spec_data.specs.Digits.{is_digit, is_plain, decimal_value, value_from, below, number_below}
+use Rattle.spec_data.specs.Digits.{is_digit, is_plain, decimal_value, below, number_below}
+use Rattle.spec_bitcoin.proofs.StepLemmas.{decimals, decimal_digits, two_decimals}
 use Rattle.bm_text.proofs.DecimalLemmas.{read_decimal-decimal}
 use Rattle.bm_keys.specs.Pieces.{digit_count, Ends, IsNumberAt, NoNumberAt}
 
 -- ---- a word that is a number
-
-decimals : IsNumeralModel (λ ds. list_all is_digit ds ≡ true) decimal_value
-decimals = numerals_by_fold (λ ds. list_all is_digit ds ≡ true) tells_all_ascii_digits value_from (record { empty = λ n. refl; more = λ n c cs h. refl })
 
 less-some : (t : Bool) (bound v n : ℕ) → nat_lt v bound ≡ t → (if t then Some v else None) ≡ Some n → (v ≡ n) × (n < bound)
 less-some true bound v n e k = let same : v ≡ n = cc in (same, grind (arith, nat_tests))
@@ -96,23 +93,17 @@ drop-length : (ds x : List ℕ) → drop (length ds) (ds ++ x) ≡ x
 drop-length [] x = refl
 drop-length (d ∷ ds) x = drop-length ds x
 
-decimal-digits : (n : ℕ) → n < 2 ^ 32 → list_all is_digit (decimal n) ≡ true
-decimal-digits n h = digits_decimal decimals n (omega (arith, h))
-
 -- the digits of a number at the front, and what stands behind them
 pub front : (text rest : List ℕ) (n : ℕ) → IsNumberAt text n rest → (take (digit_count text) text ≡ decimal n) × (drop (digit_count text) text ≡ rest)
 front text rest n h =
-    let count : digit_count (decimal n ++ rest) ≡ length (decimal n) = count-append (decimal n) rest (decimal-digits n h.fits) h.ends in
+    let count : digit_count (decimal n ++ rest) ≡ length (decimal n) = count-append (decimal n) rest (decimal_digits n h.fits) h.ends in
     let taken : take (digit_count (decimal n ++ rest)) (decimal n ++ rest) ≡ decimal n = ap (λ k. take k (decimal n ++ rest)) count ∙ take-length (decimal n) rest in
     let left : drop (digit_count (decimal n ++ rest)) (decimal n ++ rest) ≡ rest = ap (λ k. drop k (decimal n ++ rest)) count ∙ drop-length (decimal n) rest in
     (ap (λ l. take (digit_count l) l) h.same ∙ taken, ap (λ l. drop (digit_count l) l) h.same ∙ left)
 
 -- a text begins with one number
 pub one_number : (text r s : List ℕ) (m n : ℕ) → IsNumberAt text m r → IsNumberAt text n s → (m ≡ n) × (r ≡ s)
-one_number text r s m n h k =
-    let a = front text r m h in
-    let b = front text s n k in
-    (decimal_injective m n (let f = h.fits in omega arith) (let f = k.fits in omega arith) (sym a.0 ∙ b.0), sym a.1 ∙ b.1)
+one_number text r s m n h k = two_decimals m n r s h.fits k.fits h.ends k.ends (sym h.same ∙ k.same)
 
 pub number_is : (text digits rest : List ℕ) (n : ℕ) → digits ≡ take (digit_count text) text → rest ≡ drop (digit_count text) text → number_below (2 ^ 32) digits ≡ Some n → IsNumberAt text n rest
 number_is text digits rest n d e h =

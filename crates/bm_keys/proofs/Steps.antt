@@ -1,44 +1,19 @@
 -- Steps and paths at the front of a text.
-use Rattle.std.proofs.Common.{◌≡◌, ℕ, ◌<◌, ◌^◌, List, [], ◌∷◌, ◌++◌, Bool, true, false, Some, None, refl, sym, ap, subst, ◌∙◌, arith, append_assoc}
-use Rattle.std.specs.Prelude.{◌==◌, if◌then◌else◌, flat_map}
+use Rattle.std.proofs.Common.{◌≡◌, ℕ, ◌<◌, ◌^◌, List, [], ◌∷◌, ◌++◌, Bool, true, false, Some, None, refl, sym, ap, subst, ◌∙◌, arith}
+use Rattle.std.specs.Prelude.{◌==◌, if◌then◌else◌}
 use Rattle.std.specs.Fmt.{decimal}
 use Rattle.std.specs.List.{AllByRecursion}
-use Rattle.std.proofs.lemmas.List.Concat.{flat_map-cons}
 use Rattle.std.proofs.lemmas.Bool.Decides.{nat_tests}
 use Rattle.spec_terms.specs.declared.path.PathStep.{PathStep}
 use Rattle.spec_terms.specs.declared.path.PathStep.TheVariants.{Branch as To, Part as Into}
 use Rattle.spec_bitcoin.specs.Keys.{step_text, IsStep}
+use Rattle.spec_bitcoin.proofs.StepLemmas.{heads, tails, mark, number, step_is, number_fits, two_steps}
+use Rattle.spec_bitcoin.proofs.StepLemmas.{steps-cons, step_ends, path_ends, colon_no_step}
 use Rattle.bm_keys.specs.Pieces.{Ends, NoStart, IsNumberAt, NoNumberAt, step_of, IsStepAt, NoStepAt, steps_before, IsPathAt, NoPathAt}
-use Rattle.bm_keys.proofs.NumberAt.{one_number}
-
-pub heads : (a b : ℕ) (t u : List ℕ) → a ∷ t ≡ b ∷ u → a ≡ b
-heads a b t u e = cc
-
-pub tails : (a b : ℕ) (t u : List ℕ) → a ∷ t ≡ b ∷ u → t ≡ u
-tails a b t u e = cc
 
 -- ---- a step by its mark and number
 
-mark : PathStep → ℕ
-mark (To i) = 46
-mark (Into k) = 47
-
-number : PathStep → ℕ
-number (To i) = i
-number (Into k) = k
-
-step_is : (step : PathStep) (x : List ℕ) → step_text step ++ x ≡ mark step ∷ (decimal (number step) ++ x)
-unfolding mark number
-step_is (To i) x = refl
-step_is (Into k) x = refl
-
-number_fits : (step : PathStep) → IsStep step → number step < 2 ^ 32
-unfolding number
-number_fits (To i) h = h
-number_fits (Into k) h = h
-
 of_mark : (step : PathStep) (n : ℕ) → step_of (mark step) n ≡ None → ⊥
-unfolding mark
 of_mark (To i) n e = cc
 of_mark (Into k) n e = cc
 
@@ -77,45 +52,7 @@ pub step_without_mark : (text after : List ℕ) (m n : ℕ) → text ≡ m ∷ a
 step_without_mark text after m n e none step rest h =
     of_mark step n (subst (λ k. step_of k n ≡ None) (behind_mark text after rest m step e h).0 none)
 
--- ---- a text begins with one step
-
-same_step : (s t : PathStep) → mark s ≡ mark t → number s ≡ number t → s ≡ t
-unfolding mark number
-same_step (To i) (To j) e f = ap To f
-same_step (Into i) (Into j) e f = ap Into f
-same_step (To i) (Into j) e f = absurd (omega (arith, e))
-same_step (Into i) (To j) e f = absurd (omega (arith, e))
-
-one_step : (text r q : List ℕ) (s t : PathStep) → IsStepAt text s r → IsStepAt text t q → (s ≡ t) × (r ≡ q)
-one_step text r q s t h k =
-    let e = h.same ∙ step_is s r in
-    let a = behind_mark text (decimal (number s) ++ r) r (mark s) s e h in
-    let b = behind_mark text (decimal (number s) ++ r) q (mark s) t e k in
-    let n = one_number (decimal (number s) ++ r) r q (number s) (number t) a.1 b.1 in
-    (same_step s t b.0 n.0, n.1)
-
 -- ---- paths
-
-pub before-cons : (step : PathStep) (path : List PathStep) (x : List ℕ) → steps_before (step ∷ path) x ≡ step_text step ++ steps_before path x
-before-cons step path x = ap (λ (l : List ℕ). l ++ x) (flat_map-cons step_text step path) ∙ append_assoc (step_text step) (flat_map step_text path) x
-
-step_ends : (step : PathStep) (x : List ℕ) → Ends (step_text step ++ x)
-step_ends (To i) x = refl
-step_ends (Into k) x = refl
-
-path_ends : (path : List PathStep) (x : List ℕ) → Ends (steps_before path (58 ∷ x))
-path_ends [] x = refl
-path_ends (step ∷ path) x = subst Ends (sym (before-cons step path (58 ∷ x))) (step_ends step (steps_before path (58 ∷ x)))
-
-mark_below : (step : PathStep) → mark step < 58
-unfolding mark
-mark_below (To i) = omega arith
-mark_below (Into k) = omega arith
-
-colon_no_step : (step : PathStep) (x y : List ℕ) → 58 ∷ x ≡ step_text step ++ y → ⊥
-colon_no_step step x y e =
-    let same : 58 ≡ mark step = heads 58 (mark step) x (decimal (number step) ++ y) (e ∙ step_is step y) in
-    omega (arith, same, mark_below step)
 
 -- after some steps, where no digit follows the last of them
 abbrev pub HasEnded : List PathStep → List ℕ → Type 0
@@ -125,11 +62,11 @@ HasEnded (s ∷ (t ∷ steps)) rest = HasEnded (t ∷ steps) rest
 
 -- a step at the front of steps that are read
 first_at : (s : PathStep) (steps : List PathStep) (rest : List ℕ) → IsStep s → HasEnded (s ∷ steps) rest → IsStepAt (steps_before (s ∷ steps) rest) s (steps_before steps rest)
-first_at s [] rest fits ended = record { fits = fits; same = before-cons s [] rest; ends = ended }
-first_at s (t ∷ steps) rest fits ended = record { fits = fits; same = before-cons s (t ∷ steps) rest; ends = subst Ends (sym (before-cons t steps rest)) (step_ends t (steps_before steps rest)) }
+first_at s [] rest fits ended = record { fits = fits; same = steps-cons s [] rest; ends = ended }
+first_at s (t ∷ steps) rest fits ended = record { fits = fits; same = steps-cons s (t ∷ steps) rest; ends = subst Ends (sym (steps-cons t steps rest)) (step_ends t (steps_before steps rest)) }
 
 path_first : (s : PathStep) (path : List PathStep) (y : List ℕ) → IsStep s → IsStepAt (steps_before (s ∷ path) (58 ∷ y)) s (steps_before path (58 ∷ y))
-path_first s path y fits = record { fits = fits; same = before-cons s path (58 ∷ y); ends = path_ends path y }
+path_first s path y fits = record { fits = fits; same = steps-cons s path (58 ∷ y); ends = path_ends path y }
 
 ended_behind : (s : PathStep) (steps : List PathStep) (rest : List ℕ) → HasEnded (s ∷ steps) rest → HasEnded steps rest
 ended_behind s [] rest h = tt
@@ -139,11 +76,11 @@ ended_behind s (t ∷ steps) rest h = h
 left_path : (steps path : List PathStep) (rest y : List ℕ) → AllByRecursion IsStep steps → HasEnded steps rest → AllByRecursion IsStep path → steps_before steps rest ≡ steps_before path (58 ∷ y)
     → NoPathAt rest → ⊥
 left_path [] path rest y all ended fits e none = none path y (record { fits = fits; same = e })
-left_path (s ∷ steps) [] rest y all ended fits e none = colon_no_step s y (steps_before steps rest) (sym e ∙ before-cons s steps rest)
+left_path (s ∷ steps) [] rest y all ended fits e none = colon_no_step s y (steps_before steps rest) (sym e ∙ steps-cons s steps rest)
 left_path (s ∷ steps) (t ∷ path) rest y all ended fits e none =
     let a = first_at s steps rest all.0 ended in
     let b = subst (λ x. IsStepAt x t (steps_before path (58 ∷ y))) (sym e) (path_first t path y fits.0) in
-    let one = one_step (steps_before (s ∷ steps) rest) (steps_before steps rest) (steps_before path (58 ∷ y)) s t a b in
+    let one = two_steps s t _ _ a.fits b.fits a.ends b.ends (sym a.same ∙ b.same) in
     left_path steps path rest y all.1 (ended_behind s steps rest ended) fits.1 one.1 none
 
 -- ---- the steps that were read so far
@@ -166,9 +103,9 @@ fits_push [] s all h = (h, tt)
 fits_push (t ∷ steps) s all h = (all.0, fits_push steps s all.1 h)
 
 before_push : (steps : List PathStep) (s : PathStep) (x : List ℕ) → steps_before (steps ++ s ∷ []) x ≡ steps_before steps (step_text s ++ x)
-before_push [] s x = before-cons s [] x
+before_push [] s x = steps-cons s [] x
 before_push (t ∷ steps) s x =
-    before-cons t (steps ++ s ∷ []) x ∙ ap (λ l. step_text t ++ l) (before_push steps s x) ∙ sym (before-cons t steps (step_text s ++ x))
+    steps-cons t (steps ++ s ∷ []) x ∙ ap (λ l. step_text t ++ l) (before_push steps s x) ∙ sym (steps-cons t steps (step_text s ++ x))
 
 pub one_more : (text rest after : List ℕ) (steps next : List PathStep) (s : PathStep) → AreRead text steps rest → IsStepAt rest s after → next ≡ steps ++ s ∷ [] → AreRead text next after
 one_more text rest after steps next s h k e =
@@ -181,19 +118,8 @@ path_read text rest after steps path h e p = subst (λ l. IsPathAt text l after)
 stuck : (rest : List ℕ) → NoStart 58 rest → NoStepAt rest → NoPathAt rest
 stuck rest no_colon no_step [] y h = no_colon y h.same
 stuck rest no_colon no_step (t ∷ path) y h =
-    no_step t (steps_before path (58 ∷ y)) (record { fits = h.fits.0; same = h.same ∙ before-cons t path (58 ∷ y); ends = path_ends path y })
+    no_step t (steps_before path (58 ∷ y)) (record { fits = h.fits.0; same = h.same ∙ steps-cons t path (58 ∷ y); ends = path_ends path y })
 
 pub no_path : (text rest : List ℕ) (steps : List PathStep) → AreRead text steps rest → NoStart 58 rest → NoStepAt rest → NoPathAt text
 no_path text rest steps h no_colon no_step path y k =
     left_path steps path rest y h.fits h.ended k.fits (sym h.same ∙ k.same) (stuck rest no_colon no_step)
-
--- a path's text is cut off in one way
-pub one_rest : (path other : List PathStep) (x y : List ℕ) → AllByRecursion IsStep path → AllByRecursion IsStep other → steps_before path (58 ∷ x) ≡ steps_before other (58 ∷ y) → x ≡ y
-one_rest [] [] x y h k e = tails 58 58 x y e
-one_rest [] (t ∷ q) x y h k e = absurd (colon_no_step t x (steps_before q (58 ∷ y)) (e ∙ before-cons t q (58 ∷ y)))
-one_rest (s ∷ p) [] x y h k e = absurd (colon_no_step s y (steps_before p (58 ∷ x)) (sym e ∙ before-cons s p (58 ∷ x)))
-one_rest (s ∷ p) (t ∷ q) x y h k e =
-    let a = path_first s p x h.0 in
-    let b = subst (λ z. IsStepAt z t (steps_before q (58 ∷ y))) (sym e) (path_first t q y k.0) in
-    let one = one_step (steps_before (s ∷ p) (58 ∷ x)) (steps_before p (58 ∷ x)) (steps_before q (58 ∷ y)) s t a b in
-    one_rest p q x y h.1 k.1 one.1

@@ -2,7 +2,7 @@
 
 ghost use Rattle.std.specs.Prelude.{◌≡◌, ◌+◌, ◌<◌, ◌^◌, [], ◌∷◌, ◌++◌, length, map, IfOk, OnOk};
 ghost use Rattle.spec_terms.specs.Core as core;
-ghost use Rattle.spec_terms.specs.Parties.{add_new, add_all};
+ghost use Rattle.spec_terms.specs.Parties.{add_all};
 ghost use Rattle.bm_syntax.specs.View.{guarded, contract, choice_of, parts_of, part_view};
 ghost use Rattle.spec_nodes.specs.Nodes.{choice_count, branches_count, branch_count, parts_count};
 ghost use Rattle.spec_nodes.specs.Nodes.{nodes_of, choice_nodes, branches_nodes, branch_nodes, parts_nodes};
@@ -12,7 +12,7 @@ ghost use Rattle.bm_arena.specs.NodeView.{deed_view};
 use crate::arena::Arena;
 use crate::node::{Core, Node};
 use bm_syntax::copies::copy_test;
-use bm_syntax::{Contract, Guarded, Name, Part, Path, PathStep, lock};
+use bm_syntax::{Contract, Guarded, Name, Part, Path, PathStep, add_new, lock};
 use spec_data::OutOfMemory;
 use std::alloc::Global;
 
@@ -25,23 +25,13 @@ fn longer(alloc: Global, path: &Path, step: PathStep) -> Result<Path, OutOfMemor
     Ok(Path::of(steps))
 }
 
-// The name as the last one, if it is new.
-fn add(names: &mut Vec<Name>, name: &Name) -> Result<(), OutOfMemory>
-    ensures { OnOk result (names.new.items ≡ add_new names.old.items name.now) }
-{
-    if !names.contains(name) {
-        names.push(*name)?;
-    }
-    Ok(())
-}
-
 // The parties that a branch asks, each that is new.
 fn add_asked(names: &mut Vec<Name>, branch: &Guarded) -> Result<(), OutOfMemory>
     ensures { OnOk result (names.new.items ≡ add_all names.old.items (core.asks (guarded branch.now))) }
 {
     match branch {
         Guarded::Auth { party, body } => {
-            add(names, party)?;
+            add_new(names, party)?;
             add_asked(names, body)
         }
         Guarded::After { body, .. } => add_asked(names, body),

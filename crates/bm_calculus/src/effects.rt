@@ -5,20 +5,15 @@ ghost use Rattle.spec_calculus.specs.Steps as steps;
 ghost use Rattle.theory_calculus.specs.Numbered.{IsNumbered};
 ghost use Rattle.theory_calculus.specs.Money.{IsWithinAllMoney};
 
-use crate::beginning::{bindings_of, is_init_authorised, numbers_of, persistent_numbers};
-use crate::branches::{
-    branch_in, has_branch_authorised, left, longer, parts, parts_made, payee, puts,
-};
+use crate::beginning::{bindings_of, is_init_authorised, persistent_numbers};
+use crate::branches::{has_branch_authorised, left};
 use crate::deposits::Deposits;
 use crate::moves::{agree, forget, push_made};
 use crate::state::{State, contract_at};
-use bm_syntax::core;
 use spec_calculus::{
-    ActiveContract, Advertised, BranchAuthorisation, Committed, InitAuthorisation, Move, Revealed,
-    Step,
+    Advertised, BranchAuthorisation, Committed, InitAuthorisation, Move, Revealed, Step,
 };
 use spec_data::{Name, OutOfMemory, Seq};
-use spec_terms::PathStep;
 
 impl State {
     /// The party has authorised the move.
@@ -152,7 +147,6 @@ impl State {
     }
 
     /// Deposits go into the contract, which goes on at the branch with what it holds less the fee.
-    #[tactic(auto, using(crate::proofs::Reached::deposits_within, crate::proofs::Reached::joined_within, crate::proofs::Rows::one_ascends))]
     pub fn go_on(&mut self, output: u32, branch: u32) -> Result<(), OutOfMemory>
         requires numbered { IsNumbered self.old }
         requires within { IsWithinAllMoney self.old }
@@ -161,28 +155,8 @@ impl State {
         ensures ok { OnOk result (self.new ≡ steps.effect self.old (Step.PutReveal output branch)) }
         ensures err { OnErr result (self.new ≡ self.old) }
     {
-        let Some(active) = self.active.get(output) else {
-            return Ok(());
-        };
-        let contract = active.contract;
-        let Some(checked) = contract_at(&self.contracts, contract) else {
-            return Ok(());
-        };
-        let Some(taken) = branch_in(checked, &active.position, branch) else {
-            return Ok(());
-        };
-        let bindings = bindings_of(&self.advertised, contract);
-        let numbers = numbers_of(self.alloc, bindings, puts(core(taken)))?;
-        let sum = active.balance + self.deposits.gone_value(&numbers);
-        let balance = left(sum, checked.advert().fee);
-        let position = longer(self.alloc, &active.position, PathStep::Branch(branch))?;
-        let mut next = Vec::new(self.alloc);
-        next.push(ActiveContract {
-            number: self.next,
-            contract,
-            position,
-            balance,
-        })?;
+        let numbers = self.numbers_put(output, branch)?;
+        let next = self.continuation(output, branch, &numbers)?;
         self.active.replace(output, next)?;
         self.deposits.remove(&numbers);
         self.next += 1;
@@ -198,19 +172,9 @@ impl State {
         ensures ok { OnOk result (self.new ≡ steps.effect self.old (Step.Withdraw output branch)) }
         ensures err { OnErr result (self.new ≡ self.old) }
     {
-        let Some(active) = self.active.get(output) else {
+        let Some((party, value)) = self.payment(output, branch) else {
             return Ok(());
         };
-        let Some(checked) = contract_at(&self.contracts, active.contract) else {
-            return Ok(());
-        };
-        let Some(taken) = branch_in(checked, &active.position, branch) else {
-            return Ok(());
-        };
-        let Some(party) = payee(core(taken)) else {
-            return Ok(());
-        };
-        let value = left(active.balance, checked.advert().fee);
         self.deposits.pay(self.next, &party, value)?;
         self.active.remove(output);
         self.next += 1;
@@ -218,7 +182,7 @@ impl State {
     }
 
     /// The contract goes, and one for each part of the branch comes.
-    #[tactic(auto, using(crate::proofs::Parts::values_length, crate::proofs::Rows::parts_ascend))]
+    #[tactic(auto, using(crate::proofs::Parts::made_length))]
     pub fn split(&mut self, output: u32, branch: u32) -> Result<(), OutOfMemory>
         requires numbered { IsNumbered self.old }
         requires within { IsWithinAllMoney self.old }
@@ -227,20 +191,8 @@ impl State {
         ensures ok { OnOk result (self.new ≡ steps.effect self.old (Step.Split output branch)) }
         ensures err { OnErr result (self.new ≡ self.old) }
     {
-        let Some(active) = self.active.get(output) else {
-            return Ok(());
-        };
-        let contract = active.contract;
-        let Some(checked) = contract_at(&self.contracts, contract) else {
-            return Ok(());
-        };
-        let Some(taken) = branch_in(checked, &active.position, branch) else {
-            return Ok(());
-        };
-        let parts = parts(core(taken));
-        let path = longer(self.alloc, &active.position, PathStep::Branch(branch))?;
-        let made = parts_made(self.alloc, self.next, contract, &path, parts)?;
-        let count = parts.len() as u32;
+        let made = self.divided(output, branch)?;
+        let count = made.len() as u32;
         self.active.replace(output, made)?;
         self.next += count;
         Ok(())

@@ -13,6 +13,7 @@ mod premises;
 mod same;
 mod secrets;
 mod state;
+mod takings;
 
 pub use config::{Active, Config, StepError};
 pub use spec_calculus::{Move, Owner, Step};

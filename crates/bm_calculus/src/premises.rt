@@ -1,8 +1,11 @@
 //! The first premise that fails, for each kind of step.
 
-ghost use Rattle.std.specs.Prelude.{◌≡◌};
+ghost use Rattle.std.specs.Prelude.{◌≡◌, [], ◌∷◌, nat_le, option_map};
 ghost use Rattle.spec_data.specs.Lists.{first_false};
+ghost use Rattle.spec_terms.specs.Core.{asks as asks_in, lock as lock_in};
+ghost use Rattle.spec_calculus.specs.Branches as branches;
 ghost use Rattle.spec_calculus.specs.Steps as steps;
+ghost use Rattle.bm_syntax.specs.View.{guarded};
 ghost use Rattle.bm_calculus.specs.Reached.{IsReached};
 
 use crate::beginning::{
@@ -15,7 +18,7 @@ use crate::branches::{
 use crate::lengths::is_true;
 use crate::secrets::{are_revealed, is_revealed, length_at};
 use crate::state::{State, contract_at};
-use bm_syntax::{asks, core, lock};
+use bm_syntax::{Guarded, asks, core, lock};
 use spec_calculus::Step;
 use spec_data::{LAST_HEIGHT, Name, Seq};
 
@@ -121,13 +124,10 @@ impl State {
     pub fn auth_branch_fails(&self, party: &Name, output: u32, branch: u32) -> u8
         ensures { result ≡ steps.fails self.now (Step.AuthBranch party.now output branch) }
     {
-        let Some(active) = self.active.get(output) else {
+        if self.active.get(output).is_none() {
             return 1;
-        };
-        let Some(checked) = contract_at(&self.contracts, active.contract) else {
-            return 2;
-        };
-        let Some(taken) = branch_in(checked, &active.position, branch) else {
+        }
+        let Some(taken) = self.branch_at(output, branch) else {
             return 2;
         };
         if !asks(taken, party) {
@@ -155,11 +155,9 @@ impl State {
         if !is_put(core) {
             return 2;
         }
-        if self.time < lock(taken) {
-            return 3;
-        }
-        if !have_branch_authorised(&self.branch_authorised, output, branch, taken) {
-            return 4;
+        let waits = self.waiting_fails(output, branch, taken);
+        if waits != 0 {
+            return waits;
         }
         if !are_there(
             &self.deposits,
@@ -181,43 +179,40 @@ impl State {
     pub fn withdraw_fails(&self, output: u32, branch: u32) -> u8
         ensures { result ≡ steps.fails self.now (Step.Withdraw output branch) }
     {
-        let Some(active) = self.active.get(output) else {
+        if self.active.get(output).is_none() {
             return 1;
-        };
-        let Some(checked) = contract_at(&self.contracts, active.contract) else {
-            return 2;
-        };
-        let Some(taken) = branch_in(checked, &active.position, branch) else {
+        }
+        let Some(taken) = self.branch_at(output, branch) else {
             return 2;
         };
         if !is_withdraw(core(taken)) {
             return 2;
         }
-        if self.time < lock(taken) {
-            return 3;
-        }
-        if !have_branch_authorised(&self.branch_authorised, output, branch, taken) {
-            return 4;
-        }
-        0
+        self.waiting_fails(output, branch, taken)
     }
 
     /// The first premise of a branch that divides the balance that fails, or 0.
     pub fn split_fails(&self, output: u32, branch: u32) -> u8
         ensures { result ≡ steps.fails self.now (Step.Split output branch) }
     {
-        let Some(active) = self.active.get(output) else {
+        if self.active.get(output).is_none() {
             return 1;
-        };
-        let Some(checked) = contract_at(&self.contracts, active.contract) else {
-            return 2;
-        };
-        let Some(taken) = branch_in(checked, &active.position, branch) else {
+        }
+        let Some(taken) = self.branch_at(output, branch) else {
             return 2;
         };
         if !is_split(core(taken)) {
             return 2;
         }
+        self.waiting_fails(output, branch, taken)
+    }
+
+    // The third or fourth premise of taking a branch of whichever kind, the first that fails, or 0.
+    fn waiting_fails(&self, output: u32, branch: u32, taken: &Guarded) -> u8
+        ensures { let term = guarded taken.now in
+            result ≡ first_false 3 (nat_le (lock_in term) self.now.time
+            ∷ branches.have_branch_authorised self.now.branch_authorised output branch (asks_in term) ∷ []) }
+    {
         if self.time < lock(taken) {
             return 3;
         }

@@ -11,7 +11,7 @@ pub mod walk;
 pub use advert::Advert;
 pub use copies::copy;
 pub use head::{asks, core, lock};
-pub use parties::participants;
+pub use parties::{add_new, participants};
 pub use spec_data::Name;
 pub use spec_terms::{Limit, Path, PathStep, Pre};
 pub use term::{Contract, Expr, Guarded, Part, Pred};

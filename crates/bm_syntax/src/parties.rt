@@ -1,6 +1,6 @@
 //! Who takes part in a contract.
 
-ghost use Rattle.std.specs.Prelude.{◌≡◌, ◌++◌, map, IfOk, OnOk};
+ghost use Rattle.std.specs.Prelude.{◌≡◌, ◌++◌, map, IfOk, OnOk, OnErr};
 ghost use Rattle.bm_syntax.specs.View.{guarded, contract, part_view, choice_of, parts_of};
 ghost use Rattle.spec_terms.specs.Parties as spec;
 ghost use Rattle.spec_terms.specs.Precondition.{party_of as party_in};
@@ -25,7 +25,7 @@ fn add_pre(names: &mut Vec<Name>, entries: &[Pre]) -> Result<(), OutOfMemory>
     ensures { OnOk result (names.new.items ≡ spec.add_all names.old.items (map party_in entries.now)) }
 {
     for entry in entries {
-        add(names, party_of(entry))?;
+        add_new(names, party_of(entry))?;
     }
     Ok(())
 }
@@ -56,12 +56,12 @@ fn add_branch(names: &mut Vec<Name>, branch: &Guarded) -> Result<(), OutOfMemory
 {
     match branch {
         Guarded::Auth { party, body } => {
-            add(names, party)?;
+            add_new(names, party)?;
             add_branch(names, body)
         }
         Guarded::After { body, .. } => add_branch(names, body),
         Guarded::PutReveal { next, .. } => add_contract(names, next),
-        Guarded::Withdraw { party } => add(names, party),
+        Guarded::Withdraw { party } => add_new(names, party),
         Guarded::Split { parts } => add_parts(names, parts),
     }
 }
@@ -76,11 +76,13 @@ fn add_parts(names: &mut Vec<Name>, parts: &[Part]) -> Result<(), OutOfMemory>
     Ok(())
 }
 
-fn add(names: &mut Vec<Name>, name: &Name) -> Result<(), OutOfMemory>
-    ensures { OnOk result (names.new.items ≡ spec.add_new names.old.items name.now) }
+/// Adds the party as the last one, unless it is among them. An `Err` changes nothing.
+pub fn add_new(names: &mut Vec<Name>, party: &Name) -> Result<(), OutOfMemory>
+    ensures ok { OnOk result (names.new.items ≡ spec.add_new names.old.items party.now) }
+    ensures err { OnErr result (names.new.items ≡ names.old.items) }
 {
-    if !names.contains(name) {
-        names.push(*name)?;
+    if !names.contains(party) {
+        names.push(*party)?;
     }
     Ok(())
 }

@@ -17,7 +17,6 @@ const MOST_ITEM_BYTES: usize = 520;
 
 const MOST_OPERATIONS: usize = 201;
 
-
 fn is_short(op: &Op) -> bool
     ensures { result ≡ is_short_push op.now }
 {

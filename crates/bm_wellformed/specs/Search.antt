@@ -73,7 +73,7 @@ module _ (flaw : Flaw) (a : Advert) where
     found_in_parts p k (part v c ps) =
         or_else
         (or_else (place_when (passes flaw a (pos v) (position c)) (places.Position (p ++ Into k ∷ [])))
-            (found_in_branches (p ++ Into k ∷ []) (pos v) 0 c))
+        (found_in_branches (p ++ Into k ∷ []) (pos v) 0 c))
         (found_in_parts p (k + 1) ps)
 
   -- the position q itself, and then its branches

@@ -133,7 +133,7 @@ within_of (top ∷ []) = None
 within_of (top ∷ low ∷ []) = None
 within_of (top ∷ low ∷ x ∷ rest) =
     with_number (number_of_item x) (λ n. with_number (number_of_item low)
-        (λ a. with_number (number_of_item top) (λ b. Some (item_of_number (number_of_bool (int_le a n && int_lt n b)) ∷ rest))))
+    (λ a. with_number (number_of_item top) (λ b. Some (item_of_number (number_of_bool (int_le a n && int_lt n b)) ∷ rest))))
 
 -- ---- both stacks
 

@@ -38,7 +38,7 @@ abbrev mutual
   run hash valid (Plain op rest) s = option_and_then (run hash valid rest) (act hash valid op s)
   run hash valid (Block negated sections rest) s =
       option_and_then (run hash valid rest)
-          (option_and_then (λ (p : Bool × Stacks). run_sections hash valid sections p.0 p.1) (pop_condition negated s))
+      (option_and_then (λ (p : Bool × Stacks). run_sections hash valid sections p.0 p.1) (pop_condition negated s))
 
   -- the sections at even places run where the flag says so, and else those at odd places
   pub run_sections : (Item → Item) → (Item → Item → Bool) → Sections → Bool → Stacks → Option Stacks

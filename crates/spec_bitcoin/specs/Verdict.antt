@@ -101,7 +101,7 @@ is_long item = nat_lt most_item_bytes (length item)
 abbrev pub runs_true : (List ℕ → List ℕ) → List Pair → Tx → TxIn → TxOut → Bool
 runs_true hash book tx input output =
     script_meaning hash (is_valid book (digest hash tx input (script_of input.witness) output.value))
-        (script_of input.witness) (items_of input.witness)
+    (script_of input.witness) (items_of input.witness)
 
 -- the conditions on input k, which spends this output, in their order
 abbrev pub input_row : (List ℕ → List ℕ) → List Pair → Tx → ℕ → TxIn → TxOut → List (Bool × Refusal)

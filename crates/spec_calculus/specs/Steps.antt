@@ -146,7 +146,7 @@ put_reveal_premises g output branch active taken =
     ∷ are_revealed g.revealed (contract_number active) (pre_of (advert_of g.contracts active)) (reveals_of_taken taken)
     -- 7 its predicate is true of their lengths
     ∷ holds (secret_lengths g.committed (contract_number active) (pre_of (advert_of g.contracts active)) (reveals_of_taken taken))
-        (test_of_taken taken)
+    (test_of_taken taken)
     ∷ []
 
 -- Withdraw: a branch that pays a party is taken

@@ -64,5 +64,7 @@ advertise_row s w contract bindings =
 abbrev pub advertise_draft : Setup → World → ℕ → List (List ℕ × ℕ) → Draft
 advertise_draft s w contract bindings =
     unless (first_reason (advertise_row s w contract bindings)) w []
-    (done (record w { advertised = w.advertised
-        ++ record { contract = contract; bindings = arranged 0 (deposit_names s contract) bindings } ∷ [] }) [])
+    (done (record w {
+      advertised = w.advertised
+          ++ record { contract = contract; bindings = arranged 0 (deposit_names s contract) bindings } ∷ [];
+    }) [])

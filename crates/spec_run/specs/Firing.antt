@@ -51,7 +51,7 @@ initial_witnesses s instance made = deposit_witnesses s (map (λ d. (d.1).owner)
 abbrev pub initial_transaction : Setup → Instance → Tx
 initial_transaction s instance =
     with_witnesses (prepared s.hash (initial_unsigned s.hash instance)).tx
-        (initial_witnesses s instance (prepared s.hash (initial_unsigned s.hash instance)))
+    (initial_witnesses s instance (prepared s.hash (initial_unsigned s.hash instance)))
 
 -- `fire init K`: the contract is there, and it is compiled
 abbrev pub fire_init_row : Setup → World → ℕ → List (Bool × Reason)
@@ -128,7 +128,7 @@ script_of_position s instance held choice = position_script s.hash instance held
 abbrev pub branch_witness : Setup → World → Instance → ContractPosition → ℕ → term.Contract → term.Guarded → List ℕ → List (List ℕ)
 branch_witness s w instance held branch choice b digest =
     witness_of (branch_signatures s instance (position_path held branch) digest)
-        (shown_strings s w instance (reveals_of (core b))) branch (count_of (Some choice)) (script_of_position s instance held choice)
+    (shown_strings s w instance (reveals_of (core b))) branch (count_of (Some choice)) (script_of_position s instance held choice)
 
 -- the digests but the first
 abbrev pub other_digests : List (List ℕ) → List (List ℕ)
@@ -160,7 +160,7 @@ abbrev pub taking_of_position : Setup → World → Option ContractPosition → 
 taking_of_position s w None branch = None
 taking_of_position s w (Some held) branch =
     taking_of_parts s w held branch (compiled_instance s w held.contract) (contract_in (contract_at s held.contract) held.position)
-        (branch_if_live s (Some held) branch)
+    (branch_if_live s (Some held) branch)
     (prepared_if_compiled s (compiled_instance s w held.contract) (position_path held branch))
 
 abbrev pub fire_draft : Setup → World → ℕ → ℕ → Draft

@@ -154,7 +154,7 @@ abbrev pub authorising_pairs : Setup → World → List ℕ → Option ContractP
 authorising_pairs s w party None branch = []
 authorising_pairs s w party (Some held) branch =
     branch_pair s party held.contract (position_path held branch)
-        (prepared_if_compiled s (compiled_instance s w held.contract) (position_path held branch))
+    (prepared_if_compiled s (compiled_instance s w held.contract) (position_path held branch))
 
 abbrev pub authorise_draft : Setup → World → List ℕ → ℕ → ℕ → Draft
 authorise_draft s w party output branch =

@@ -120,6 +120,7 @@ is_uneven fee balance (withdraw party) = false
 -- SplitSum: a split's parts and the fee don't sum to the static balance of its position; at the branch
 abbrev pub split_sum : Advert → Option Place
 split_sum a = first_place (λ s. at_core (is_uneven a.fee s.balance) s.subterm) (all_funded a)
+
 -- whether a position's balance is negative, or a withdraw's is below the fee
 abbrev pub is_short : ℕ → ℤ → Subterm → Bool
 is_short fee balance (position c) = int_lt balance (pos 0)

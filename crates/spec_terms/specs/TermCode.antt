@@ -102,7 +102,7 @@ mutual
   parts_inj no_part no_part p = refl
   parts_inj (part v c ps) (part w d qs) p =
       λ i. part (coded_ℕ.inj v w (ap first p) i) (choice_inj c d (ap (λ v. first (others v)) p) i)
-          (parts_inj ps qs (ap (λ v. others (others v)) p) i)
+      (parts_inj ps qs (ap (λ v. others (others v)) p) i)
   parts_inj x y p = cc
 
 abbrev pub coded_branch : Coded Guarded

@@ -19,10 +19,10 @@ SpellsFormula t (constant n) = t ≡ number n ∷ []
 SpellsFormula t (length_of secret) = t ≡ symbol mark.Bar ∷ name secret ∷ symbol mark.Bar ∷ []
 SpellsFormula t (plus e f) =
     (te : List Lexeme) × (tf : List Lexeme) × (t ≡ symbol mark.LeftParen ∷ (te ++ symbol mark.Plus ∷ (tf ++ symbol mark.RightParen ∷ [])))
-        × SpellsFormula te e × SpellsFormula tf f
+    × SpellsFormula te e × SpellsFormula tf f
 SpellsFormula t (minus e f) =
     (te : List Lexeme) × (tf : List Lexeme) × (t ≡ symbol mark.LeftParen ∷ (te ++ symbol mark.Minus ∷ (tf ++ symbol mark.RightParen ∷ [])))
-        × SpellsFormula te e × SpellsFormula tf f
+    × SpellsFormula te e × SpellsFormula tf f
 
 -- the tokens that spell a predicate
 abbrev pub SpellsTest : List Lexeme → Pred → Type 0
@@ -30,8 +30,8 @@ SpellsTest t always = t ≡ keyword word.True ∷ []
 SpellsTest t (negation p) = (tp : List Lexeme) × (t ≡ keyword word.Not ∷ tp) × SpellsTest tp p
 SpellsTest t (both p q) =
     (tp : List Lexeme) × (tq : List Lexeme)
-        × (t ≡ symbol mark.LeftBracket ∷ (tp ++ keyword word.And ∷ (tq ++ symbol mark.RightBracket ∷ [])))
-        × SpellsTest tp p × SpellsTest tq q
+    × (t ≡ symbol mark.LeftBracket ∷ (tp ++ keyword word.And ∷ (tq ++ symbol mark.RightBracket ∷ [])))
+    × SpellsTest tp p × SpellsTest tq q
 SpellsTest t (equal e f) =
     (te : List Lexeme) × (tf : List Lexeme) × (t ≡ te ++ symbol mark.Equal ∷ tf) × SpellsFormula te e × SpellsFormula tf f
 SpellsTest t (less e f) =
@@ -83,7 +83,7 @@ abbrev mutual
   SpellsChoice t no_branch = ⊥
   SpellsChoice t (branch b bs) =
       (SpellsBranch t b × (bs ≡ no_branch)) ⊎ ((tb : List Lexeme) × (tm : List Lexeme)
-          × (t ≡ symbol mark.LeftParen ∷ (tb ++ (tm ++ symbol mark.RightParen ∷ []))) × SpellsBranch tb b × SpellsMore tm bs)
+      × (t ≡ symbol mark.LeftParen ∷ (tb ++ (tm ++ symbol mark.RightParen ∷ []))) × SpellsBranch tb b × SpellsMore tm bs)
 
   -- further branches, each behind a plus
   pub SpellsMore : List Lexeme → Contract → Type 0
@@ -96,14 +96,14 @@ abbrev mutual
   SpellsParts t no_part = ⊥
   SpellsParts t (part value next ps) =
       (tn : List Lexeme) × (tm : List Lexeme) × (t ≡ number value ∷ symbol mark.Arrow ∷ (tn ++ tm))
-          × SpellsChoice tn next × SpellsMoreParts tm ps
+      × SpellsChoice tn next × SpellsMoreParts tm ps
 
   -- further parts, each behind a comma
   pub SpellsMoreParts : List Lexeme → Parts → Type 0
   SpellsMoreParts t no_part = t ≡ []
   SpellsMoreParts t (part value next ps) =
       (tn : List Lexeme) × (tm : List Lexeme) × (t ≡ symbol mark.Comma ∷ number value ∷ symbol mark.Arrow ∷ (tn ++ tm))
-          × SpellsChoice tn next × SpellsMoreParts tm ps
+      × SpellsChoice tn next × SpellsMoreParts tm ps
 
 -- ---- adverts
 

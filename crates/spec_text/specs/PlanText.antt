@@ -36,7 +36,7 @@ abbrev pub prepared_lines : List ℕ → Prepared → List ℕ
 prepared_lines name p =
     codes "tx "
     ++ (name ++ (codes " " ++ (hex_text (reverse p.txid)
-        ++ (codes " " ++ (hex_text (stripped p.tx) ++ (newline ++ digest_lines name 0 p.digests))))))
+    ++ (codes " " ++ (hex_text (stripped p.tx) ++ (newline ++ digest_lines name 0 p.digests))))))
 
 abbrev pub path_lines : List PathStep × Prepared → List ℕ
 path_lines p = prepared_lines (path_text p.0) (p.1)

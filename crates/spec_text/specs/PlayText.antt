@@ -54,7 +54,7 @@ abbrev pub contract_line : ActiveContract → List ℕ
 contract_line a =
     codes "contract "
     ++ (output_text a.number ++ (codes " "
-        ++ (decimal a.contract ++ (codes " " ++ (path_text a.position ++ (codes " " ++ (decimal a.balance ++ newline)))))))
+    ++ (decimal a.contract ++ (codes " " ++ (path_text a.position ++ (codes " " ++ (decimal a.balance ++ newline)))))))
 
 abbrev pub shown_word : Bool → List ℕ
 shown_word true = codes "revealed"
@@ -66,7 +66,7 @@ secret_line k a s revealed None = []
 secret_line k a s revealed (Some length) =
     codes "secret "
     ++ (contract_party_text k a
-        ++ (codes " " ++ (s ++ (codes " " ++ (length_text length ++ (codes " " ++ (shown_word revealed ++ newline)))))))
+    ++ (codes " " ++ (s ++ (codes " " ++ (length_text length ++ (codes " " ++ (shown_word revealed ++ newline)))))))
 
 -- the line of a secret of contract k; secrets have their party behind their name
 abbrev pub secret_line_of : Configuration → ℕ → List ℕ × List ℕ → List ℕ

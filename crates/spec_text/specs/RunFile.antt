@@ -71,7 +71,7 @@ abbrev pub secret_of : Header → List ℕ → List ℕ → Option (List ℕ) �
 secret_of h a s None = bad
 secret_of h a s (Some bytes) =
     spelled_within ((is_among a h.honest && is_name s) && not (list_any (is_taken a s bytes) h.secrets))
-        (nat_lt (length h.secrets) most_header_secrets) limits.Secrets
+    (nat_lt (length h.secrets) most_header_secrets) limits.Secrets
     (record h { secrets = h.secrets ++ held_secret a s bytes ∷ [] })
 
 abbrev pub secret_line : Header → List (List ℕ) → Line Header
@@ -83,7 +83,7 @@ abbrev pub deposit_of : Header → List ℕ → Option ℕ → Line Header
 deposit_of h a None = bad
 deposit_of h a (Some v) =
     spelled_within (is_among a h.parties && nat_le (sum_by (λ d. d.1) h.deposits + v) max_money)
-        (nat_lt (length h.deposits) most_header_deposits) limits.Deposits
+    (nat_lt (length h.deposits) most_header_deposits) limits.Deposits
     (record h { deposits = h.deposits ++ (a, v) ∷ [] })
 
 abbrev pub deposit_line : Header → List (List ℕ) → Line Header

@@ -1,8 +1,8 @@
 //! The examples of BIP 143 that sign with the hash type ALL by a key's hash.
 
 use bm_hash::{Sha, Trail};
-use bm_sighash::{ListHashes, TrailError, digest, shared};
-use bm_tx::decode;
+use bm_sighash::{TrailError, digest, shared};
+use bm_tx::{Tx, decode};
 use std::alloc::Global;
 use std::test::Fail;
 
@@ -24,21 +24,6 @@ const NATIVE: [u8; 160] = [
 const NATIVE_SCRIPT: [u8; 25] = [
     0x76, 0xa9, 0x14, 0x1d, 0x0f, 0x17, 0x2a, 0x0e, 0xcb, 0x48, 0xae, 0xe1, 0xbe, 0x1f, 0x26, 0x87,
     0xd2, 0x96, 0x3a, 0xe3, 0x3f, 0x71, 0xa1, 0x88, 0xac,
-];
-
-const NATIVE_PREVOUTS: [u8; 32] = [
-    0x96, 0xb8, 0x27, 0xc8, 0x48, 0x3d, 0x4e, 0x9b, 0x96, 0x71, 0x2b, 0x67, 0x13, 0xa7, 0xb6, 0x8d,
-    0x6e, 0x80, 0x03, 0xa7, 0x81, 0xfe, 0xba, 0x36, 0xc3, 0x11, 0x43, 0x47, 0x0b, 0x4e, 0xfd, 0x37,
-];
-
-const NATIVE_SEQUENCES: [u8; 32] = [
-    0x52, 0xb0, 0xa6, 0x42, 0xee, 0xa2, 0xfb, 0x7a, 0xe6, 0x38, 0xc3, 0x6f, 0x62, 0x52, 0xb6, 0x75,
-    0x02, 0x93, 0xdb, 0xe5, 0x74, 0xa8, 0x06, 0x98, 0x4b, 0x8e, 0x4d, 0x85, 0x48, 0x33, 0x9a, 0x3b,
-];
-
-const NATIVE_OUTPUTS: [u8; 32] = [
-    0x86, 0x3e, 0xf3, 0xe1, 0xa9, 0x2a, 0xfb, 0xfd, 0xb9, 0x7f, 0x31, 0xad, 0x0f, 0xc7, 0x68, 0x3e,
-    0xe9, 0x43, 0xe9, 0xab, 0xcf, 0x25, 0x01, 0x59, 0x0f, 0xf8, 0xf6, 0x55, 0x1f, 0x47, 0xe5, 0xe5,
 ];
 
 const NATIVE_DIGEST: [u8; 32] = [
@@ -68,71 +53,37 @@ const NESTED_DIGEST: [u8; 32] = [
     0xda, 0x9d, 0xf9, 0x7d, 0x84, 0x90, 0xcc, 0x81, 0xd8, 0x9d, 0x73, 0x5c, 0x92, 0xe5, 0x9f, 0xb6,
 ];
 
-// Whether the lists of the transaction that the bytes spell have these hashes.
-fn shares(alloc: Global, bytes: &[u8], hashes: &ListHashes) -> Result<bool, TrailError> {
-    let Ok(tx) = decode(alloc, bytes) else {
-        return Ok(false);
-    };
-    let mut trail = Trail::new(alloc, Sha);
-    Ok(shared(alloc, &mut trail, &tx)? == *hashes)
-}
-
-// Whether an input of the transaction that the bytes spell has this digest.
-fn signs(
+// What an input of a transaction signs, if it has that input.
+fn signed(
     alloc: Global,
-    bytes: &[u8],
+    tx: &Tx,
     number: usize,
     script: &[u8],
     value: u64,
-    expected: [u8; 32],
-) -> Result<bool, TrailError> {
-    let Ok(tx) = decode(alloc, bytes) else {
-        return Ok(false);
-    };
+) -> Result<Option<[u8; 32]>, TrailError> {
     if number >= tx.inputs.len() {
-        return Ok(false);
+        return Ok(None);
     }
     let mut trail = Trail::new(alloc, Sha);
-    let hashes = shared(alloc, &mut trail, &tx)?;
-    let answer = digest(alloc, &mut trail, &tx, &hashes, number, script, value)?;
-    Ok(answer == expected)
+    let hashes = shared(alloc, &mut trail, tx)?;
+    let digest = digest(alloc, &mut trail, tx, &hashes, number, script, value)?;
+    Ok(Some(digest))
 }
 
 #[test]
 fn native_example_of_the_standard(rt: HostRuntime) -> Result<(), Fail> {
     let alloc = rt.alloc();
-    let prevouts = NATIVE_PREVOUTS;
-    let sequences = NATIVE_SEQUENCES;
-    let outputs = NATIVE_OUTPUTS;
-    let hashes = ListHashes {
-        prevouts,
-        sequences,
-        outputs,
-    };
-    assert!(rt; shares(alloc, &NATIVE, &hashes) == Ok(true));
-    assert!(rt;
-        signs(
-            alloc,
-            &NATIVE,
-            1,
-            &NATIVE_SCRIPT,
-            600_000_000,
-            NATIVE_DIGEST
-        ) == Ok(true)
-    );
+    let tx = decode(alloc, &NATIVE).map_err(|_| "no transaction")?;
+    let digest = signed(alloc, &tx, 1, &NATIVE_SCRIPT, 600_000_000);
+    assert!(rt; digest == Ok(Some(NATIVE_DIGEST)));
     Ok(())
 }
 
 #[test]
 fn nested_example_of_the_standard(rt: HostRuntime) -> Result<(), Fail> {
-    let signs = signs(
-        rt.alloc(),
-        &NESTED,
-        0,
-        &NESTED_SCRIPT,
-        1_000_000_000,
-        NESTED_DIGEST,
-    );
-    assert!(rt; signs == Ok(true));
+    let alloc = rt.alloc();
+    let tx = decode(alloc, &NESTED).map_err(|_| "no transaction")?;
+    let digest = signed(alloc, &tx, 0, &NESTED_SCRIPT, 1_000_000_000);
+    assert!(rt; digest == Ok(Some(NESTED_DIGEST)));
     Ok(())
 }

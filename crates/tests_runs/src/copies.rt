@@ -1,7 +1,7 @@
 //! Copies of the plain data of transactions and runs. That they are equal is proved, and not that there is ever one.
 
 use spec_bitcoin::tx::{copy_items, copy_outputs};
-use spec_bitcoin::{Label, Op, OutPoint, Refusal, Tx, TxIn, TxOut, Verdict};
+use spec_bitcoin::{Label, Op, OutPoint, Tx, TxIn, TxOut, Verdict};
 use spec_calculus::{Move, Owner};
 use spec_compiler::Prepared;
 use spec_data::{Bytes, Name, OutOfMemory, Seq};
@@ -107,34 +107,46 @@ fn action(alloc: Global, party: Name) -> Result<Move, OutOfMemory> {
     })
 }
 
+// Whether a part of a contract or of a script is copied. Each row has one value.
+fn term_is_copied(alloc: Global, party: Name, row: u32) -> Result<bool, OutOfMemory> {
+    match row {
+        0 => Ok(path(alloc)?.copy(alloc).is_ok()),
+        1 => Ok(Place::Branch(path(alloc)?).copy(alloc).is_ok()),
+        2 => Ok(label(alloc, party)?.copy(alloc).is_ok()),
+        _ => Ok(Op::Push(bytes(alloc)?).copy(alloc).is_ok()),
+    }
+}
+
+// The same of a transaction and its parts.
+fn transaction_is_copied(alloc: Global, row: u32) -> Result<bool, OutOfMemory> {
+    match row {
+        0 => Ok(copy_items(alloc, &[bytes(alloc)?]).is_ok()),
+        1 => Ok(input(alloc)?.copy(alloc).is_ok()),
+        2 => Ok(copy_outputs(alloc, &[output(alloc)?]).is_ok()),
+        3 => Ok(transaction(alloc)?.copy(alloc).is_ok()),
+        _ => Ok(prepared(alloc)?.copy(alloc).is_ok()),
+    }
+}
+
+// The same of what stands in a run.
+fn line_is_copied(alloc: Global, party: Name, row: u32) -> Result<bool, OutOfMemory> {
+    match row {
+        0 => Ok(verdict(alloc)?.copy(alloc).is_ok()),
+        1 => Ok(secret(alloc, party)?.copy(alloc).is_ok()),
+        2 => Ok(header(alloc, party)?.copy(alloc).is_ok()),
+        3 => Ok(signing(alloc, party)?.copy(alloc).is_ok()),
+        _ => Ok(action(alloc, party)?.copy(alloc).is_ok()),
+    }
+}
+
 #[test]
 fn plain_data_is_copied(rt: HostRuntime) -> Result<(), Fail> {
     let alloc = rt.alloc();
     let party = Name::new(b"A").ok_or("no name")?;
-    let items = [bytes(alloc)?];
-    let outputs = [output(alloc)?];
-    let copied = [
-        ("Path", path(alloc)?.copy(alloc).is_ok()),
-        ("Place", Place::Branch(path(alloc)?).copy(alloc).is_ok()),
-        ("Label", label(alloc, party)?.copy(alloc).is_ok()),
-        ("Op", Op::Push(bytes(alloc)?).copy(alloc).is_ok()),
-        ("items", copy_items(alloc, &items).is_ok()),
-        ("TxIn", input(alloc)?.copy(alloc).is_ok()),
-        ("outputs", copy_outputs(alloc, &outputs).is_ok()),
-        ("Tx", transaction(alloc)?.copy(alloc).is_ok()),
-        ("accepted", verdict(alloc)?.copy(alloc).is_ok()),
-        (
-            "refused",
-            Verdict::Refused(Refusal::NoInput).copy(alloc).is_ok(),
-        ),
-        ("Prepared", prepared(alloc)?.copy(alloc).is_ok()),
-        ("HeldSecret", secret(alloc, party)?.copy(alloc).is_ok()),
-        ("Header", header(alloc, party)?.copy(alloc).is_ok()),
-        ("Event", signing(alloc, party)?.copy(alloc).is_ok()),
-        ("Move", action(alloc, party)?.copy(alloc).is_ok()),
-    ];
-    for (what, is_copied) in copied {
-        assert!(rt; is_copied, "{what}");
+    for row in 0..5 {
+        assert!(rt; term_is_copied(alloc, party, row)?, "term {row}");
+        assert!(rt; transaction_is_copied(alloc, row)?, "transaction {row}");
+        assert!(rt; line_is_copied(alloc, party, row)?, "line {row}");
     }
     Ok(())
 }

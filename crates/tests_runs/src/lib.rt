@@ -3,8 +3,6 @@
 #![tactic(auto)]
 
 #[cfg(test)]
-mod calculus;
-#[cfg(test)]
 mod copies;
 #[cfg(test)]
 mod exchange;

@@ -6,7 +6,7 @@ use bm_report::{
     collided_opening_text, collided_text, guessed_text, put_entries, put_moment, put_offers,
     put_secrets, put_start, put_tip,
 };
-use spec_calculus::{ActiveContract, Committed, Deposit, Move, Owner, Revealed, Step};
+use spec_calculus::{ActiveContract, Committed, Deposit, Move, Owner, Step};
 use spec_data::{Name, OutOfMemory, Seq};
 use spec_run::{Event, Header, Outcome};
 use spec_terms::{Path, Pre};
@@ -24,69 +24,70 @@ fn header(alloc: Global, party: Name) -> Result<Header, OutOfMemory>
     ensures { IfOk result (λ header. length header.deposits < 2 ^ 32) }
 {
     Ok(Header {
-        parties: list(alloc, &[party])?,
-        honest: list(alloc, &[party])?,
+        parties: Seq::new(alloc),
+        honest: Seq::new(alloc),
         secrets: Seq::new(alloc),
         deposits: list(alloc, &[(party, 100)])?,
     })
 }
 
 fn give(alloc: Global, party: Name) -> Result<Event, OutOfMemory> {
+    let inputs = list(alloc, &[0])?;
+    let outputs = list(alloc, &[(party, 60), (party, 30)])?;
     Ok(Event::Give {
         party,
-        inputs: list(alloc, &[0])?,
-        outputs: list(alloc, &[(party, 60), (party, 30)])?,
+        inputs,
+        outputs,
     })
 }
 
-fn action(alloc: Global, party: Name) -> Result<Move, OutOfMemory> {
+fn step(alloc: Global, party: Name) -> Result<Step, OutOfMemory> {
     let owner = Owner::Party(party);
-    Ok(Move {
-        inputs: list(alloc, &[0])?,
-        outputs: list(alloc, &[(owner, 60), (owner, 30)])?,
+    let inputs = list(alloc, &[0])?;
+    let outputs = list(alloc, &[(owner, 60), (owner, 30)])?;
+    Ok(Step::Move {
+        action: Move { inputs, outputs },
     })
+}
+
+fn outcome(alloc: Global) -> Result<Outcome, OutOfMemory> {
+    let spent = list(alloc, &[0])?;
+    let made = list(alloc, &[(1, 60), (2, 30)])?;
+    Ok(Outcome::Accepted {
+        spent,
+        made,
+        lock: 0,
+    })
+}
+
+fn steps(alloc: Global, party: Name) -> Result<Seq<Step>, OutOfMemory> {
+    let mut steps = Seq::new(alloc);
+    steps.push(step(alloc, party)?)?;
+    Ok(steps)
 }
 
 fn given(alloc: Global, party: Name) -> Result<Entry, OutOfMemory> {
-    let mut steps = Seq::new(alloc);
-    steps.push(Step::AuthMove {
-        party,
-        action: action(alloc, party)?,
-    })?;
-    steps.push(Step::Move {
-        action: action(alloc, party)?,
-    })?;
+    let event = give(alloc, party)?;
+    let outcome = outcome(alloc)?;
+    let steps = steps(alloc, party)?;
     Ok(Entry {
-        event: give(alloc, party)?,
-        outcome: Outcome::Accepted {
-            spent: list(alloc, &[0])?,
-            made: list(alloc, &[(1, 60), (2, 30)])?,
-            lock: 0,
-        },
+        event,
+        outcome,
         steps,
     })
 }
 
-fn secrets(alloc: Global, party: Name) -> Result<Vec<u8>, OutOfMemory> {
+fn put_secret(alloc: Global, out: &mut Vec<u8>, party: Name) -> Result<(), OutOfMemory> {
     let committed = [Committed {
         contract: 0,
         party,
         lengths: list(alloc, &[(party, Some(20))])?,
     }];
-    let revealed = [Revealed {
-        contract: 0,
-        party,
-        secret: party,
-    }];
     let pre = [Pre::Secret { party, name: party }];
-    let mut out = Vec::new(alloc);
-    put_secrets(alloc, &mut out, 0, &committed, &revealed, &pre)?;
-    put_secrets(alloc, &mut out, 0, &committed, &[], &pre)?;
-    put_secrets(alloc, &mut out, 1, &committed, &[], &pre)?;
-    Ok(out)
+    put_secrets(alloc, out, 0, &committed, &[], &pre)
 }
 
-fn end(alloc: Global, party: Name) -> Result<Vec<u8>, OutOfMemory> {
+fn put_last_moment(alloc: Global, out: &mut Vec<u8>, party: Name) -> Result<(), OutOfMemory> {
     let deposits = [Deposit {
         number: 1,
         owner: Owner::Party(party),
@@ -98,67 +99,64 @@ fn end(alloc: Global, party: Name) -> Result<Vec<u8>, OutOfMemory> {
         position: Path::of(Vec::new(alloc)),
         balance: 7,
     }];
-    let mut out = Vec::new(alloc);
-    put_tip(alloc, &mut out, 5, &[(1, 60)])?;
-    put_moment(alloc, &mut out, 5, &deposits, &active)?;
-    put_offers(alloc, &mut out, &[Event::FireInit { contract: 0 }])?;
-    Ok(out)
+    put_moment(alloc, out, 5, &deposits, &active)
 }
 
-fn started(alloc: Global, party: Name) -> Result<Vec<u8>, OutOfMemory> {
-    let mut out = Vec::new(alloc);
-    put_start(alloc, &mut out, &[(party, 100)])?;
-    Ok(out)
+// Writes a part of what a run prints.
+fn put(alloc: Global, out: &mut Vec<u8>, party: Name, row: u32) -> Result<(), OutOfMemory> {
+    match row {
+        0 => put_start(alloc, out, &[(party, 100)]),
+        1 => put_entries(alloc, out, 1, &[given(alloc, party)?]),
+        2 => put_tip(alloc, out, 5, &[(1, 60)]),
+        3 => put_last_moment(alloc, out, party),
+        4 => put_offers(alloc, out, &[Event::FireInit { contract: 0 }]),
+        _ => put_secret(alloc, out, party),
+    }
 }
 
-fn played(alloc: Global, party: Name) -> Result<Vec<u8>, OutOfMemory> {
+fn printed(alloc: Global, party: Name) -> Result<Vec<u8>, OutOfMemory> {
     let mut out = Vec::new(alloc);
-    put_entries(alloc, &mut out, 1, &[given(alloc, party)?])?;
+    for row in 0..6 {
+        put(alloc, &mut out, party, row)?;
+    }
     Ok(out)
 }
 
 fn guessed(alloc: Global, party: Name) -> Result<Vec<u8>, OutOfMemory> {
+    let header = header(alloc, party)?;
     let event = Event::Mine { blocks: 2 };
-    guessed_text(alloc, &header(alloc, party)?, &[], &event, &party, &party)
+    guessed_text(alloc, &header, &[], &event, &party, &party)
 }
 
 fn collided(alloc: Global, party: Name) -> Result<Vec<u8>, OutOfMemory> {
+    let header = header(alloc, party)?;
     let event = Event::Mine { blocks: 2 };
-    collided_text(alloc, &header(alloc, party)?, &[], &event, &[1], &[2])
+    collided_text(alloc, &header, &[], &event, &[1], &[2])
 }
+
+fn text(alloc: Global, party: Name, row: usize) -> Result<Vec<u8>, OutOfMemory> {
+    match row {
+        0 => printed(alloc, party),
+        1 => guessed(alloc, party),
+        2 => collided(alloc, party),
+        _ => collided_opening_text(alloc, &[1], &[2]),
+    }
+}
+
+// The text of each row, worked by hand.
+const TEXTS: [&str; 4] = [
+    "start #0 A 100\nevent 1 give A #0 -> A 60 A 30\naccepted spends #0 makes #1 60 #2 30 lock 0\nstep move #0 -> A 60 A 30\nend\ntip 5\nlive #1 60\ntime 5\ndeposit #1 A 60\ncontract #3 0 r 7\noffer fire init 0\nsecret 0 A A 20 hidden\n",
+    "start #0 A 100\nevent 1 mine 2\nguessed A A\n",
+    "start #0 A 100\nevent 1 mine 2\ncollided 01 02\n",
+    "collided 01 02\n",
+];
 
 #[test]
 fn lines_are_those_worked_by_hand(rt: HostRuntime) -> Result<(), Fail> {
     let alloc = rt.alloc();
     let party = Name::new(b"A").ok_or("no name")?;
-    let texts = [
-        (started(alloc, party)?, "start #0 A 100\n"),
-        (
-            played(alloc, party)?,
-            "event 1 give A #0 -> A 60 A 30\naccepted spends #0 makes #1 60 #2 30 lock 0\nstep authmove A\nstep move #0 -> A 60 A 30\n",
-        ),
-        (
-            end(alloc, party)?,
-            "end\ntip 5\nlive #1 60\ntime 5\ndeposit #1 A 60\ncontract #3 0 r 7\noffer fire init 0\n",
-        ),
-        (
-            secrets(alloc, party)?,
-            "secret 0 A A 20 revealed\nsecret 0 A A 20 hidden\n",
-        ),
-        (
-            guessed(alloc, party)?,
-            "start #0 A 100\nevent 1 mine 2\nguessed A A\n",
-        ),
-        (
-            collided(alloc, party)?,
-            "start #0 A 100\nevent 1 mine 2\ncollided 01 02\n",
-        ),
-        (
-            collided_opening_text(alloc, &[1], &[2])?,
-            "collided 01 02\n",
-        ),
-    ];
-    for (text, wanted) in &texts {
+    for (row, wanted) in TEXTS.iter().enumerate() {
+        let text = text(alloc, party, row)?;
         assert!(rt; text.as_slice() == wanted.as_bytes(), "{wanted}");
     }
     Ok(())

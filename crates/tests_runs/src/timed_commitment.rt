@@ -1,7 +1,6 @@
 //! A timed commitment in the calculus: A's secret or the time decides to whom the deposit goes.
 
-use crate::calculus::answer;
-use bm_calculus::{Config, Owner, Step, StepError};
+use bm_calculus::{Config, Owner, Step};
 use bm_reader::read_advert;
 use bm_wellformed::{Checked, check};
 use spec_data::{Name, OutOfMemory, Seq};
@@ -40,100 +39,124 @@ fn all_names() -> Option<Names> {
     })
 }
 
-// The steps by which the contract begins.
-fn beginning(alloc: Global, names: &Names) -> Result<[Step; 6], OutOfMemory> {
-    let bindings = [(names.x, 0), (names.y, 1)];
-    Ok([
-        Step::Advertise {
-            contract: 0,
-            bindings: Seq::of(Vec::from_slice(alloc, &bindings)?),
-        },
-        Step::Commit {
-            contract: 0,
-            party: names.a,
-            lengths: Seq::of(Vec::from_slice(alloc, &[(names.secret, Some(16))])?),
-        },
-        Step::Commit {
-            contract: 0,
-            party: names.b,
-            lengths: Seq::new(alloc),
-        },
-        Step::AuthInit {
-            contract: 0,
-            party: names.a,
-            deposit: names.x,
-        },
-        Step::AuthInit {
-            contract: 0,
-            party: names.b,
-            deposit: names.y,
-        },
-        Step::Init { contract: 0 },
-    ])
+fn advertise(alloc: Global, names: &Names) -> Result<Step, OutOfMemory> {
+    let bindings = Vec::from_slice(alloc, &[(names.x, 0), (names.y, 1)])?;
+    Ok(Step::Advertise {
+        contract: 0,
+        bindings: Seq::of(bindings),
+    })
 }
 
-// The configuration in which the contract has begun.
-fn begun(alloc: Global, names: &Names) -> Result<Option<Config>, OutOfMemory> {
-    let Some(checked) = contract(alloc) else {
-        return Ok(None);
-    };
-    let (a, b) = (names.a, names.b);
-    let mut config = Config::opening(alloc, &[a, b], &[a], &[(a, 100), (b, 0)], &[checked])?;
-    let steps = beginning(alloc, names)?;
-    for step in &steps {
-        if answer(&mut config, step) != Some(Ok(())) {
-            return Ok(None);
+fn commit(
+    alloc: Global,
+    party: Name,
+    lengths: &[(Name, Option<u32>)],
+) -> Result<Step, OutOfMemory> {
+    Ok(Step::Commit {
+        contract: 0,
+        party,
+        lengths: Seq::of(Vec::from_slice(alloc, lengths)?),
+    })
+}
+
+fn agree(party: Name, deposit: Name) -> Step {
+    Step::AuthInit {
+        contract: 0,
+        party,
+        deposit,
+    }
+}
+
+fn withdraw(output: u32, branch: u32) -> Step {
+    Step::Withdraw { output, branch }
+}
+
+// The steps by which the contract begins.
+fn beginning(alloc: Global, names: &Names, row: u32) -> Result<Step, OutOfMemory> {
+    match row {
+        0 => advertise(alloc, names),
+        1 => commit(alloc, names.a, &[(names.secret, Some(16))]),
+        2 => commit(alloc, names.b, &[]),
+        3 => Ok(agree(names.a, names.x)),
+        4 => Ok(agree(names.b, names.y)),
+        _ => Ok(Step::Init { contract: 0 }),
+    }
+}
+
+// Those by which the secret gives it back.
+fn giving_back(names: &Names, row: u32) -> Step {
+    match row {
+        0 => Step::Reveal {
+            contract: 0,
+            party: names.a,
+            secret: names.secret,
+        },
+        1 => Step::PutReveal {
+            output: 2,
+            branch: 0,
+        },
+        _ => withdraw(3, 0),
+    }
+}
+
+// Whether a step that makes few deposits is taken.
+fn takes(config: &mut Config, step: &Step) -> bool {
+    if config.next() > 1000 {
+        return false;
+    }
+    match step {
+        Step::Move { .. } | Step::Split { .. } => false,
+        _ => config.apply(step).is_ok(),
+    }
+}
+
+fn opened(alloc: Global, names: &Names, contract: Checked) -> Result<Config, OutOfMemory> {
+    let deposits = [(names.a, 100), (names.b, 0)];
+    Config::opening(
+        alloc,
+        &[names.a, names.b],
+        &[names.a],
+        &deposits,
+        &[contract],
+    )
+}
+
+// Whether the contract begins.
+fn begins(alloc: Global, names: &Names, config: &mut Config) -> Result<bool, OutOfMemory> {
+    for row in 0..6 {
+        let step = beginning(alloc, names, row)?;
+        if !takes(config, &step) {
+            return Ok(false);
         }
     }
-    Ok(Some(config))
+    Ok(true)
+}
+
+// Whether the secret gives it back.
+fn gives_back(names: &Names, config: &mut Config) -> bool {
+    for row in 0..3 {
+        if !takes(config, &giving_back(names, row)) {
+            return false;
+        }
+    }
+    true
+}
+
+// Whether the time gives it away.
+fn gives_away(config: &mut Config) -> bool {
+    takes(config, &Step::Delay { blocks: 1000 }) && takes(config, &withdraw(2, 1))
 }
 
 #[test]
-fn the_secret_gives_it_back(rt: HostRuntime) -> Result<(), Fail> {
+fn the_secret_or_the_time_decides(rt: HostRuntime) -> Result<(), Fail> {
     let alloc = rt.alloc();
     let names = all_names().ok_or("no names")?;
-    let (a, secret) = (names.a, names.secret);
-    let mut config = begun(alloc, &names)?.ok_or("not begun")?;
-    assert_eq!(rt; config.secret(0, &a, &secret), Some((Some(16), false)));
-    let put = Step::PutReveal {
-        output: 2,
-        branch: 0,
-    };
-    assert_eq!(rt; config.enabled(&put), Err(6));
-    let reveal = Step::Reveal {
-        contract: 0,
-        party: a,
-        secret,
-    };
-    assert_eq!(rt; answer(&mut config, &reveal), Some(Ok(())));
-    assert_eq!(rt; answer(&mut config, &put), Some(Ok(())));
-    let withdraw = Step::Withdraw {
-        output: 3,
-        branch: 0,
-    };
-    assert_eq!(rt; answer(&mut config, &withdraw), Some(Ok(())));
-    assert!(rt; config.deposit(4) == Some((&Owner::Party(a), 100)));
-    assert!(rt; config.contract(3).is_none());
-    Ok(())
-}
-
-#[test]
-fn the_time_gives_it_away(rt: HostRuntime) -> Result<(), Fail> {
-    let alloc = rt.alloc();
-    let names = all_names().ok_or("no names")?;
-    let mut config = begun(alloc, &names)?.ok_or("not begun")?;
-    let withdraw = Step::Withdraw {
-        output: 2,
-        branch: 1,
-    };
-    let early = Some(Err(StepError::NotEnabled(3)));
-    assert_eq!(rt; answer(&mut config, &withdraw), early);
-    let blocks = Step::Delay { blocks: 1000 };
-    assert_eq!(rt; answer(&mut config, &blocks), Some(Ok(())));
-    let before = config.copy(alloc)?;
-    assert_eq!(rt; answer(&mut config, &withdraw), Some(Ok(())));
-    assert!(rt; config.deposit(3) == Some((&Owner::Party(names.b), 100)));
-    assert!(rt; before.deposit(3).is_none());
-    assert!(rt; before.contract(2).is_some());
+    let contract = contract(alloc).ok_or("no contract")?;
+    let mut back = opened(alloc, &names, contract)?;
+    assert!(rt; begins(alloc, &names, &mut back)?);
+    let mut away = back.copy(alloc)?;
+    assert!(rt; gives_back(&names, &mut back) && gives_away(&mut away));
+    assert!(rt; back.deposit(4) == Some((&Owner::Party(names.a), 100)));
+    assert!(rt; away.deposit(3) == Some((&Owner::Party(names.b), 100)));
     Ok(())
 }

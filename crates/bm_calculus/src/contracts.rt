@@ -6,6 +6,8 @@ ghost use Rattle.spec_calculus.specs.Branches as spec;
 ghost use Rattle.theory_calculus.specs.InOrder.{are_ascending};
 ghost use Rattle.bm_calculus.specs.Answers.{root_of};
 
+mod listed;
+
 use spec_calculus::ActiveContract;
 use spec_data::OutOfMemory;
 use spec_terms::Path;

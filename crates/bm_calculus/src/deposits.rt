@@ -10,6 +10,8 @@ ghost use Rattle.spec_calculus.specs.Branches.{gone, total_value};
 ghost use Rattle.spec_calculus.specs.Same as same;
 ghost use Rattle.theory_calculus.specs.InOrder.{are_ascending};
 
+mod listed;
+
 use crate::same::owner_eq;
 use spec_calculus::{Deposit, Owner};
 use spec_data::{Name, OutOfMemory};

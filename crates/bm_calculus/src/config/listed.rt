@@ -1,0 +1,30 @@
+//! What a configuration holds, each kind as a list.
+
+ghost use Rattle.std.specs.Prelude.{◌≡◌};
+
+use crate::config::Config;
+use bm_wellformed::Checked;
+use spec_calculus::{ActiveContract, Deposit};
+
+impl Config {
+    /// The live deposits by ascending numbers.
+    pub fn deposits(&self) -> &[Deposit]
+        ensures { result.now ≡ self.now.deposits }
+    {
+        self.state.deposits.as_slice()
+    }
+
+    /// The active contracts by ascending numbers.
+    pub fn active(&self) -> &[ActiveContract]
+        ensures { result.now ≡ self.now.active }
+    {
+        self.state.active.as_slice()
+    }
+
+    /// The contracts by their places, from 0 on.
+    pub fn contracts(&self) -> &[Checked]
+        ensures { result.now ≡ self.now.contracts }
+    {
+        self.state.contracts.as_slice()
+    }
+}

@@ -1,0 +1,4 @@
+pub mod DrawSteps
+pub mod EntrySteps
+pub mod EventLines
+pub mod GiftSteps

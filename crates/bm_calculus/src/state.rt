@@ -171,36 +171,38 @@ impl State {
         ensures err { OnErr result (self.new ≡ self.old) }
     {
         match step {
-            Step::Delay { blocks } => self.time += *blocks,
-            Step::AuthMove { party, action } => self.agree(party, action)?,
-            Step::Move { action } => self.make(action)?,
-            Step::Advertise { contract, bindings } => self.advertise(*contract, bindings)?,
+            Step::Delay { blocks } => {
+                self.time += *blocks;
+                Ok(())
+            }
+            Step::AuthMove { party, action } => self.agree(party, action),
+            Step::Move { action } => self.make(action),
+            Step::Advertise { contract, bindings } => self.advertise(*contract, bindings),
             Step::Commit {
                 contract,
                 party,
                 lengths,
-            } => self.commit(*contract, party, lengths)?,
+            } => self.commit(*contract, party, lengths),
             Step::AuthInit {
                 contract,
                 deposit,
                 ..
-            } => self.allow(*contract, deposit)?,
-            Step::Init { contract } => self.begin(*contract)?,
+            } => self.allow(*contract, deposit),
+            Step::Init { contract } => self.begin(*contract),
             Step::Reveal {
                 contract,
                 party,
                 secret,
-            } => self.reveal(*contract, party, secret)?,
+            } => self.reveal(*contract, party, secret),
             Step::AuthBranch {
                 party,
                 output,
                 branch,
-            } => self.allow_branch(party, *output, *branch)?,
-            Step::PutReveal { output, branch } => self.go_on(*output, *branch)?,
-            Step::Withdraw { output, branch } => self.withdraw(*output, *branch)?,
-            Step::Split { output, branch } => self.split(*output, *branch)?,
+            } => self.allow_branch(party, *output, *branch),
+            Step::PutReveal { output, branch } => self.go_on(*output, *branch),
+            Step::Withdraw { output, branch } => self.withdraw(*output, *branch),
+            Step::Split { output, branch } => self.split(*output, *branch),
         }
-        Ok(())
     }
 }
 

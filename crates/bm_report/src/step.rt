@@ -2,10 +2,13 @@
 
 ghost use Rattle.std.specs.Prelude.{◌≡◌, ◌++◌, codes, flat_map, map, OnOk};
 ghost use Rattle.std.specs.Fmt.{decimal};
-ghost use Rattle.spec_text.specs.RunText.{output_text, outputs_text, bindings_text, contract_party_text};
+ghost use Rattle.spec_text.specs.RunText.{outputs_text, contract_party_text};
 ghost use Rattle.spec_text.specs.StepText as spec;
 
-use bm_runfile::{put_bindings, put_contract_party, put_output, put_outputs};
+use bm_runfile::{
+    put_advertise, put_branch, put_contract_party, put_named, put_outputs, put_party_name,
+    put_share, put_spaced_output, put_word_name, put_word_number,
+};
 use bm_text::{put, put_decimal};
 use spec_calculus::{Owner, Step};
 use spec_data::{Name, OutOfMemory};
@@ -21,16 +24,6 @@ pub(crate) fn owner_text(owner: &Owner) -> &[u8]
     }
 }
 
-#[tactic(auto, using(std::proofs::Common::append_assoc))]
-fn put_owned(alloc: Global, out: &mut Vec<u8>, owner: &Owner, value: u64) -> Result<(), OutOfMemory>
-    ensures { OnOk result (out.new.items ≡ out.old.items ++ (codes " " ++ (spec.owner_text owner.now ++ (codes " " ++ decimal value)))) }
-{
-    put(out, b" ")?;
-    put(out, owner_text(owner))?;
-    put(out, b" ")?;
-    put_decimal(alloc, out, value)
-}
-
 fn put_all_owned(
     alloc: Global,
     out: &mut Vec<u8>,
@@ -39,7 +32,7 @@ fn put_all_owned(
     ensures { OnOk result (out.new.items ≡ out.old.items ++ spec.owned_text outputs.now) }
 {
     for (owner, value) in outputs {
-        put_owned(alloc, out, owner, *value)?;
+        put_share(alloc, out, owner_text(owner), *value)?;
     }
     Ok(())
 }
@@ -66,9 +59,7 @@ fn put_named_length(
 ) -> Result<(), OutOfMemory>
     ensures { OnOk result (out.new.items ≡ out.old.items ++ (codes " " ++ (name.now ++ (codes "=" ++ spec.length_text length)))) }
 {
-    put(out, b" ")?;
-    put(out, name.bytes())?;
-    put(out, b"=")?;
+    put_named(out, name)?;
     put_length(alloc, out, length)
 }
 
@@ -85,27 +76,11 @@ fn put_lengths(
     Ok(())
 }
 
-#[tactic(auto, using(std::proofs::Common::append_assoc))]
-fn put_branch(alloc: Global, out: &mut Vec<u8>, output: u32, branch: u32) -> Result<(), OutOfMemory>
-    ensures { OnOk result (out.new.items ≡ out.old.items ++ spec.branch_text output branch) }
-{
-    put_output(alloc, out, output)?;
-    put(out, b" ")?;
-    put_decimal(alloc, out, branch as u64)
-}
-
-fn put_number(alloc: Global, out: &mut Vec<u8>, pair: &(u32, u64)) -> Result<(), OutOfMemory>
-    ensures { OnOk result (out.new.items ≡ out.old.items ++ (codes " " ++ output_text pair.now.0)) }
-{
-    put(out, b" ")?;
-    put_output(alloc, out, pair.0)
-}
-
 fn put_numbers(alloc: Global, out: &mut Vec<u8>, made: &[(u32, u64)]) -> Result<(), OutOfMemory>
     ensures { OnOk result (out.new.items ≡ out.old.items ++ outputs_text (map (λ m. m.0) made.now)) }
 {
     for pair in made {
-        put_number(alloc, out, pair)?;
+        put_spaced_output(alloc, out, pair.0)?;
     }
     Ok(())
 }
@@ -137,19 +112,6 @@ fn put_taken(
 }
 
 #[tactic(auto, using(std::proofs::Common::append_assoc))]
-fn put_word_number(
-    alloc: Global,
-    out: &mut Vec<u8>,
-    word: &[u8],
-    number: u32,
-) -> Result<(), OutOfMemory>
-    ensures { OnOk result (out.new.items ≡ out.old.items ++ (word.now ++ decimal number)) }
-{
-    put(out, word)?;
-    put_decimal(alloc, out, number as u64)
-}
-
-#[tactic(auto, using(std::proofs::Common::append_assoc))]
 fn put_move(
     alloc: Global,
     out: &mut Vec<u8>,
@@ -166,19 +128,6 @@ fn put_move(
 }
 
 #[tactic(auto, using(std::proofs::Common::append_assoc))]
-fn put_advertise(
-    alloc: Global,
-    out: &mut Vec<u8>,
-    contract: u32,
-    bindings: &[(Name, u32)],
-) -> Result<(), OutOfMemory>
-    ensures { OnOk result (out.new.items ≡ out.old.items ++ (codes "advertise " ++ (decimal contract ++ bindings_text bindings.now))) }
-{
-    put_word_number(alloc, out, b"advertise ", contract)?;
-    put_bindings(alloc, out, bindings)
-}
-
-#[tactic(auto, using(std::proofs::Common::append_assoc))]
 fn put_commit(
     alloc: Global,
     out: &mut Vec<u8>,
@@ -192,25 +141,6 @@ fn put_commit(
     put(out, b"commit ")?;
     put_contract_party(alloc, out, contract, party)?;
     put_lengths(alloc, out, lengths)
-}
-
-/// A word, a contract, a party and a name.
-#[tactic(auto, using(std::proofs::Common::append_assoc))]
-fn put_party_name(
-    alloc: Global,
-    out: &mut Vec<u8>,
-    word: &[u8],
-    contract: u32,
-    party: &Name,
-    name: &Name,
-) -> Result<(), OutOfMemory>
-    ensures { OnOk result (out.new.items ≡ out.old.items
-        ++ (word.now ++ (contract_party_text contract party.now ++ (codes " " ++ name.now)))) }
-{
-    put(out, word)?;
-    put_contract_party(alloc, out, contract, party)?;
-    put(out, b" ")?;
-    put(out, name.bytes())
 }
 
 #[tactic(auto, using(std::proofs::Common::append_assoc))]
@@ -238,9 +168,7 @@ fn put_auth_branch(
     ensures { OnOk result (out.new.items ≡ out.old.items
         ++ (codes "authbranch " ++ (party.now ++ (codes " " ++ spec.branch_text output branch)))) }
 {
-    put(out, b"authbranch ")?;
-    put(out, party.bytes())?;
-    put(out, b" ")?;
+    put_word_name(out, b"authbranch ", party)?;
     put_branch(alloc, out, output, branch)
 }
 

@@ -7,6 +7,10 @@ ghost use Rattle.spec_data.specs.Digits.{hex_text};
 ghost use Rattle.spec_run.specs.declared.event.Event.TheVariants as events;
 ghost use Rattle.spec_text.specs.RunText as spec;
 
+use crate::pieces::{
+    put_advertise, put_branch, put_contract_party, put_named, put_outputs, put_party_name,
+    put_share, put_word_name, put_word_number,
+};
 use bm_keys::label_text;
 use bm_text::{put, put_decimal, put_hex};
 use spec_bitcoin::Label;
@@ -14,66 +18,11 @@ use spec_data::{Name, OutOfMemory};
 use spec_run::{Event, Header, HeldSecret};
 use std::alloc::Global;
 
-/// An output by its number, as `#n`.
-pub fn put_output(alloc: Global, out: &mut Vec<u8>, number: u32) -> Result<(), OutOfMemory>
-    ensures { OnOk result (out.new.items ≡ out.old.items ++ spec.output_text number) }
-{
-    put(out, b"#")?;
-    put_decimal(alloc, out, number as u64)
-}
-
 fn put_label(alloc: Global, out: &mut Vec<u8>, label: &Label) -> Result<(), OutOfMemory>
     ensures { OnOk result (out.new.items ≡ out.old.items ++ label_text label.now) }
 {
     let text = label_text(alloc, label)?;
     put(out, text.as_slice())
-}
-
-#[tactic(auto, using(std::proofs::Common::append_assoc))]
-fn put_spaced_output(alloc: Global, out: &mut Vec<u8>, number: u32) -> Result<(), OutOfMemory>
-    ensures { OnOk result (out.new.items ≡ out.old.items ++ (codes " " ++ spec.output_text number)) }
-{
-    put(out, b" ")?;
-    put_output(alloc, out, number)
-}
-
-/// Outputs by their numbers, a space before each.
-pub fn put_outputs(alloc: Global, out: &mut Vec<u8>, numbers: &[u32]) -> Result<(), OutOfMemory>
-    ensures { OnOk result (out.new.items ≡ out.old.items ++ spec.outputs_text numbers.now) }
-{
-    for number in numbers {
-        put_spaced_output(alloc, out, *number)?;
-    }
-    Ok(())
-}
-
-#[tactic(auto, using(std::proofs::Common::append_assoc))]
-fn put_binding(
-    alloc: Global,
-    out: &mut Vec<u8>,
-    name: &Name,
-    output: u32,
-) -> Result<(), OutOfMemory>
-    ensures { OnOk result (out.new.items ≡ out.old.items ++ (codes " " ++ (name.now ++ (codes "=" ++ spec.output_text output)))) }
-{
-    put(out, b" ")?;
-    put(out, name.bytes())?;
-    put(out, b"=")?;
-    put_output(alloc, out, output)
-}
-
-/// Names with the outputs that they are bound to, a space before each.
-pub fn put_bindings(
-    alloc: Global,
-    out: &mut Vec<u8>,
-    bindings: &[(Name, u32)],
-) -> Result<(), OutOfMemory>
-    ensures { OnOk result (out.new.items ≡ out.old.items ++ spec.bindings_text bindings.now) }
-{
-    for (name, output) in bindings {
-        put_binding(alloc, out, name, *output)?;
-    }
-    Ok(())
 }
 
 #[tactic(auto, using(std::proofs::Common::append_assoc))]
@@ -85,9 +34,7 @@ fn put_digest(
 ) -> Result<(), OutOfMemory>
     ensures { OnOk result (out.new.items ≡ out.old.items ++ (codes " " ++ (name.now ++ (codes "=" ++ hex_text digest.now)))) }
 {
-    put(out, b" ")?;
-    put(out, name.bytes())?;
-    put(out, b"=")?;
+    put_named(out, name)?;
     put_hex(alloc, out, digest)
 }
 
@@ -104,38 +51,13 @@ fn put_digests(
     Ok(())
 }
 
-#[tactic(auto, using(std::proofs::Common::append_assoc))]
-fn put_share(alloc: Global, out: &mut Vec<u8>, party: &Name, value: u64) -> Result<(), OutOfMemory>
-    ensures { OnOk result (out.new.items ≡ out.old.items ++ (codes " " ++ (party.now ++ (codes " " ++ decimal value)))) }
-{
-    put(out, b" ")?;
-    put(out, party.bytes())?;
-    put(out, b" ")?;
-    put_decimal(alloc, out, value)
-}
-
 fn put_shares(alloc: Global, out: &mut Vec<u8>, shares: &[(Name, u64)]) -> Result<(), OutOfMemory>
     ensures { OnOk result (out.new.items ≡ out.old.items ++ spec.shares_text shares.now) }
 {
     for (party, value) in shares {
-        put_share(alloc, out, party, *value)?;
+        put_share(alloc, out, party.bytes(), *value)?;
     }
     Ok(())
-}
-
-/// A contract by its number, and a party.
-#[tactic(auto, using(std::proofs::Common::append_assoc))]
-pub fn put_contract_party(
-    alloc: Global,
-    out: &mut Vec<u8>,
-    contract: u32,
-    party: &Name,
-) -> Result<(), OutOfMemory>
-    ensures { OnOk result (out.new.items ≡ out.old.items ++ spec.contract_party_text contract party.now) }
-{
-    put_decimal(alloc, out, contract as u64)?;
-    put(out, b" ")?;
-    put(out, party.bytes())
 }
 
 /// A word, then a contract and a party.
@@ -151,20 +73,6 @@ fn put_word_contract_party(
 {
     put(out, word)?;
     put_contract_party(alloc, out, contract, party)
-}
-
-#[tactic(auto, using(std::proofs::Common::append_assoc))]
-fn put_advertise(
-    alloc: Global,
-    out: &mut Vec<u8>,
-    contract: u32,
-    bindings: &[(Name, u32)],
-) -> Result<(), OutOfMemory>
-    ensures { OnOk result (out.new.items ≡ out.old.items ++ (codes "advertise " ++ (decimal contract ++ spec.bindings_text bindings.now))) }
-{
-    put(out, b"advertise ")?;
-    put_decimal(alloc, out, contract as u64)?;
-    put_bindings(alloc, out, bindings)
 }
 
 #[tactic(auto, using(std::proofs::Common::append_assoc))]
@@ -194,29 +102,8 @@ fn put_authorise(
     ensures { OnOk result (out.new.items ≡ out.old.items
         ++ (codes "authorise " ++ (party.now ++ (codes " " ++ (spec.output_text output ++ (codes " " ++ decimal branch)))))) }
 {
-    put(out, b"authorise ")?;
-    put(out, party.bytes())?;
-    put(out, b" ")?;
-    put_output(alloc, out, output)?;
-    put(out, b" ")?;
-    put_decimal(alloc, out, branch as u64)
-}
-
-#[tactic(auto, using(std::proofs::Common::append_assoc))]
-fn put_reveal(
-    alloc: Global,
-    out: &mut Vec<u8>,
-    contract: u32,
-    party: &Name,
-    secret: &Name,
-) -> Result<(), OutOfMemory>
-    ensures { OnOk result (out.new.items ≡ out.old.items
-        ++ (codes "reveal " ++ (spec.contract_party_text contract party.now ++ (codes " " ++ secret.now)))) }
-{
-    put(out, b"reveal ")?;
-    put_contract_party(alloc, out, contract, party)?;
-    put(out, b" ")?;
-    put(out, secret.bytes())
+    put_word_name(out, b"authorise ", party)?;
+    put_branch(alloc, out, output, branch)
 }
 
 #[tactic(auto, using(std::proofs::Common::append_assoc))]
@@ -243,9 +130,7 @@ fn put_sign(
     ensures { OnOk result (out.new.items ≡ out.old.items
         ++ (codes "sign " ++ (party.now ++ (codes " " ++ (label_text label.now ++ (codes " " ++ hex_text digest.now)))))) }
 {
-    put(out, b"sign ")?;
-    put(out, party.bytes())?;
-    put(out, b" ")?;
+    put_word_name(out, b"sign ", party)?;
     put_label(alloc, out, label)?;
     put(out, b" ")?;
     put_hex(alloc, out, digest)
@@ -270,26 +155,11 @@ fn put_give(
 }
 
 #[tactic(auto, using(std::proofs::Common::append_assoc))]
-fn put_word_number(
-    alloc: Global,
-    out: &mut Vec<u8>,
-    word: &[u8],
-    number: u32,
-) -> Result<(), OutOfMemory>
-    ensures { OnOk result (out.new.items ≡ out.old.items ++ (word.now ++ decimal number)) }
-{
-    put(out, word)?;
-    put_decimal(alloc, out, number as u64)
-}
-
-#[tactic(auto, using(std::proofs::Common::append_assoc))]
 fn put_fire(alloc: Global, out: &mut Vec<u8>, output: u32, branch: u32) -> Result<(), OutOfMemory>
     ensures { OnOk result (out.new.items ≡ out.old.items ++ (codes "fire " ++ (spec.output_text output ++ (codes " " ++ decimal branch)))) }
 {
     put(out, b"fire ")?;
-    put_output(alloc, out, output)?;
-    put(out, b" ")?;
-    put_decimal(alloc, out, branch as u64)
+    put_branch(alloc, out, output, branch)
 }
 
 /// The canonical line of an event at the end of a text, without its end.
@@ -320,7 +190,7 @@ pub fn put_event(alloc: Global, out: &mut Vec<u8>, event: &Event) -> Result<(), 
             contract,
             party,
             secret,
-        } => put_reveal(alloc, out, *contract, party, secret),
+        } => put_party_name(alloc, out, b"reveal ", *contract, party, secret),
         Event::Post { bytes } => put_word_hex(alloc, out, b"post ", bytes.as_slice()),
         Event::Sign {
             party,
@@ -379,9 +249,7 @@ fn put_honest(out: &mut Vec<u8>, names: &[Name]) -> Result<(), OutOfMemory>
 fn put_secret(alloc: Global, out: &mut Vec<u8>, secret: &HeldSecret) -> Result<(), OutOfMemory>
     ensures { OnOk result (out.new.items ≡ out.old.items ++ spec.secret_text secret.now) }
 {
-    put(out, b"secret ")?;
-    put(out, secret.party.bytes())?;
-    put(out, b" ")?;
+    put_word_name(out, b"secret ", &secret.party)?;
     put(out, secret.name.bytes())?;
     put(out, b" ")?;
     put_hex(alloc, out, secret.bytes.as_slice())?;
@@ -406,9 +274,7 @@ fn put_deposit(
 ) -> Result<(), OutOfMemory>
     ensures { OnOk result (out.new.items ≡ out.old.items ++ spec.deposit_text (party.now, value)) }
 {
-    put(out, b"deposit ")?;
-    put(out, party.bytes())?;
-    put(out, b" ")?;
+    put_word_name(out, b"deposit ", party)?;
     put_decimal(alloc, out, value)?;
     put(out, b"\n")
 }

@@ -1,7 +1,7 @@
 -- What the gate tells of the needs of a contract, path by path and party by party.
 use Rattle.std.proofs.Common.{◌≡◌, ℕ, ◌+◌, List, [], ◌∷◌, ◌++◌, Bool, true, false, cond, Option, Some, None, refl, sym, ap, ◌∙◌, map}
 use Rattle.std.specs.Prelude.{filter, not, ◌||◌}
-use Rattle.std.specs.Option.{option_or, option_and_then, option_map_or}
+use Rattle.std.specs.Option.{option_or, option_and_then, option_map_or, is_none}
 use Rattle.std.specs.Str.{bytes_eq}
 use Rattle.std.specs.Prelude.{slice_get}
 use Rattle.std.proofs.Math.Bool.{or-true, or-false}
@@ -19,11 +19,14 @@ use Rattle.spec_nodes.specs.Nodes.{Node, asks_once, deed_of, branch_head}
 use Rattle.spec_nodes.specs.Numbers.{IsBranchOf}
 use Rattle.theory_nodes.specs.Walk.{deed_puts}
 use Rattle.spec_compiler.specs.declared.prepared.Prepared.{Prepared}
-use Rattle.spec_compiler.specs.Instance.{branch_label, deposit_key}
-use Rattle.spec_compiler.specs.Endorsements.{Need, branch_needs, put_needs, needs_of, path_needs, needs, is_met, first_unmet, put_owner}
+use Rattle.spec_compiler.specs.Compilation.{compilation}
+use Rattle.spec_compiler.specs.Instance.{Instance, branch_label, deposit_key}
+use Rattle.spec_compiler.specs.Endorsements.{Need, branch_needs, put_needs, needs_of, path_needs, needs, is_met, first_unmet, put_owner, missing_endorsement}
+use Rattle.theory_script.specs.Endorsed.{MissingIsFirst}
+use Rattle.bm_compile.specs.Numbered.{Numbered, numbered}
 use Rattle.bm_honest.specs.declared.gate.Gate.{Gate}
 use Rattle.bm_honest.specs.declared.gate.Gate.TheVariants.{Yes, No}
-use Rattle.bm_honest.specs.Gates.{gate_of, gate_at, gate_or, gate_for, gate_of_paths}
+use Rattle.bm_honest.specs.Gates.{gate_of, gate_at, gate_or, gate_for, gate_of_paths, is_yes, Tells}
 use Rattle.bm_honest.specs.Unsigned.{unsigned_person, unsigned_owner, unsigned_for, seen_node, seen_branch, unsigned_seen}
 
 -- ---- several needs
@@ -157,3 +160,19 @@ all_paths hash book contract advert [] = refl
 all_paths hash book contract advert (p ∷ ps) =
     ap (gate_or (gate_for hash book contract advert p.0 p.1)) (all_paths hash book contract advert ps)
     ∙ sym (first_gate book (path_needs hash contract advert p.0 p.1) (needs hash contract advert ps))
+
+is_yes-gate_of : (o : Option Need) → is_yes (gate_of o) ≡ is_none o
+is_yes-gate_of None = refl
+is_yes-gate_of (Some need) = refl
+
+-- the gate of a contract that is compiled so tells of its endorsements
+pub tells : (hash : List ℕ → List ℕ) (s : Instance) (book : List Pair) (contract : ℕ) (advert : Advert) (compiled : Numbered) (gate : Gate)
+    → MissingIsFirst → gate ≡ gate_of (first_unmet book (needs hash contract advert compiled.paths))
+    → compiled ≡ numbered hash s → s.contract ≡ contract → s.advert ≡ advert → Tells hash s book gate
+tells hash s book contract advert compiled gate theorem is e number text =
+    let paths : compiled.paths ≡ (compilation hash s).paths = ap (λ (n : Numbered). n.paths) e in
+    let first : gate ≡ gate_of (missing_endorsement hash s book) = rw (is, paths, ← number, ← text) refl in
+    record {
+      first = first;
+      endorsed = ap is_yes first ∙ is_yes-gate_of (missing_endorsement hash s book) ∙ (theorem hash s book).none;
+    }

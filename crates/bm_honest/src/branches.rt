@@ -52,18 +52,14 @@ fn seen_by_nodes<'a>(arena: &'a Arena, path: &Path) -> Option<(&'a [Name], &'a [
 }
 
 // The same in a checked contract: each deposit that a branch puts is a volatile one.
-#[tactic(auto, using(crate::proofs::Standing::known_seen))]
-fn seen_at<'a>(
-    checked: &Checked,
-    arena: &'a Arena,
-    path: &Path,
-) -> Option<(&'a [Name], &'a [Name])>
+fn seen_at<'a>(checked: &Checked, arena: &'a Arena, path: &Path) -> Option<(&'a [Name], &'a [Name])>
     requires { arena.now ≡ nodes_of checked.now.root }
     ensures seen { option_map (λ p. (p.0.now, p.1.now)) result ≡ seen_branch (at checked.now.root path.now) }
     ensures known { IfSome result (λ p. list_all (λ name. is_among name (names_of (volatile checked.now.pre))) p.1.now ≡ true) }
 {
     let _advert = checked.advert();
-    seen_by_nodes(arena, path)
+    let (asked, puts) = seen_by_nodes(arena, path)?;
+    Some((asked, puts))
 }
 
 // The first party that hasn't signed for a branch which asks and puts these, by the digests of its transaction's inputs.
@@ -121,5 +117,7 @@ pub(crate) fn first_at<H: Hash32>(
         return Ok(None);
     };
     let digests = made.digests.as_slice();
-    first_for(alloc, hash, book, contract, checked, path, asked, puts, digests)
+    first_for(
+        alloc, hash, book, contract, checked, path, asked, puts, digests,
+    )
 }

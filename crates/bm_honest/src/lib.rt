@@ -8,9 +8,10 @@ mod keys;
 mod needs;
 
 pub use bm_book::Book;
+pub use bm_compile::Compiled;
 pub use bm_hash::Hash32;
 pub use bm_wellformed::Checked;
-pub use gate::Gate;
+pub use gate::{Gate, may};
 pub use spec_compiler::Prepared;
 pub use spec_data::{Name, OutOfMemory};
 pub use spec_terms::{Path, PathStep};

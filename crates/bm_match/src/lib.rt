@@ -3,7 +3,10 @@
 #![tactic(auto)]
 
 mod chosen;
+mod counting;
+mod found;
 mod same;
 
 pub use chosen::{chosen_by, first_witness};
+pub use found::{Active, Match, is_initial};
 pub use same::same_bare;

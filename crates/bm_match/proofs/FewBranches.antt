@@ -55,8 +55,7 @@ module _ (most : ℕ) where
     few_in : (q : List PathStep) (i n : ℕ) (c : Contract) → length (branches_nodes q i n c) ≤ most → Each has_few c
     few_in q i n no_branch h = tt
     few_in q i n (branch b bs) h =
-        let e = parted q i n b bs in
-        (
+        let e = parted q i n b bs in (
           refl,
           few_under (q ++ To i ∷ []) n (asks_once b) (lock b) b (omega (arith, h, e)),
           few_in q (i + 1) (n + branch_count b) bs (omega (arith, h, e)),

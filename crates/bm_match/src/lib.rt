@@ -8,5 +8,5 @@ mod found;
 mod same;
 
 pub use chosen::{chosen_by, first_witness};
-pub use found::{Active, Match, is_initial};
+pub use found::{Active, Match, find, find_among, first_initial, is_initial};
 pub use same::same_bare;

@@ -67,7 +67,7 @@ among-all p names (x ∷ xs) =
     ∙ ap (λ b. b || is_among p xs) (among-new p names x)
     ∙ or-left (is_among p names) (bytes_eq x p) (is_among p xs)
 
-asked-once : (b : Guarded) (p : List ℕ) → is_among p (asks_once b) ≡ is_among p (asks b)
+pub asked-once : (b : Guarded) (p : List ℕ) → is_among p (asks_once b) ≡ is_among p (asks b)
 asked-once b p = among-all p [] (asks b)
 
 -- ---- one branch

@@ -14,7 +14,7 @@ use Rattle.theory_calculus.proofs.Names.{bytes-true}
 
 -- ---- filters
 
-filter-same : (f g : List ℕ → Bool) (xs : List (List ℕ)) → ((x : List ℕ) → f x ≡ g x) → filter f xs ≡ filter g xs
+pub filter-same : (f g : List ℕ → Bool) (xs : List (List ℕ)) → ((x : List ℕ) → f x ≡ g x) → filter f xs ≡ filter g xs
 filter-same f g [] h = refl
 filter-same f g (x ∷ xs) h = rw (h x, filter-same f g xs h) refl
 

@@ -1,11 +1,14 @@
 //! The steps of a contract's own transactions.
 
-ghost use Rattle.std.specs.Prelude.{◌≡◌, ◌++◌, ◌∷◌, [], ◌&&◌, not, map, filter, IfOk, OnOk};
-ghost use Rattle.spec_data.specs.Lists.{is_among};
-ghost use Rattle.spec_terms.specs.Precondition.{persistent};
+ghost use Rattle.std.specs.Prelude.{◌≡◌, ℕ, ◌++◌, ◌∷◌, [], Some, map, filter, IfOk, OnOk};
+ghost use Rattle.spec_terms.specs.Term.{Guarded};
+ghost use Rattle.spec_terms.specs.Core.{core as core_of};
+ghost use Rattle.spec_nodes.specs.Nodes.{asks_once, deed_of};
+ghost use Rattle.spec_calculus.specs.Configuration.{Configuration};
 ghost use Rattle.spec_calculus.specs.declared.step.Step.TheVariants as steps;
 ghost use Rattle.spec_calculus.specs.Beginning.{is_init_authorised};
 ghost use Rattle.spec_calculus.specs.Branches.{has_branch_authorised};
+ghost use Rattle.spec_run.specs.Setup.{Setup, pre_at};
 ghost use Rattle.spec_run.specs.Steps as spec;
 ghost use Rattle.bm_arena.specs.NodeView.{deed_view};
 ghost use Rattle.bm_translate.specs.Asking.{init_missing, awaited, deed_step};
@@ -50,6 +53,22 @@ fn put_missing(
     }
 }
 
+// The authorisations that are missing, by deposit in the precondition's order.
+fn missing_steps(
+    alloc: Global,
+    contract: u32,
+    pre: &[Pre],
+    authorised: &[InitAuthorisation],
+) -> Result<Vec<Step>, OutOfMemory>
+    ensures { IfOk result (λ made. made.items ≡ init_missing authorised.now contract pre.now) }
+{
+    let mut made = Vec::new(alloc);
+    for entry in pre {
+        put_missing(&mut made, authorised, contract, entry)?;
+    }
+    Ok(made)
+}
+
 /// What is missing is authorised, by deposit in the precondition's order, and then the contract of this number begins.
 pub fn begin_steps(
     alloc: Global,
@@ -57,14 +76,11 @@ pub fn begin_steps(
     pre: &[Pre],
     authorised: &[InitAuthorisation],
 ) -> Result<Vec<Step>, OutOfMemory>
-    ensures { IfOk result (λ made. made.items ≡
-        spec.auth_inits contract (filter (λ d. not (is_init_authorised authorised.now contract d.0)) (persistent pre.now))
-        ++ steps.Init contract ∷ []) }
+    ensures listed { IfOk result (λ made. made.items ≡ init_missing authorised.now contract pre.now ++ steps.Init contract ∷ []) }
+    ensures defined { (s : Setup) (g : Configuration) → pre_at s contract ≡ pre.now → g.init_authorised ≡ authorised.now
+        → IfOk result (λ made. made.items ≡ spec.begin_steps s g contract) }
 {
-    let mut made = Vec::new(alloc);
-    for entry in pre {
-        put_missing(&mut made, authorised, contract, entry)?;
-    }
+    let mut made = missing_steps(alloc, contract, pre, authorised)?;
     made.push(Step::Init { contract })?;
     Ok(made)
 }
@@ -144,9 +160,11 @@ pub fn branch_steps(
     asked: &[Name],
     core: &Core,
 ) -> Result<Vec<Step>, OutOfMemory>
-    ensures { IfOk result (λ made. made.items
+    ensures listed { IfOk result (λ made. made.items
         ≡ map (spec.auth_branch output branch) (filter (awaited authorised.now output branch asked.now) people.now)
         ++ deed_step output branch (deed_view core.now) ∷ []) }
+    ensures defined { (g : Configuration) (b : Guarded) (n : ℕ) → g.branch_authorised ≡ authorised.now → asked.now ≡ asks_once b
+        → deed_view core.now ≡ deed_of n (core_of b) → IfOk result (λ made. made.items ≡ spec.branch_steps g people.now output branch (Some b)) }
 {
     let mut made = agreements(alloc, authorised, people, output, branch, asked)?;
     made.push(core_step(core, output, branch))?;

@@ -1,6 +1,6 @@
 use Rattle.std.proofs.Common.{◌≡◌, ◌++◌, drop}
 use Rattle.bm_translate.specs.Asking.{init_missing}
-use Rattle.bm_translate.proofs.contracts.begin_steps.Given as goal
+use Rattle.bm_translate.proofs.contracts.missing_steps.Given as goal
 
 -- what is missing so far, and what the rest misses, is all that is missing
 abbrev pub invariant-loop-entry : goal.invariant-loop-entry

@@ -1,0 +1,17 @@
+//! The gate before an honest party signs the initial transaction of a contract: it opens once every signature is there that
+//! the contract may need later.
+#![tactic(auto)]
+
+mod branches;
+mod gate;
+mod keys;
+mod needs;
+
+pub use bm_book::Book;
+pub use bm_compile::Compiled;
+pub use bm_hash::Hash32;
+pub use bm_wellformed::Checked;
+pub use gate::{Gate, may};
+pub use spec_compiler::Prepared;
+pub use spec_data::{Name, OutOfMemory};
+pub use spec_terms::{Path, PathStep};

@@ -1,0 +1,104 @@
+//! Who hasn't signed for a branch.
+
+ghost use Rattle.std.specs.Prelude.{◌≡◌, ◌||◌, IfOk, true};
+ghost use Rattle.std.specs.List.{list_all};
+ghost use Rattle.spec_data.specs.Lists.{is_among, look_up};
+ghost use Rattle.spec_terms.specs.Precondition.{names_of, volatile};
+ghost use Rattle.spec_bitcoin.specs.Keys.{has_signed, key_of};
+ghost use Rattle.spec_compiler.specs.Instance.{branch_label};
+ghost use Rattle.bm_honest.specs.Unsigned.{unsigned_person, unsigned_owner, owner_in, unsigned_for};
+
+use crate::keys::{branch_signed, deposit_signed};
+use bm_book::Book;
+use bm_hash::Hash32;
+use spec_data::{Name, OutOfMemory};
+use spec_terms::{Path, Pre};
+use std::alloc::Global;
+
+// Whether nothing more is needed of a participant: the branch asks it, or its key of the branch has signed the digest.
+fn is_ready<H: Hash32>(
+    alloc: Global,
+    hash: &H,
+    book: &Book,
+    contract: u32,
+    path: &Path,
+    asked: &[Name],
+    digest: &[u8; 32],
+    person: &Name,
+) -> Result<bool, OutOfMemory>
+    ensures { IfOk result (λ ready. ready ≡ (is_among person.now asked.now
+        || has_signed book.now (key_of (H.digest_of hash.now) (branch_label contract path.now person.now)) digest.now)) }
+{
+    if asked.contains(person) {
+        return Ok(true);
+    }
+    branch_signed(alloc, hash, book, contract, path, person, digest)
+}
+
+/// The first of these participants whom the branch doesn't ask and whose key of the branch hasn't signed the digest.
+pub(crate) fn first_person<H: Hash32>(
+    alloc: Global,
+    hash: &H,
+    book: &Book,
+    contract: u32,
+    path: &Path,
+    asked: &[Name],
+    digest: &[u8; 32],
+    people: &[Name],
+) -> Result<Option<Name>, OutOfMemory>
+    ensures { IfOk result (λ person. person
+        ≡ unsigned_person (H.digest_of hash.now) book.now contract path.now asked.now digest.now people.now) }
+{
+    for person in people {
+        if !is_ready(alloc, hash, book, contract, path, asked, digest, person)? {
+            return Ok(Some(*person));
+        }
+    }
+    Ok(None)
+}
+
+// The owner of the volatile deposit of this name.
+fn owner_of(pre: &[Pre], name: &Name) -> Name
+    requires { is_among name.now (names_of (volatile pre.now)) ≡ true }
+    ensures { result ≡ owner_in pre.now name.now }
+{
+    for entry in pre {
+        if let Pre::Volatile {
+            party,
+            name: known,
+            ..
+        } = entry
+        {
+            if *known == *name {
+                return *party;
+            }
+        }
+    }
+    unreachable!()
+}
+
+/// The first owner of these deposits whose key of its deposits hasn't signed the digest beside the deposit's name.
+pub(crate) fn first_owner<H: Hash32>(
+    alloc: Global,
+    hash: &H,
+    book: &Book,
+    pre: &[Pre],
+    puts: &[Name],
+    digests: &[[u8; 32]],
+) -> Result<Option<Name>, OutOfMemory>
+    requires { list_all (λ name. is_among name (names_of (volatile pre.now))) puts.now ≡ true }
+    ensures { IfOk result (λ owner. owner ≡ unsigned_owner (H.digest_of hash.now) book.now pre.now puts.now digests.now) }
+{
+    let mut rest = digests;
+    for put in puts {
+        let Some((digest, others)) = rest.split_first() else {
+            return Ok(None);
+        };
+        let owner = owner_of(pre, put);
+        if !deposit_signed(alloc, hash, book, &owner, digest)? {
+            return Ok(Some(owner));
+        }
+        rest = others;
+    }
+    Ok(None)
+}

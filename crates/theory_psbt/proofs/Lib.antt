@@ -1,0 +1,4 @@
+pub mod Order
+pub mod Signatures
+pub mod Maps
+pub mod Reading

@@ -2,3 +2,5 @@ pub mod Order
 pub mod Signatures
 pub mod Maps
 pub mod Reading
+pub mod Records
+pub mod Kept

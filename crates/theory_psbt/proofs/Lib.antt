@@ -4,3 +4,5 @@ pub mod Maps
 pub mod Reading
 pub mod Records
 pub mod Kept
+pub mod PartBytes
+pub mod Writing

@@ -6,3 +6,6 @@ pub mod Records
 pub mod Kept
 pub mod PartBytes
 pub mod Writing
+pub mod SameTx
+pub mod InputsApart
+pub mod Combining

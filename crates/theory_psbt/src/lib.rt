@@ -1,6 +1,7 @@
 //! What follows of partially signed transactions: each theorem is the contract of a function that does nothing.
 #![tactic(auto)]
 
+ghost use Rattle.theory_psbt.specs.Joined.{CombinedIsJoined, CombinedBothWays, OtherTxExactly, ConflictExactly};
 ghost use Rattle.theory_psbt.specs.Spelled.{SpelledIsRead, ReadIsSpelled, OnePsbt, SpelledIsPsbt, WrittenIsSpelled, WrittenIsRead};
 
 /// What bytes spell is read of them, foreign records or not.
@@ -32,4 +33,26 @@ pub fn written_is_spelled()
 /// What is written is read again as the same.
 pub fn written_is_read()
     ensures { WrittenIsRead }
+{}
+
+/// Two that can be combined give one of the transaction of both, with the records of both, whose
+/// records of one key don't differ.
+pub fn combined_is_joined()
+    ensures { CombinedIsJoined }
+{}
+
+/// Two that can be combined can be so the other way round, and give the same.
+pub fn combined_both_ways()
+    ensures { CombinedBothWays }
+{}
+
+/// It is answered that two are of different transactions exactly where they are.
+pub fn other_tx_exactly()
+    ensures { OtherTxExactly }
+{}
+
+/// A conflict at an input is answered exactly where both are of one transaction and this is the
+/// first input of which both have a record of one key with different values.
+pub fn conflict_exactly()
+    ensures { ConflictExactly }
 {}

@@ -1,0 +1,3 @@
+pub mod Giving
+pub mod Gathered
+pub mod Ordered

@@ -1,0 +1,10 @@
+//! Partially signed transactions by BIP 174, in this project's subset: their bytes both ways, and two of them combined.
+#![tactic(auto)]
+
+mod fault;
+mod inputs;
+mod maps;
+mod numbers;
+
+pub use fault::PsbtError;
+pub use spec_tool::PsbtInput;

@@ -1,1 +1,3 @@
 pub mod Putting
+pub mod Strings
+pub mod Several

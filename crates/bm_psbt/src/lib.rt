@@ -5,6 +5,9 @@ mod fault;
 mod inputs;
 mod maps;
 mod numbers;
+mod psbt;
+mod reading;
 
 pub use fault::PsbtError;
+pub use psbt::Psbt;
 pub use spec_tool::PsbtInput;

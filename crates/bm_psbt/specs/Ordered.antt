@@ -61,12 +61,15 @@ unfoldable pub behind_maps : ℕ → List ℕ → Option (List ℕ)
 behind_maps zero bytes = Some bytes
 behind_maps (suc n) bytes = ordered_at bytes >>= λ records. behind_maps n (records.1)
 
--- the data that the bytes spell, read in one pass
-unfoldable pub psbt_in_order : List ℕ → Option Psbt
-psbt_in_order bytes = do
-  maps ← behind magic bytes
-  global ← ordered_at maps
+-- the data that is spelled behind the magic, read in one pass
+unfoldable pub behind_magic_in_order : List ℕ → Option Psbt
+behind_magic_in_order bytes = do
+  global ← ordered_at bytes
   tx ← global_of (global.0)
   inputs ← inputs_at (length tx.inputs) (global.1)
   rest ← behind_maps (length tx.outputs) (inputs.1)
   given (length rest == 0) (record { tx = tx; inputs = inputs.0 })
+
+-- the data that the bytes spell, read in one pass
+abbrev pub psbt_in_order : List ℕ → Option Psbt
+psbt_in_order bytes = behind magic bytes >>= λ maps. behind_magic_in_order maps

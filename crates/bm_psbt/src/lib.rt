@@ -7,7 +7,10 @@ mod maps;
 mod numbers;
 mod psbt;
 mod reading;
+mod writing;
 
 pub use fault::PsbtError;
+pub use reading::decode;
 pub use psbt::Psbt;
 pub use spec_tool::PsbtInput;
+pub use writing::encode;

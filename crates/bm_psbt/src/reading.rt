@@ -5,14 +5,15 @@ ghost use Rattle.std.specs.List.{list_all};
 ghost use Rattle.std.specs.Option.{option_map};
 ghost use Rattle.spec_tool.specs.Psbt.{magic, is_bare_input, global_fits, global_of};
 ghost use Rattle.spec_tool.specs.Psbt as spec;
-ghost use Rattle.spec_tool.specs.PsbtBytes.{behind};
+ghost use Rattle.spec_tool.specs.PsbtBytes.{behind, psbt_of};
 ghost use Rattle.bm_psbt.specs.Gathered.{pairs};
 ghost use Rattle.bm_psbt.specs.Giving.{Reads};
-ghost use Rattle.bm_psbt.specs.Ordered.{input_at, inputs_at, behind_maps};
+ghost use Rattle.bm_psbt.specs.Ordered.{input_at, inputs_at, behind_maps, behind_magic_in_order};
 
 use crate::fault::PsbtError;
 use crate::inputs::{find, input_of};
 use crate::maps::{Record, map_of};
+use crate::psbt::Psbt;
 use bm_tx::TxError;
 use spec_bitcoin::{Tx, TxIn};
 use spec_data::Seq;
@@ -146,4 +147,31 @@ fn maps_behind(alloc: Global, count: usize, bytes: &[u8]) -> Result<&[u8], PsbtE
         rest = after;
     }
     Ok(rest)
+}
+
+// The parts of a partially signed transaction, behind the magic.
+#[tactic(auto, unfolding(crate::specs::Ordered::behind_magic_in_order))]
+fn parts_of(alloc: Global, bytes: &[u8]) -> Result<(Tx, Seq<PsbtInput>), PsbtError>
+    ensures { Reads (λ x. record { tx = x.0; inputs = x.1 }) result (behind_magic_in_order bytes.now) }
+{
+    let (records, rest) = map_of(alloc, bytes)?;
+    let tx = global_tx(alloc, records.as_slice())?;
+    let (inputs, rest) = inputs_of(alloc, tx.inputs.len(), rest)?;
+    let rest = maps_behind(alloc, tx.outputs.len(), rest)?;
+    if !rest.is_empty() {
+        return Err(PsbtError::BadPsbt);
+    }
+    Ok((tx, inputs))
+}
+
+/// The partially signed transaction that the bytes spell.
+pub fn decode(alloc: Global, bytes: &[u8]) -> Result<Psbt, PsbtError>
+    ensures ok { IfOk result (λ p. psbt_of bytes.now ≡ Some p) }
+    ensures bad { result ≡ Err PsbtError.BadPsbt → psbt_of bytes.now ≡ None }
+{
+    let Some(maps) = behind_magic(bytes) else {
+        return Err(PsbtError::BadPsbt);
+    };
+    let (tx, inputs) = parts_of(alloc, maps)?;
+    Ok(Psbt::made(tx, inputs))
 }

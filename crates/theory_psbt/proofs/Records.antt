@@ -23,15 +23,15 @@ pub record Signed (records : List Pairing) : Type 0 where
   pub found : (key : List ℕ) → look_up key (signatures_of records) ≡ look_up (2 ∷ key) records
 
 -- a key of another type isn't that of a signature
-other_type : (key text : List ℕ) (value : List ℕ) → eqb (type_of (text, value)) 2 ≡ false → bytes_eq text (2 ∷ key) ≡ false
+pub other_type : (key text : List ℕ) (value : List ℕ) → eqb (type_of (text, value)) 2 ≡ false → bytes_eq text (2 ∷ key) ≡ false
 other_type key [] value h = refl
 other_type key (t ∷ text) value h = rw h refl
 
-signature_type : (key text : List ℕ) (value : List ℕ) → eqb (type_of (text, value)) 2 ≡ true → bytes_eq text (2 ∷ key) ≡ bytes_eq (key_behind_type text) key
+pub signature_type : (key text : List ℕ) (value : List ℕ) → eqb (type_of (text, value)) 2 ≡ true → bytes_eq text (2 ∷ key) ≡ bytes_eq (key_behind_type text) key
 signature_type key [] value h = absurd cc
 signature_type key (t ∷ text) value h = rw h refl
 
-whole_key : (text : List ℕ) (value : List ℕ) → eqb (type_of (text, value)) 2 ≡ true → 2 ∷ key_behind_type text ≡ text
+pub whole_key : (text : List ℕ) (value : List ℕ) → eqb (type_of (text, value)) 2 ≡ true → 2 ∷ key_behind_type text ≡ text
 whole_key [] value h = absurd cc
 whole_key (t ∷ text) value h = ap (λ (x : ℕ). x ∷ text) (sym (eqb-true t 2 h))
 

@@ -4,3 +4,4 @@ pub mod Several
 pub mod InOrder
 pub mod OnePass
 pub mod Decoding
+pub mod Written

@@ -1,0 +1,4 @@
+pub mod Giving
+pub mod Gathered
+pub mod Ordered
+pub mod Written

@@ -1,0 +1,101 @@
+//! Counts and strings at the front of bytes. Where they go wrong, the answer is how many bytes are left.
+
+ghost use Rattle.std.specs.Prelude.{◌≡◌, ◌^◌, length, IfOk};
+ghost use Rattle.std.specs.Int.{w16, w32, w64};
+ghost use Rattle.bm_psbt.specs.Giving.{Gives};
+ghost use Rattle.spec_bitcoin.specs.Reading.{chunk, number_at, wide_at, compact_at, string_at, any};
+
+/// So many bytes, and those after them.
+pub(crate) fn chunk_of(bytes: &[u8], len: usize) -> Result<(&[u8], &[u8]), usize>
+    ensures gives { Gives (λ x. (x.0.now, x.1.now)) result (chunk len bytes.now) }
+    ensures len { IfOk result (λ x. length x.0.now ≡ len) }
+{
+    if bytes.len() < len {
+        return Err(0);
+    }
+    Ok(bytes.split_at(len))
+}
+
+/// A number of eight bytes.
+pub(crate) fn u64_at(bytes: &[u8]) -> Result<(u64, &[u8]), usize>
+    ensures { Gives (λ x. (x.0, x.1.now)) result (number_at w64 bytes.now) }
+{
+    let (front, rest) = chunk_of(bytes, 8)?;
+    let number = u64::from_le_bytes([
+        front[0], front[1], front[2], front[3], front[4], front[5], front[6], front[7],
+    ]);
+    Ok((number, rest))
+}
+
+// A number of two bytes that is no shorter form's.
+#[tactic(auto, unfolding(spec_bitcoin::specs::Reading::wide_at))]
+fn wide16_at(bytes: &[u8]) -> Result<(u64, &[u8]), usize>
+    ensures { Gives (λ x. (x.0, x.1.now)) result (wide_at w16 253 bytes.now) }
+{
+    let (front, rest) = chunk_of(bytes, 1)?;
+    let [last, rest @ ..] = rest else {
+        return Err(0);
+    };
+    let number = u16::from_le_bytes([front[0], *last]);
+    if number < 253 {
+        return Err(rest.len() + 1);
+    }
+    Ok((u64::from(number), rest))
+}
+
+// A number of four bytes that is no shorter form's.
+#[tactic(auto, unfolding(spec_bitcoin::specs::Reading::wide_at))]
+fn wide32_at(bytes: &[u8]) -> Result<(u64, &[u8]), usize>
+    ensures { Gives (λ x. (x.0, x.1.now)) result (wide_at w32 (2 ^ 16) bytes.now) }
+{
+    let (front, rest) = chunk_of(bytes, 3)?;
+    let [last, rest @ ..] = rest else {
+        return Err(0);
+    };
+    let number = u32::from_le_bytes([front[0], front[1], front[2], *last]);
+    if number < 0x1_0000 {
+        return Err(rest.len() + 1);
+    }
+    Ok((u64::from(number), rest))
+}
+
+// A number of eight bytes that is no shorter form's.
+#[tactic(auto, unfolding(spec_bitcoin::specs::Reading::wide_at))]
+fn wide64_at(bytes: &[u8]) -> Result<(u64, &[u8]), usize>
+    ensures { Gives (λ x. (x.0, x.1.now)) result (wide_at w64 (2 ^ 32) bytes.now) }
+{
+    let (front, rest) = chunk_of(bytes, 7)?;
+    let [last, rest @ ..] = rest else {
+        return Err(0);
+    };
+    let number = u64::from_le_bytes([
+        front[0], front[1], front[2], front[3], front[4], front[5], front[6], *last,
+    ]);
+    if number < 0x1_0000_0000 {
+        return Err(rest.len() + 1);
+    }
+    Ok((number, rest))
+}
+
+/// A count, in the shortest of its four forms.
+#[tactic(auto, unfolding(spec_bitcoin::specs::Reading::compact_at))]
+pub(crate) fn count_at(bytes: &[u8]) -> Result<(u64, &[u8]), usize>
+    ensures { Gives (λ x. (x.0, x.1.now)) result (compact_at any bytes.now) }
+{
+    match bytes {
+        [] => Err(0),
+        [253, rest @ ..] => wide16_at(rest),
+        [254, rest @ ..] => wide32_at(rest),
+        [255, rest @ ..] => wide64_at(rest),
+        [byte, rest @ ..] => Ok((u64::from(*byte), rest)),
+    }
+}
+
+/// Bytes with their length before them.
+#[tactic(auto, unfolding(spec_bitcoin::specs::Reading::string_at))]
+pub(crate) fn string_of(bytes: &[u8]) -> Result<(&[u8], &[u8]), usize>
+    ensures { Gives (λ x. (x.0.now, x.1.now)) result (string_at bytes.now) }
+{
+    let (len, rest) = count_at(bytes)?;
+    chunk_of(rest, len as usize)
+}

@@ -1,0 +1,11 @@
+pub mod Order
+pub mod Signatures
+pub mod Maps
+pub mod Reading
+pub mod Records
+pub mod Kept
+pub mod PartBytes
+pub mod Writing
+pub mod SameTx
+pub mod InputsApart
+pub mod Combining

@@ -1,0 +1,58 @@
+//! What follows of partially signed transactions: each theorem is the contract of a function that does nothing.
+#![tactic(auto)]
+
+ghost use Rattle.theory_psbt.specs.Joined.{CombinedIsJoined, CombinedBothWays, OtherTxExactly, ConflictExactly};
+ghost use Rattle.theory_psbt.specs.Spelled.{SpelledIsRead, ReadIsSpelled, OnePsbt, SpelledIsPsbt, WrittenIsSpelled, WrittenIsRead};
+
+/// What bytes spell is read of them, foreign records or not.
+pub fn spelled_is_read()
+    ensures { SpelledIsRead }
+{}
+
+/// What is read of bytes is spelled by them: nothing is read of others.
+pub fn read_is_spelled()
+    ensures { ReadIsSpelled }
+{}
+
+/// Bytes spell at most one partially signed transaction.
+pub fn one_psbt()
+    ensures { OnePsbt }
+{}
+
+/// What bytes spell has an input, no script and no witness in its transaction, and signatures that
+/// ascend by their keys.
+pub fn spelled_is_psbt()
+    ensures { SpelledIsPsbt }
+{}
+
+/// What is written spells what it was written of.
+pub fn written_is_spelled()
+    ensures { WrittenIsSpelled }
+{}
+
+/// What is written is read again as the same.
+pub fn written_is_read()
+    ensures { WrittenIsRead }
+{}
+
+/// Two that can be combined give one of the transaction of both, with the records of both, whose
+/// records of one key don't differ.
+pub fn combined_is_joined()
+    ensures { CombinedIsJoined }
+{}
+
+/// Two that can be combined can be so the other way round, and give the same.
+pub fn combined_both_ways()
+    ensures { CombinedBothWays }
+{}
+
+/// It is answered that two are of different transactions exactly where they are.
+pub fn other_tx_exactly()
+    ensures { OtherTxExactly }
+{}
+
+/// A conflict at an input is answered exactly where both are of one transaction and this is the
+/// first input of which both have a record of one key with different values.
+pub fn conflict_exactly()
+    ensures { ConflictExactly }
+{}

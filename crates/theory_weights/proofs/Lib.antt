@@ -1,0 +1,4 @@
+mod NoLonger
+mod Weighing
+mod Full
+mod Bounded

@@ -10,14 +10,12 @@ use Rattle.spec_compiler.specs.Instance.{Instance}
 use Rattle.spec_compiler.specs.Transactions.{tx_of, initial_unsigned}
 use Rattle.spec_compiler.specs.Compilation.{path_transactions}
 use Rattle.spec_compiler.specs.ByPath.{PathEnd, at_position, at_branch, end_at, as_unsigned, unsigned_at}
-use Rattle.spec_run.specs.Firing.{with_witnesses}
 use Rattle.spec_tool.specs.declared.weight.Weight.{Weight}
-use Rattle.spec_tool.specs.Weights.{weight_of, weights, exactly, initial_weight, path_weight, path_weights, any_full, deposits_full, any_signatures}
+use Rattle.spec_tool.specs.Weights.{weights, exactly, initial_weight, path_weight, path_weights, any_full, deposits_full, any_signatures}
 use Rattle.spec_tool.specs.Weights.{total_to, with_totals, IsInitialFull, IsPathFull}
 use Rattle.theory_script.proofs.Listing.Stands.{some_same}
 use Rattle.theory_script.proofs.Listing.Transactions.{AreRight, transactions_right}
-use Rattle.theory_weights.specs.Bounds.{IsWithin, Reaches, Bounds, WeighsRightly, WeightsAreBounds}
-use Rattle.theory_weights.proofs.NoLonger.{AllNoLonger}
+use Rattle.theory_weights.specs.Bounds.{Reaches, Bounds, WeightsAreBounds}
 use Rattle.theory_weights.proofs.Weighing.{weight_grows}
 use Rattle.theory_weights.proofs.Full.{least_no_longer, most_no_shorter, initial_alike, initial_any, path_any}
 

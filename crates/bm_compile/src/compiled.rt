@@ -1,16 +1,18 @@
 //! What a contract is compiled to.
 
-ghost use Rattle.std.specs.Prelude.{◌≡◌, ℕ, List, option_map, slice_get};
+ghost use Rattle.std.specs.Prelude.{◌≡◌, ℕ, List, map, true, false, IfOk, option_map, slice_get};
 ghost use Rattle.std.specs.Option.{option_and_then};
 ghost use Rattle.spec_compiler.specs.Instance.{Instance};
 ghost use Rattle.spec_compiler.specs.ByPath.{prepared_at};
-ghost use Rattle.theory_script.specs.Listed.{at_path};
+ghost use Rattle.theory_script.specs.Listed.{at_path, are_once};
 ghost use Rattle.bm_compile.specs.Numbered as spec;
 
+use crate::tables::places;
 use bm_arena::Arena;
 use bm_syntax::Path;
 use spec_compiler::Prepared;
-use spec_data::{Bytes, Seq};
+use spec_data::{Bytes, OutOfMemory, Seq};
+use std::alloc::Global;
 use std::marker::Model;
 use theory_script::{paths_are_listed, scripts_are_listed};
 
@@ -62,6 +64,33 @@ fn find_path<'a, V>(entries: &'a [(Path, V)], path: &Path) -> Option<&'a V>
 }
 
 impl Compiled {
+    /// The whole of these parts: the transactions of all branches and the scripts of all positions, in the order of the nodes.
+    pub(crate) fn of(
+        alloc: Global,
+        arena: Arena,
+        init: Prepared,
+        paths: Seq<(Path, Prepared)>,
+        scripts: Seq<(Path, Bytes)>,
+    ) -> Result<Compiled, OutOfMemory>
+        requires paths { map (λ p. p.0) paths ≡ spec.named true arena }
+        requires paths_once { are_once (map (λ p. p.0) paths) ≡ true }
+        requires scripts { map (λ p. p.0) scripts ≡ spec.named false arena }
+        requires scripts_once { are_once (map (λ p. p.0) scripts) ≡ true }
+        ensures { IfOk result (λ c. c ≡ record { nodes = arena; init = init; paths = paths; scripts = scripts }) }
+    {
+        let _ = arena.len();
+        let branches = places(alloc, arena.nodes(), true)?;
+        let choices = places(alloc, arena.nodes(), false)?;
+        Ok(Compiled {
+            arena,
+            init,
+            paths,
+            scripts,
+            branches,
+            choices,
+        })
+    }
+
     /// The numbered nodes of the contract.
     pub fn arena(&self) -> &Arena
         ensures { result.now ≡ self.now.nodes }

@@ -1,4 +1,4 @@
-mod Begins
+pub mod Begins
 mod Few
 mod Found
-mod Walking
+pub mod Walking

@@ -1,0 +1,10 @@
+use Rattle.std.proofs.Common.{◌≡◌, ◌++◌, map, drop}
+use Rattle.spec_terms.specs.Precondition.{persistent}
+use Rattle.spec_compiler.specs.Transactions.{deposit, persistent_deposits}
+use Rattle.bm_compile.proofs.depositing.persistent_deposits.Given as goal
+
+-- what is there, and what is left, are the whole
+abbrev pub invariant-loop-entry : goal.invariant-loop-entry
+invariant-loop-entry g l =
+    let hash = g.H.Hash32.digest_of l.hasher in
+    l.spends ++ map (λ d. deposit hash l.setting d.0 d.1) (persistent (drop l.entry-index l.entry-items)) ≡ persistent_deposits hash l.setting

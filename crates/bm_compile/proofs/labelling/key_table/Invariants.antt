@@ -1,0 +1,15 @@
+use Rattle.std.proofs.Common.{◌≡◌, ◌++◌, map, take, drop}
+use Rattle.std.specs.List.{flat_map}
+use Rattle.bm_hash.specs.Trails.{Hashed}
+use Rattle.bm_arena.specs.NodeView.{node_view}
+use Rattle.bm_compile.specs.Passes.{keys_of_node, labels_of_node}
+use Rattle.bm_compile.proofs.labelling.key_table.Given as goal
+
+abbrev pub invariant-loop-node : goal.invariant-loop-node
+invariant-loop-node g l =
+    let hash = g.H.Hash32.digest_of l.fn.trail.hasher in
+    record {
+      hasher : l.trail.hasher ≡ l.fn.trail.hasher;
+      keys : l.table ++ map (λ node. keys_of_node hash l.setting (node_view node)) (drop l.node-index l.nodes) ≡ map (λ node. keys_of_node hash l.setting (node_view node)) l.nodes;
+      trail : Hashed hash l.fn.trail.messages l.trail.messages (flat_map (λ node. labels_of_node l.setting (node_view node)) (take l.node-index l.nodes));
+    }

@@ -1,0 +1,161 @@
+//! What a contract is compiled to.
+
+ghost use Rattle.std.specs.Prelude.{◌≡◌, ℕ, List, map, true, false, IfOk, option_map, slice_get};
+ghost use Rattle.std.specs.Option.{option_and_then};
+ghost use Rattle.spec_compiler.specs.Instance.{Instance};
+ghost use Rattle.spec_compiler.specs.ByPath.{prepared_at};
+ghost use Rattle.theory_script.specs.Listed.{at_path, are_once};
+ghost use Rattle.bm_compile.specs.Numbered as spec;
+
+use crate::tables::places;
+use bm_arena::Arena;
+use bm_syntax::Path;
+use spec_compiler::Prepared;
+use spec_data::{Bytes, OutOfMemory, Seq};
+use std::alloc::Global;
+use std::marker::Model;
+use theory_script::{paths_are_listed, scripts_are_listed};
+
+/// A contract's nodes, its initial transaction, the transaction of each path and the witness script (BIP 141) of each
+/// position, both in the order of the text. What a node is compiled to is found by the node's number, without a search.
+#[derive(Drop)]
+pub struct Compiled {
+    arena: Arena,
+    init: Prepared,
+    paths: Seq<(Path, Prepared)>,
+    scripts: Seq<(Path, Bytes)>,
+    branches: Seq<Option<u32>>,
+    choices: Seq<Option<u32>>,
+}
+
+impl Model for Compiled {
+    ghost use Rattle.std.specs.Coded.{codes};
+    ghost use Rattle.spec_terms.specs.TermCode.{coded_test};
+    ghost use Rattle.bm_compile.specs.Numbered.{Numbered, IsIndexed};
+
+    ghost Value = { Numbered };
+
+    ghost coded = { Prim.hlevel (codes, coded_test) };
+
+    ghost view = { λ c. record { nodes = c.arena; init = c.init; paths = c.paths; scripts = c.scripts } };
+
+    ghost invariant = { λ c. IsIndexed c.arena c.paths c.scripts c.branches c.choices };
+}
+
+// What stands at the place of this number.
+fn entry<'a, V>(entries: &'a [(Path, V)], places: &[Option<u32>], number: u32) -> Option<&'a V>
+    ensures { option_map (λ v. v.now) result ≡ option_and_then (spec.value_at entries.now) (slice_get places.now number) }
+{
+    let place = (*places.get(number as usize)?)?;
+    let (_, value) = entries.get(place as usize)?;
+    Some(value)
+}
+
+// What a list has for a path.
+fn find_path<'a, V>(entries: &'a [(Path, V)], path: &Path) -> Option<&'a V>
+    ensures { option_map (λ v. v.now) result ≡ at_path path.now entries.now }
+{
+    for (known, value) in entries {
+        if *known == *path {
+            return Some(value);
+        }
+    }
+    None
+}
+
+impl Compiled {
+    /// The whole of these parts: the transactions of all branches and the scripts of all positions, in the order of the nodes.
+    pub(crate) fn of(
+        alloc: Global,
+        arena: Arena,
+        init: Prepared,
+        paths: Seq<(Path, Prepared)>,
+        scripts: Seq<(Path, Bytes)>,
+    ) -> Result<Compiled, OutOfMemory>
+        requires paths { map (λ p. p.0) paths ≡ spec.named true arena }
+        requires paths_once { are_once (map (λ p. p.0) paths) ≡ true }
+        requires scripts { map (λ p. p.0) scripts ≡ spec.named false arena }
+        requires scripts_once { are_once (map (λ p. p.0) scripts) ≡ true }
+        ensures { IfOk result (λ c. c ≡ record { nodes = arena; init = init; paths = paths; scripts = scripts }) }
+    {
+        let _ = arena.len();
+        let branches = places(alloc, arena.nodes(), true)?;
+        let choices = places(alloc, arena.nodes(), false)?;
+        Ok(Compiled {
+            arena,
+            init,
+            paths,
+            scripts,
+            branches,
+            choices,
+        })
+    }
+
+    /// The numbered nodes of the contract.
+    pub fn arena(&self) -> &Arena
+        ensures { result.now ≡ self.now.nodes }
+    {
+        &self.arena
+    }
+
+    /// The initial transaction.
+    pub fn init(&self) -> &Prepared
+        ensures { result.now ≡ self.now.init }
+    {
+        &self.init
+    }
+
+    /// The transaction of each path, in the order of the text.
+    pub fn paths(&self) -> &[(Path, Prepared)]
+        ensures { result.now ≡ self.now.paths }
+    {
+        self.paths.as_slice()
+    }
+
+    /// The script of each position, in the order of the text.
+    pub fn scripts(&self) -> &[(Path, Bytes)]
+        ensures { result.now ≡ self.now.scripts }
+    {
+        self.scripts.as_slice()
+    }
+
+    /// The transaction of the branch whose node has this number, `None` where the node is a choice or isn't there.
+    pub fn transaction(&self, number: u32) -> Option<&Prepared>
+        ensures by_node { option_map (λ p. p.now) result ≡ option_and_then (spec.transaction_of self.now.paths) (slice_get self.now.nodes number) }
+        ensures compiled { (hash : List ℕ → List ℕ) (s : Instance) → self.now ≡ spec.numbered hash s
+            → option_map (λ p. p.now) result ≡ option_and_then (spec.compiled_transaction hash s) (slice_get self.now.nodes number) }
+    {
+        paths_are_listed();
+        entry(self.paths.as_slice(), self.branches.as_slice(), number)
+    }
+
+    /// The script of the position whose choice has this number, `None` where the node is a branch or isn't there.
+    pub fn script(&self, number: u32) -> Option<&Bytes>
+        ensures by_node { option_map (λ b. b.now) result ≡ option_and_then (spec.script_of self.now.scripts) (slice_get self.now.nodes number) }
+        ensures compiled { (hash : List ℕ → List ℕ) (s : Instance) → self.now ≡ spec.numbered hash s
+            → option_map (λ b. b.now) result ≡ option_and_then (spec.compiled_script hash s) (slice_get self.now.nodes number) }
+    {
+        scripts_are_listed();
+        entry(self.scripts.as_slice(), self.choices.as_slice(), number)
+    }
+
+    /// The transaction of the branch at this path, `None` where there is no branch.
+    pub fn transaction_at(&self, path: &Path) -> Option<&Prepared>
+        ensures by_list { option_map (λ p. p.now) result ≡ at_path path.now self.now.paths }
+        ensures compiled { (hash : List ℕ → List ℕ) (s : Instance) → self.now ≡ spec.numbered hash s
+            → option_map (λ p. p.now) result ≡ prepared_at hash s path.now }
+    {
+        paths_are_listed();
+        find_path(self.paths.as_slice(), path)
+    }
+
+    /// The script of the output at this position, `None` where there is no position.
+    pub fn script_at(&self, position: &Path) -> Option<&Bytes>
+        ensures by_list { option_map (λ b. b.now) result ≡ at_path position.now self.now.scripts }
+        ensures compiled { (hash : List ℕ → List ℕ) (s : Instance) → self.now ≡ spec.numbered hash s
+            → option_map (λ b. b.now) result ≡ spec.script_at hash s position.now }
+    {
+        scripts_are_listed();
+        find_path(self.scripts.as_slice(), position)
+    }
+}

@@ -1,0 +1,19 @@
+//! Contracts compiled to their transactions.
+#![tactic(auto)]
+
+mod compiled;
+mod compiling;
+mod depositing;
+mod labelling;
+mod preparing;
+mod scripting;
+mod setting;
+mod stacking;
+mod tables;
+mod unsigned;
+mod walking;
+
+pub use bm_hash::TrailError;
+pub use compiled::Compiled;
+pub use compiling::compile;
+pub use spec_compiler::Prepared;

@@ -1,0 +1,155 @@
+//! The transactions of a contract, in one pass over its nodes.
+
+ghost use Rattle.std.specs.Prelude.{◌≡◌, ◌++◌, ◌∷◌, [], map, None, IfOk, OnOk, reverse};
+ghost use Rattle.std.specs.List.{flat_map};
+ghost use Rattle.bm_hash.specs.Messages.{evidence_of};
+ghost use Rattle.bm_hash.specs.Trails.{Hashes};
+ghost use Rattle.spec_compiler.specs.Hashed.{unsigned_strings};
+ghost use Rattle.spec_compiler.specs.Transactions.{prepared};
+ghost use Rattle.theory_nodes.specs.Walk as spec;
+ghost use Rattle.bm_arena.specs.NodeView.{node_view, deed_view};
+ghost use Rattle.bm_compile.specs.Passes.{listed_script, ready, ready_strings};
+
+use crate::preparing::prepare;
+use crate::setting::Setting;
+use crate::stacking::{push_copies, push_waits};
+use crate::unsigned::branch_unsigned;
+use bm_arena::{Core, Node};
+use bm_hash::{Hash32, Trail, TrailError};
+use bm_syntax::Path;
+use spec_compiler::Prepared;
+use spec_data::{Bytes, OutOfMemory, Seq};
+use std::alloc::Global;
+use theory_nodes::Waiting;
+
+// A transaction with its path, put to the others.
+fn put_made(
+    alloc: Global,
+    made: &mut Seq<(Path, Prepared)>,
+    path: &Path,
+    prepared: Prepared,
+) -> Result<(), OutOfMemory>
+    ensures { OnOk result (made.new ≡ made.old ++ (path.now, prepared) ∷ []) }
+{
+    made.push((path.copy(alloc)?, prepared))
+}
+
+// The transaction of a branch of a choice that waits, ready to be signed. Its strings are hashed.
+#[tactic(auto, using(bm_hash::proofs::HashesLemmas::stops_early))]
+fn prepare_branch<H: Hash32 + Drop>(
+    alloc: Global,
+    trail: &mut Trail<H>,
+    setting: &Setting,
+    scripts: &[Bytes],
+    waiting: &Waiting,
+    lock: u32,
+    core: &Core,
+) -> Result<Prepared, TrailError>
+    requires clear { evidence_of (H.digest_of trail.old.hasher) trail.old.messages ≡ None }
+    ensures prepared { let hash = H.digest_of trail.old.hasher in
+        let made = spec.node_unsigned hash setting.now (listed_script scripts.now) waiting.now lock (deed_view core.now) in
+        IfOk result (λ p. p ≡ prepared hash made) }
+    ensures trail { let hash = H.digest_of trail.old.hasher in
+        let made = spec.node_unsigned hash setting.now (listed_script scripts.now) waiting.now lock (deed_view core.now) in
+        Hashes H.digest_of trail.old trail.new (unsigned_strings hash made) result }
+{
+    let made = branch_unsigned(alloc, trail.hasher(), setting, scripts, waiting, lock, core)?;
+    prepare(alloc, trail, &made)
+}
+
+// What a branch of a choice that waits makes: its transaction, and the choices that wait for it.
+#[tactic(auto, using(bm_hash::proofs::HashesLemmas::stops_late))]
+fn put_branch<H: Hash32 + Drop>(
+    alloc: Global,
+    trail: &mut Trail<H>,
+    setting: &Setting,
+    scripts: &[Bytes],
+    made: &mut Seq<(Path, Prepared)>,
+    stack: &mut Vec<Waiting>,
+    waiting: &Waiting,
+    path: &Path,
+    lock: u32,
+    core: &Core,
+) -> Result<(), TrailError>
+    requires clear { evidence_of (H.digest_of trail.old.hasher) trail.old.messages ≡ None }
+    ensures stack { let hash = H.digest_of trail.old.hasher in
+        let one = spec.node_unsigned hash setting.now (listed_script scripts.now) waiting.now lock (deed_view core.now) in
+        OnOk result (reverse stack.new.items
+        ≡ spec.deed_waits hash setting.now one waiting.now.value (deed_view core.now) ++ reverse stack.old.items) }
+    ensures made { let hash = H.digest_of trail.old.hasher in
+        let one = spec.node_unsigned hash setting.now (listed_script scripts.now) waiting.now lock (deed_view core.now) in
+        OnOk result (made.new ≡ made.old ++ (path.now, prepared hash one) ∷ []) }
+    ensures trail { let hash = H.digest_of trail.old.hasher in
+        let one = spec.node_unsigned hash setting.now (listed_script scripts.now) waiting.now lock (deed_view core.now) in
+        Hashes H.digest_of trail.old trail.new (unsigned_strings hash one) result }
+{
+    let prepared = prepare_branch(alloc, trail, setting, scripts, waiting, lock, core)?;
+    push_waits(setting, stack, prepared.txid, waiting.value, core)?;
+    put_made(alloc, made, path, prepared)?;
+    Ok(())
+}
+
+// What a node makes: a choice that waits then waits once for each of its branches.
+#[tactic(auto, using(bm_hash::proofs::HashesLemmas::hashed_none, bm_hash::proofs::HashesLemmas::stops_early))]
+fn put_node<H: Hash32 + Drop>(
+    alloc: Global,
+    trail: &mut Trail<H>,
+    setting: &Setting,
+    scripts: &[Bytes],
+    made: &mut Seq<(Path, Prepared)>,
+    stack: &mut Vec<Waiting>,
+    node: &Node,
+) -> Result<(), TrailError>
+    requires clear { evidence_of (H.digest_of trail.old.hasher) trail.old.messages ≡ None }
+    ensures stack { let hash = H.digest_of trail.old.hasher in
+        OnOk result (reverse stack.new.items
+        ≡ spec.next_stack hash setting.now (listed_script scripts.now) (node_view node.now) (reverse stack.old.items)) }
+    ensures made { let hash = H.digest_of trail.old.hasher in
+        let more = spec.made_by hash setting.now (listed_script scripts.now) (node_view node.now) (reverse stack.old.items) in
+        OnOk result (made.new ≡ made.old ++ map (ready hash) more) }
+    ensures trail { let hash = H.digest_of trail.old.hasher in
+        let more = spec.made_by hash setting.now (listed_script scripts.now) (node_view node.now) (reverse stack.old.items) in
+        Hashes H.digest_of trail.old trail.new (flat_map (ready_strings hash) more) result }
+{
+    let Some(waiting) = stack.pop() else {
+        return Ok(());
+    };
+    match node {
+        Node::Choice { branches, .. } => {
+            push_copies(stack, waiting, branches.len())?;
+            Ok(())
+        }
+        Node::Branch {
+            path, lock, core, ..
+        } => put_branch(
+            alloc, trail, setting, scripts, made, stack, &waiting, path, *lock, core,
+        ),
+    }
+}
+
+/// The transactions that these nodes make, by path, where the first one waits for `root`. It hashes the strings of each.
+#[tactic(auto, using(bm_hash::proofs::HashesLemmas::stops_early))]
+pub(crate) fn prepare_nodes<H: Hash32 + Drop>(
+    alloc: Global,
+    trail: &mut Trail<H>,
+    setting: &Setting,
+    scripts: &[Bytes],
+    nodes: &[Node],
+    root: Waiting,
+) -> Result<Seq<(Path, Prepared)>, TrailError>
+    requires clear { evidence_of (H.digest_of trail.old.hasher) trail.old.messages ≡ None }
+    ensures made { let hash = H.digest_of trail.old.hasher in
+        let all = spec.walk hash setting.now (listed_script scripts.now) (map node_view nodes.now) (root ∷ []) in
+        IfOk result (λ made. made ≡ map (ready hash) all) }
+    ensures trail { let hash = H.digest_of trail.old.hasher in
+        let all = spec.walk hash setting.now (listed_script scripts.now) (map node_view nodes.now) (root ∷ []) in
+        Hashes H.digest_of trail.old trail.new (flat_map (ready_strings hash) all) result }
+{
+    let mut made = Seq::new(alloc);
+    let mut stack = Vec::new(alloc);
+    stack.push(root)?;
+    for node in nodes {
+        put_node(alloc, trail, setting, scripts, &mut made, &mut stack, node)?;
+    }
+    Ok(made)
+}

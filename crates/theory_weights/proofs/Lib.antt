@@ -1,0 +1,7 @@
+mod NoLonger
+mod Weighing
+mod Full
+mod Bounded
+mod Adding
+mod Fired
+mod WholeRun

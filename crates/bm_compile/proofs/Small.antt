@@ -1,26 +1,16 @@
 -- What the check of a contract sees to at each of its nodes.
 use Rattle.std.proofs.Common.{◌≡◌, ℕ, ◌+◌, ◌≤◌, List, [], ◌∷◌, ◌++◌, length, Bool, true, false, not, refl, arith}
-<<<<<<< HEAD
 use Rattle.std.specs.Prelude.{nat_le}
-=======
-use Rattle.std.specs.Prelude.{nat_le, ◌&&◌}
->>>>>>> 34560f546ec5c8bb4be83b85cac792479acef68b
 use Rattle.std.specs.List.{list_all}
 use Rattle.std.proofs.lemmas.Bool.{and_parts, and_from, not-false, leb-true, le-leb}
 use Rattle.spec_data.specs.Ranges.{most_operations}
 use Rattle.spec_terms.specs.Term.{Guarded, Contract, Parts, auth, after, put_reveal, withdraw, split, no_branch, branch, no_part, part}
 use Rattle.spec_terms.specs.Advert.{Advert}
 use Rattle.spec_terms.specs.Core.{core, lock, reveals_of, test_of}
-<<<<<<< HEAD
 use Rattle.spec_terms.specs.Cost.{reveals_size, later_size, cost}
 use Rattle.spec_terms.specs.Faults.{IsWellFormed, fits_a_script, at_position}
 use Rattle.spec_terms.specs.Paths as spots
 use Rattle.spec_terms.specs.Paths.{Subterm}
-=======
-use Rattle.spec_terms.specs.Cost.{reveals_size, branch_size, later_size, cost}
-use Rattle.spec_terms.specs.Faults.{IsWellFormed, fits_a_script, at_position}
-use Rattle.spec_terms.specs.Paths.{Subterm, position, at_branch}
->>>>>>> 34560f546ec5c8bb4be83b85cac792479acef68b
 use Rattle.spec_terms.specs.Parties.{participants}
 use Rattle.spec_terms.specs.declared.path.PathStep.{PathStep}
 use Rattle.spec_terms.specs.declared.path.PathStep.TheVariants.{Branch as To, Part as Into}
@@ -32,21 +22,12 @@ use Rattle.bm_compile.specs.Passes.{are_short_reveals, has_short_reveals}
 
 -- the test is true of a position's choice
 abbrev of_choice : (Contract → Bool) → Subterm → Bool
-<<<<<<< HEAD
 of_choice g (spots.position c) = g c
 of_choice g (spots.at_branch b) = true
 
 choice_says : (g : Contract → Bool) (p : Subterm) → at_position (λ c. not (g c)) p ≡ false → of_choice g p ≡ true
 choice_says g (spots.position c) h = not-false (g c) h
 choice_says g (spots.at_branch b) h = refl
-=======
-of_choice g (position c) = g c
-of_choice g (at_branch b) = true
-
-choice_says : (g : Contract → Bool) (p : Subterm) → at_position (λ c. not (g c)) p ≡ false → of_choice g p ≡ true
-choice_says g (position c) h = not-false (g c) h
-choice_says g (at_branch b) h = refl
->>>>>>> 34560f546ec5c8bb4be83b85cac792479acef68b
 
 -- ---- from branches to their nodes
 

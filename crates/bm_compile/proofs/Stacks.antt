@@ -1,10 +1,6 @@
 -- Stacks whose top stands last.
 use Rattle.std.proofs.Common.{◌≡◌, ℕ, zero, suc, ◌+◌, ◌-◌, ◌<◌, List, [], ◌∷◌, ◌++◌, length, refl, sym, ap, ◌∙◌, arith, append_assoc}
-<<<<<<< HEAD
 use Rattle.std.specs.Prelude.{replicate}
-=======
-use Rattle.std.specs.Prelude.{replicate, reverse}
->>>>>>> 34560f546ec5c8bb4be83b85cac792479acef68b
 use Rattle.spec_compiler.specs.declared.unsigned.Unsigned.{Unsigned}
 use Rattle.spec_compiler.specs.Transactions.{tx_of, output_outpoint}
 use Rattle.spec_bitcoin.specs.Digests.{txid}

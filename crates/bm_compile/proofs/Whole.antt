@@ -1,9 +1,5 @@
 -- What the passes over the nodes give is what a contract is defined to be compiled to.
-<<<<<<< HEAD
 use Rattle.std.proofs.Common.{◌≡◌, ℕ, ◌+◌, List, [], ◌∷◌, ◌++◌, map, true, false, Option, Some, None, refl, sym, ap, ◌∙◌, append-nil}
-=======
-use Rattle.std.proofs.Common.{◌≡◌, ℕ, ◌+◌, List, [], ◌∷◌, ◌++◌, map, drop, true, false, Option, Some, None, refl, sym, ap, ◌∙◌, subst, append_assoc, append-nil, get_or}
->>>>>>> 34560f546ec5c8bb4be83b85cac792479acef68b
 use Rattle.std.specs.Prelude.{slice_get, option_map, unwrap_or}
 use Rattle.std.specs.List.{flat_map}
 use Rattle.std.proofs.lemmas.Option.{slice_get-map, unwrap_or-slice_get}
@@ -20,11 +16,7 @@ use Rattle.theory_script.specs.Listed.{are_once, PathsInOrder}
 use Rattle.bm_compile.specs.Numbered.{named}
 use Rattle.bm_compile.proofs.Chains.{map-view}
 use Rattle.bm_compile.proofs.Places.{named_paths, named_positions}
-<<<<<<< HEAD
 use Rattle.bm_compile.specs.Passes.{labels_of_node, script_of_node, scripts_of_node, listed_script, root_with}
-=======
-use Rattle.bm_compile.specs.Passes.{labels_of_node, choice_script, script_of_node, scripts_of_node, listed_script, root_with}
->>>>>>> 34560f546ec5c8bb4be83b85cac792479acef68b
 
 -- ---- lists
 

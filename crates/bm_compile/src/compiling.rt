@@ -31,13 +31,9 @@ use spec_bitcoin::OutPoint;
 use spec_compiler::Prepared;
 use spec_data::{Bytes, OutOfMemory, Seq};
 use std::alloc::Global;
-<<<<<<< HEAD
 use theory_nodes::{
     Waiting, few_nodes, nodes_give_paths, nodes_give_scripts, nodes_give_transactions,
 };
-=======
-use theory_nodes::{Waiting, few_nodes, nodes_give_paths, nodes_give_scripts, nodes_give_transactions};
->>>>>>> 34560f546ec5c8bb4be83b85cac792479acef68b
 use theory_script::paths_in_order;
 
 // The script of each node. The labels of the branches' keys are hashed, and then the scripts.

@@ -120,14 +120,10 @@ fn put_node<H: Hash32 + Drop>(
             Ok(())
         }
         Node::Branch {
-<<<<<<< HEAD
             path,
             lock,
             core,
             ..
-=======
-            path, lock, core, ..
->>>>>>> 34560f546ec5c8bb4be83b85cac792479acef68b
         } => put_branch(
             alloc, trail, setting, scripts, made, stack, &waiting, path, *lock, core,
         ),

@@ -22,17 +22,12 @@ returns-in_err-made-clause-trail g c =
     let digest = g.H.Hash32.digest_of in
     let first = c.args.trail.now.hasher in
     let s = c.args.setting.now in
-<<<<<<< HEAD
     rw (p.1, p.2) (
       c.in_err-made.ensures.trail.0 ∙ c.in_ok-scripts.ensures.trail.0,
       tt,
       stops_behind digest first (flat_map (λ p. path_labels s p.0) (path_transactions (digest first) s)) (map (λ p. p.1) (scripts (digest first) s)) _ _ _ _
           (λ h. unsigned_strings h (initial_unsigned h s) ++ flat_map (λ p. unsigned_strings h p.1) (path_transactions h s)) _ c.in_ok-scripts.ensures.trail.0 c.in_ok-scripts.ensures.trail.1 c.in_err-made.ensures.trail.2,
     )
-=======
-    rw (p.1, p.2) (c.in_err-made.ensures.trail.0 ∙ c.in_ok-scripts.ensures.trail.0, tt, stops_behind digest first (flat_map (λ p. path_labels s p.0) (path_transactions (digest first) s)) (map (λ p. p.1) (scripts (digest first) s)) _ _ _ _
-    (λ h. unsigned_strings h (initial_unsigned h s) ++ flat_map (λ p. unsigned_strings h p.1) (path_transactions h s)) _ c.in_ok-scripts.ensures.trail.0 c.in_ok-scripts.ensures.trail.1 c.in_err-made.ensures.trail.2)
->>>>>>> 34560f546ec5c8bb4be83b85cac792479acef68b
 
 pub returns-in_err-compiled-clause-trail : goal.returns-in_err-compiled-clause-trail
 returns-in_err-compiled-clause-trail g c =
@@ -40,31 +35,20 @@ returns-in_err-compiled-clause-trail g c =
     let digest = g.H.Hash32.digest_of in
     let first = c.args.trail.now.hasher in
     let s = c.args.setting.now in
-<<<<<<< HEAD
     rw (p.1, p.2) (
       c.in_ok-made.ensures.trail.0 ∙ c.in_ok-scripts.ensures.trail.0,
       tt,
       stops_late _ _ _ _ (hashed_four digest first (flat_map (λ p. path_labels s p.0) (path_transactions (digest first) s)) (map (λ p. p.1) (scripts (digest first) s)) _ _ _ _
           (λ h. unsigned_strings h (initial_unsigned h s) ++ flat_map (λ p. unsigned_strings h p.1) (path_transactions h s)) c.in_ok-scripts.ensures.trail.0 c.in_ok-scripts.ensures.trail.1 c.in_ok-made.ensures.trail.1),
     )
-=======
-    rw (p.1, p.2) (c.in_ok-made.ensures.trail.0 ∙ c.in_ok-scripts.ensures.trail.0, tt, stops_late _ _ _ _ (hashed_four digest first (flat_map (λ p. path_labels s p.0) (path_transactions (digest first) s)) (map (λ p. p.1) (scripts (digest first) s)) _ _ _ _
-    (λ h. unsigned_strings h (initial_unsigned h s) ++ flat_map (λ p. unsigned_strings h p.1) (path_transactions h s)) c.in_ok-scripts.ensures.trail.0 c.in_ok-scripts.ensures.trail.1 c.in_ok-made.ensures.trail.1))
->>>>>>> 34560f546ec5c8bb4be83b85cac792479acef68b
 
 pub returns-clause-trail : goal.returns-clause-trail
 returns-clause-trail g c =
     let digest = g.H.Hash32.digest_of in
     let first = c.args.trail.now.hasher in
-<<<<<<< HEAD
     let s = c.args.setting.now in (
       c.in_ok-made.ensures.trail.0 ∙ c.in_ok-scripts.ensures.trail.0,
       hashed_four digest first (flat_map (λ p. path_labels s p.0) (path_transactions (digest first) s)) (map (λ p. p.1) (scripts (digest first) s)) _ _ _ _
           (λ h. unsigned_strings h (initial_unsigned h s) ++ flat_map (λ p. unsigned_strings h p.1) (path_transactions h s)) c.in_ok-scripts.ensures.trail.0 c.in_ok-scripts.ensures.trail.1 c.in_ok-made.ensures.trail.1,
       tt,
     )
-=======
-    let s = c.args.setting.now in
-    (c.in_ok-made.ensures.trail.0 ∙ c.in_ok-scripts.ensures.trail.0, hashed_four digest first (flat_map (λ p. path_labels s p.0) (path_transactions (digest first) s)) (map (λ p. p.1) (scripts (digest first) s)) _ _ _ _
-    (λ h. unsigned_strings h (initial_unsigned h s) ++ flat_map (λ p. unsigned_strings h p.1) (path_transactions h s)) c.in_ok-scripts.ensures.trail.0 c.in_ok-scripts.ensures.trail.1 c.in_ok-made.ensures.trail.1, tt)
->>>>>>> 34560f546ec5c8bb4be83b85cac792479acef68b

@@ -1,11 +1,5 @@
-<<<<<<< HEAD
 use Rattle.std.proofs.Common.{◌≡◌, ◌∙◌, map, sym, ap, subst, true, false}
 use Rattle.std.specs.Prelude.{IfOk}
-=======
-use Rattle.std.proofs.Common.{◌≡◌, ◌∙◌, List, ℕ, map, sym, ap, subst, true, false}
-use Rattle.std.specs.Prelude.{IfOk}
-use Rattle.spec_compiler.specs.Compilation.{scripts}
->>>>>>> 34560f546ec5c8bb4be83b85cac792479acef68b
 use Rattle.theory_script.specs.Listed.{are_once}
 use Rattle.bm_arena.specs.NodeView.{node_view}
 use Rattle.bm_compile.specs.Numbered.{Numbered, named, numbered}

@@ -1,8 +1,4 @@
-<<<<<<< HEAD
 use Rattle.std.proofs.Common.{◌∙◌, map, sym}
-=======
-use Rattle.std.proofs.Common.{◌++◌, ◌∙◌, map, sym, ap}
->>>>>>> 34560f546ec5c8bb4be83b85cac792479acef68b
 use Rattle.std.specs.List.{flat_map}
 use Rattle.std.proofs.lemmas.Result.{err_from_is_err_and}
 use Rattle.bm_hash.proofs.HashesLemmas.{Stops-first}
@@ -34,17 +30,12 @@ returns-in_err-scripts-clause-trail g c =
     let is = c.nodes-nodes.ensures ∙ c.requires.root in
     let labels = labels_whole (digest first) s node_view nodes c.nodes_give_paths.ensures is in
     let strings = strings_whole (digest first) s node_view nodes c.nodes_give_scripts.ensures is in
-<<<<<<< HEAD
     rw (p.1, p.2) (
       c.in_err-scripts.ensures.trail.0 ∙ c.in_ok-keys.ensures.trail.0,
       tt,
       rw strings at (stops_then digest first _ _ _ _ _ (λ h. flat_map (λ node. scripts_of_node h s (map node_view nodes) (node_view node)) nodes) _ c.in_ok-keys.ensures.trail.0
           (rw labels at c.in_ok-keys.ensures.trail.1) c.in_err-scripts.ensures.trail.2),
     )
-=======
-    rw (p.1, p.2) (c.in_err-scripts.ensures.trail.0 ∙ c.in_ok-keys.ensures.trail.0, tt, rw strings at (stops_then digest first _ _ _ _ _ (λ h. flat_map (λ node. scripts_of_node h s (map node_view nodes) (node_view node)) nodes) _ c.in_ok-keys.ensures.trail.0
-    (rw labels at c.in_ok-keys.ensures.trail.1) c.in_err-scripts.ensures.trail.2))
->>>>>>> 34560f546ec5c8bb4be83b85cac792479acef68b
 
 pub returns-clause-scripts : goal.returns-clause-scripts
 returns-clause-scripts g c =
@@ -59,15 +50,9 @@ returns-clause-trail g c =
     let nodes = c.nodes-nodes.result.now in
     let is = c.nodes-nodes.ensures ∙ c.requires.root in
     let labels = labels_whole (digest first) s node_view nodes c.nodes_give_paths.ensures is in
-<<<<<<< HEAD
     let strings = strings_whole (digest first) s node_view nodes c.nodes_give_scripts.ensures is in (
       c.in_ok-scripts.ensures.trail.0 ∙ c.in_ok-keys.ensures.trail.0,
       rw strings at (hashed_then digest first _ _ _ _ _ (λ h. flat_map (λ node. scripts_of_node h s (map node_view nodes) (node_view node)) nodes) c.in_ok-keys.ensures.trail.0
           (rw labels at c.in_ok-keys.ensures.trail.1) c.in_ok-scripts.ensures.trail.1),
       tt,
     )
-=======
-    let strings = strings_whole (digest first) s node_view nodes c.nodes_give_scripts.ensures is in
-    (c.in_ok-scripts.ensures.trail.0 ∙ c.in_ok-keys.ensures.trail.0, rw strings at (hashed_then digest first _ _ _ _ _ (λ h. flat_map (λ node. scripts_of_node h s (map node_view nodes) (node_view node)) nodes) c.in_ok-keys.ensures.trail.0
-    (rw labels at c.in_ok-keys.ensures.trail.1) c.in_ok-scripts.ensures.trail.1), tt)
->>>>>>> 34560f546ec5c8bb4be83b85cac792479acef68b

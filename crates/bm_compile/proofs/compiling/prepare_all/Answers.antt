@@ -1,8 +1,4 @@
-<<<<<<< HEAD
 use Rattle.std.proofs.Common.{◌∙◌}
-=======
-use Rattle.std.proofs.Common.{◌++◌, ◌∙◌}
->>>>>>> 34560f546ec5c8bb4be83b85cac792479acef68b
 use Rattle.std.specs.List.{flat_map}
 use Rattle.std.proofs.lemmas.Result.{err_from_is_err_and}
 use Rattle.bm_hash.proofs.HashesLemmas.{Stops-first}
@@ -25,31 +21,20 @@ returns-in_err-paths-clause-trail g c =
     let digest = g.H.Hash32.digest_of in
     let first = c.args.trail.now.hasher in
     let s = c.args.setting.now in
-<<<<<<< HEAD
     rw (p.1, p.2) (
       c.in_err-paths.ensures.trail.0 ∙ c.in_ok-init.ensures.trail.0,
       tt,
       stops_then digest first _ _ _ _ (unsigned_strings (digest first) (initial_unsigned (digest first) s)) (λ h. flat_map (λ p. unsigned_strings h p.1) (path_transactions h s)) _
           c.in_ok-init.ensures.trail.0 c.in_ok-init.ensures.trail.1 c.in_err-paths.ensures.trail.2,
     )
-=======
-    rw (p.1, p.2) (c.in_err-paths.ensures.trail.0 ∙ c.in_ok-init.ensures.trail.0, tt, stops_then digest first _ _ _ _ (unsigned_strings (digest first) (initial_unsigned (digest first) s)) (λ h. flat_map (λ p. unsigned_strings h p.1) (path_transactions h s)) _
-    c.in_ok-init.ensures.trail.0 c.in_ok-init.ensures.trail.1 c.in_err-paths.ensures.trail.2)
->>>>>>> 34560f546ec5c8bb4be83b85cac792479acef68b
 
 pub returns-clause-trail : goal.returns-clause-trail
 returns-clause-trail g c =
     let digest = g.H.Hash32.digest_of in
     let first = c.args.trail.now.hasher in
-<<<<<<< HEAD
     let s = c.args.setting.now in (
       c.in_ok-paths.ensures.trail.0 ∙ c.in_ok-init.ensures.trail.0,
       hashed_then digest first _ _ _ _ (unsigned_strings (digest first) (initial_unsigned (digest first) s)) (λ h. flat_map (λ p. unsigned_strings h p.1) (path_transactions h s))
           c.in_ok-init.ensures.trail.0 c.in_ok-init.ensures.trail.1 c.in_ok-paths.ensures.trail.1,
       tt,
     )
-=======
-    let s = c.args.setting.now in
-    (c.in_ok-paths.ensures.trail.0 ∙ c.in_ok-init.ensures.trail.0, hashed_then digest first _ _ _ _ (unsigned_strings (digest first) (initial_unsigned (digest first) s)) (λ h. flat_map (λ p. unsigned_strings h p.1) (path_transactions h s))
-    c.in_ok-init.ensures.trail.0 c.in_ok-init.ensures.trail.1 c.in_ok-paths.ensures.trail.1, tt)
->>>>>>> 34560f546ec5c8bb4be83b85cac792479acef68b

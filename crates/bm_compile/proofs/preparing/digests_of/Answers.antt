@@ -26,14 +26,9 @@ pub returns-in_err-push-clause-trail : goal.returns-in_err-push-clause-trail
 returns-in_err-push-clause-trail g c =
     let p = err_from_is_err_and c.from_residual-in_err-push.result c.from_residual-in_err-push.ensures.1 in
     let strings = spent_strings (g.H.Hash32.digest_of c.args.trail.now.hasher) c.args.tx.now in
-<<<<<<< HEAD
     rw (p.1, p.2) (
       c.in_ok-digest.ensures.trail.0 ∙ c.loop-spent.invariant.hasher,
       tt,
       stops_short_of strings _ _ _ _ (c.loop-spent.spent-index + 1)
           (hashed_step (λ hash. spent_strings hash c.args.tx.now) g.H.Hash32.digest_of c.args.trail.now.hasher _ _ _ _ _ _ _ c.loop-spent.invariant.hasher c.loop-spent-test.true c.spent-item.is c.loop-spent.invariant.trail c.in_ok-digest.ensures.trail.1),
     )
-=======
-    rw (p.1, p.2) (c.in_ok-digest.ensures.trail.0 ∙ c.loop-spent.invariant.hasher, tt, stops_short_of strings _ _ _ _ (c.loop-spent.spent-index + 1)
-    (hashed_step (λ hash. spent_strings hash c.args.tx.now) g.H.Hash32.digest_of c.args.trail.now.hasher _ _ _ _ _ _ _ c.loop-spent.invariant.hasher c.loop-spent-test.true c.spent-item.is c.loop-spent.invariant.trail c.in_ok-digest.ensures.trail.1))
->>>>>>> 34560f546ec5c8bb4be83b85cac792479acef68b

@@ -22,7 +22,6 @@ returns-in_err-lists-clause-trail g c =
     let tx = tx_of c.args.unsigned.now in
     let spends = c.args.unsigned.now.spends in
     let hash = digest c.txid.new.trail.hasher in
-<<<<<<< HEAD
     rw (p.1, p.2) (
       c.in_err-lists.ensures.trail.0 ∙ c.in_ok-txid.ensures.trail.0,
       tt,
@@ -30,11 +29,6 @@ returns-in_err-lists-clause-trail g c =
           (rw c.in_ok-tx.ensures at c.in_ok-txid.ensures.trail.1)
           (Stops-first hash _ _ (shared_strings hash tx) (flat_map (spent_strings hash tx) spends) _ (rw c.in_ok-tx.ensures at c.in_err-lists.ensures.trail.2)),
     )
-=======
-    rw (p.1, p.2) (c.in_err-lists.ensures.trail.0 ∙ c.in_ok-txid.ensures.trail.0, tt, stops_then digest c.args.trail.now.hasher _ _ _ _ (txid_strings (digest c.args.trail.now.hasher) tx) (λ h. shared_strings h tx ++ flat_map (spent_strings h tx) spends) _ c.in_ok-txid.ensures.trail.0
-    (rw c.in_ok-tx.ensures at c.in_ok-txid.ensures.trail.1)
-    (Stops-first hash _ _ (shared_strings hash tx) (flat_map (spent_strings hash tx) spends) _ (rw c.in_ok-tx.ensures at c.in_err-lists.ensures.trail.2)))
->>>>>>> 34560f546ec5c8bb4be83b85cac792479acef68b
 
 pub returns-in_err-digests-clause-trail : goal.returns-in_err-digests-clause-trail
 returns-in_err-digests-clause-trail g c =
@@ -43,7 +37,6 @@ returns-in_err-digests-clause-trail g c =
     let tx = tx_of c.args.unsigned.now in
     let spends = c.args.unsigned.now.spends in
     let same = c.in_ok-lists.ensures.trail.0 ∙ c.in_ok-txid.ensures.trail.0 in
-<<<<<<< HEAD
     rw (p.1, p.2) (
       c.in_err-digests.ensures.trail.0 ∙ same,
       tt,
@@ -53,20 +46,12 @@ returns-in_err-digests-clause-trail g c =
           (rw c.in_ok-tx.ensures at c.in_ok-lists.ensures.trail.1)
           (rw (c.in_ok-tx.ensures, c.as_slice.ensures) at c.in_err-digests.ensures.trail.2)),
     )
-=======
-    rw (p.1, p.2) (c.in_err-digests.ensures.trail.0 ∙ same, tt, stops_then digest c.args.trail.now.hasher _ _ _ _ (txid_strings (digest c.args.trail.now.hasher) tx) (λ h. shared_strings h tx ++ flat_map (spent_strings h tx) spends) _ c.in_ok-txid.ensures.trail.0
-    (rw c.in_ok-tx.ensures at c.in_ok-txid.ensures.trail.1)
-    (stops_then digest c.txid.new.trail.hasher _ _ _ _ (shared_strings (digest c.txid.new.trail.hasher) tx) (λ h. flat_map (spent_strings h tx) spends) _ c.in_ok-lists.ensures.trail.0
-    (rw c.in_ok-tx.ensures at c.in_ok-lists.ensures.trail.1)
-    (rw (c.in_ok-tx.ensures, c.as_slice.ensures) at c.in_err-digests.ensures.trail.2)))
->>>>>>> 34560f546ec5c8bb4be83b85cac792479acef68b
 
 pub returns-clause-trail : goal.returns-clause-trail
 returns-clause-trail g c =
     let digest = g.H.Hash32.digest_of in
     let tx = tx_of c.args.unsigned.now in
     let spends = c.args.unsigned.now.spends in
-<<<<<<< HEAD
     let same = c.in_ok-digests.ensures.trail.0 ∙ c.in_ok-lists.ensures.trail.0 ∙ c.in_ok-txid.ensures.trail.0 in (
       same,
       hashed_then digest c.args.trail.now.hasher _ _ _ _ (txid_strings (digest c.args.trail.now.hasher) tx) (λ h. shared_strings h tx ++ flat_map (spent_strings h tx) spends) c.in_ok-txid.ensures.trail.0
@@ -76,11 +61,3 @@ returns-clause-trail g c =
           (rw (c.in_ok-tx.ensures, c.as_slice.ensures) at c.in_ok-digests.ensures.trail.1)),
       tt,
     )
-=======
-    let same = c.in_ok-digests.ensures.trail.0 ∙ c.in_ok-lists.ensures.trail.0 ∙ c.in_ok-txid.ensures.trail.0 in
-    (same, hashed_then digest c.args.trail.now.hasher _ _ _ _ (txid_strings (digest c.args.trail.now.hasher) tx) (λ h. shared_strings h tx ++ flat_map (spent_strings h tx) spends) c.in_ok-txid.ensures.trail.0
-    (rw c.in_ok-tx.ensures at c.in_ok-txid.ensures.trail.1)
-    (hashed_then digest c.txid.new.trail.hasher _ _ _ _ (shared_strings (digest c.txid.new.trail.hasher) tx) (λ h. flat_map (spent_strings h tx) spends) c.in_ok-lists.ensures.trail.0
-    (rw c.in_ok-tx.ensures at c.in_ok-lists.ensures.trail.1)
-    (rw (c.in_ok-tx.ensures, c.as_slice.ensures) at c.in_ok-digests.ensures.trail.1)), tt)
->>>>>>> 34560f546ec5c8bb4be83b85cac792479acef68b

@@ -18,7 +18,6 @@ loop-node-preserved g c = record {
 pub returns-in_err-put_node-clause-trail : goal.returns-in_err-put_node-clause-trail
 returns-in_err-put_node-clause-trail g c =
     let p = err_from_is_err_and c.from_residual-in_err-put_node.result c.from_residual-in_err-put_node.ensures.1 in
-<<<<<<< HEAD
     rw (p.1, p.2) (
       c.in_err-put_node.ensures.trail.0 ∙ c.loop-node.invariant.hasher,
       tt,
@@ -26,11 +25,6 @@ returns-in_err-put_node-clause-trail g c =
           c.args.nodes.now c.loop-node.node-index c.node-item.result c.loop-node-test.true c.node-item.is (reverse c.loop-node.stack.items) _ _ _ _ c.loop-node.made _
           c.loop-node.invariant.walked c.in_err-put_node.ensures.trail.2,
     )
-=======
-    rw (p.1, p.2) (c.in_err-put_node.ensures.trail.0 ∙ c.loop-node.invariant.hasher, tt, turn_stops node_view g.H.Hash32.digest_of c.args.setting.now (listed_script c.args.scripts.now) c.args.trail.now.hasher _ c.loop-node.invariant.hasher
-    c.args.nodes.now c.loop-node.node-index c.node-item.result c.loop-node-test.true c.node-item.is (reverse c.loop-node.stack.items) _ _ _ _ c.loop-node.made _
-    c.loop-node.invariant.walked c.in_err-put_node.ensures.trail.2)
->>>>>>> 34560f546ec5c8bb4be83b85cac792479acef68b
 
 pub returns-clause-made : goal.returns-clause-made
 returns-clause-made g c =
@@ -40,15 +34,9 @@ returns-clause-made g c =
 
 pub returns-clause-trail : goal.returns-clause-trail
 returns-clause-trail g c =
-<<<<<<< HEAD
     let hash = g.H.Hash32.digest_of c.args.trail.now.hasher in (
       c.loop-node.invariant.hasher,
       walked_hashed (ready hash) (ready_strings hash) hash _ _ _ _
           (turn_end node_view hash c.args.setting.now (listed_script c.args.scripts.now) c.args.nodes.now c.loop-node.node-index (reverse c.loop-node.stack.items) _ _ _ _ c.loop-node-test.false c.loop-node.invariant.walked),
       tt,
     )
-=======
-    let hash = g.H.Hash32.digest_of c.args.trail.now.hasher in
-    (c.loop-node.invariant.hasher, walked_hashed (ready hash) (ready_strings hash) hash _ _ _ _
-    (turn_end node_view hash c.args.setting.now (listed_script c.args.scripts.now) c.args.nodes.now c.loop-node.node-index (reverse c.loop-node.stack.items) _ _ _ _ c.loop-node-test.false c.loop-node.invariant.walked), tt)
->>>>>>> 34560f546ec5c8bb4be83b85cac792479acef68b

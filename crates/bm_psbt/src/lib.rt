@@ -10,7 +10,7 @@ mod reading;
 mod writing;
 
 pub use fault::PsbtError;
-pub use reading::decode;
 pub use psbt::Psbt;
+pub use reading::decode;
 pub use spec_tool::PsbtInput;
 pub use writing::encode;

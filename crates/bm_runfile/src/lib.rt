@@ -8,15 +8,19 @@ mod header;
 mod labels;
 mod limits;
 mod lines;
+mod paths;
 mod print;
 mod read;
 mod words;
 
-pub use error::RunError;
+pub use error::{RunError, WordError};
 pub use limits::{MOST_RUN_BYTES, run_limits_are_defined};
+pub use lines::{first_line, words_of};
+pub use paths::read_path;
 pub use print::{
     print_event, print_header, put_bindings, put_contract_party, put_event, put_output, put_outputs,
 };
 pub use read::read_run;
 pub use spec_run::{Event, Header, HeldSecret, Run};
 pub use spec_text::RunLimit;
+pub use words::{a_name, one_of};

@@ -17,7 +17,8 @@ lines_append ds es = flat_map-append (λ e. event_text e ++ newline) ds es
 pub gift_lines : (k i : ℕ) (g : Going) → i < k
     → lines ((gifts (k - i) g).0) ≡ lines ((gift_from g.queue g).0) ++ lines ((gifts (k - (i + 1)) ((gift_from g.queue g).1)).0)
 gift_lines k i g h =
-    ap (λ n. lines ((gifts n g).0)) (less_one k i h) ∙ lines_append ((gift_from g.queue g).0) ((gifts (k - (i + 1)) ((gift_from g.queue g).1)).0)
+    ap (λ n. lines ((gifts n g).0)) (less_one k i h)
+    ∙ lines_append ((gift_from g.queue g).0) ((gifts (k - (i + 1)) ((gift_from g.queue g).1)).0)
 
 pub gift_going : (k i : ℕ) (g : Going) → i < k → (gifts (k - i) g).1 ≡ (gifts (k - (i + 1)) ((gift_from g.queue g).1)).1
 gift_going k i g h = ap (λ n. (gifts n g).1) (less_one k i h)

@@ -7,7 +7,7 @@ ghost use Rattle.spec_text.specs.PlayText as spec;
 
 use crate::outcome::put_outcome;
 use crate::step::put_steps;
-use bm_runfile::{Event, put_event, put_output};
+use bm_runfile::{Event, put_event};
 use bm_text::{put, put_decimal};
 use spec_data::{Name, OutOfMemory};
 use spec_text::Entry;
@@ -17,13 +17,13 @@ use std::alloc::Global;
 fn put_start_head(
     alloc: Global,
     out: &mut Vec<u8>,
-    number: u32,
+    number: u64,
     party: &Name,
 ) -> Result<(), OutOfMemory>
     ensures { OnOk result (out.new.items ≡ out.old.items ++ (codes "start " ++ (output_text number ++ (codes " " ++ party.now)))) }
 {
-    put(out, b"start ")?;
-    put_output(alloc, out, number)?;
+    put(out, b"start #")?;
+    put_decimal(alloc, out, number)?;
     put(out, b" ")?;
     put(out, party.bytes())
 }
@@ -39,15 +39,14 @@ fn put_value_end(alloc: Global, out: &mut Vec<u8>, value: u64) -> Result<(), Out
 
 /// `start #n A v` for each deposit.
 #[tactic(auto, using(std::proofs::Common::append_assoc))]
-pub fn put_start(
+pub(crate) fn put_start(
     alloc: Global,
     out: &mut Vec<u8>,
     deposits: &[(Name, u64)],
 ) -> Result<(), OutOfMemory>
-    requires { length deposits.now < 2 ^ 32 }
     ensures { OnOk result (out.new.items ≡ out.old.items ++ spec.start_lines 0 deposits.now) }
 {
-    let mut number = 0u32;
+    let mut number = 0u64;
     for (party, value) in deposits {
         put_start_head(alloc, out, number, party)?;
         put_value_end(alloc, out, *value)?;
@@ -88,18 +87,16 @@ fn put_entry(
     put_steps(alloc, out, &entry.outcome, entry.steps.as_slice())
 }
 
-/// Entries, numbered from this one on.
+/// Entries, numbered from 1 on.
 #[tactic(auto, using(std::proofs::Common::append_assoc))]
-pub fn put_entries(
+pub(crate) fn put_entries(
     alloc: Global,
     out: &mut Vec<u8>,
-    first: u64,
     entries: &[Entry],
 ) -> Result<(), OutOfMemory>
-    requires { first + length entries.now < 2 ^ 64 }
-    ensures { OnOk result (out.new.items ≡ out.old.items ++ spec.entries_text first entries.now) }
+    ensures { OnOk result (out.new.items ≡ out.old.items ++ spec.entries_text 1 entries.now) }
 {
-    let mut number = first;
+    let mut number = 1u64;
     for entry in entries {
         put_entry(alloc, out, number, entry)?;
         number += 1;

@@ -4,8 +4,8 @@ ghost use Rattle.std.specs.Prelude.{◌≡◌, ◌<◌, ◌+◌, ◌^◌, ◌++�
 ghost use Rattle.spec_text.specs.PlayText as spec;
 ghost use Rattle.spec_text.specs.PlayText.{guessed, collided};
 
-use crate::ending::{put_collided, put_guessed};
 use crate::entries::{put_entries, put_event_line, put_start};
+use crate::last::{put_collided, put_guessed};
 use bm_runfile::{Event, Header};
 use spec_data::{Name, OutOfMemory};
 use spec_text::Entry;
@@ -20,19 +20,17 @@ fn put_up_to(
     entries: &[Entry],
     event: &Event,
 ) -> Result<(), OutOfMemory>
-    requires deposits { length deposits.now < 2 ^ 32 }
-    requires entries { length entries.now + 1 < 2 ^ 64 }
     ensures { OnOk result (out.new.items ≡ out.old.items ++ (spec.start_lines 0 deposits.now
         ++ (spec.entries_text 1 entries.now ++ spec.event_line (length entries.now + 1) event.now))) }
 {
     put_start(alloc, out, deposits)?;
-    put_entries(alloc, out, 1, entries)?;
+    put_entries(alloc, out, entries)?;
     put_event_line(alloc, out, entries.len() as u64 + 1, event)
 }
 
 /// The text of a run in which this event guesses a secret.
 #[tactic(auto, using(std::proofs::Common::append_assoc))]
-pub fn guessed_text(
+pub(crate) fn guessed_text(
     alloc: Global,
     header: &Header,
     entries: &[Entry],
@@ -40,8 +38,6 @@ pub fn guessed_text(
     party: &Name,
     secret: &Name,
 ) -> Result<Vec<u8>, OutOfMemory>
-    requires deposits { length header.now.deposits < 2 ^ 32 }
-    requires entries { length entries.now + 1 < 2 ^ 64 }
     ensures { IfOk result (λ text. text.items ≡ spec.report_text header.now.deposits entries.now
         (guessed event.now party.now secret.now)) }
 {
@@ -53,7 +49,7 @@ pub fn guessed_text(
 
 /// The text of a run in which this event collides: two different strings have one digest, the earlier first.
 #[tactic(auto, using(std::proofs::Common::append_assoc))]
-pub fn collided_text(
+pub(crate) fn collided_text(
     alloc: Global,
     header: &Header,
     entries: &[Entry],
@@ -61,8 +57,6 @@ pub fn collided_text(
     earlier: &[u8],
     later: &[u8],
 ) -> Result<Vec<u8>, OutOfMemory>
-    requires deposits { length header.now.deposits < 2 ^ 32 }
-    requires entries { length entries.now + 1 < 2 ^ 64 }
     ensures { IfOk result (λ text. text.items ≡ spec.report_text header.now.deposits entries.now
         (collided (Some event.now) earlier.now later.now)) }
 {
@@ -73,7 +67,7 @@ pub fn collided_text(
 }
 
 /// The text of a run whose opening collides: the two strings alone, the earlier first.
-pub fn collided_opening_text(
+pub(crate) fn collided_opening_text(
     alloc: Global,
     earlier: &[u8],
     later: &[u8],

@@ -8,13 +8,16 @@ mod header;
 mod labels;
 mod limits;
 mod lines;
+mod paths;
 mod pieces;
 mod print;
 mod read;
 mod words;
 
-pub use error::RunError;
+pub use error::{RunError, WordError};
 pub use limits::{MOST_RUN_BYTES, run_limits_are_defined};
+pub use lines::{first_line, words_of};
+pub use paths::read_path;
 pub use pieces::{
     put_advertise, put_bindings, put_branch, put_contract_party, put_named, put_output,
     put_outputs, put_party_name, put_share, put_spaced_output, put_word_name, put_word_number,
@@ -23,3 +26,4 @@ pub use print::{print_event, print_header, put_event};
 pub use read::read_run;
 pub use spec_run::{Event, Header, HeldSecret, Run};
 pub use spec_text::RunLimit;
+pub use words::{a_name, one_of};

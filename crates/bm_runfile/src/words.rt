@@ -92,7 +92,7 @@ pub(crate) fn is_name(word: &[u8]) -> bool
 }
 
 /// A name of contract text.
-pub(crate) fn a_name(word: &[u8]) -> Option<Name>
+pub fn a_name(word: &[u8]) -> Option<Name>
     ensures { result ≡ a_name word.now }
 {
     if !is_name(word) {
@@ -101,8 +101,8 @@ pub(crate) fn a_name(word: &[u8]) -> Option<Name>
     Name::new(word)
 }
 
-/// One of the names.
-pub(crate) fn one_of(names: &[Name], word: &[u8]) -> Option<Name>
+/// The name that a word is, where it is one of these.
+pub fn one_of(names: &[Name], word: &[u8]) -> Option<Name>
     ensures { result ≡ one_of names.now word.now }
 {
     for name in names {

@@ -5,3 +5,5 @@ mod Bounded
 mod Adding
 mod Fired
 mod WholeRun
+mod Sized
+mod ByPosition

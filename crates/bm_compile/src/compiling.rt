@@ -12,6 +12,7 @@ ghost use Rattle.spec_compiler.specs.Transactions.{prepared as ready, initial_un
 ghost use Rattle.spec_compiler.specs.Compilation.{compilation, path_transactions, scripts as scripts_of};
 ghost use Rattle.spec_nodes.specs.Nodes.{nodes_of};
 ghost use Rattle.theory_nodes.specs.Walk.{script_of};
+ghost use Rattle.bm_compile.specs.Limits.{MeetNoLimit};
 ghost use Rattle.bm_compile.specs.Numbered.{numbered, instance_with};
 ghost use Rattle.bm_compile.specs.Passes.{has_short_reveals, listed_script, root_with};
 
@@ -34,7 +35,7 @@ use std::alloc::Global;
 use theory_nodes::{
     Waiting, few_nodes, nodes_give_paths, nodes_give_scripts, nodes_give_transactions,
 };
-use theory_script::paths_in_order;
+use theory_script::{no_limit_is_met, paths_in_order};
 
 // The script of each node. The labels of the branches' keys are hashed, and then the scripts.
 fn node_scripts<H: Hash32 + Drop>(
@@ -198,7 +199,10 @@ pub fn compile<H: Hash32 + Drop>(
         IfOk result (λ c. c ≡ numbered (H.digest_of trail.old.hasher) s) }
     ensures trail { let s = instance_with contract checked.now bound.now hashes.now in
         Hashes H.digest_of trail.old trail.new (compiled_strings (H.digest_of trail.old.hasher) s) result }
+    ensures limits { let s = instance_with contract checked.now bound.now hashes.now in
+        IfOk result (λ c. MeetNoLimit (H.digest_of trail.old.hasher) s) }
 {
+    no_limit_is_met();
     few_nodes();
     if trail.has_collided() {
         return Err(TrailError::Collided);

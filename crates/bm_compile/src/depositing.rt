@@ -9,11 +9,12 @@ ghost use Rattle.spec_bitcoin.specs.declared.label.Label.TheVariants.{Deposit};
 ghost use Rattle.spec_compiler.specs.Transactions as spec;
 ghost use Rattle.spec_compiler.specs.Instance.{deposit_key};
 
+use crate::binding::bound_to;
 use crate::setting::Setting;
 use bm_hash::Hash32;
 use bm_keys::{deposit_script, pay_to};
 use bm_syntax::{Name, Pre};
-use spec_bitcoin::{OutPoint, TxOut};
+use spec_bitcoin::TxOut;
 use spec_compiler::Spent;
 use spec_data::{Bytes, OutOfMemory, Seq};
 use std::alloc::{AllocError, Global};
@@ -55,18 +56,6 @@ pub(crate) fn pays<H: Hash32>(
         value,
         script: Bytes::from_slice(alloc, &pay_to(&hasher.hash32(script)))?,
     })
-}
-
-// Where the deposit of this name lies.
-fn bound_to(bound: &[(Name, OutPoint)], name: &Name) -> Option<OutPoint>
-    ensures { result ≡ look_up name.now bound.now }
-{
-    for (known, outpoint) in bound {
-        if *known == *name {
-            return Some(*outpoint);
-        }
-    }
-    None
 }
 
 // The output of the deposit of this name, of an owner and a value.

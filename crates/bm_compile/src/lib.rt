@@ -1,6 +1,7 @@
 //! Contracts compiled to their transactions.
 #![tactic(auto)]
 
+mod binding;
 mod compiled;
 mod compiling;
 mod depositing;
@@ -13,6 +14,7 @@ mod tables;
 mod unsigned;
 mod walking;
 
+pub use binding::are_bound;
 pub use bm_hash::TrailError;
 pub use compiled::Compiled;
 pub use compiling::compile;

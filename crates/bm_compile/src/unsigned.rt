@@ -41,7 +41,7 @@ pub(crate) fn continued_value(
 {
     let advert = setting.advert();
     match with_puts(&advert.pre, balance, puts) {
-        Some(total) => Ok(total.saturating_sub(advert.fee)),
+        Some(worth) => Ok(worth.saturating_sub(advert.fee)),
         None => Err(AllocError),
     }
 }

@@ -1,6 +1,6 @@
 use Rattle.std.proofs.Common.{◌≡◌, drop}
 use Rattle.spec_data.specs.Lists.{look_up}
-use Rattle.bm_compile.proofs.depositing.bound_to.Given as goal
+use Rattle.bm_compile.proofs.binding.bound_to.Given as goal
 
 abbrev pub invariant-loop-known : goal.invariant-loop-known
 invariant-loop-known l = look_up l.name (drop l.known-index l.bound) ≡ look_up l.name l.bound

@@ -1,28 +1,19 @@
 //! What a played run prints. What each call prints is proved, and not that it succeeds.
 
-ghost use Rattle.std.specs.Prelude.{◌≡◌, ◌<◌, ◌^◌, length, IfOk};
-
-use bm_report::{
-    collided_opening_text, collided_text, guessed_text, put_entries, put_moment, put_offers,
-    put_secrets, put_start, put_tip,
-};
-use spec_calculus::{ActiveContract, Committed, Deposit, Move, Owner, Revealed, Step};
-use spec_data::{Name, OutOfMemory, Seq};
+use crate::timed_commitment::{all_names, begun};
+use bm_calculus::Config;
+use bm_report::{Ending, Entry, report};
+use spec_calculus::{Move, Owner, Step};
+use spec_data::{Bytes, Name, OutOfMemory, Seq};
 use spec_run::{Event, Header, Outcome};
-use spec_terms::{Path, Pre};
-use spec_text::Entry;
 use std::alloc::Global;
 use std::test::Fail;
 
-fn list<T: Copy + Drop>(alloc: Global, items: &[T]) -> Result<Seq<T>, OutOfMemory>
-    ensures { IfOk result (λ list. list ≡ items.now) }
-{
+fn list<T: Copy + Drop>(alloc: Global, items: &[T]) -> Result<Seq<T>, OutOfMemory> {
     Ok(Seq::of(Vec::from_slice(alloc, items)?))
 }
 
-fn header(alloc: Global, party: Name) -> Result<Header, OutOfMemory>
-    ensures { IfOk result (λ header. length header.deposits < 2 ^ 32) }
-{
+fn header(alloc: Global, party: Name) -> Result<Header, OutOfMemory> {
     Ok(Header {
         parties: list(alloc, &[party])?,
         honest: list(alloc, &[party])?,
@@ -67,98 +58,103 @@ fn given(alloc: Global, party: Name) -> Result<Entry, OutOfMemory> {
     })
 }
 
-fn secrets(alloc: Global, party: Name) -> Result<Vec<u8>, OutOfMemory> {
-    let committed = [Committed {
-        contract: 0,
-        party,
-        lengths: list(alloc, &[(party, Some(20))])?,
-    }];
-    let revealed = [Revealed {
-        contract: 0,
-        party,
-        secret: party,
-    }];
-    let pre = [Pre::Secret { party, name: party }];
-    let mut out = Vec::new(alloc);
-    put_secrets(alloc, &mut out, 0, &committed, &revealed, &pre)?;
-    put_secrets(alloc, &mut out, 0, &committed, &[], &pre)?;
-    put_secrets(alloc, &mut out, 1, &committed, &[], &pre)?;
-    Ok(out)
+// What is printed of a run of one event that ends in this configuration.
+fn whole(alloc: Global, party: Name, config: Config) -> Result<Option<Vec<u8>>, OutOfMemory> {
+    if config.contracts().len() > 16 {
+        return Ok(None);
+    }
+    let mut offers = Seq::new(alloc);
+    offers.push(Event::FireInit { contract: 0 })?;
+    let ending = Ending::Whole {
+        tip: 5,
+        live: list(alloc, &[(1, 60)])?,
+        config,
+        offers,
+    };
+    let text = report(
+        alloc,
+        &header(alloc, party)?,
+        &[given(alloc, party)?],
+        &ending,
+    )?;
+    Ok(Some(text))
 }
 
-fn end(alloc: Global, party: Name) -> Result<Vec<u8>, OutOfMemory> {
-    let deposits = [Deposit {
-        number: 1,
-        owner: Owner::Party(party),
-        value: 60,
-    }];
-    let active = [ActiveContract {
-        number: 3,
-        contract: 0,
-        position: Path::of(Vec::new(alloc)),
-        balance: 7,
-    }];
-    let mut out = Vec::new(alloc);
-    put_tip(alloc, &mut out, 5, &[(1, 60)])?;
-    put_moment(alloc, &mut out, 5, &deposits, &active)?;
-    put_offers(alloc, &mut out, &[Event::FireInit { contract: 0 }])?;
-    Ok(out)
+fn opened(alloc: Global, party: Name) -> Result<Option<Vec<u8>>, OutOfMemory> {
+    let config = Config::opening(alloc, &[party], &[party], &[(party, 100)], &[])?;
+    whole(alloc, party, config)
 }
 
-fn started(alloc: Global, party: Name) -> Result<Vec<u8>, OutOfMemory> {
-    let mut out = Vec::new(alloc);
-    put_start(alloc, &mut out, &[(party, 100)])?;
-    Ok(out)
-}
-
-fn played(alloc: Global, party: Name) -> Result<Vec<u8>, OutOfMemory> {
-    let mut out = Vec::new(alloc);
-    put_entries(alloc, &mut out, 1, &[given(alloc, party)?])?;
-    Ok(out)
+fn committed(alloc: Global, party: Name) -> Result<Option<Vec<u8>>, OutOfMemory> {
+    let Some(names) = all_names() else {
+        return Ok(None);
+    };
+    match begun(alloc, &names)? {
+        Some(config) => whole(alloc, party, config),
+        None => Ok(None),
+    }
 }
 
 fn guessed(alloc: Global, party: Name) -> Result<Vec<u8>, OutOfMemory> {
-    let event = Event::Mine { blocks: 2 };
-    guessed_text(alloc, &header(alloc, party)?, &[], &event, &party, &party)
+    let ending = Ending::Guessed {
+        event: Event::Mine { blocks: 2 },
+        party,
+        secret: party,
+    };
+    report(alloc, &header(alloc, party)?, &[], &ending)
 }
 
-fn collided(alloc: Global, party: Name) -> Result<Vec<u8>, OutOfMemory> {
-    let event = Event::Mine { blocks: 2 };
-    collided_text(alloc, &header(alloc, party)?, &[], &event, &[1], &[2])
+fn collided(alloc: Global, party: Name, event: Option<Event>) -> Result<Vec<u8>, OutOfMemory> {
+    let ending = Ending::Collided {
+        event,
+        first: Bytes::from_slice(alloc, &[1])?,
+        second: Bytes::from_slice(alloc, &[2])?,
+    };
+    report(alloc, &header(alloc, party)?, &[], &ending)
 }
+
+const GIVEN: &str = "start #0 A 100
+event 1 give A #0 -> A 60 A 30
+accepted spends #0 makes #1 60 #2 30 lock 0
+step authmove A
+step move #0 -> A 60 A 30
+end
+tip 5
+live #1 60
+time 0
+";
+
+const OPENED: &str = "deposit #0 A 100
+offer fire init 0
+";
+
+const COMMITTED: &str = "contract #2 0 r 100
+secret 0 A a 16 hidden
+offer fire init 0
+";
 
 #[test]
 fn lines_are_those_worked_by_hand(rt: HostRuntime) -> Result<(), Fail> {
     let alloc = rt.alloc();
     let party = Name::new(b"A").ok_or("no name")?;
+    let event = Event::Mine { blocks: 2 };
     let texts = [
-        (started(alloc, party)?, "start #0 A 100\n"),
-        (
-            played(alloc, party)?,
-            "event 1 give A #0 -> A 60 A 30\naccepted spends #0 makes #1 60 #2 30 lock 0\nstep authmove A\nstep move #0 -> A 60 A 30\n",
-        ),
-        (
-            end(alloc, party)?,
-            "end\ntip 5\nlive #1 60\ntime 5\ndeposit #1 A 60\ncontract #3 0 r 7\noffer fire init 0\n",
-        ),
-        (
-            secrets(alloc, party)?,
-            "secret 0 A A 20 revealed\nsecret 0 A A 20 hidden\n",
-        ),
+        (opened(alloc, party)?.ok_or("none")?, GIVEN, OPENED),
+        (committed(alloc, party)?.ok_or("none")?, GIVEN, COMMITTED),
         (
             guessed(alloc, party)?,
-            "start #0 A 100\nevent 1 mine 2\nguessed A A\n",
+            "start #0 A 100\nevent 1 mine 2\n",
+            "guessed A A\n",
         ),
         (
-            collided(alloc, party)?,
-            "start #0 A 100\nevent 1 mine 2\ncollided 01 02\n",
-        ),
-        (
-            collided_opening_text(alloc, &[1], &[2])?,
+            collided(alloc, party, Some(event))?,
+            "start #0 A 100\nevent 1 mine 2\n",
             "collided 01 02\n",
         ),
+        (collided(alloc, party, None)?, "", "collided 01 02\n"),
     ];
-    for (text, wanted) in &texts {
+    for (text, front, back) in &texts {
+        let wanted = format!(in alloc; "{front}{back}")?;
         assert!(rt; text.as_slice() == wanted.as_bytes(), "{wanted}");
     }
     Ok(())

@@ -22,7 +22,7 @@ fn contract(alloc: Global) -> Option<Checked> {
 }
 
 #[derive(Clone, Copy)]
-struct Names {
+pub(crate) struct Names {
     a: Name,
     b: Name,
     x: Name,
@@ -30,7 +30,7 @@ struct Names {
     secret: Name,
 }
 
-fn all_names() -> Option<Names> {
+pub(crate) fn all_names() -> Option<Names> {
     Some(Names {
         a: Name::new(b"A")?,
         b: Name::new(b"B")?,
@@ -73,7 +73,7 @@ fn beginning(alloc: Global, names: &Names) -> Result<[Step; 6], OutOfMemory> {
 }
 
 // The configuration in which the contract has begun.
-fn begun(alloc: Global, names: &Names) -> Result<Option<Config>, OutOfMemory> {
+pub(crate) fn begun(alloc: Global, names: &Names) -> Result<Option<Config>, OutOfMemory> {
     let Some(checked) = contract(alloc) else {
         return Ok(None);
     };

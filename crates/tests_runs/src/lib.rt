@@ -7,6 +7,8 @@ mod copies;
 #[cfg(test)]
 mod exchange;
 #[cfg(test)]
+mod made;
+#[cfg(test)]
 mod report;
 #[cfg(test)]
 mod run_files;

@@ -21,7 +21,7 @@ fn contract(alloc: Global) -> Option<Checked> {
 }
 
 #[derive(Clone, Copy)]
-struct Names {
+pub(crate) struct Names {
     a: Name,
     b: Name,
     x: Name,
@@ -29,7 +29,7 @@ struct Names {
     secret: Name,
 }
 
-fn all_names() -> Option<Names> {
+pub(crate) fn all_names() -> Option<Names> {
     Some(Names {
         a: Name::new(b"A")?,
         b: Name::new(b"B")?,
@@ -132,6 +132,18 @@ fn begins(alloc: Global, names: &Names, config: &mut Config) -> Result<bool, Out
     Ok(true)
 }
 
+// The configuration in which the contract has begun.
+pub(crate) fn begun(alloc: Global, names: &Names) -> Result<Option<Config>, OutOfMemory> {
+    let Some(contract) = contract(alloc) else {
+        return Ok(None);
+    };
+    let mut config = opened(alloc, names, contract)?;
+    if begins(alloc, names, &mut config)? {
+        return Ok(Some(config));
+    }
+    Ok(None)
+}
+
 // Whether the secret gives it back.
 fn gives_back(names: &Names, config: &mut Config) -> bool {
     for row in 0..3 {
@@ -151,9 +163,7 @@ fn gives_away(config: &mut Config) -> bool {
 fn the_secret_or_the_time_decides(rt: HostRuntime) -> Result<(), Fail> {
     let alloc = rt.alloc();
     let names = all_names().ok_or("no names")?;
-    let contract = contract(alloc).ok_or("no contract")?;
-    let mut back = opened(alloc, &names, contract)?;
-    assert!(rt; begins(alloc, &names, &mut back)?);
+    let mut back = begun(alloc, &names)?.ok_or("not begun")?;
     let mut away = back.copy(alloc)?;
     assert!(rt; gives_back(&names, &mut back) && gives_away(&mut away));
     assert!(rt; back.deposit(4) == Some((&Owner::Party(names.a), 100)));

@@ -1,2 +1,3 @@
 pub mod Unsigned
 pub mod Gates
+pub mod Pairs

@@ -51,8 +51,12 @@ fn seen_by_nodes<'a>(arena: &'a Arena, path: &Path) -> Option<(&'a [Name], &'a [
     seen(arena.node(number)?)
 }
 
-// The same in a checked contract: each deposit that a branch puts is a volatile one.
-fn seen_at<'a>(checked: &Checked, arena: &'a Arena, path: &Path) -> Option<(&'a [Name], &'a [Name])>
+/// The same in a checked contract: each deposit that a branch puts is a volatile one.
+pub(crate) fn seen_at<'a>(
+    checked: &Checked,
+    arena: &'a Arena,
+    path: &Path,
+) -> Option<(&'a [Name], &'a [Name])>
     requires { arena.now ≡ nodes_of checked.now.root }
     ensures seen { option_map (λ p. (p.0.now, p.1.now)) result ≡ seen_branch (at checked.now.root path.now) }
     ensures known { IfSome result (λ p. list_all (λ name. is_among name (names_of (volatile checked.now.pre))) p.1.now ≡ true) }

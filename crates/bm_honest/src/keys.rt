@@ -2,7 +2,8 @@
 
 ghost use Rattle.std.specs.Prelude.{◌≡◌, ◌∷◌, IfOk};
 ghost use Rattle.spec_bitcoin.specs.Keys as spec;
-ghost use Rattle.spec_compiler.specs.Instance.{branch_label, deposit_key};
+ghost use Rattle.spec_compiler.specs.Instance as instance;
+ghost use Rattle.spec_compiler.specs.Instance.{branch_label};
 
 use bm_book::Book;
 use bm_hash::Hash32;
@@ -21,19 +22,41 @@ fn key_with(digest: &[u8; 32]) -> [u8; 33]
     key
 }
 
-// Whether the key of a label has signed the digest.
-fn label_signed<H: Hash32>(
-    alloc: Global,
-    hash: &H,
-    book: &Book,
-    label: &Label,
-    digest: &[u8; 32],
-) -> Result<bool, OutOfMemory>
-    ensures { IfOk result (λ signed. signed ≡ spec.has_signed book.now (spec.key_of (H.digest_of hash.now) label.now) digest.now) }
+// The key of a label.
+fn label_key<H: Hash32>(alloc: Global, hash: &H, label: &Label) -> Result<[u8; 33], OutOfMemory>
+    ensures { IfOk result (λ key. key ≡ spec.key_of (H.digest_of hash.now) label.now) }
 {
     let text = label_text(alloc, label)?;
-    let key = key_with(&hash.hash32(&text));
-    Ok(book.has(&key, digest))
+    Ok(key_with(&hash.hash32(&text)))
+}
+
+/// A participant's key of a branch.
+pub(crate) fn branch_key<H: Hash32>(
+    alloc: Global,
+    hash: &H,
+    contract: u32,
+    path: &Path,
+    party: &Name,
+) -> Result<[u8; 33], OutOfMemory>
+    ensures { IfOk result (λ key. key ≡ spec.key_of (H.digest_of hash.now) (branch_label contract path.now party.now)) }
+{
+    let label = Label::Branch {
+        contract,
+        path: path.copy(alloc)?,
+        party: *party,
+    };
+    label_key(alloc, hash, &label)
+}
+
+/// A party's key of its deposits.
+pub(crate) fn deposit_key<H: Hash32>(
+    alloc: Global,
+    hash: &H,
+    party: &Name,
+) -> Result<[u8; 33], OutOfMemory>
+    ensures { IfOk result (λ key. key ≡ instance.deposit_key (H.digest_of hash.now) party.now) }
+{
+    label_key(alloc, hash, &Label::Deposit { party: *party })
 }
 
 /// Whether a participant's key of a branch has signed the digest.
@@ -49,12 +72,8 @@ pub(crate) fn branch_signed<H: Hash32>(
     ensures { IfOk result (λ signed. signed
         ≡ spec.has_signed book.now (spec.key_of (H.digest_of hash.now) (branch_label contract path.now party.now)) digest.now) }
 {
-    let label = Label::Branch {
-        contract,
-        path: path.copy(alloc)?,
-        party: *party,
-    };
-    label_signed(alloc, hash, book, &label, digest)
+    let key = branch_key(alloc, hash, contract, path, party)?;
+    Ok(book.has(&key, digest))
 }
 
 /// Whether a party's key of its deposits has signed the digest.
@@ -66,8 +85,8 @@ pub(crate) fn deposit_signed<H: Hash32>(
     digest: &[u8; 32],
 ) -> Result<bool, OutOfMemory>
     ensures { IfOk result (λ signed. signed
-        ≡ spec.has_signed book.now (deposit_key (H.digest_of hash.now) party.now) digest.now) }
+        ≡ spec.has_signed book.now (instance.deposit_key (H.digest_of hash.now) party.now) digest.now) }
 {
-    let label = Label::Deposit { party: *party };
-    label_signed(alloc, hash, book, &label, digest)
+    let key = deposit_key(alloc, hash, party)?;
+    Ok(book.has(&key, digest))
 }

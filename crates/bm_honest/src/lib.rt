@@ -3,6 +3,7 @@
 #![tactic(auto)]
 
 mod branches;
+mod endorsing;
 mod gate;
 mod keys;
 mod needs;
@@ -11,6 +12,7 @@ pub use bm_book::Book;
 pub use bm_compile::Compiled;
 pub use bm_hash::Hash32;
 pub use bm_wellformed::Checked;
+pub use endorsing::{Pair, endorsing_pairs};
 pub use gate::{Gate, may};
 pub use spec_compiler::Prepared;
 pub use spec_data::{Name, OutOfMemory};

@@ -57,8 +57,8 @@ pub(crate) fn first_person<H: Hash32>(
     Ok(None)
 }
 
-// The owner of the volatile deposit of this name.
-fn owner_of(pre: &[Pre], name: &Name) -> Name
+/// The owner of the volatile deposit of this name.
+pub(crate) fn owner_of(pre: &[Pre], name: &Name) -> Name
     requires { is_among name.now (names_of (volatile pre.now)) ≡ true }
     ensures { result ≡ owner_in pre.now name.now }
 {

@@ -1,7 +1,9 @@
 -- A position has no more branches than its contract has nodes, and its node has a number for each.
-use Rattle.std.proofs.Common.{◌≡◌, ℕ, ◌+◌, suc, ◌≤◌, List, [], ◌∷◌, ◌++◌, length, true, Option, Some, None, refl, sym, ap, subst, ◌∙◌, arith, length-append}
+use Rattle.std.proofs.Common.{◌≡◌, ℕ, ◌+◌, suc, ◌≤◌, List, [], ◌∷◌, ◌++◌, length, true, Option, Some, None}
+use Rattle.std.proofs.Common.{refl, sym, ap, subst, ◌∙◌, arith, length-append}
 use Rattle.std.specs.Prelude.{nat_le, slice_get, min, Bool}
-use Rattle.spec_terms.specs.Term.{Guarded, auth, after, put_reveal, withdraw, split, Contract, no_branch, branch, branches, Parts, no_part, part}
+use Rattle.spec_terms.specs.Term.{Guarded, auth, after, put_reveal, withdraw, split, Contract, no_branch, branch}
+use Rattle.spec_terms.specs.Term.{branches, Parts, no_part, part}
 use Rattle.spec_terms.specs.Paths.{Subterm, position, at_branch, contract_under}
 use Rattle.spec_terms.specs.declared.path.PathStep.{PathStep}
 use Rattle.spec_terms.specs.declared.path.PathStep.TheVariants.{Branch as To, Part as Into}
@@ -16,7 +18,8 @@ use Rattle.bm_match.specs.Matches.{branches_in}
 
 -- ---- each branch has a node
 
-some_node : (path : List PathStep) (n : ℕ) (asked : List (List ℕ)) (height : ℕ) (b : Guarded) → 1 ≤ length (branch_nodes path n asked height b)
+some_node : (path : List PathStep) (n : ℕ) (asked : List (List ℕ)) (height : ℕ) (b : Guarded)
+    → 1 ≤ length (branch_nodes path n asked height b)
 some_node path n asked height (auth party body) = some_node path n asked height body
 some_node path n asked height (after h body) = some_node path n asked height body
 some_node path n asked height (put_reveal puts reveals test next) = omega arith
@@ -27,7 +30,8 @@ some_node path n asked height (split parts) = omega arith
 parted : (q : List PathStep) (i n : ℕ) (b : Guarded) (bs : Contract)
     → length (branches_nodes q i n (branch b bs))
     ≡ length (branch_nodes (q ++ To i ∷ []) n (asks_once b) (lock b) b) + length (branches_nodes q (i + 1) (n + branch_count b) bs)
-parted q i n b bs = length-append (branch_nodes (q ++ To i ∷ []) n (asks_once b) (lock b) b) (branches_nodes q (i + 1) (n + branch_count b) bs)
+parted q i n b bs =
+    length-append (branch_nodes (q ++ To i ∷ []) n (asks_once b) (lock b) b) (branches_nodes q (i + 1) (n + branch_count b) bs)
 
 few_branches : (q : List PathStep) (i n : ℕ) (c : Contract) → length (branches c) ≤ length (branches_nodes q i n c)
 few_branches q i n no_branch = omega arith
@@ -45,7 +49,8 @@ module _ (most : ℕ) where
   has_few (position c) = nat_le (length (branches c)) most
   has_few (at_branch b) = true
 
-  few_here : (q : List PathStep) (i n : ℕ) (c : Contract) → length (branches_nodes q i n c) ≤ most → nat_le (length (branches c)) most ≡ true
+  few_here : (q : List PathStep) (i n : ℕ) (c : Contract) → length (branches_nodes q i n c) ≤ most
+      → nat_le (length (branches c)) most ≡ true
   few_here q i n c h =
       let k = few_branches q i n c in
       let l : length (branches c) ≤ most = omega (arith, h, k) in

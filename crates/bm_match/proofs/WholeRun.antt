@@ -1,5 +1,5 @@
 -- What a transaction is to all contracts of a run, by what they are compiled to.
-use Rattle.std.proofs.Common.{◌≡◌, ℕ, zero, suc, ◌+◌, List, [], ◌∷◌, length, cond, Option, Some, None, refl, sym, ap, subst, ◌∙◌, arith, zero-add}
+use Rattle.std.proofs.Common.{◌≡◌, ℕ, zero, suc, ◌+◌, List, [], ◌∷◌, Option, Some, None, refl, ap, ◌∙◌, arith, zero-add}
 use Rattle.std.specs.Prelude.{slice_get, Bool}
 use Rattle.std.specs.Option.{option_map}
 use Rattle.spec_terms.specs.Advert.{Advert}

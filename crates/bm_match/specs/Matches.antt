@@ -1,5 +1,6 @@
 -- What a transaction is to the contracts of a run that are compiled.
-use Rattle.std.specs.Prelude.{◌≡◌, ℕ, ◌+◌, List, [], ◌∷◌, length, Bool, true, false, if◌then◌else◌, Option, Some, None, option_map, slice_get}
+use Rattle.std.specs.Prelude.{◌≡◌, ℕ, ◌+◌, List, [], ◌∷◌, length, Bool, true, false, if◌then◌else◌}
+use Rattle.std.specs.Prelude.{Option, Some, None, option_map, slice_get}
 use Rattle.std.specs.Option.{option_and_then}
 use Rattle.spec_terms.specs.Term.{Contract}
 use Rattle.spec_terms.specs.Advert.{Advert}
@@ -67,7 +68,8 @@ first_begun tx k (c ∷ cs) = if begins tx c then Some k else first_begun tx (k 
 
 -- the nodes of the contract of this number, where it is compiled
 abbrev pub nodes_at : List (Option Numbered) → ℕ → Option (List Node)
-nodes_at compiled contract = option_map (λ (n : Numbered). n.nodes) (option_and_then (λ (o : Option Numbered). o) (slice_get compiled contract))
+nodes_at compiled contract =
+    option_map (λ (n : Numbered). n.nodes) (option_and_then (λ (o : Option Numbered). o) (slice_get compiled contract))
 
 -- a kind of the definitions
 abbrev pub seen_kind : Kind → Match

@@ -23,7 +23,8 @@ filter-twice f g [] = refl
 filter-twice f g (x ∷ xs) = by_test (g x) (filter-twice f g xs)
   where
     by_test : (b : Bool) → filter f (filter g xs) ≡ filter (λ y. g y && f y) xs
-        → filter f (cond b (x ∷ filter g xs) (filter g xs)) ≡ cond (b && f x) (x ∷ filter (λ y. g y && f y) xs) (filter (λ y. g y && f y) xs)
+        → filter f (cond b (x ∷ filter g xs) (filter g xs))
+        ≡ cond (b && f x) (x ∷ filter (λ y. g y && f y) xs) (filter (λ y. g y && f y) xs)
     by_test true e = ap (λ ys. cond (f x) (x ∷ ys) ys) e
     by_test false e = e
 
@@ -72,11 +73,13 @@ new_party names party owners h =
         ∙ sym (ap not (list_any-append (λ t. bytes_eq t x) names (party ∷ [])))
 
 -- the next owner
-new_owner : (names : List (List ℕ)) (owner : Owner) (owners : List Owner) → and_new names (owner ∷ owners) ≡ and_new (with_owner names owner) owners
+new_owner : (names : List (List ℕ)) (owner : Owner) (owners : List Owner)
+    → and_new names (owner ∷ owners) ≡ and_new (with_owner names owner) owners
 new_owner names Outside owners = refl
 new_owner names (Party party) owners = by_test (is_among party names) refl
   where
-    by_test : (b : Bool) → is_among party names ≡ b → and_new names (Party party ∷ owners) ≡ and_new (cond b names (names ++ party ∷ [])) owners
+    by_test : (b : Bool) → is_among party names ≡ b
+        → and_new names (Party party ∷ owners) ≡ and_new (cond b names (names ++ party ∷ [])) owners
     by_test true e = new_known names party owners e
     by_test false e = new_party names party owners e
 

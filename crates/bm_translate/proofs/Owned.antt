@@ -22,5 +22,6 @@ outputs_are : (s : Setup) (paid : List (List ℕ × List ℕ)) (outputs : List T
 outputs_are s paid [] e = refl
 outputs_are s paid (o ∷ os) e = rw (owner_is s paid o.script e, outputs_are s paid os e) refl
 
-pub move_is : (s : Setup) (paid : List (List ℕ × List ℕ)) (tx : Tx) (spent : List ℕ) → paid ≡ paid_list s → move_by paid tx spent ≡ move_of s tx spent
+pub move_is : (s : Setup) (paid : List (List ℕ × List ℕ)) (tx : Tx) (spent : List ℕ) → paid ≡ paid_list s
+    → move_by paid tx spent ≡ move_of s tx spent
 move_is s paid tx spent e = ap (λ outputs. record { inputs = spent; outputs = outputs }) (outputs_are s paid tx.outputs e)

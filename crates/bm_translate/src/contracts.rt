@@ -164,7 +164,8 @@ pub fn branch_steps(
         ≡ map (spec.auth_branch output branch) (filter (awaited authorised.now output branch asked.now) people.now)
         ++ deed_step output branch (deed_view core.now) ∷ []) }
     ensures defined { (g : Configuration) (b : Guarded) (n : ℕ) → g.branch_authorised ≡ authorised.now → asked.now ≡ asks_once b
-        → deed_view core.now ≡ deed_of n (core_of b) → IfOk result (λ made. made.items ≡ spec.branch_steps g people.now output branch (Some b)) }
+        → deed_view core.now ≡ deed_of n (core_of b)
+        → IfOk result (λ made. made.items ≡ spec.branch_steps g people.now output branch (Some b)) }
 {
     let mut made = agreements(alloc, authorised, people, output, branch, asked)?;
     made.push(core_step(core, output, branch))?;

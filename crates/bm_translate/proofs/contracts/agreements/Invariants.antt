@@ -7,5 +7,6 @@ use Rattle.bm_translate.proofs.contracts.agreements.Given as goal
 -- those so far, and those of the rest, are all
 abbrev pub invariant-loop-party : goal.invariant-loop-party
 invariant-loop-party l =
-    l.made.items ++ map (auth_branch l.output l.branch) (filter (awaited l.authorised l.output l.branch l.asked) (drop l.party-index l.people))
+    l.made.items
+    ++ map (auth_branch l.output l.branch) (filter (awaited l.authorised l.output l.branch l.asked) (drop l.party-index l.people))
     ≡ map (auth_branch l.output l.branch) (filter (awaited l.authorised l.output l.branch l.asked) l.people)

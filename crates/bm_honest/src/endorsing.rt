@@ -1,0 +1,262 @@
+//! What a party signs to endorse a contract.
+
+ghost use Rattle.std.specs.Prelude.{◌≡◌, ◌++◌, ◌∷◌, [], IfOk, OnOk, true};
+ghost use Rattle.std.specs.List.{list_all};
+ghost use Rattle.spec_data.specs.Lists.{is_among};
+ghost use Rattle.spec_terms.specs.Precondition.{names_of, volatile};
+ghost use Rattle.spec_compiler.specs.Instance.{Instance};
+ghost use Rattle.spec_compiler.specs.Endorsements.{needs, needed};
+ghost use Rattle.spec_nodes.specs.Nodes.{nodes_of};
+ghost use Rattle.spec_run.specs.Signing.{pairs_of_party};
+ghost use Rattle.bm_compile.specs.Numbered.{numbered};
+ghost use Rattle.bm_honest.specs.Pairs.{person_pairs, owner_pairs, pairs_for, pairs_at, pairs_of_paths};
+
+use crate::branches::seen_at;
+use crate::keys::{branch_key, deposit_key};
+use crate::needs::owner_of;
+use bm_arena::Arena;
+use bm_compile::Compiled;
+use bm_hash::Hash32;
+use bm_wellformed::Checked;
+use spec_compiler::Prepared;
+use spec_data::{Name, OutOfMemory};
+use spec_terms::{Path, Pre};
+use std::alloc::Global;
+
+/// A key and the digest that it signs.
+pub type Pair = ([u8; 33], [u8; 32]);
+
+// The pair of a participant that is the party, unless the branch asks it.
+fn put_person<H: Hash32>(
+    alloc: Global,
+    hash: &H,
+    pairs: &mut Vec<Pair>,
+    contract: u32,
+    path: &Path,
+    asked: &[Name],
+    digest: &[u8; 32],
+    party: &Name,
+    person: &Name,
+) -> Result<(), OutOfMemory>
+    ensures { OnOk result (pairs.new.items ≡ pairs.old.items
+        ++ person_pairs (H.digest_of hash.now) contract path.now asked.now digest.now party.now (person.now ∷ [])) }
+{
+    if asked.contains(person) {
+        return Ok(());
+    }
+    if *person == *party {
+        let key = branch_key(alloc, hash, contract, path, person)?;
+        pairs.push((key, *digest))?;
+    }
+    Ok(())
+}
+
+// The pairs of the participants that are the party, unless the branch asks it.
+fn put_people<H: Hash32>(
+    alloc: Global,
+    hash: &H,
+    pairs: &mut Vec<Pair>,
+    contract: u32,
+    path: &Path,
+    asked: &[Name],
+    digest: &[u8; 32],
+    party: &Name,
+    people: &[Name],
+) -> Result<(), OutOfMemory>
+    ensures { OnOk result (pairs.new.items ≡ pairs.old.items
+        ++ person_pairs (H.digest_of hash.now) contract path.now asked.now digest.now party.now people.now) }
+{
+    for person in people {
+        put_person(
+            alloc, hash, pairs, contract, path, asked, digest, party, person,
+        )?;
+    }
+    Ok(())
+}
+
+// The pair of the deposit of this name, if it is the party's.
+fn put_owner<H: Hash32>(
+    alloc: Global,
+    hash: &H,
+    pairs: &mut Vec<Pair>,
+    pre: &[Pre],
+    party: &Name,
+    name: &Name,
+    digest: &[u8; 32],
+) -> Result<(), OutOfMemory>
+    requires { is_among name.now (names_of (volatile pre.now)) ≡ true }
+    ensures { OnOk result (pairs.new.items ≡ pairs.old.items
+        ++ owner_pairs (H.digest_of hash.now) pre.now party.now (name.now ∷ []) (digest.now ∷ [])) }
+{
+    let owner = owner_of(pre, name);
+    if owner == *party {
+        let key = deposit_key(alloc, hash, &owner)?;
+        pairs.push((key, *digest))?;
+    }
+    Ok(())
+}
+
+// The pairs of those of these deposits that are the party's.
+fn put_owners<H: Hash32>(
+    alloc: Global,
+    hash: &H,
+    pairs: &mut Vec<Pair>,
+    pre: &[Pre],
+    party: &Name,
+    puts: &[Name],
+    digests: &[[u8; 32]],
+) -> Result<(), OutOfMemory>
+    requires { list_all (λ name. is_among name (names_of (volatile pre.now))) puts.now ≡ true }
+    ensures { OnOk result (pairs.new.items ≡ pairs.old.items
+        ++ owner_pairs (H.digest_of hash.now) pre.now party.now puts.now digests.now) }
+{
+    let mut rest = digests;
+    for put in puts {
+        let Some((digest, others)) = rest.split_first() else {
+            return Ok(());
+        };
+        put_owner(alloc, hash, pairs, pre, party, put, digest)?;
+        rest = others;
+    }
+    Ok(())
+}
+
+// The pairs of the participants that are the party, and then those of its deposits.
+fn put_both<H: Hash32>(
+    alloc: Global,
+    hash: &H,
+    pairs: &mut Vec<Pair>,
+    contract: u32,
+    people: &[Name],
+    pre: &[Pre],
+    path: &Path,
+    party: &Name,
+    asked: &[Name],
+    puts: &[Name],
+    digest: &[u8; 32],
+    others: &[[u8; 32]],
+) -> Result<(), OutOfMemory>
+    requires { list_all (λ name. is_among name (names_of (volatile pre.now))) puts.now ≡ true }
+    ensures { OnOk result (pairs.new.items ≡ pairs.old.items
+        ++ (person_pairs (H.digest_of hash.now) contract path.now asked.now digest.now party.now people.now
+        ++ owner_pairs (H.digest_of hash.now) pre.now party.now puts.now others.now)) }
+{
+    put_people(
+        alloc, hash, pairs, contract, path, asked, digest, party, people,
+    )?;
+    put_owners(alloc, hash, pairs, pre, party, puts, others)?;
+    Ok(())
+}
+
+// What the party signs for a branch which asks and puts these, by the digests of its transaction's inputs.
+fn put_branch<H: Hash32>(
+    alloc: Global,
+    hash: &H,
+    pairs: &mut Vec<Pair>,
+    contract: u32,
+    checked: &Checked,
+    path: &Path,
+    party: &Name,
+    asked: &[Name],
+    puts: &[Name],
+    digests: &[[u8; 32]],
+) -> Result<(), OutOfMemory>
+    requires { list_all (λ name. is_among name (names_of (volatile checked.now.pre))) puts.now ≡ true }
+    ensures { OnOk result (pairs.new.items ≡ pairs.old.items
+        ++ pairs_for (H.digest_of hash.now) contract checked.now path.now party.now asked.now puts.now digests.now) }
+{
+    let Some((digest, others)) = digests.split_first() else {
+        return Ok(());
+    };
+    put_both(
+        alloc,
+        hash,
+        pairs,
+        contract,
+        checked.parties(),
+        &checked.advert().pre,
+        path,
+        party,
+        asked,
+        puts,
+        digest,
+        others,
+    )
+}
+
+// What the party signs of the path of a branch.
+#[tactic(auto, using(crate::proofs::Endorsed::path_pairs))]
+fn put_path<H: Hash32>(
+    alloc: Global,
+    hash: &H,
+    pairs: &mut Vec<Pair>,
+    contract: u32,
+    checked: &Checked,
+    arena: &Arena,
+    party: &Name,
+    path: &Path,
+    made: &Prepared,
+) -> Result<(), OutOfMemory>
+    requires { arena.now ≡ nodes_of checked.now.root }
+    ensures { OnOk result (pairs.new.items ≡ pairs.old.items
+        ++ pairs_at (H.digest_of hash.now) contract checked.now party.now path.now made.now) }
+{
+    let Some((asked, puts)) = seen_at(checked, arena, path) else {
+        return Ok(());
+    };
+    let digests = made.digests.as_slice();
+    put_branch(
+        alloc, hash, pairs, contract, checked, path, party, asked, puts, digests,
+    )
+}
+
+// What the party signs of these paths.
+fn pairs_by_paths<H: Hash32>(
+    alloc: Global,
+    hash: &H,
+    contract: u32,
+    checked: &Checked,
+    arena: &Arena,
+    party: &Name,
+    paths: &[(Path, Prepared)],
+) -> Result<Vec<Pair>, OutOfMemory>
+    requires { arena.now ≡ nodes_of checked.now.root }
+    ensures { IfOk result (λ pairs. pairs.items
+        ≡ pairs_of_paths (H.digest_of hash.now) contract checked.now party.now paths.now) }
+{
+    let mut pairs = Vec::new(alloc);
+    for (path, made) in paths {
+        put_path(
+            alloc, hash, &mut pairs, contract, checked, arena, party, path, made,
+        )?;
+    }
+    Ok(pairs)
+}
+
+/// What a party signs to endorse a contract of this number, with its keys by this hash: of all that the contract needs, what
+/// is the party's, in the same order. The contract is compiled to `compiled`.
+pub fn endorsing_pairs<H: Hash32>(
+    alloc: Global,
+    hash: &H,
+    checked: &Checked,
+    contract: u32,
+    compiled: &Compiled,
+    party: &Name,
+) -> Result<Vec<Pair>, OutOfMemory>
+    requires { compiled.now.nodes ≡ nodes_of checked.now.root }
+    ensures pairs { IfOk result (λ pairs. pairs.items
+        ≡ pairs_of_party party.now (needs (H.digest_of hash.now) contract checked.now compiled.now.paths)) }
+    ensures defined { (s : Instance) → compiled.now ≡ numbered (H.digest_of hash.now) s → s.contract ≡ contract → s.advert ≡ checked.now
+        → IfOk result (λ pairs. pairs.items ≡ pairs_of_party party.now (needed (H.digest_of hash.now) s)) }
+{
+    let pairs = pairs_by_paths(
+        alloc,
+        hash,
+        contract,
+        checked,
+        compiled.arena(),
+        party,
+        compiled.paths(),
+    )?;
+    Ok(pairs)
+}

@@ -121,7 +121,8 @@ impl Compiled {
 
     /// The transaction of the branch whose node has this number, `None` where the node is a choice or isn't there.
     pub fn transaction(&self, number: u32) -> Option<&Prepared>
-        ensures by_node { option_map (λ p. p.now) result ≡ option_and_then (spec.transaction_of self.now.paths) (slice_get self.now.nodes number) }
+        ensures by_node { option_map (λ p. p.now) result
+            ≡ option_and_then (spec.transaction_of self.now.paths) (slice_get self.now.nodes number) }
         ensures compiled { (hash : List ℕ → List ℕ) (s : Instance) → self.now ≡ spec.numbered hash s
             → option_map (λ p. p.now) result ≡ option_and_then (spec.compiled_transaction hash s) (slice_get self.now.nodes number) }
     {
@@ -131,7 +132,8 @@ impl Compiled {
 
     /// The script of the position whose choice has this number, `None` where the node is a branch or isn't there.
     pub fn script(&self, number: u32) -> Option<&Bytes>
-        ensures by_node { option_map (λ b. b.now) result ≡ option_and_then (spec.script_of self.now.scripts) (slice_get self.now.nodes number) }
+        ensures by_node { option_map (λ b. b.now) result
+            ≡ option_and_then (spec.script_of self.now.scripts) (slice_get self.now.nodes number) }
         ensures compiled { (hash : List ℕ → List ℕ) (s : Instance) → self.now ≡ spec.numbered hash s
             → option_map (λ b. b.now) result ≡ option_and_then (spec.compiled_script hash s) (slice_get self.now.nodes number) }
     {

@@ -62,7 +62,8 @@ fn party_keys<H: Hash32 + Drop>(
     requires clear { evidence_of (H.digest_of trail.old.hasher) trail.old.messages ≡ None }
     ensures keys { let hash = H.digest_of trail.old.hasher in
         IfOk result (λ keys. keys ≡ map (λ party. key_of hash (branch_label contract path.now party)) parties.now) }
-    ensures trail { Hashes H.digest_of trail.old trail.new (map (λ party. label_text (branch_label contract path.now party)) parties.now) result }
+    ensures trail { Hashes H.digest_of trail.old trail.new
+        (map (λ party. label_text (branch_label contract path.now party)) parties.now) result }
 {
     let mut keys = Seq::new(alloc);
     for party in parties {
@@ -133,7 +134,8 @@ pub(crate) fn key_table<H: Hash32 + Drop>(
     requires clear { evidence_of (H.digest_of trail.old.hasher) trail.old.messages ≡ None }
     ensures keys { let hash = H.digest_of trail.old.hasher in
         IfOk result (λ table. table ≡ map (λ node. keys_of_node hash setting.now (node_view node)) nodes.now) }
-    ensures trail { Hashes H.digest_of trail.old trail.new (flat_map (λ node. labels_of_node setting.now (node_view node)) nodes.now) result }
+    ensures trail { Hashes H.digest_of trail.old trail.new
+        (flat_map (λ node. labels_of_node setting.now (node_view node)) nodes.now) result }
 {
     let mut table = Seq::new(alloc);
     for node in nodes {

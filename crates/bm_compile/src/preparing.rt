@@ -85,7 +85,8 @@ fn digests_of<H: Hash32 + Drop>(
     requires lists { lists.now ≡ hashes_of (H.digest_of trail.old.hasher) tx.now }
     requires clear { evidence_of (H.digest_of trail.old.hasher) trail.old.messages ≡ None }
     ensures digests { IfOk result (λ ds. ds ≡ map (spec.digest_of_spent (H.digest_of trail.old.hasher) tx.now) spends.now) }
-    ensures trail { Hashes H.digest_of trail.old trail.new (flat_map (spent_strings (H.digest_of trail.old.hasher) tx.now) spends.now) result }
+    ensures trail { Hashes H.digest_of trail.old trail.new
+        (flat_map (spent_strings (H.digest_of trail.old.hasher) tx.now) spends.now) result }
 {
     let mut digests = Seq::new(alloc);
     for spent in spends {

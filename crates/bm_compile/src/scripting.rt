@@ -10,7 +10,8 @@ ghost use Rattle.theory_nodes.specs.Walk.{deed_demands, node_demands};
 ghost use Rattle.bm_hash.specs.Messages.{evidence_of};
 ghost use Rattle.bm_hash.specs.Trails.{Hashes};
 ghost use Rattle.bm_arena.specs.NodeView.{node_view, deed_view};
-ghost use Rattle.bm_compile.specs.Passes.{keys_of_node, choice_script, script_of_node, scripts_of_node, has_short_reveals, are_short_reveals};
+ghost use Rattle.bm_compile.specs.Passes.{keys_of_node, choice_script, script_of_node, scripts_of_node};
+ghost use Rattle.bm_compile.specs.Passes.{has_short_reveals, are_short_reveals};
 
 use crate::setting::Setting;
 use bm_arena::{Core, Node};
@@ -172,7 +173,8 @@ pub(crate) fn script_table<H: Hash32 + Drop>(
     ensures scripts { let hash = H.digest_of trail.old.hasher in
         IfOk result (λ table. table ≡ map (λ node. script_of_node hash setting.now (map node_view nodes.now) (node_view node)) nodes.now) }
     ensures trail { let hash = H.digest_of trail.old.hasher in
-        Hashes H.digest_of trail.old trail.new (flat_map (λ node. scripts_of_node hash setting.now (map node_view nodes.now) (node_view node)) nodes.now) result }
+        Hashes H.digest_of trail.old trail.new
+        (flat_map (λ node. scripts_of_node hash setting.now (map node_view nodes.now) (node_view node)) nodes.now) result }
 {
     let mut scripts = Seq::new(alloc);
     for node in nodes {

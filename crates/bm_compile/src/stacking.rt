@@ -104,7 +104,8 @@ pub(crate) fn push_waits(
     core: &Core,
 ) -> Result<(), OutOfMemory>
     ensures { (hash : List ℕ → List ℕ) (d : Made) → txid ≡ txid_of hash (tx_of d)
-        → OnOk result (reverse stack.new.items ≡ spec.deed_waits hash setting.now d balance (deed_view core.now) ++ reverse stack.old.items) }
+        → OnOk result (reverse stack.new.items
+        ≡ spec.deed_waits hash setting.now d balance (deed_view core.now) ++ reverse stack.old.items) }
 {
     match core {
         Core::PutReveal { puts, next, .. } => push_next(setting, stack, txid, balance, puts, *next),

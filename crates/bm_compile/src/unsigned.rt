@@ -217,7 +217,8 @@ pub(crate) fn branch_unsigned<H: Hash32>(
     core: &Core,
 ) -> Result<Unsigned, OutOfMemory>
     ensures { let deed = deed_view core.now in
-        IfOk result (λ made. made ≡ walk.node_unsigned (H.digest_of hasher.now) setting.now (listed_script scripts.now) waiting.now lock deed) }
+        IfOk result (λ made. made
+        ≡ walk.node_unsigned (H.digest_of hasher.now) setting.now (listed_script scripts.now) waiting.now lock deed) }
 {
     Ok(Unsigned {
         spends: spends_of(alloc, hasher, setting, scripts, waiting, core)?,

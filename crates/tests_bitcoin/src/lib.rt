@@ -5,6 +5,8 @@
 #[cfg(test)]
 mod branches;
 #[cfg(test)]
+mod compiler;
+#[cfg(test)]
 mod digests;
 #[cfg(test)]
 mod files;

@@ -36,6 +36,7 @@ put_among key r (s ∷ ss) = by_place (is_before (r.0) (s.0)) (put_among key r s
     swap true true c = refl
     swap true false c = refl
     swap false b c = refl
+
     by_place : (t : Bool) → is_among key (names_of (insert_signature r ss)) ≡ (bytes_eq (r.0) key || is_among key (names_of ss))
         → is_among key (names_of (if t then r ∷ (s ∷ ss) else s ∷ insert_signature r ss)) ≡ (bytes_eq (r.0) key || (bytes_eq (s.0) key || is_among key (names_of ss)))
     by_place true later = refl

@@ -108,6 +108,7 @@ different bytes m h = by_read (records_at (length bytes) bytes) h
     by_test : (p : List Pairing × List ℕ) (t : Bool) → are_different (names_of (p.0)) ≡ t → given t p ≡ Some m → are_different (names_of (m.0)) ≡ true
     by_test p true e q = let same : p ≡ m = cc in subst (λ (x : List Pairing × List ℕ). are_different (names_of (x.0)) ≡ true) same e
     by_test p false e q = absurd cc
+
     by_read : (o : Read) → (o >>= λ p. given (are_different (names_of (p.0))) p) ≡ Some m → are_different (names_of (m.0)) ≡ true
     by_read None e = absurd cc
     by_read (Some p) e = by_test p (are_different (names_of (p.0))) refl e

@@ -15,10 +15,10 @@ parts : (i : PsbtInput) → records_bytes (input_records i) ≡ records_bytes (p
 parts i =
     joined (part 1 output_bytes i.spent) _
     ∙ ap (λ (l : List ℕ). records_bytes (part 1 output_bytes i.spent) ++ l) (
-      joined (signature_records i.partial) _
-      ∙ ap (λ (l : List ℕ). records_bytes (signature_records i.partial) ++ l) (
-        joined (all_part i.all) _
-        ∙ ap (λ (l : List ℕ). records_bytes (all_part i.all) ++ l) (joined (part 5 as_it_is i.script) (part 8 witness_bytes i.witness))))
+    joined (signature_records i.partial) _
+    ∙ ap (λ (l : List ℕ). records_bytes (signature_records i.partial) ++ l) (
+    joined (all_part i.all) _
+    ∙ ap (λ (l : List ℕ). records_bytes (all_part i.all) ++ l) (joined (part 5 as_it_is i.script) (part 8 witness_bytes i.witness))))
 
 regroup : (o a b c d e : List ℕ) → ((((o ++ a) ++ b) ++ c) ++ d) ++ e ≡ o ++ (a ++ (b ++ (c ++ (d ++ e))))
 regroup o a b c d e = simp append_assoc

@@ -35,10 +35,7 @@ fn put_record<'a>(
 }
 
 // The records up to the byte 00, and the bytes behind it.
-fn gather(
-    alloc: Global,
-    bytes: &[u8],
-) -> Result<(BTreeMap<&[u8], &[u8]>, &[u8]), PsbtError>
+fn gather(alloc: Global, bytes: &[u8]) -> Result<(BTreeMap<&[u8], &[u8]>, &[u8]), PsbtError>
     ensures { Reads (λ x. (pairs x.0.entries, x.1.now)) result (ordered_at bytes.now) }
 {
     let mut records = BTreeMap::new(alloc);

@@ -44,11 +44,7 @@ fn put_record(out: &mut Vec<u8>, key: &[u8], value: &[u8]) -> Result<(), OutOfMe
     put_sized(out, value)
 }
 
-fn put_spent(
-    alloc: Global,
-    out: &mut Vec<u8>,
-    spent: &Option<TxOut>,
-) -> Result<(), OutOfMemory>
+fn put_spent(alloc: Global, out: &mut Vec<u8>, spent: &Option<TxOut>) -> Result<(), OutOfMemory>
     ensures { OnOk result (out.new.items ≡ out.old.items ++ records_bytes (part 1 output_bytes spent.now)) }
 {
     let Some(output) = spent else {
@@ -67,10 +63,7 @@ fn put_signature(out: &mut Vec<u8>, key: &[u8; 33], signature: &[u8]) -> Result<
     put_record(out, &whole, signature)
 }
 
-fn put_signatures(
-    out: &mut Vec<u8>,
-    signatures: &[([u8; 33], Bytes)],
-) -> Result<(), OutOfMemory>
+fn put_signatures(out: &mut Vec<u8>, signatures: &[([u8; 33], Bytes)]) -> Result<(), OutOfMemory>
     ensures { OnOk result (out.new.items ≡ out.old.items ++ records_bytes (signature_records signatures.now)) }
 {
     for (key, signature) in signatures {
@@ -135,11 +128,7 @@ fn put_input(alloc: Global, out: &mut Vec<u8>, input: &PsbtInput) -> Result<(), 
     Ok(())
 }
 
-fn put_inputs(
-    alloc: Global,
-    out: &mut Vec<u8>,
-    inputs: &[PsbtInput],
-) -> Result<(), OutOfMemory>
+fn put_inputs(alloc: Global, out: &mut Vec<u8>, inputs: &[PsbtInput]) -> Result<(), OutOfMemory>
     ensures { OnOk result (out.new.items ≡ out.old.items ++ flat_map (λ input. map_bytes (input_records input)) inputs.now) }
 {
     for input in inputs {

@@ -71,6 +71,7 @@ goes a b h k = by_tx (same_bare a.tx b.tx) refl
     by_inputs : (o : Option ℕ) → first_conflict 0 a.inputs b.inputs ≡ o → a.tx ≡ b.tx → combined a b ≡ joined_unless o a b → Goes a b
     by_inputs (Some n) f same e = stops n same f e
     by_inputs None f same e = joins same f e
+
     by_tx : (t : Bool) → same_bare a.tx b.tx ≡ t → Goes a b
     by_tx true e = by_inputs (first_conflict 0 a.inputs b.inputs) refl (tx_same a.tx b.tx (sound a h).unsigned (sound b k).unsigned e) (rw e refl)
     by_tx false e = other (λ same. let own : same_bare a.tx b.tx ≡ true = subst (λ (x : Tx). same_bare a.tx x ≡ true) same (tx_own a.tx) in absurd cc) (rw e refl)
@@ -132,6 +133,7 @@ other_tx_exactly a b h k = (λ e. only (goes a b h k) e, λ differ. always (goes
     only (other differ q) e = differ
     only (stops n same f q) e = absurd (other_conflict n (err_is other_tx (conflict n) (sym e ∙ q)))
     only (joins same f q) e = absurd (ok_err _ other_tx (sym q ∙ e))
+
     always : Goes a b → (a.tx ≡ b.tx → ⊥) → combined a b ≡ refused other_tx
     always (other differ q) d = q
     always (stops n same f q) d = absurd (d same)
@@ -178,6 +180,7 @@ conflict_exactly a b k h g = (λ e. only (goes a b h.is g.is) e, λ w. always (g
         let place : found.place ≡ k = omega (arith, found.is, number) in
         (same, subst (λ (j : ℕ). FirstApart j a.inputs b.inputs) place found.apart)
     only (joins same f q) e = absurd (ok_err _ (conflict k) (sym q ∙ e))
+
     always : Goes a b → (a.tx ≡ b.tx) × FirstApart k a.inputs b.inputs → combined a b ≡ refused (conflict k)
     always (other differ q) w = absurd (differ w.0)
     always (stops n same f q) w =

@@ -171,8 +171,10 @@ calm_not_apart a b calm apart = by_part (part_of apart.key)
   where
     here_at : (key : List ℕ) → key ≡ apart.key → look_up key (input_records a) ≡ some apart.one
     here_at key e = subst (λ (x : List ℕ). look_up x (input_records a) ≡ some apart.one) (sym e) apart.here
+
     there_at : (key : List ℕ) → key ≡ apart.key → look_up key (input_records b) ≡ some apart.other
     there_at key e = subst (λ (x : List ℕ). look_up x (input_records b) ≡ some apart.other) (sym e) apart.there
+
     by_part : Part_of apart.key → ⊥
     by_part (spent e) = apart.differ (calm_part same_output of_outputs output_bytes a.spent b.spent apart.one apart.other (are_calm a b calm).spent (sym (found_spent a) ∙ here_at (1 ∷ []) e) (sym (found_spent b) ∙ there_at (1 ∷ []) e))
     by_part (signature k e) = apart.differ (agree k a.partial b.partial apart.one apart.other (are_calm a b calm).signatures (sym (found_signature k a) ∙ here_at (2 ∷ k) e) (sym (found_signature k b) ∙ there_at (2 ∷ k) e))

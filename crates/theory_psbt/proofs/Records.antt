@@ -98,10 +98,10 @@ found_parts : (key : List ℕ) (i : PsbtInput) → look_up key (input_records i)
 found_parts key i =
     look_joined key (part 1 output_bytes i.spent) _
     ∙ ap (λ (o : Option (List ℕ)). option_or (look_up key (part 1 output_bytes i.spent)) o) (
-      look_joined key (map {B = Pairing} (λ p. (2 ∷ p.0, p.1)) i.partial) _
-      ∙ ap (λ (o : Option (List ℕ)). option_or (look_up key (map {B = Pairing} (λ p. (2 ∷ p.0, p.1)) i.partial)) o) (
-        look_joined key (all_part i.all) _
-        ∙ ap (λ (o : Option (List ℕ)). option_or (look_up key (all_part i.all)) o) (look_joined key (part 5 as_it_is i.script) (part 8 witness_bytes i.witness))))
+    look_joined key (map {B = Pairing} (λ p. (2 ∷ p.0, p.1)) i.partial) _
+    ∙ ap (λ (o : Option (List ℕ)). option_or (look_up key (map {B = Pairing} (λ p. (2 ∷ p.0, p.1)) i.partial)) o) (
+    look_joined key (all_part i.all) _
+    ∙ ap (λ (o : Option (List ℕ)). option_or (look_up key (all_part i.all)) o) (look_joined key (part 5 as_it_is i.script) (part 8 witness_bytes i.witness))))
 
 or_none : (o : Option (List ℕ)) → option_or o None ≡ o
 or_none (Some x) = refl

@@ -84,6 +84,7 @@ put_found key r (s ∷ ss) new = by_place (is_before (r.0) (s.0)) (put_found key
         let apart : bytes_eq (r.0) key ≡ false = subst (λ (x : List ℕ). bytes_eq (r.0) x ≡ false) (same_bytes (s.0) key e) (bytes_ne-back (s.0) (r.0) (or_left _ _ new)) in
         rw apart refl
     by_key false e later = later
+
     by_place : (t : Bool) → look_up key (insert_signature r ss) ≡ (if bytes_eq (r.0) key then Some (r.1) else look_up key ss)
         → look_up key (if t then r ∷ (s ∷ ss) else s ∷ insert_signature r ss) ≡ (if bytes_eq (r.0) key then Some (r.1) else look_up key (s ∷ ss))
     by_place true later = refl
@@ -116,6 +117,7 @@ same_signatures (p ∷ ps) (q ∷ qs) a b h =
     tails key same false e =
         let other : bytes_eq (q.0) key ≡ false = subst (λ (x : List ℕ). bytes_eq x key ≡ false) same e in
         sym (look_other key p ps e) ∙ h key ∙ look_other key q qs other
+
     by_order : (t : Bool) → is_before (p.0) (q.0) ≡ t → (u : Bool) → is_before (q.0) (p.0) ≡ u → (((key : List ℕ) → look_up key ps ≡ look_up key qs) → ps ≡ qs) → p ∷ ps ≡ q ∷ qs
     by_order true e u f later = absurd (first_absent p q ps qs b e (h (p.0)))
     by_order false e true f later = absurd (first_absent q p qs ps a f (sym (h (q.0))))
@@ -152,11 +154,13 @@ joined_found key here (p ∷ ps) = by_found (look_up (p.0) here) refl (joined_fo
         let found : look_up key here ≡ Some s = subst (λ (x : List ℕ). look_up x here ≡ Some s) (same_bytes (p.0) key e) h in
         rw found refl
     had_key s false e h = refl
+
     new_key : (t : Bool) → bytes_eq (p.0) key ≡ t → look_up (p.0) here ≡ None → option_or (if t then Some (p.1) else look_up key here) (look_up key ps) ≡ option_or (look_up key here) (if t then Some (p.1) else look_up key ps)
     new_key true e h =
         let found : look_up key here ≡ None = subst (λ (x : List ℕ). look_up x here ≡ None) (same_bytes (p.0) key e) h in
         rw found refl
     new_key false e h = refl
+
     by_found : (o : Option (List ℕ)) → look_up (p.0) here ≡ o → look_up key (signatures_joined here ps) ≡ option_or (look_up key here) (look_up key ps)
         → look_up key (signatures_joined (insert_signature p here) ps) ≡ option_or (look_up key (insert_signature p here)) (look_up key ps)
         → look_up key (option_map_or (λ s. signatures_joined here ps) o (signatures_joined (insert_signature p here) ps)) ≡ option_or (look_up key here) (look_up key (p ∷ ps))
@@ -172,10 +176,10 @@ agree key [] there v w h e f = absurd cc
 agree key (p ∷ ps) there v w h e f =
     by_test (bytes_eq (p.0) key) (Some (p.1)) (look_up key ps) (Some v) (v ≡ w) e
     (λ t q.
-      let found : look_up (p.0) there ≡ Some w = subst (λ (x : List ℕ). look_up x there ≡ Some w) (sym (same_bytes (p.0) key t)) f in
-      let calm : not (bytes_eq (p.1) w) ≡ false = subst (λ (o : Option (List ℕ)). are_at_odds bytes_eq (Some (p.1)) o ≡ false) found (or_left _ _ h) in
-      let is : p.1 ≡ v = some_is (p.1) v q in
-      sym is ∙ same_value (bytes_eq (p.1) w) refl calm)
+    let found : look_up (p.0) there ≡ Some w = subst (λ (x : List ℕ). look_up x there ≡ Some w) (sym (same_bytes (p.0) key t)) f in
+    let calm : not (bytes_eq (p.1) w) ≡ false = subst (λ (o : Option (List ℕ)). are_at_odds bytes_eq (Some (p.1)) o ≡ false) found (or_left _ _ h) in
+    let is : p.1 ≡ v = some_is (p.1) v q in
+    sym is ∙ same_value (bytes_eq (p.1) w) refl calm)
     (λ q. agree key ps there v w (or_right (are_at_odds bytes_eq (Some (p.1)) (look_up (p.0) there)) _ h) q f)
   where
     same_value : (t : Bool) → bytes_eq (p.1) w ≡ t → not t ≡ false → p.1 ≡ w
@@ -205,6 +209,7 @@ differ_apart (p ∷ ps) there h d =
       in_there = a.in_there;
       differ = a.differ;
     }
+
     by_value : (w : List ℕ) → look_up (p.0) there ≡ Some w → (t : Bool) → bytes_eq (p.1) w ≡ t → (not t || signatures_differ ps there) ≡ true → (signatures_differ ps there ≡ true → Apart ps there) → Apart (p ∷ ps) there
     by_value w e true q d later = later_apart (later d)
     by_value w e false q d later = record {
@@ -215,6 +220,7 @@ differ_apart (p ∷ ps) there h d =
       in_there = e;
       differ = λ same. let level : bytes_eq (p.1) w ≡ true = subst (λ (x : List ℕ). bytes_eq (p.1) x ≡ true) same (bytes_same (p.1)) in absurd cc;
     }
+
     by_odds : (o : Option (List ℕ)) → look_up (p.0) there ≡ o → (are_at_odds bytes_eq (Some (p.1)) o || signatures_differ ps there) ≡ true → (signatures_differ ps there ≡ true → Apart ps there) → Apart (p ∷ ps) there
     by_odds None e d later = later_apart (later d)
     by_odds (Some w) e d later = by_value w e (bytes_eq (p.1) w) refl d later

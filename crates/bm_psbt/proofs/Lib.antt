@@ -5,3 +5,6 @@ pub mod InOrder
 pub mod OnePass
 pub mod Decoding
 pub mod Written
+pub mod Merging
+pub mod InputTurns
+pub mod Combined

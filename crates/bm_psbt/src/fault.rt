@@ -2,6 +2,7 @@
 
 ghost use Rattle.std.specs.Prelude.{◌≡◌};
 ghost use Rattle.bm_psbt.specs.declared.fault.PsbtError.TheVariants.{Memory};
+ghost use Rattle.bm_psbt.specs.declared.fault.CombineError.TheVariants as CombineError;
 
 use std::alloc::{AllocError, AllocFailed};
 
@@ -26,5 +27,23 @@ impl<T: Drop> From<AllocFailed<T>> for PsbtError {
 
     fn from(_error: AllocFailed<T>) -> PsbtError {
         PsbtError::Memory
+    }
+}
+
+/// Why two partially signed transactions were not combined.
+#[derive(Clone, Copy, Debug, PartialEq, Eq)]
+pub enum CombineError {
+    /// They are of different transactions.
+    OtherTx,
+    /// Of this input, counted from 0, both have a record of one key with different values.
+    Conflict(usize),
+    Memory,
+}
+
+impl From<AllocError> for CombineError {
+    ghost from_gives = { λ _ e. e ≡ CombineError.Memory };
+
+    fn from(_error: AllocError) -> CombineError {
+        CombineError::Memory
     }
 }

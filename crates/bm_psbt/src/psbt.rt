@@ -1,8 +1,10 @@
 //! A partially signed transaction.
 
-ghost use Rattle.std.specs.Prelude.{◌≡◌, true};
+ghost use Rattle.std.specs.Prelude.{◌≡◌, true, IfSome};
 ghost use Rattle.spec_tool.specs.Psbt.{is_psbt};
+ghost use Rattle.spec_text.specs.Words.{given};
 
+use crate::order;
 use spec_bitcoin::Tx;
 use spec_data::Seq;
 use spec_tool::PsbtInput;
@@ -28,6 +30,20 @@ impl Model for Psbt {
 }
 
 impl Psbt {
+    /// One of a transaction and of what is known of its inputs, in their order; `None` where the
+    /// transaction has no input, a script or a witness, where there aren't as many entries as inputs,
+    /// or where the signatures of an input don't ascend strictly by their keys. It takes no memory.
+    pub fn of(tx: Tx, inputs: Vec<PsbtInput>) -> Option<Psbt>
+        ensures value { result ≡ given (is_psbt (record { tx = tx; inputs = inputs.items })) (record { tx = tx; inputs = inputs.items }) }
+        ensures is { IfSome result (λ p. is_psbt p ≡ true) }
+    {
+        if order::is_psbt(&tx, &inputs) {
+            Some(Psbt::made(tx, Seq::of(inputs)))
+        } else {
+            None
+        }
+    }
+
     // The parts of one, which are one.
     pub(crate) fn made(tx: Tx, inputs: Seq<PsbtInput>) -> Psbt
         requires { is_psbt (record { tx = tx; inputs = inputs }) ≡ true }

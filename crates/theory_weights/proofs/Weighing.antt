@@ -18,10 +18,10 @@ use Rattle.theory_weights.proofs.NoLonger.{NoLonger, AllNoLonger, no_longer_coun
 -- ---- counts and items
 
 -- how many bytes a count has
-abbrev count_bytes : ℕ → ℕ
+abbrev pub count_bytes : ℕ → ℕ
 count_bytes n = if nat_lt n 253 then 1 else (if nat_lt n (2 ^ 16) then 3 else (if nat_lt n (2 ^ 32) then 5 else 9))
 
-count_is : (n : ℕ) → length (compact n) ≡ count_bytes n
+pub count_is : (n : ℕ) → length (compact n) ≡ count_bytes n
 unfolding compact
 count_is n = by_tests (nat_lt n 253) (nat_lt n (2 ^ 16)) (nat_lt n (2 ^ 32))
   where
@@ -138,10 +138,10 @@ inputs_same is ws =
 
 -- ---- the whole
 
-stripped_same : (tx : Tx) (ws : List (List (List ℕ))) → stripped (with_witnesses tx ws) ≡ stripped tx
+pub stripped_same : (tx : Tx) (ws : List (List (List ℕ))) → stripped (with_witnesses tx ws) ≡ stripped tx
 stripped_same tx ws = sym (stripped_bare (with_witnesses tx ws)) ∙ ap stripped (with-bare tx ws) ∙ stripped_bare tx
 
-marked_size : (tx : Tx) (ws : List (List (List ℕ))) → length (marked (with_witnesses tx ws))
+pub marked_size : (tx : Tx) (ws : List (List (List ℕ))) → length (marked (with_witnesses tx ws))
     ≡ length (word tx.version) + 2 + length (inputs_bytes tx.inputs) + length (outputs_bytes tx.outputs) + length (witnesses_bytes (witnessed tx.inputs ws)) + length (word tx.lock)
 unfolding marked
 marked_size tx ws =

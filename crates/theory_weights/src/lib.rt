@@ -3,6 +3,7 @@
 
 ghost use Rattle.theory_weights.specs.Bounds.{WeightsAreBounds};
 ghost use Rattle.theory_weights.specs.Runs.{WeightsAddUp, TotalsBoundRuns};
+ghost use Rattle.theory_weights.specs.Sizes.{WeightsBySizes};
 
 /// Every full witness of a transaction weighs between the least and the greatest weight that are told of
 /// it, and a full witness reaches each of both.
@@ -19,4 +20,10 @@ pub fn weights_add_up()
 /// least and no more than the greatest total of the path.
 pub fn totals_bound_runs()
     ensures { TotalsBoundRuns }
+{}
+
+/// The weights are those that follow from sizes alone, where the hash has 32 bytes: how many signatures, secrets and
+/// selectors a witness has, and how many bytes its script and its transaction have.
+pub fn weights_by_sizes()
+    ensures { WeightsBySizes }
 {}

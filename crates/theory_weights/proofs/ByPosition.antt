@@ -1,12 +1,10 @@
 -- What the transaction of a path spends: the output of its position, and deposits. So its weight is one of sizes.
-use Rattle.std.proofs.Common.{◌≡◌, ℕ, zero, suc, ◌+◌, ◌-◌, ◌*◌, ◌≤◌, List, [], ◌∷◌, ◌++◌, length, map, Bool, true, false, Option, Some, None, refl, sym, ap, ◌∙◌, subst, arith, length-append}
+use Rattle.std.proofs.Common.{◌≡◌, ℕ, suc, ◌-◌, ◌*◌, List, [], ◌∷◌, ◌++◌, length, map, true, false, Option, Some, None, refl, sym, ap, ◌∙◌, arith, length-append}
 use Rattle.std.specs.Prelude.{slice_get, ◌||◌, nat_lt, if◌then◌else◌}
 use Rattle.std.specs.Option.{option_map, option_map_or, option_and_then}
 use Rattle.std.specs.List.{flat_map}
 use Rattle.std.proofs.lemmas.Bool.Decides.{nat_tests}
 use Rattle.std.proofs.lemmas.List.Concat.{flat_map-cons}
-use Rattle.spec_data.specs.Lists.{look_up}
-use Rattle.spec_terms.specs.Advert.{Advert}
 use Rattle.spec_terms.specs.Term as term
 use Rattle.spec_terms.specs.Term.{Contract, branches}
 use Rattle.spec_terms.specs.Core.{core, puts_of}
@@ -15,20 +13,18 @@ use Rattle.spec_terms.specs.Precondition.{Holding, persistent}
 use Rattle.spec_terms.specs.declared.path.PathStep.{PathStep}
 use Rattle.spec_terms.specs.declared.path.PathStep.TheVariants.{Branch as To, Part as Into}
 use Rattle.spec_bitcoin.specs.declared.tx.TxIn.{TxIn}
-use Rattle.spec_bitcoin.specs.Spelling.{witness_bytes, witnesses_bytes, is_filled, is_marked, stripped}
-use Rattle.spec_bitcoin.specs.Keys.{key_of}
+use Rattle.spec_bitcoin.specs.Spelling.{witness_bytes, witnesses_bytes, is_filled, is_marked}
 use Rattle.spec_compiler.specs.Instance.{Instance, deposit_key}
 use Rattle.spec_compiler.specs.Statements.{IsHash}
 use Rattle.spec_compiler.specs.Witness.{witness_of, witness_stack}
 use Rattle.spec_compiler.specs.declared.unsigned.Spent.{Spent}
 use Rattle.spec_compiler.specs.declared.unsigned.Unsigned.{Unsigned}
-use Rattle.spec_compiler.specs.Transactions.{Standing, tx_of, input_of, party_script, put_deposits, persistent_deposits, deposit, branch_unsigned, initial_unsigned, root_standing}
+use Rattle.spec_compiler.specs.Transactions.{Standing, tx_of, input_of, party_script, put_deposits, deposit, branch_unsigned, initial_unsigned, root_standing}
 use Rattle.spec_compiler.specs.ByPath.{PathEnd, at_position, at_branch, branch_end, continued_end, part_end, next_end, end_at, as_position, as_unsigned, position_at, unsigned_at}
 use Rattle.spec_run.specs.Firing.{witnessed}
 use Rattle.spec_tool.specs.Weights.{initial_weight, weight_with, any_signatures, any_secrets, any_full, deposits_full, branch_full, last_branch, position_of, choices_at, reveal_count}
 use Rattle.theory_script.proofs.Listing.Stands.{some_same, end_from-step}
-use Rattle.theory_weights.specs.Sizes.{marked_weight, branch_bytes, deposit_bytes, script_size, bare_size, path_sized, initial_sized, IsSized, WeightsBySizes}
-use Rattle.theory_weights.proofs.Full.{blank}
+use Rattle.theory_weights.specs.Sizes.{marked_weight, branch_bytes, deposit_bytes, script_size, bare_size, path_sized, initial_sized, WeightsBySizes}
 use Rattle.theory_weights.proofs.Sized.{AreDeposits, witness_sized, deposits_sized, marked_weighs, bare_weighs}
 
 -- ---- deposits

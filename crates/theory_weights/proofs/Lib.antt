@@ -1,9 +1,9 @@
 mod NoLonger
-mod Weighing
+pub mod Weighing
 mod Full
 mod Bounded
 mod Adding
 mod Fired
 mod WholeRun
 mod Sized
-mod ByPosition
+pub mod ByPosition

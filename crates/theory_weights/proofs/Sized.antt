@@ -1,16 +1,15 @@
 -- How many bytes full witnesses have, and what a transaction weighs with them.
-use Rattle.std.proofs.Common.{◌≡◌, ℕ, zero, suc, ◌+◌, ◌-◌, ◌*◌, ◌≤◌, List, [], ◌∷◌, ◌++◌, length, map, reverse, replicate, Bool, true, false, refl, sym, ap, ◌∙◌, subst, arith, length-append}
-use Rattle.std.specs.Prelude.{if◌then◌else◌, ◌||◌, nat_lt}
+use Rattle.std.proofs.Common.{◌≡◌, ℕ, zero, suc, ◌+◌, ◌*◌, ◌≤◌, List, [], ◌∷◌, ◌++◌, length, map, reverse, replicate, Bool, true, false, refl, ap, ◌∙◌, arith, length-append}
+use Rattle.std.specs.Prelude.{if◌then◌else◌, nat_lt}
 use Rattle.std.specs.List.{flat_map}
 use Rattle.std.proofs.lemmas.List.{reverse-append, length-reverse, length-replicate}
 use Rattle.std.proofs.lemmas.List.Concat.{flat_map-cons}
 use Rattle.spec_bitcoin.specs.declared.tx.TxIn.{TxIn}
 use Rattle.spec_bitcoin.specs.declared.tx.Tx.{Tx}
-use Rattle.spec_bitcoin.specs.Spelling.{word, compact, sized, inputs_bytes, outputs_bytes, witness_bytes, witnesses_bytes, is_filled, is_marked, stripped, marked}
+use Rattle.spec_bitcoin.specs.Spelling.{word, compact, sized, inputs_bytes, outputs_bytes, witness_bytes, witnesses_bytes, is_marked, stripped, marked}
 use Rattle.spec_compiler.specs.Witness.{selectors, witness_of}
 use Rattle.spec_compiler.specs.declared.unsigned.Spent.{Spent}
-use Rattle.spec_compiler.specs.declared.unsigned.Unsigned.{Unsigned}
-use Rattle.spec_compiler.specs.Transactions.{tx_of, input_of}
+use Rattle.spec_compiler.specs.Transactions.{input_of}
 use Rattle.spec_run.specs.Firing.{witnessed, with_witnesses}
 use Rattle.spec_tool.specs.Weights.{weight_of, any_signature, any_signatures, deposits_full, deposit_full}
 use Rattle.theory_weights.specs.Sizes.{count_size, item_size, signature_bytes, deposit_bytes, selector_count, selector_bytes, branch_bytes, marked_weight}

@@ -1,5 +1,5 @@
--- What is claimed of the totals of a contract's weights: in a run the transactions on the way to a path weigh together no less than the least
--- total of the path and no more than the greatest.
+-- What is claimed of the totals of a contract's weights: in a run the transactions on the way to a path weigh together no less than the
+-- least total of the path and no more than the greatest.
 use Rattle.std.specs.Prelude.{◌≡◌, ◌↔◌, ℕ, ◌+◌, List, [], ◌∷◌, ◌++◌, map, sum_by, true, Some, slice_get}
 use Rattle.std.specs.List.{Contains, filter}
 use Rattle.spec_terms.specs.declared.path.PathStep.{PathStep}

@@ -1,5 +1,5 @@
 -- Weights by sizes alone: how many signatures, secrets and selectors a witness has, and how many bytes its script and its transaction have.
-use Rattle.std.specs.Prelude.{◌≡◌, ℕ, ◌+◌, ◌-◌, ◌*◌, List, length, Bool, if◌then◌else◌, nat_lt, Some, option_map}
+use Rattle.std.specs.Prelude.{◌≡◌, ℕ, ◌+◌, ◌-◌, ◌*◌, List, length, if◌then◌else◌, nat_lt, Some}
 use Rattle.std.specs.Option.{option_map_or}
 use Rattle.spec_terms.specs.Parties.{participants}
 use Rattle.spec_terms.specs.declared.path.PathStep.{PathStep}
@@ -65,7 +65,8 @@ path_sized hash s path size d =
     (script_size hash s (position_of path)) + (length d.spends - 1) * deposit_bytes)
 
 pub record IsSized (hash : List ℕ → List ℕ) (s : Instance) : Type 0 where
-  pub initial : initial_weight (initial_unsigned hash s) ≡ initial_sized (bare_size (initial_unsigned hash s)) (length (initial_unsigned hash s).spends)
+  pub initial : initial_weight (initial_unsigned hash s)
+      ≡ initial_sized (bare_size (initial_unsigned hash s)) (length (initial_unsigned hash s).spends)
   pub paths : (path : List PathStep) (d : Unsigned) → unsigned_at hash s path ≡ Some d
       → (size : ℕ) → weight_with s.advert path size d ≡ path_sized hash s path size d
 

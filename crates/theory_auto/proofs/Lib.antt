@@ -1,0 +1,6 @@
+mod Fewer
+mod Hashless
+mod Longer
+mod Rounds
+mod Tries
+pub mod Continued

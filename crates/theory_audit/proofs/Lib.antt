@@ -1,0 +1,5 @@
+mod Found
+mod Lacking
+mod Lists
+mod Names
+pub mod Audited

@@ -3,3 +3,4 @@ mod Lacking
 mod Lists
 mod Names
 pub mod Audited
+pub mod Nothing

@@ -4,3 +4,5 @@ mod Longer
 mod Rounds
 mod Tries
 pub mod Continued
+pub mod Honest
+pub mod OwnRules

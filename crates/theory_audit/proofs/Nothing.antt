@@ -1,19 +1,19 @@
 -- An audit of all compiled transactions finds nothing absent, and a contract of which nothing is missing is endorsed.
 use Rattle.std.proofs.Common.{◌≡◌, ℕ, ◌+◌, List, [], ◌∷◌, ◌++◌, map, Bool, true, false, Option, Some, None, refl, sym, ap, ◌∙◌, subst, inl}
-use Rattle.std.specs.Prelude.{not, if◌then◌else◌, slice_get}
+use Rattle.std.specs.Prelude.{not, if◌then◌else◌}
 use Rattle.std.specs.List.{Contains, filter, flat_map}
 use Rattle.std.specs.Option.{option_map_or}
 use Rattle.std.proofs.lemmas.Bool.{and_from}
 use Rattle.spec_data.specs.Digits.{read_hex}
 use Rattle.spec_terms.specs.Term as term
 use Rattle.spec_terms.specs.Advert.{Advert}
-use Rattle.spec_terms.specs.Core.{core, puts_of}
+use Rattle.spec_terms.specs.Core.{core, puts_of, is_asked}
 use Rattle.spec_terms.specs.Parties.{participants}
 use Rattle.spec_terms.specs.Paths.{at}
 use Rattle.spec_terms.specs.declared.path.PathStep.{PathStep}
 use Rattle.spec_bitcoin.specs.declared.label.Label.{Label}
 use Rattle.spec_bitcoin.specs.declared.tx.Tx.{Tx}
-use Rattle.spec_bitcoin.specs.Keys.{Pair, key_of, has_signed, deposit_key}
+use Rattle.spec_bitcoin.specs.Keys.{Pair, key_of, has_signed}
 use Rattle.spec_bitcoin.specs.Spelling.{Spells}
 use Rattle.spec_compiler.specs.Instance.{Instance, branch_label}
 use Rattle.spec_compiler.specs.declared.unsigned.Spent.{Spent}
@@ -21,7 +21,7 @@ use Rattle.spec_compiler.specs.declared.unsigned.Unsigned.{Unsigned}
 use Rattle.spec_compiler.specs.declared.prepared.Prepared.{Prepared}
 use Rattle.spec_compiler.specs.Transactions.{tx_of, digest_of_spent, prepared}
 use Rattle.spec_compiler.specs.Compilation.{path_transactions}
-use Rattle.spec_compiler.specs.Endorsements.{Need, is_asked, put_owner, branch_needs, put_needs, needs_of, path_needs, is_met, all_met, is_endorsed}
+use Rattle.spec_compiler.specs.Endorsements.{Need, put_owner, branch_needs, put_needs, needs_of, path_needs, is_met, all_met, is_endorsed}
 use Rattle.spec_run.specs.Setup.{Setup}
 use Rattle.spec_run.specs.World.{World}
 use Rattle.spec_run.specs.Compiled.{compiled_instance}
@@ -30,13 +30,12 @@ use Rattle.spec_tool.specs.declared.which.Which.{Which}
 use Rattle.spec_tool.specs.declared.which.Which.TheVariants as names
 use Rattle.spec_tool.specs.declared.finding.Kind.{Kind}
 use Rattle.spec_tool.specs.declared.finding.Kind.TheVariants as kinds
-use Rattle.spec_tool.specs.declared.finding.Finding.{Finding}
-use Rattle.spec_tool.specs.Listed.{Listed, deposit_signer, branch_signers, path_listed, listed}
+use Rattle.spec_tool.specs.Listed.{Listed, deposit_signer, branch_signers, initial_listed, path_listed, listed}
 use Rattle.spec_tool.specs.Audit.{names_in, Missing, missing_labels, missing_inputs, missing_of, listed_by, audit_report}
 use Rattle.theory_calculus.proofs.Members.{all_append, contains_from_in}
 use Rattle.theory_bitcoin.proofs.Top.{one_transaction}
 use Rattle.theory_script.proofs.Listing.Stands.{some_same}
-use Rattle.theory_audit.specs.Audited.{IsCompiled, IsNamed, IsHexOf, IsRead, IsKind, IsFindingOf, NamedNowhere, missed}
+use Rattle.theory_audit.specs.Audited.{IsNamed, IsHexOf, IsKind, NamedNowhere}
 use Rattle.theory_audit.specs.Nothing.{IsGiven, NothingLacks}
 use Rattle.theory_audit.proofs.Audited.{audits_find}
 
@@ -106,23 +105,22 @@ module _ (hash : List ℕ → List ℕ) (book : List Pair) (contract : ℕ) (adv
       by_test true e x = (e, x)
       by_test false e x = cc
 
+  abbrev need_by : List ℕ → List ℕ → Need
+  need_by digest party = record { path = path; party = party; key = key_of hash (branch_label contract path party); digest = digest }
+
+  abbrev unasked : term.Guarded → List (List ℕ) → List (List ℕ)
+  unasked b parties = filter (λ party. not (is_asked b party)) parties
+
   branch_met : (b : term.Guarded) (digest : List ℕ) (parties : List (List ℕ))
       → missing_labels hash book (map (branch_label contract path) parties) digest ≡ []
-      → all_met book (map {B = Need} (λ party. record { path = path; party = party; key = key_of hash (branch_label contract path party); digest = digest })
-      (filter (λ party. not (is_asked b party)) parties)) ≡ true
+      → all_met book (map (need_by digest) (unasked b parties)) ≡ true
   branch_met b digest [] h = refl
   branch_met b digest (p ∷ ps) h =
       let r = signed_first (branch_label contract path p) (map (branch_label contract path) ps) digest h in
       by_asked (is_asked b p) r.0 (branch_met b digest ps r.1)
     where
-      abbrev need : List ℕ → Need
-      need party = record { path = path; party = party; key = key_of hash (branch_label contract path party); digest = digest }
-
-      abbrev others : List (List ℕ)
-      others = filter (λ party. not (is_asked b party)) ps
-
-      by_asked : (t : Bool) → has_signed book (key_of hash (branch_label contract path p)) digest ≡ true → all_met book (map need others) ≡ true
-          → all_met book (map need (if not t then p ∷ others else others)) ≡ true
+      by_asked : (t : Bool) → has_signed book (key_of hash (branch_label contract path p)) digest ≡ true → all_met book (map (need_by digest) (unasked b ps)) ≡ true
+          → all_met book (map (need_by digest) (if not t then p ∷ unasked b ps else unasked b ps)) ≡ true
       by_asked true e f = f
       by_asked false e f = and_from _ _ e f
 
@@ -177,7 +175,7 @@ module _ (hash : List ℕ → List ℕ) (instance : Instance) (book : List Pair)
   all_endorsed : missing_of hash book (listed hash instance) ≡ [] → is_endorsed hash instance book ≡ true
   all_endorsed h =
       let paths = path_transactions hash instance in
-      entries_met paths (parts_nothing (of_listed _) (flat_map of_listed (map (λ p. path_listed instance (p.0) (p.1)) paths)) h).1
+      entries_met paths (parts_nothing (of_listed (initial_listed hash instance)) (flat_map of_listed (map (λ p. path_listed instance (p.0) (p.1)) paths)) h).1
 
 endorsed : (s : Setup) (w : World) (instance : Instance) (o : Option Instance) → o ≡ Some instance
     → missing_of s.hash w.book (listed_by s o) ≡ [] → is_endorsed s.hash instance w.book ≡ true

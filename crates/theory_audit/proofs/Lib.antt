@@ -1,0 +1,6 @@
+mod Found
+mod Lacking
+mod Lists
+mod Names
+pub mod Audited
+pub mod Nothing

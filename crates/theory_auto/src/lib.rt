@@ -1,0 +1,24 @@
+//! What follows of strategies: each theorem is the contract of a function that does nothing.
+#![tactic(auto)]
+
+ghost use Rattle.theory_auto.specs.Continued.{StrategiesGoOn};
+ghost use Rattle.theory_auto.specs.OwnRules.{StrategiesAreHonest, StrategiesKeepToRules};
+
+/// The rules of a strategy go on with a run by events that the longer run does or accepts, each a
+/// rule's and no rule twice, until no rule that is left is enabled; or the first event that is tried
+/// and halts ends them.
+pub fn strategies_go_on()
+    ensures { StrategiesGoOn }
+{}
+
+/// The rules of a strategy file are honest parties'.
+pub fn strategies_are_honest()
+    ensures { StrategiesAreHonest }
+{}
+
+/// Each event that a strategy adds is a rule's, and the longer run is one of which the theorems on
+/// runs speak: honest parties authorise only by their own events, and a deposit of theirs goes only
+/// by what they did in the run or have a rule for.
+pub fn strategies_keep_to_rules()
+    ensures { StrategiesKeepToRules }
+{}

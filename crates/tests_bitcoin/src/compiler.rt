@@ -53,7 +53,8 @@ fn scripts_are_as_large_as_worked(rt: HostRuntime) -> Result<(), Fail> {
     let alloc = rt.alloc();
     let revealed = b"{A:! 1 @ x | A: secret a} reveal a . withdraw A";
     assert!(rt; root_size(alloc, revealed)? == (83, 11));
-    let timed = b"{A:! 100000000 @ x | B:! 0 @ y | A: secret a} (reveal a . withdraw A + after 1000 : withdraw B)";
+    let timed =
+        b"{A:! 100000000 @ x | B:! 0 @ y | A: secret a} (reveal a . withdraw A + after 1000 : withdraw B)";
     assert!(rt; root_size(alloc, timed)? == (191, 17));
     Ok(())
 }
@@ -70,7 +71,12 @@ fn equal_branches_have_keys_of_their_own(rt: HostRuntime) -> Result<(), Fail> {
     let script = whole.script(0).ok_or("no script")?.as_slice();
     // IF, two pushed keys with CHECKSIGVERIFY and CHECKSIG, ELSE, two more, ENDIF.
     assert_eq!(rt; script.len(), 143);
-    let keys = [&script[2..35], &script[37..70], &script[73..106], &script[108..141]];
+    let keys = [
+        &script[2..35],
+        &script[37..70],
+        &script[73..106],
+        &script[108..141],
+    ];
     for (i, key) in keys.iter().enumerate() {
         for other in &keys[..i] {
             assert!(rt; *key != *other);

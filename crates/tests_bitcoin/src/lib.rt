@@ -17,6 +17,8 @@ mod keys;
 #[cfg(test)]
 mod ledger;
 #[cfg(test)]
+mod psbt;
+#[cfg(test)]
 mod scripts;
 #[cfg(test)]
 mod transactions;

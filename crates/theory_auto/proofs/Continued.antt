@@ -57,7 +57,8 @@ all_idle s w hs xs clear within (r ∷ rs) h = (idle s w hs clear r xs within h.
 clear_after : (s : Setup) (es : List Event) → IsRun s es → NoClash s.hash (last_world s es).hashed
 clear_after s es run = record { one = (worlds_of_runs s es run).messages.different }
 
-ends : (s : Setup) (es : List Event) (rules : List Rule) → IsRun s es → EndsBy s (last_world s es) rules (extended s (last_world s es) rules)
+ends : (s : Setup) (es : List Event) (rules : List Rule) → IsRun s es
+    → EndsBy s (last_world s es) rules (extended s (last_world s es) rules)
 ends s es rules run =
     let w = last_world s es in
     rounds_end s (length rules + 1) rules w w.hashed (omega arith) (λ t i. i) (clear_after s es run)

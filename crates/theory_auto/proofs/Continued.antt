@@ -1,6 +1,8 @@
 -- The rules of a strategy go on with a run.
-use Rattle.std.proofs.Common.{◌≡◌, ℕ, ◌+◌, List, [], ◌∷◌, length, Option, Some, None, refl, sym, ap, ◌∙◌, subst, arith}
+use Rattle.std.proofs.Common.{◌≡◌, ℕ, ◌+◌, List, [], ◌∷◌, ◌++◌, length, Option, Some, None, refl, sym, ap, ◌∙◌, subst, arith}
 use Rattle.std.specs.List.{AllByRecursion}
+use Rattle.std.proofs.lemmas.List.{length-append}
+use Rattle.std.proofs.lemmas.List.Sorted.{length_permutation}
 use Rattle.spec_run.specs.declared.event.Event.{Event}
 use Rattle.spec_data.specs.Messages.{collision}
 use Rattle.spec_run.specs.Setup.{Setup}
@@ -17,7 +19,7 @@ use Rattle.theory_auto.specs.Continued.{AreTaken, IsRefusal, IsRefusedIf, IsIdle
 use Rattle.theory_auto.proofs.Fewer.{Within, collision_within, again_calm}
 use Rattle.theory_auto.proofs.Hashless.{carried, rule_same, rule_draft}
 use Rattle.theory_auto.proofs.Tries.{Rests, RestsBy, RestsIf}
-use Rattle.theory_auto.proofs.Rounds.{Ended, EndsBy, rounds_end}
+use Rattle.theory_auto.proofs.Rounds.{as_many, Ended, EndsBy, rounds_end}
 use Rattle.theory_auto.proofs.Longer.{longer}
 
 -- ---- rules that rest are idle
@@ -73,6 +75,7 @@ goes_on s es rules p on h =
     record {
       rules_taken = h.taken;
       each_once = h.each_once;
+      count = omega (arith, length_permutation (h.taken ++ p.left) rules h.each_once, length-append h.taken p.left, as_many s h.taken p.events (last_world s es) h.last h.by);
       taken = subst (λ x. AreTaken s (last_world s es) h.taken p.events x) (sym l.world) h.by;
       whole = l.whole;
       grown = l.grown;

@@ -57,7 +57,7 @@ nothing_taken s w last [] [] h t = t
 nothing_taken s w last (r ∷ rs) [] h t = absurd t
 nothing_taken s w last rs (e ∷ es) h t = cc
 
-as_many : (s : Setup) (rs : List Rule) (es : List Event) (w last : World) → AreTaken s w rs es last → length rs ≡ length es
+pub as_many : (s : Setup) (rs : List Rule) (es : List Event) (w last : World) → AreTaken s w rs es last → length rs ≡ length es
 as_many s [] [] w last t = refl
 as_many s [] (e ∷ es) w last t = absurd t
 as_many s (r ∷ rs) [] w last t = absurd t

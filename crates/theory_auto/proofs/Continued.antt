@@ -75,7 +75,12 @@ goes_on s es rules p on h =
     record {
       rules_taken = h.taken;
       each_once = h.each_once;
-      count = omega (arith, length_permutation (h.taken ++ p.left) rules h.each_once, length-append h.taken p.left, as_many s h.taken p.events (last_world s es) h.last h.by);
+      count = omega (
+        arith,
+        length_permutation (h.taken ++ p.left) rules h.each_once,
+        length-append h.taken p.left,
+        as_many s h.taken p.events (last_world s es) h.last h.by,
+      );
       taken = subst (λ x. AreTaken s (last_world s es) h.taken p.events x) (sym l.world) h.by;
       whole = l.whole;
       grown = l.grown;

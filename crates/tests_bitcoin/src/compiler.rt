@@ -1,15 +1,24 @@
-//! Contracts of worked values are compiled: how large their scripts are, and that each branch has keys of its own.
+//! Contracts of worked values are compiled: how large their scripts are, what their outputs pay, which node a path leads to,
+//! and that each branch has keys of its own.
 
-use bm_compile::{Compiled, are_bound, compile};
+ghost use Rattle.std.specs.Prelude.{◌≡◌, IfOk};
+ghost use Rattle.spec_nodes.specs.Nodes.{nodes_of};
+
+use bm_branch::{prefix_script, witness};
+use bm_compile::{Compiled, Prepared, are_bound, compile};
 use bm_hash::{Sha, Trail};
 use bm_ops::decode_script;
 use bm_reader::read_advert;
-use bm_syntax::Name;
-use bm_wellformed::check;
+use bm_syntax::{Name, Path, PathStep, Pred};
+use bm_wellformed::{Checked, check};
 use spec_bitcoin::{Op, OutPoint};
-use spec_data::Bytes;
+use spec_data::{Bytes, OutOfMemory};
 use std::alloc::Global;
 use std::test::Fail;
+
+/// A commitment that ends at height 1000.
+pub const TIMED: &[u8] =
+    b"{A:! 100000000 @ x | B:! 0 @ y | A: secret a} (reveal a . withdraw A + after 1000 : withdraw B)";
 
 fn outpoint(vout: u32) -> OutPoint {
     OutPoint {
@@ -18,10 +27,17 @@ fn outpoint(vout: u32) -> OutPoint {
     }
 }
 
-// The contract of this text, with deposits x and y and a secret a.
-fn compiled(alloc: Global, text: &[u8]) -> Result<Compiled, Fail> {
+// The checked contract of this text.
+fn checked(alloc: Global, text: &[u8]) -> Result<Checked, Fail> {
     let advert = read_advert(alloc, text).map_err(|_| "not read")?;
-    let checked = check(alloc, advert).map_err(|_| "not checked")?;
+    Ok(check(alloc, advert).map_err(|_| "not checked")?)
+}
+
+/// The contract of this text and what it is compiled to, with deposits x and y and a secret a.
+pub fn compiled(alloc: Global, text: &[u8]) -> Result<(Checked, Compiled), Fail>
+    ensures { IfOk result (λ made. made.1.nodes ≡ nodes_of made.0.root) }
+{
+    let checked = checked(alloc, text)?;
     let x = Name::new(b"x").ok_or("no name")?;
     let y = Name::new(b"y").ok_or("no name")?;
     let a = Name::new(b"a").ok_or("no name")?;
@@ -30,7 +46,12 @@ fn compiled(alloc: Global, text: &[u8]) -> Result<Compiled, Fail> {
         return Err(Fail::from("not bound"));
     }
     let mut trail = Trail::new(alloc, Sha);
-    Ok(compile(alloc, &mut trail, 0, &checked, &bound, &[(a, [3; 32])]).map_err(|_| "collided")?)
+    let whole = compile(alloc, &mut trail, 0, &checked, &bound, &[(a, [3; 32])]);
+    Ok((checked, whole.map_err(|_| "collided")?))
+}
+
+fn path(alloc: Global, steps: &[PathStep]) -> Result<Path, OutOfMemory> {
+    Ok(Path::of(Vec::from_slice(alloc, steps)?))
 }
 
 // How many of these operations count against Bitcoin's limit.
@@ -42,7 +63,7 @@ fn counted(ops: &[Op]) -> usize {
 
 // The bytes and the counted operations of the root's script.
 fn root_size(alloc: Global, text: &[u8]) -> Result<(usize, usize), Fail> {
-    let whole = compiled(alloc, text)?;
+    let (_, whole) = compiled(alloc, text)?;
     let script = whole.script(0).ok_or("no script")?;
     let ops = decode_script(alloc, script.as_slice()).map_err(|_| "no operations")?;
     Ok((script.as_slice().len(), counted(&ops)))
@@ -53,9 +74,7 @@ fn scripts_are_as_large_as_worked(rt: HostRuntime) -> Result<(), Fail> {
     let alloc = rt.alloc();
     let revealed = b"{A:! 1 @ x | A: secret a} reveal a . withdraw A";
     assert!(rt; root_size(alloc, revealed)? == (83, 11));
-    let timed =
-        b"{A:! 100000000 @ x | B:! 0 @ y | A: secret a} (reveal a . withdraw A + after 1000 : withdraw B)";
-    assert!(rt; root_size(alloc, timed)? == (191, 17));
+    assert!(rt; root_size(alloc, TIMED)? == (191, 17));
     Ok(())
 }
 
@@ -63,7 +82,7 @@ fn scripts_are_as_large_as_worked(rt: HostRuntime) -> Result<(), Fail> {
 fn equal_branches_have_keys_of_their_own(rt: HostRuntime) -> Result<(), Fail> {
     let alloc = rt.alloc();
     let text = b"{A:! 10 @ x | B:! 0 @ y} (A : withdraw B + B : withdraw B)";
-    let whole = compiled(alloc, text)?;
+    let (_, whole) = compiled(alloc, text)?;
     let first = whole.transaction(1).ok_or("no branch")?;
     let second = whole.transaction(2).ok_or("no branch")?;
     assert!(rt; first.txid == second.txid);
@@ -82,5 +101,90 @@ fn equal_branches_have_keys_of_their_own(rt: HostRuntime) -> Result<(), Fail> {
             assert!(rt; *key != *other);
         }
     }
+    Ok(())
+}
+
+// What the outputs of a transaction pay, in satoshi.
+fn paid(alloc: Global, made: &Prepared) -> Result<Vec<u64>, OutOfMemory> {
+    let outputs = made.tx.outputs.as_slice();
+    outputs.iter().map(|output| output.value).collect(alloc)
+}
+
+#[test]
+fn each_transaction_leaves_the_fee(rt: HostRuntime) -> Result<(), Fail> {
+    let alloc = rt.alloc();
+    let text = b"{A:! 10 @ x} fee 1 split [5 -> withdraw A, 3 -> withdraw A]";
+    let (_, whole) = compiled(alloc, text)?;
+    assert!(rt; paid(alloc, whole.init())?.as_slice() == [9].as_slice());
+    let rows: [(&[PathStep], &[u64]); 3] = [
+        (&[PathStep::Branch(0)], &[5, 3]),
+        (
+            &[PathStep::Branch(0), PathStep::Part(0), PathStep::Branch(0)],
+            &[4],
+        ),
+        (
+            &[PathStep::Branch(0), PathStep::Part(1), PathStep::Branch(0)],
+            &[2],
+        ),
+    ];
+    for (steps, values) in rows {
+        let made = whole
+            .transaction_at(&path(alloc, steps)?)
+            .ok_or("no branch")?;
+        assert!(rt; paid(alloc, made)?.as_slice() == values);
+    }
+    Ok(())
+}
+
+#[test]
+fn paths_lead_to_the_nodes_of_the_text(rt: HostRuntime) -> Result<(), Fail> {
+    let alloc = rt.alloc();
+    let (_, whole) = compiled(alloc, TIMED)?;
+    assert_eq!(rt; whole.arena().len(), 5);
+    let rows: [(&[PathStep], Option<u32>, Option<u32>); 5] = [
+        (&[], None, Some(0)),
+        (&[PathStep::Branch(0)], Some(1), Some(2)),
+        (&[PathStep::Branch(0), PathStep::Branch(0)], Some(3), None),
+        (&[PathStep::Branch(1)], Some(4), None),
+        (&[PathStep::Branch(2)], None, None),
+    ];
+    for (steps, branch, choice) in rows {
+        let path = path(alloc, steps)?;
+        assert!(rt; whole.arena().find(&path) == branch);
+        assert!(rt; whole.arena().find_choice(&path) == choice);
+    }
+    let late = whole.transaction(4).ok_or("no branch")?;
+    assert_eq!(rt; late.tx.lock, 1000);
+    Ok(())
+}
+
+// Whether the witness for the second of three branches ends in a true item, an empty one and the script.
+fn is_second_of_three(alloc: Global, script: &[u8]) -> Result<bool, OutOfMemory> {
+    let items = witness(alloc, &[[9; 66]], &[], 1, 3, script)?;
+    let [_, last, first, shown] = items.as_slice() else {
+        return Ok(false);
+    };
+    Ok(
+        last.as_slice() == [1].as_slice()
+            && first.as_slice().is_empty()
+            && shown.as_slice() == script,
+    )
+}
+
+#[test]
+fn selectors_stand_before_the_script(rt: HostRuntime) -> Result<(), Fail> {
+    assert!(rt; is_second_of_three(rt.alloc(), &[0x51, 0x52])?);
+    Ok(())
+}
+
+#[test]
+fn a_branch_without_secrets_is_its_signatures(rt: HostRuntime) -> Result<(), Fail> {
+    let key = [0x33; 33];
+    let ops = prefix_script(rt.alloc(), &[], &Pred::True, &[key], &[])?;
+    let [Op::Push(pushed), Op::Code(code)] = ops.as_slice() else {
+        return Err(Fail::from("other operations"));
+    };
+    assert!(rt; pushed.as_slice() == key.as_slice());
+    assert_eq!(rt; *code, 0xac);
     Ok(())
 }

@@ -1,7 +1,7 @@
 //! Contracts of worked values are compiled: how large their scripts are, what their outputs pay, which node a path leads to,
 //! and that each branch has keys of its own.
 
-ghost use Rattle.std.specs.Prelude.{◌≡◌, IfOk};
+ghost use Rattle.std.specs.Prelude.{◌≡◌, IfSome};
 ghost use Rattle.spec_nodes.specs.Nodes.{nodes_of};
 
 use bm_branch::{prefix_script, witness};
@@ -15,6 +15,7 @@ use spec_bitcoin::{Op, OutPoint};
 use spec_data::{Bytes, OutOfMemory};
 use std::alloc::Global;
 use std::test::Fail;
+use theory_text::reader_theorem;
 
 /// A commitment that ends at height 1000.
 pub const TIMED: &[u8] =
@@ -28,26 +29,46 @@ fn outpoint(vout: u32) -> OutPoint {
 }
 
 // The checked contract of this text.
-fn checked(alloc: Global, text: &[u8]) -> Result<Checked, Fail> {
-    let advert = read_advert(alloc, text).map_err(|_| "not read")?;
-    Ok(check(alloc, advert).map_err(|_| "not checked")?)
+fn checked(alloc: Global, text: &[u8]) -> Option<Checked> {
+    // What is read is within the limits of the reader, as the check requires.
+    reader_theorem();
+    match read_advert(alloc, text) {
+        Ok(advert) => check(alloc, advert).ok(),
+        Err(_) => None,
+    }
+}
+
+// What a contract is compiled to with these deposits and digests.
+fn compiled_with(
+    alloc: Global,
+    checked: &Checked,
+    bound: &[(Name, OutPoint)],
+    digests: &[(Name, [u8; 32])],
+) -> Option<Compiled>
+    ensures { IfSome result (λ whole. whole.nodes ≡ nodes_of checked.now.root) }
+{
+    if !are_bound(&checked.advert().pre, bound) {
+        return None;
+    }
+    let mut trail = Trail::new(alloc, Sha);
+    match compile(alloc, &mut trail, 0, checked, bound, digests) {
+        Ok(whole) => Some(whole),
+        Err(_) => None,
+    }
 }
 
 /// The contract of this text and what it is compiled to, with deposits x and y and a secret a.
-pub fn compiled(alloc: Global, text: &[u8]) -> Result<(Checked, Compiled), Fail>
-    ensures { IfOk result (λ made. made.1.nodes ≡ nodes_of made.0.root) }
+pub fn compiled(alloc: Global, text: &[u8]) -> Option<(Checked, Compiled)>
+    ensures { IfSome result (λ made. made.1.nodes ≡ nodes_of made.0.root) }
 {
     let checked = checked(alloc, text)?;
-    let x = Name::new(b"x").ok_or("no name")?;
-    let y = Name::new(b"y").ok_or("no name")?;
-    let a = Name::new(b"a").ok_or("no name")?;
-    let bound = [(x, outpoint(0)), (y, outpoint(1))];
-    if !are_bound(&checked.advert().pre, &bound) {
-        return Err(Fail::from("not bound"));
-    }
-    let mut trail = Trail::new(alloc, Sha);
-    let whole = compile(alloc, &mut trail, 0, &checked, &bound, &[(a, [3; 32])]);
-    Ok((checked, whole.map_err(|_| "collided")?))
+    let bound = [
+        (Name::new(b"x")?, outpoint(0)),
+        (Name::new(b"y")?, outpoint(1)),
+    ];
+    let digests = [(Name::new(b"a")?, [3; 32])];
+    let whole = compiled_with(alloc, &checked, &bound, &digests)?;
+    Some((checked, whole))
 }
 
 fn path(alloc: Global, steps: &[PathStep]) -> Result<Path, OutOfMemory> {
@@ -63,7 +84,7 @@ fn counted(ops: &[Op]) -> usize {
 
 // The bytes and the counted operations of the root's script.
 fn root_size(alloc: Global, text: &[u8]) -> Result<(usize, usize), Fail> {
-    let (_, whole) = compiled(alloc, text)?;
+    let (_, whole) = compiled(alloc, text).ok_or("not compiled")?;
     let script = whole.script(0).ok_or("no script")?;
     let ops = decode_script(alloc, script.as_slice()).map_err(|_| "no operations")?;
     Ok((script.as_slice().len(), counted(&ops)))
@@ -82,7 +103,7 @@ fn scripts_are_as_large_as_worked(rt: HostRuntime) -> Result<(), Fail> {
 fn equal_branches_have_keys_of_their_own(rt: HostRuntime) -> Result<(), Fail> {
     let alloc = rt.alloc();
     let text = b"{A:! 10 @ x | B:! 0 @ y} (A : withdraw B + B : withdraw B)";
-    let (_, whole) = compiled(alloc, text)?;
+    let (_, whole) = compiled(alloc, text).ok_or("not compiled")?;
     let first = whole.transaction(1).ok_or("no branch")?;
     let second = whole.transaction(2).ok_or("no branch")?;
     assert!(rt; first.txid == second.txid);
@@ -114,7 +135,7 @@ fn paid(alloc: Global, made: &Prepared) -> Result<Vec<u64>, OutOfMemory> {
 fn each_transaction_leaves_the_fee(rt: HostRuntime) -> Result<(), Fail> {
     let alloc = rt.alloc();
     let text = b"{A:! 10 @ x} fee 1 split [5 -> withdraw A, 3 -> withdraw A]";
-    let (_, whole) = compiled(alloc, text)?;
+    let (_, whole) = compiled(alloc, text).ok_or("not compiled")?;
     assert!(rt; paid(alloc, whole.init())?.as_slice() == [9].as_slice());
     let rows: [(&[PathStep], &[u64]); 3] = [
         (&[PathStep::Branch(0)], &[5, 3]),
@@ -139,7 +160,7 @@ fn each_transaction_leaves_the_fee(rt: HostRuntime) -> Result<(), Fail> {
 #[test]
 fn paths_lead_to_the_nodes_of_the_text(rt: HostRuntime) -> Result<(), Fail> {
     let alloc = rt.alloc();
-    let (_, whole) = compiled(alloc, TIMED)?;
+    let (_, whole) = compiled(alloc, TIMED).ok_or("not compiled")?;
     assert_eq!(rt; whole.arena().len(), 5);
     let rows: [(&[PathStep], Option<u32>, Option<u32>); 5] = [
         (&[], None, Some(0)),

@@ -39,7 +39,7 @@ fn waits_for(gate: &Gate, party: &Name) -> bool {
 #[test]
 fn a_gate_opens_once_all_have_endorsed(rt: HostRuntime) -> Result<(), Fail> {
     let alloc = rt.alloc();
-    let (checked, whole) = compiled(alloc, TIMED)?;
+    let (checked, whole) = compiled(alloc, TIMED).ok_or("not compiled")?;
     let mut book = Book::new(alloc);
     for name in [b"A", b"B"] {
         let party = Name::new(name).ok_or("no name")?;

@@ -185,7 +185,8 @@ fn compile_nodes<H: Hash32 + Drop>(
 /// The transactions, digests and scripts that a checked contract is compiled to, with its numbered nodes. The contract has
 /// this number in its run; its deposits lie at these outpoints, and these are the committed digests of its secrets. What is
 /// hashed are the labels of the keys by path and participant, the scripts by position, and the strings of the initial
-/// transaction and of each path's, in the order of the text. No limit of scripts is met, since the check keeps them.
+/// transaction and of each path's, in the order of the text. No limit of scripts is met, since the check keeps them. Nor does a
+/// sum exceed its type, since no balance is more than all money: `Memory` is answered only where memory is wanting.
 #[tactic(auto, using(bm_hash::proofs::HashesLemmas::stopping))]
 pub fn compile<H: Hash32 + Drop>(
     alloc: Global,

@@ -52,7 +52,8 @@ impl<'a> Setting<'a> {
         bound: &'a [(Name, OutPoint)],
         hashes: &'a [(Name, [u8; 32])],
     ) -> Setting<'a>
-        requires parties { parties.now ≡ people (record { contract = contract; advert = advert.now; bound = bound.now; hashes = hashes.now }) }
+        requires parties { parties.now
+            ≡ people (record { contract = contract; advert = advert.now; bound = bound.now; hashes = hashes.now }) }
         requires well_formed { IsWellFormed advert.now }
         requires bound { list_all (λ d. is_bound bound.now d.0) (deposits advert.now.pre) ≡ true }
         ensures { result ≡ record { contract = contract; advert = advert.now; bound = bound.now; hashes = hashes.now } }

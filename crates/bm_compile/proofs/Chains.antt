@@ -1,5 +1,5 @@
 -- Calls that hash several lists of messages, one after another, each by the hasher that it found.
-use Rattle.std.proofs.Common.{◌≡◌, ℕ, ◌+◌, ◌<◌, List, [], ◌∷◌, ◌++◌, ◌∙◌, append_assoc, map, drop, length, take, get_or, Bool, true, refl, sym, ap, subst}
+use Rattle.std.proofs.Common.{◌≡◌, ℕ, ◌+◌, zero, suc, ◌<◌, List, [], ◌∷◌, ◌++◌, ◌∙◌, append_assoc, map, drop, length, take, get_or, Bool, true, refl, sym, ap, subst, arith}
 use Rattle.std.specs.List.{flat_map, list_all}
 use Rattle.std.proofs.lemmas.Bool.{and_parts, and_from}
 use Rattle.std.proofs.lemmas.List.{drop_more}
@@ -93,3 +93,18 @@ module _ {H : Type 0} (digest : H → Message → Message) (first : H) (xs ys : 
 pub all_map : {X Y : Type 0} (g : X → Y) (f : Y → Bool) (xs : List X) → list_all f (map g xs) ≡ list_all (λ x. f (g x)) xs
 all_map g f [] = refl
 all_map g f (x ∷ xs) = ap (λ b. f (g x) && b) (all_map g f xs)
+
+-- what is true of all is true of the one at a place
+pub all_item : {X : Type 0} (f : X → Bool) (xs : List X) (i : ℕ) (x : X) → list_all f xs ≡ true → i < length xs → x ≡ get_or xs i x → f x ≡ true
+all_item f [] i x h lt at = absurd (omega (arith, lt))
+all_item f (y ∷ xs) zero x h lt at = subst (λ z. f z ≡ true) (sym at) (and_parts (f y) (list_all f xs) h).0
+all_item f (y ∷ xs) (suc i) x h lt at = all_item f xs i x (and_parts (f y) (list_all f xs) h).1 (omega (arith, lt)) at
+
+pub seen_item : {X Y : Type 0} (g : X → Y) (f : Y → Bool) (xs : List X) (i : ℕ) (x : X) → list_all f (map g xs) ≡ true → i < length xs → x ≡ get_or xs i x → f (g x) ≡ true
+seen_item g f xs i x h lt at = all_item (λ y. f (g y)) xs i x (sym (all_map g f xs) ∙ h) lt at
+
+-- and of what is left of them
+pub all_drop : {X : Type 0} (f : X → Bool) (n : ℕ) (xs : List X) → list_all f xs ≡ true → list_all f (drop n xs) ≡ true
+all_drop f zero xs h = h
+all_drop f (suc n) [] h = refl
+all_drop f (suc n) (x ∷ xs) h = all_drop f n xs (and_parts (f x) (list_all f xs) h).1

@@ -6,3 +6,5 @@ pub mod Stacks
 pub mod Turns
 pub mod Walks
 pub mod Whole
+pub mod Bound
+pub mod Payable

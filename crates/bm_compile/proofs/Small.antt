@@ -38,7 +38,7 @@ deed_test test (branch_node path asked height deed) = test deed
 
 module _ (g : Guarded → Bool) (test : Deed → Bool) (same : (n : ℕ) (b : Guarded) → g b ≡ true → test (deed_of n b) ≡ true) where
   mutual
-    of_branches : (position : List PathStep) (i n : ℕ) (c : Contract) → Each (of_core g) c → list_all (deed_test test) (branches_nodes position i n c) ≡ true
+    pub of_branches : (position : List PathStep) (i n : ℕ) (c : Contract) → Each (of_core g) c → list_all (deed_test test) (branches_nodes position i n c) ≡ true
     of_branches position i n no_branch h = refl
     of_branches position i n (branch b bs) h =
         all_append (deed_test test) (branch_nodes (position ++ To i ∷ []) n (asks_once b) (lock b) b) _

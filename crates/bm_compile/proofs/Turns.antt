@@ -1,6 +1,8 @@
 -- One turn of the loop over the nodes.
-use Rattle.std.proofs.Common.{◌≡◌, ℕ, ◌+◌, ◌<◌, ◌≤◌, List, [], ◌∷◌, ◌++◌, length, map, drop, get_or, sym, ap, ◌∙◌, subst}
-use Rattle.std.specs.List.{flat_map}
+use Rattle.std.proofs.Common.{◌≡◌, ℕ, ◌+◌, ◌<◌, ◌≤◌, List, [], ◌∷◌, ◌++◌, length, map, drop, get_or, true, sym, ap, ◌∙◌, subst}
+use Rattle.std.specs.List.{flat_map, list_all}
+use Rattle.std.proofs.lemmas.Bool.{and_parts}
+use Rattle.std.proofs.lemmas.List.Folds.{list_all-append}
 use Rattle.std.proofs.lemmas.List.{drop_more, drop_all}
 use Rattle.bm_hash.specs.declared.messages.TrailError.{TrailError}
 use Rattle.bm_hash.specs.Messages.{Message}
@@ -14,6 +16,8 @@ use Rattle.theory_nodes.specs.declared.waiting.Waiting.{Waiting}
 use Rattle.theory_nodes.specs.Walk.{walk, next_stack, made_by}
 use Rattle.theory_nodes.proofs.Walking.{walk-step}
 use Rattle.bm_compile.specs.Passes.{ready, ready_strings}
+use Rattle.bm_compile.specs.Seen.{is_payable}
+use Rattle.bm_compile.proofs.Chains.{all_drop}
 use Rattle.bm_compile.proofs.Walks.{Walked, walked_more, walked_stops}
 
 module _ {H X : Type 0} (view : X → Node) (digest : H → Message → Message) (s : Instance) (script : ℕ → List ℕ) (first here : H) (same : here ≡ first)
@@ -47,6 +51,16 @@ module _ {H X : Type 0} (view : X → Node) (digest : H → Message → Message)
   turn_stops e w stops =
       walked_stops (ready hash) (ready_strings hash) hash all old mid new (made_by hash s script (view x) stack) (rest (next_stack hash s script (view x) stack)) made e
       (subst (λ r. Walked (ready hash) (ready_strings hash) hash old mid all r made) parted w) (rw same at stops)
+
+  -- the transaction that this node makes is payable where all are
+  pub turn_payable : Walked (ready hash) (ready_strings hash) hash old mid all (walk hash s script (map view (drop i xs)) stack) made → list_all is_payable all ≡ true
+      → list_all is_payable (made_by (digest here) s script (view x) stack) ≡ true
+  turn_payable w h =
+      let now = subst (λ r. Walked (ready hash) (ready_strings hash) hash old mid all r made) parted w in
+      let left = subst (λ l. list_all is_payable l ≡ true) now.rest_is (all_drop is_payable (length made) all h) in
+      let others = rest (next_stack hash s script (view x) stack) in
+      let p = and_parts (list_all is_payable (made_by hash s script (view x) stack)) (list_all is_payable others) (sym (list_all-append is_payable (made_by hash s script (view x) stack) others) ∙ left) in
+      subst (λ k. list_all is_payable (made_by (digest k) s script (view x) stack) ≡ true) (sym same) p.0
 
 -- no node is left
 pub turn_end : {X : Type 0} (view : X → Node) (hash : Message → Message) (s : Instance) (script : ℕ → List ℕ) (xs : List X) (i : ℕ) (stack : List Waiting) (old now : List Message) (all : List (List PathStep × Unsigned)) (made : List (List PathStep × Prepared))

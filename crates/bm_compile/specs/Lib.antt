@@ -1,3 +1,4 @@
 pub mod Numbered
 pub mod Passes
 pub mod Limits
+pub mod Seen

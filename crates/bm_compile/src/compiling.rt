@@ -81,18 +81,17 @@ fn prepare_initial<H: Hash32 + Drop>(
 }
 
 // The root, which waits from the initial transaction of this txid on.
-fn root_waiting(setting: &Setting, txid: [u8; 32]) -> Result<Waiting, OutOfMemory>
-    ensures { IfOk result (λ w. w ≡ root_with setting.now txid) }
+fn root_waiting(setting: &Setting, txid: [u8; 32]) -> Waiting
+    ensures { result ≡ root_with setting.now txid }
 {
-    Ok(Waiting {
+    Waiting {
         outpoint: OutPoint { txid, vout: 0 },
         choice: 0,
-        value: root_value(setting)?,
-    })
+        value: root_value(setting),
+    }
 }
 
 // The transactions of the paths, from the initial one on. Their strings are hashed.
-#[tactic(auto, using(bm_hash::proofs::HashesLemmas::stops_early))]
 fn prepare_paths<H: Hash32 + Drop>(
     alloc: Global,
     trail: &mut Trail<H>,
@@ -110,8 +109,10 @@ fn prepare_paths<H: Hash32 + Drop>(
     ensures trail { let hash = H.digest_of trail.old.hasher in
         Hashes H.digest_of trail.old trail.new (flat_map (λ p. unsigned_strings hash p.1) (path_transactions hash setting.now)) result }
 {
+    setting.is_seen_to();
+    few_nodes();
     nodes_give_transactions();
-    let root = root_waiting(setting, init.txid)?;
+    let root = root_waiting(setting, init.txid);
     prepare_nodes(alloc, trail, setting, scripts, arena.nodes(), root)
 }
 
@@ -184,7 +185,8 @@ fn compile_nodes<H: Hash32 + Drop>(
 /// The transactions, digests and scripts that a checked contract is compiled to, with its numbered nodes. The contract has
 /// this number in its run; its deposits lie at these outpoints, and these are the committed digests of its secrets. What is
 /// hashed are the labels of the keys by path and participant, the scripts by position, and the strings of the initial
-/// transaction and of each path's, in the order of the text. No limit of scripts is met, since the check keeps them.
+/// transaction and of each path's, in the order of the text. No limit of scripts is met, since the check keeps them. Nor does a
+/// sum exceed its type, since no balance is more than all money: `Memory` is answered only where memory is wanting.
 #[tactic(auto, using(bm_hash::proofs::HashesLemmas::stopping))]
 pub fn compile<H: Hash32 + Drop>(
     alloc: Global,

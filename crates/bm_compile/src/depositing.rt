@@ -1,6 +1,7 @@
 //! The deposits of a contract as what its transactions spend and pay to.
 
 ghost use Rattle.std.specs.Prelude.{◌≡◌, ◌++◌, IfOk, OnOk, true};
+ghost use Rattle.std.specs.List.{list_all};
 ghost use Rattle.std.specs.Option.{option_map};
 ghost use Rattle.spec_data.specs.Lists.{look_up};
 ghost use Rattle.spec_terms.specs.Precondition.{holding, volatile, persistent, value_of};
@@ -8,6 +9,7 @@ ghost use Rattle.spec_bitcoin.specs.Keys.{label_text};
 ghost use Rattle.spec_bitcoin.specs.declared.label.Label.TheVariants.{Deposit};
 ghost use Rattle.spec_compiler.specs.Transactions as spec;
 ghost use Rattle.spec_compiler.specs.Instance.{deposit_key};
+ghost use Rattle.bm_compile.specs.Seen.{is_bound};
 
 use crate::binding::bound_to;
 use crate::setting::Setting;
@@ -17,7 +19,7 @@ use bm_syntax::{Name, Pre};
 use spec_bitcoin::TxOut;
 use spec_compiler::Spent;
 use spec_data::{Bytes, OutOfMemory, Seq};
-use std::alloc::{AllocError, Global};
+use std::alloc::Global;
 
 // The text of the label of a party's deposits.
 #[tactic(auto, unfolding(spec_bitcoin::specs::Keys::label_text))]
@@ -67,10 +69,11 @@ fn deposit<H: Hash32>(
     owner: &[u8],
     value: u64,
 ) -> Result<Spent, OutOfMemory>
+    requires { is_bound setting.now.bound name.now ≡ true }
     ensures { IfOk result (λ spent. spent ≡ spec.deposit (H.digest_of hasher.now) setting.now name.now (holding owner.now value)) }
 {
     let Some(outpoint) = bound_to(setting.bound(), name) else {
-        return Err(AllocError);
+        unreachable!()
     };
     let script = party_script(alloc, hasher, owner)?;
     Ok(Spent {
@@ -116,6 +119,7 @@ fn put_deposit<H: Hash32>(
     setting: &Setting,
     name: &Name,
 ) -> Result<Spent, OutOfMemory>
+    requires { is_bound setting.now.bound name.now ≡ true }
     ensures { IfOk result (λ spent. spent ≡ spec.deposit (H.digest_of hasher.now) setting.now name.now
         (spec.holding_or_none (look_up name.now (volatile setting.now.advert.pre)))) }
 {
@@ -126,6 +130,7 @@ fn put_deposit<H: Hash32>(
 }
 
 /// Adds the outputs of the volatile deposits of these names.
+#[tactic(auto, using(crate::proofs::Chains::all_item))]
 pub(crate) fn add_deposits<H: Hash32>(
     alloc: Global,
     hasher: &H,
@@ -133,6 +138,7 @@ pub(crate) fn add_deposits<H: Hash32>(
     spends: &mut Seq<Spent>,
     puts: &[Name],
 ) -> Result<(), OutOfMemory>
+    requires { list_all (is_bound setting.now.bound) puts.now ≡ true }
     ensures { OnOk result (spends.new ≡ spends.old ++ spec.put_deposits (H.digest_of hasher.now) setting.now puts.now) }
 {
     for name in puts {
@@ -149,6 +155,7 @@ pub(crate) fn persistent_deposits<H: Hash32>(
 ) -> Result<Seq<Spent>, OutOfMemory>
     ensures { IfOk result (λ spends. spends ≡ spec.persistent_deposits (H.digest_of hasher.now) setting.now) }
 {
+    setting.is_seen_to();
     let mut spends = Seq::new(alloc);
     for entry in &setting.advert().pre {
         if let Pre::Persistent { party, value, name } = entry {

@@ -1,13 +1,17 @@
 //! What a contract is compiled with.
 
-ghost use Rattle.std.specs.Prelude.{◌≡◌};
+ghost use Rattle.std.specs.Prelude.{◌≡◌, true};
+ghost use Rattle.std.specs.List.{list_all};
+ghost use Rattle.spec_terms.specs.Faults.{IsWellFormed};
+ghost use Rattle.spec_terms.specs.Precondition.{deposits};
 ghost use Rattle.spec_compiler.specs.Instance.{people};
+ghost use Rattle.bm_compile.specs.Seen.{is_bound};
 
 use bm_syntax::{Advert, Name};
 use spec_bitcoin::OutPoint;
 use std::marker::Model;
 
-/// A contract of this number, with the places of its deposits and the digests of its secrets.
+/// A checked contract of this number, with the places of its deposits, each of which is bound, and the digests of its secrets.
 #[derive(Drop)]
 pub(crate) struct Setting<'a> {
     contract: u32,
@@ -18,9 +22,13 @@ pub(crate) struct Setting<'a> {
 }
 
 impl<'a> Model for Setting<'a> {
-    ghost use Rattle.std.specs.Prelude.{◌≡◌};
+    ghost use Rattle.std.specs.Prelude.{◌≡◌, true};
+    ghost use Rattle.std.specs.List.{list_all};
     ghost use Rattle.std.specs.Coded.{codes};
+    ghost use Rattle.spec_terms.specs.Faults.{IsWellFormed};
+    ghost use Rattle.spec_terms.specs.Precondition.{deposits};
     ghost use Rattle.spec_terms.specs.TermCode.{coded_choice};
+    ghost use Rattle.bm_compile.specs.Seen.{is_bound};
     ghost use Rattle.spec_compiler.specs.Instance.{Instance};
     ghost use Rattle.spec_terms.specs.Parties.{participants};
 
@@ -30,7 +38,9 @@ impl<'a> Model for Setting<'a> {
 
     ghost view = { λ s. record { contract = s.contract; advert = s.advert.now; bound = s.bound.now; hashes = s.hashes.now } };
 
-    ghost invariant = { λ s. s.parties.now ≡ participants s.advert.now };
+    ghost invariant = { λ s. (s.parties.now ≡ participants s.advert.now)
+        × IsWellFormed s.advert.now
+        × (list_all (λ d. is_bound s.bound.now d.0) (deposits s.advert.now.pre) ≡ true) };
 }
 
 impl<'a> Setting<'a> {
@@ -42,7 +52,10 @@ impl<'a> Setting<'a> {
         bound: &'a [(Name, OutPoint)],
         hashes: &'a [(Name, [u8; 32])],
     ) -> Setting<'a>
-        requires { parties.now ≡ people (record { contract = contract; advert = advert.now; bound = bound.now; hashes = hashes.now }) }
+        requires parties { parties.now
+            ≡ people (record { contract = contract; advert = advert.now; bound = bound.now; hashes = hashes.now }) }
+        requires well_formed { IsWellFormed advert.now }
+        requires bound { list_all (λ d. is_bound bound.now d.0) (deposits advert.now.pre) ≡ true }
         ensures { result ≡ record { contract = contract; advert = advert.now; bound = bound.now; hashes = hashes.now } }
     {
         Setting {
@@ -52,6 +65,14 @@ impl<'a> Setting<'a> {
             bound,
             hashes,
         }
+    }
+
+    /// What is known of each setting: its advert has passed the check, and its deposits are bound.
+    pub(crate) fn is_seen_to(&self)
+        ensures well_formed { IsWellFormed self.now.advert }
+        ensures bound { list_all (λ d. is_bound self.now.bound d.0) (deposits self.now.advert.pre) ≡ true }
+    {
+        let _ = &self.contract;
     }
 
     /// The number of the contract in its run.

@@ -1,11 +1,13 @@
 //! The choices whose branches are still to come, the next one last.
 
-ghost use Rattle.std.specs.Prelude.{◌≡◌, List, ℕ, ◌++◌, ◌∷◌, OnOk, replicate, reverse};
+ghost use Rattle.std.specs.Prelude.{◌≡◌, ◌<◌, ◌≤◌, List, ℕ, ◌+◌, ◌^◌, ◌++◌, ◌∷◌, length, OnOk, replicate, reverse};
+ghost use Rattle.spec_terms.specs.Precondition.{volatile, value_of_puts};
 ghost use Rattle.spec_bitcoin.specs.Digests.{txid as txid_of};
 ghost use Rattle.spec_compiler.specs.declared.unsigned.Unsigned.{Unsigned as Made};
 ghost use Rattle.spec_compiler.specs.Transactions.{tx_of, continued_value};
 ghost use Rattle.theory_nodes.specs.Walk as spec;
 ghost use Rattle.bm_arena.specs.NodeView.{deed_view};
+ghost use Rattle.bm_compile.specs.Seen.{deed_parts};
 
 use crate::setting::Setting;
 use crate::unsigned::continued_value;
@@ -13,7 +15,6 @@ use bm_arena::Core;
 use bm_syntax::Name;
 use spec_bitcoin::OutPoint;
 use spec_data::OutOfMemory;
-use std::alloc::AllocError;
 use theory_nodes::Waiting;
 
 pub(crate) fn push(stack: &mut Vec<Waiting>, waiting: Waiting) -> Result<(), OutOfMemory>
@@ -43,18 +44,15 @@ fn push_parts(
     txid: [u8; 32],
     parts: &[(u64, u32)],
 ) -> Result<(), OutOfMemory>
+    requires { length parts.now ≤ 1024 }
     ensures { (hash : List ℕ → List ℕ) (d : Made) → txid ≡ txid_of hash (tx_of d)
         → OnOk result (reverse stack.new.items ≡ spec.parts_wait hash d 0 parts.now ++ reverse stack.old.items) }
 {
     let mut rest = parts;
     while let Some(((value, choice), others)) = rest.split_last() {
-        let number = others.len();
-        if number > u32::MAX as usize {
-            return Err(AllocError);
-        }
         let outpoint = OutPoint {
             txid,
-            vout: number as u32,
+            vout: others.len() as u32,
         };
         push(
             stack,
@@ -78,11 +76,12 @@ fn push_next(
     puts: &[Name],
     next: u32,
 ) -> Result<(), OutOfMemory>
+    requires { balance + value_of_puts (volatile setting.now.advert.pre) puts.now < 2 ^ 64 }
     ensures { let value = continued_value setting.now balance puts.now in
         OnOk result (reverse stack.new.items
         ≡ record { outpoint = record { txid = txid; vout = 0 }; choice = next; value = value } ∷ reverse stack.old.items) }
 {
-    let value = continued_value(setting, balance, puts)?;
+    let value = continued_value(setting, balance, puts);
     let outpoint = OutPoint { txid, vout: 0 };
     push(
         stack,
@@ -103,6 +102,8 @@ pub(crate) fn push_waits(
     balance: u64,
     core: &Core,
 ) -> Result<(), OutOfMemory>
+    requires sum { balance + value_of_puts (volatile setting.now.advert.pre) (spec.deed_puts (deed_view core.now)) < 2 ^ 64 }
+    requires parts { length (deed_parts (deed_view core.now)) ≤ 1024 }
     ensures { (hash : List ℕ → List ℕ) (d : Made) → txid ≡ txid_of hash (tx_of d)
         → OnOk result (reverse stack.new.items
         ≡ spec.deed_waits hash setting.now d balance (deed_view core.now) ++ reverse stack.old.items) }

@@ -1,11 +1,13 @@
 //! A contract's transactions before they are signed.
 
-ghost use Rattle.std.specs.Prelude.{◌≡◌, ◌+◌, ◌-◌, [], ◌∷◌, map, IfOk, IfSome};
+ghost use Rattle.std.specs.Prelude.{◌≡◌, ◌<◌, ◌+◌, ◌-◌, ◌^◌, [], ◌∷◌, map, true, IfOk};
+ghost use Rattle.std.specs.List.{list_all};
 ghost use Rattle.spec_terms.specs.Precondition as pre_spec;
 ghost use Rattle.spec_compiler.specs.Transactions as spec;
 ghost use Rattle.theory_nodes.specs.Walk as walk;
 ghost use Rattle.bm_arena.specs.NodeView.{deed_view};
 ghost use Rattle.bm_compile.specs.Passes.{listed_script, initial_with};
+ghost use Rattle.bm_compile.specs.Seen.{is_bound};
 
 use crate::depositing::{add_deposits, party_script, pays, persistent_deposits, volatile_value};
 use crate::setting::Setting;
@@ -15,59 +17,54 @@ use bm_syntax::{Name, Pre};
 use spec_bitcoin::TxOut;
 use spec_compiler::{Spent, Unsigned};
 use spec_data::{Bytes, OutOfMemory, Seq};
-use std::alloc::{AllocError, Global};
+use std::alloc::Global;
 use theory_nodes::Waiting;
 
 // ---- values
 
 // A balance and what the volatile deposits of these names bring, in satoshi.
-fn with_puts(pre: &[Pre], balance: u64, puts: &[Name]) -> Option<u64>
-    ensures { IfSome result (λ total. total ≡ balance + pre_spec.value_of_puts (pre_spec.volatile pre.now) puts.now) }
+fn with_puts(pre: &[Pre], balance: u64, puts: &[Name]) -> u64
+    requires { balance + pre_spec.value_of_puts (pre_spec.volatile pre.now) puts.now < 2 ^ 64 }
+    ensures { result ≡ balance + pre_spec.value_of_puts (pre_spec.volatile pre.now) puts.now }
 {
     let mut total = balance;
     for name in puts {
-        total = total.checked_add(volatile_value(pre, name))?;
+        total += volatile_value(pre, name);
     }
-    Some(total)
+    total
 }
 
 /// What the continuation of a put of these deposits is worth, in satoshi.
-pub(crate) fn continued_value(
-    setting: &Setting,
-    balance: u64,
-    puts: &[Name],
-) -> Result<u64, OutOfMemory>
-    ensures { IfOk result (λ value. value ≡ spec.continued_value setting.now balance puts.now) }
+pub(crate) fn continued_value(setting: &Setting, balance: u64, puts: &[Name]) -> u64
+    requires { balance + pre_spec.value_of_puts (pre_spec.volatile setting.now.advert.pre) puts.now < 2 ^ 64 }
+    ensures { result ≡ spec.continued_value setting.now balance puts.now }
 {
     let advert = setting.advert();
-    match with_puts(&advert.pre, balance, puts) {
-        Some(worth) => Ok(worth.saturating_sub(advert.fee)),
-        None => Err(AllocError),
-    }
+    with_puts(&advert.pre, balance, puts).saturating_sub(advert.fee)
 }
 
 // What the persistent deposits are worth, in satoshi.
-fn total_of(pre: &[Pre]) -> Option<u64>
-    ensures { IfSome result (λ total. total ≡ pre_spec.total_of (pre_spec.persistent pre.now)) }
+fn total_of(pre: &[Pre]) -> u64
+    requires { pre_spec.total_of (pre_spec.persistent pre.now) < 2 ^ 64 }
+    ensures { result ≡ pre_spec.total_of (pre_spec.persistent pre.now) }
 {
     let mut total = 0u64;
     for entry in pre {
         if let Pre::Persistent { value, .. } = entry {
-            total = total.checked_add(*value)?;
+            total += *value;
         }
     }
-    Some(total)
+    total
 }
 
 /// What the root is worth, in satoshi.
-pub(crate) fn root_value(setting: &Setting) -> Result<u64, OutOfMemory>
-    ensures { IfOk result (λ value. value ≡ spec.root_value setting.now) }
+#[tactic(auto, using(crate::proofs::Payable::total_little))]
+pub(crate) fn root_value(setting: &Setting) -> u64
+    ensures { result ≡ spec.root_value setting.now }
 {
+    setting.is_seen_to();
     let advert = setting.advert();
-    match total_of(&advert.pre) {
-        Some(total) => Ok(total.saturating_sub(advert.fee)),
-        None => Err(AllocError),
-    }
+    total_of(&advert.pre).saturating_sub(advert.fee)
 }
 
 // ---- outputs
@@ -101,10 +98,11 @@ fn continued_outputs<H: Hash32>(
     puts: &[Name],
     next: u32,
 ) -> Result<Seq<TxOut>, OutOfMemory>
+    requires { balance + pre_spec.value_of_puts (pre_spec.volatile setting.now.advert.pre) puts.now < 2 ^ 64 }
     ensures { IfOk result (λ outputs. outputs
         ≡ spec.pays (H.digest_of hasher.now) (listed_script scripts.now next) (spec.continued_value setting.now balance puts.now) ∷ []) }
 {
-    let value = continued_value(setting, balance, puts)?;
+    let value = continued_value(setting, balance, puts);
     let output = pays(alloc, hasher, script_at(scripts, next as usize), value)?;
     one(alloc, output)
 }
@@ -152,6 +150,8 @@ fn outputs_of<H: Hash32>(
     balance: u64,
     core: &Core,
 ) -> Result<Seq<TxOut>, OutOfMemory>
+    requires { let puts = walk.deed_puts (deed_view core.now) in
+        balance + pre_spec.value_of_puts (pre_spec.volatile setting.now.advert.pre) puts < 2 ^ 64 }
     ensures { let deed = deed_view core.now in
         IfOk result (λ outputs. outputs ≡ walk.deed_outputs (H.digest_of hasher.now) setting.now (listed_script scripts.now) balance deed) }
 {
@@ -196,6 +196,7 @@ fn spends_of<H: Hash32>(
     waiting: &Waiting,
     core: &Core,
 ) -> Result<Seq<Spent>, OutOfMemory>
+    requires { list_all (is_bound setting.now.bound) (walk.deed_puts (deed_view core.now)) ≡ true }
     ensures { let puts = walk.deed_puts (deed_view core.now) in
         IfOk result (λ spends. spends
         ≡ walk.spent_of (listed_script scripts.now) waiting.now ∷ spec.put_deposits (H.digest_of hasher.now) setting.now puts) }
@@ -216,6 +217,9 @@ pub(crate) fn branch_unsigned<H: Hash32>(
     lock: u32,
     core: &Core,
 ) -> Result<Unsigned, OutOfMemory>
+    requires sum { let puts = walk.deed_puts (deed_view core.now) in
+        waiting.now.value + pre_spec.value_of_puts (pre_spec.volatile setting.now.advert.pre) puts < 2 ^ 64 }
+    requires bound { list_all (is_bound setting.now.bound) (walk.deed_puts (deed_view core.now)) ≡ true }
     ensures { let deed = deed_view core.now in
         IfOk result (λ made. made
         ≡ walk.node_unsigned (H.digest_of hasher.now) setting.now (listed_script scripts.now) waiting.now lock deed) }
@@ -237,7 +241,7 @@ pub(crate) fn initial_unsigned<H: Hash32>(
     ensures { let hash = H.digest_of hasher.now in
         IfOk result (λ made. made ≡ initial_with hash setting.now (listed_script scripts.now 0)) }
 {
-    let value = root_value(setting)?;
+    let value = root_value(setting);
     let output = pays(alloc, hasher, script_at(scripts, 0), value)?;
     Ok(Unsigned {
         spends: persistent_deposits(alloc, hasher, setting)?,

@@ -1,14 +1,16 @@
 //! The transactions of a contract, in one pass over its nodes.
 
-ghost use Rattle.std.specs.Prelude.{◌≡◌, ◌++◌, ◌∷◌, [], map, None, IfOk, OnOk, reverse};
-ghost use Rattle.std.specs.List.{flat_map};
+ghost use Rattle.std.specs.Prelude.{◌≡◌, ◌<◌, ◌≤◌, ◌+◌, ◌^◌, ◌++◌, ◌∷◌, [], length, map, true, None, IfOk, OnOk, reverse};
+ghost use Rattle.std.specs.List.{flat_map, list_all};
 ghost use Rattle.bm_hash.specs.Messages.{evidence_of};
 ghost use Rattle.bm_hash.specs.Trails.{Hashes};
+ghost use Rattle.spec_terms.specs.Precondition.{volatile, value_of_puts};
 ghost use Rattle.spec_compiler.specs.Hashed.{unsigned_strings};
 ghost use Rattle.spec_compiler.specs.Transactions.{prepared};
 ghost use Rattle.theory_nodes.specs.Walk as spec;
 ghost use Rattle.bm_arena.specs.NodeView.{node_view, deed_view};
 ghost use Rattle.bm_compile.specs.Passes.{listed_script, ready, ready_strings};
+ghost use Rattle.bm_compile.specs.Seen.{is_bound, deed_parts, has_bound_puts, has_few_parts, is_payable};
 
 use crate::preparing::prepare;
 use crate::setting::Setting;
@@ -46,6 +48,9 @@ fn prepare_branch<H: Hash32 + Drop>(
     core: &Core,
 ) -> Result<Prepared, TrailError>
     requires clear { evidence_of (H.digest_of trail.old.hasher) trail.old.messages ≡ None }
+    requires sum { let puts = spec.deed_puts (deed_view core.now) in
+        waiting.now.value + value_of_puts (volatile setting.now.advert.pre) puts < 2 ^ 64 }
+    requires bound { list_all (is_bound setting.now.bound) (spec.deed_puts (deed_view core.now)) ≡ true }
     ensures prepared { let hash = H.digest_of trail.old.hasher in
         let made = spec.node_unsigned hash setting.now (listed_script scripts.now) waiting.now lock (deed_view core.now) in
         IfOk result (λ p. p ≡ prepared hash made) }
@@ -72,6 +77,10 @@ fn put_branch<H: Hash32 + Drop>(
     core: &Core,
 ) -> Result<(), TrailError>
     requires clear { evidence_of (H.digest_of trail.old.hasher) trail.old.messages ≡ None }
+    requires sum { let puts = spec.deed_puts (deed_view core.now) in
+        waiting.now.value + value_of_puts (volatile setting.now.advert.pre) puts < 2 ^ 64 }
+    requires bound { list_all (is_bound setting.now.bound) (spec.deed_puts (deed_view core.now)) ≡ true }
+    requires parts { length (deed_parts (deed_view core.now)) ≤ 1024 }
     ensures stack { let hash = H.digest_of trail.old.hasher in
         let one = spec.node_unsigned hash setting.now (listed_script scripts.now) waiting.now lock (deed_view core.now) in
         OnOk result (reverse stack.new.items
@@ -101,6 +110,11 @@ fn put_node<H: Hash32 + Drop>(
     node: &Node,
 ) -> Result<(), TrailError>
     requires clear { evidence_of (H.digest_of trail.old.hasher) trail.old.messages ≡ None }
+    requires payable { let hash = H.digest_of trail.old.hasher in
+        let more = spec.made_by hash setting.now (listed_script scripts.now) (node_view node.now) (reverse stack.old.items) in
+        list_all is_payable more ≡ true }
+    requires bound { has_bound_puts setting.now.bound (node_view node.now) ≡ true }
+    requires parts { has_few_parts (node_view node.now) ≡ true }
     ensures stack { let hash = H.digest_of trail.old.hasher in
         OnOk result (reverse stack.new.items
         ≡ spec.next_stack hash setting.now (listed_script scripts.now) (node_view node.now) (reverse stack.old.items)) }
@@ -141,6 +155,11 @@ pub(crate) fn prepare_nodes<H: Hash32 + Drop>(
     root: Waiting,
 ) -> Result<Seq<(Path, Prepared)>, TrailError>
     requires clear { evidence_of (H.digest_of trail.old.hasher) trail.old.messages ≡ None }
+    requires payable { let hash = H.digest_of trail.old.hasher in
+        let all = spec.walk hash setting.now (listed_script scripts.now) (map node_view nodes.now) (root ∷ []) in
+        list_all is_payable all ≡ true }
+    requires bound { list_all (has_bound_puts setting.now.bound) (map node_view nodes.now) ≡ true }
+    requires parts { list_all has_few_parts (map node_view nodes.now) ≡ true }
     ensures made { let hash = H.digest_of trail.old.hasher in
         let all = spec.walk hash setting.now (listed_script scripts.now) (map node_view nodes.now) (root ∷ []) in
         IfOk result (λ made. made ≡ map (ready hash) all) }

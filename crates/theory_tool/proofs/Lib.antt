@@ -1,3 +1,4 @@
 pub mod Texts
 pub mod Completeness
 pub mod Statuses
+pub mod Runs

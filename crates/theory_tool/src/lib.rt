@@ -3,6 +3,7 @@
 
 ghost use Rattle.spec_tool.specs.Causes.{CausesTheorem};
 ghost use Rattle.spec_tool.specs.Reading.{TextsTheorem, CompletenessTheorem};
+ghost use Rattle.theory_tool.specs.Runs.{RunsHaltByCauses};
 
 /// Where the files of a command are there and no read fails, its answer is that to their texts,
 /// whether a file is longer than it may be or not.
@@ -21,4 +22,11 @@ pub fn well_formed_files_end()
 /// transaction is, or two can't be combined.
 pub fn statuses_have_causes()
     ensures { CausesTheorem }
+{}
+
+/// A run ends with a guess exactly where an event gives a secret away and nothing collides before or
+/// with it, with a collision exactly where the opening or an event collides and nothing is guessed
+/// before, and else at the end of all events.
+pub fn runs_halt_by_causes()
+    ensures { RunsHaltByCauses }
 {}

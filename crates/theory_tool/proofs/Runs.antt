@@ -2,7 +2,7 @@
 use Rattle.std.proofs.Common.{◌≡◌, ℕ, ◌↔◌, List, [], ◌∷◌, ◌++◌, Bool, true, false, Option, Some, None, refl, sym, ap, subst, ◌∙◌, inl, inr, arith}
 use Rattle.std.specs.Prelude.{◌||◌}
 use Rattle.std.proofs.Common.{append_assoc}
-use Rattle.spec_data.specs.Lists.{is_among}
+use Rattle.spec_data.specs.Lists.{is_among, has_number}
 use Rattle.spec_data.specs.Messages.{collision}
 use Rattle.spec_calculus.specs.Configuration.{Configuration}
 use Rattle.spec_run.specs.declared.event.Event.{Event}
@@ -10,9 +10,10 @@ use Rattle.spec_run.specs.declared.header.HeldSecret.{HeldSecret}
 use Rattle.spec_run.specs.Setup.{Setup}
 use Rattle.spec_run.specs.World.{World}
 use Rattle.spec_run.specs.Draft.{Halt, Collided, Guessed, guess, settled, settle}
-use Rattle.spec_run.specs.Event.{draft, goes_on, opening_strings, opening_world, opening_collision, played_from}
+use Rattle.spec_run.specs.Event.{draft, goes_on, opening_strings, opening_world, opening_collision, played_from, played}
 use Rattle.spec_run.specs.Halting.{AreApart, Collides, GivesAway, GivesNoneAway, NothingHalts}
-use Rattle.spec_run.specs.Translation.{last_world, last_configuration, first_halt}
+use Rattle.spec_run.proofs.Courses.{last_left}
+use Rattle.spec_run.specs.Translation.{opening_configuration, world_after, last_world, last_configuration, first_halt}
 use Rattle.spec_text.specs.Played.{ending_from, ending}
 use Rattle.spec_tool.specs.Commands.{ending_status}
 use Rattle.theory_calculus.proofs.Names.{among-append}
@@ -118,13 +119,52 @@ shown s (e ∷ es) w fresh =
         (record { calm = calm_is s.hash w.hashed (draft s w e).hashes fresh ec; unguessed = none_away s w e s.header.secrets eu })
         (ih next (no_clash s.hash w.hashed (draft s w e).hashes fresh ec))
 
+-- ---- one of three statuses
+
+-- a status of a run by its cause
+pub data Outcome (A B C : Type 0) (n : ℕ) : Type 0 where
+  is_whole : n ≡ 0 → A → Outcome A B C n
+  is_guess : n ≡ 7 → B → Outcome A B C n
+  is_collision : n ≡ 8 → C → Outcome A B C n
+
+-- causes that exclude one another
+pub record Different (A B C : Type 0) : Type 0 where
+  pub whole_guess : A → B → ⊥
+  pub whole_collision : A → C → ⊥
+  pub guess_collision : B → C → ⊥
+
+-- the status is each exactly by its cause, and no other
+pub record Exactly (A B C : Type 0) (n : ℕ) : Type 0 where
+  pub whole : (n ≡ 0) ↔ A
+  pub guess : (n ≡ 7) ↔ B
+  pub collision : (n ≡ 8) ↔ C
+  pub few : has_number n (0 ∷ (7 ∷ (8 ∷ []))) ≡ true
+
+pub exactly : (A B C : Type 0) (n : ℕ) → Different A B C → Outcome A B C n → Exactly A B C n
+exactly A B C n d (is_whole h a) = record {
+  whole = (λ e. a, λ e. h);
+  guess = (λ e. absurd (omega (arith, e, h)), λ b. absurd (d.whole_guess a b));
+  collision = (λ e. absurd (omega (arith, e, h)), λ c. absurd (d.whole_collision a c));
+  few = ap (λ (k : ℕ). has_number k (0 ∷ (7 ∷ (8 ∷ [])))) h;
+}
+exactly A B C n d (is_guess h b) = record {
+  whole = (λ e. absurd (omega (arith, e, h)), λ a. absurd (d.whole_guess a b));
+  guess = (λ e. b, λ e. h);
+  collision = (λ e. absurd (omega (arith, e, h)), λ c. absurd (d.guess_collision b c));
+  few = ap (λ (k : ℕ). has_number k (0 ∷ (7 ∷ (8 ∷ [])))) h;
+}
+exactly A B C n d (is_collision h c) = record {
+  whole = (λ e. absurd (omega (arith, e, h)), λ a. absurd (d.whole_collision a c));
+  guess = (λ e. absurd (omega (arith, e, h)), λ b. absurd (d.guess_collision b c));
+  collision = (λ e. c, λ e. h);
+  few = ap (λ (k : ℕ). has_number k (0 ∷ (7 ∷ (8 ∷ [])))) h;
+}
+
 -- ---- how a run ends
 
 -- of a status, what it shows of a run
-pub data Ends (s : Setup) (es : List Event) (n : ℕ) : Type 0 where
-  unhalted : n ≡ 0 → IsUnhalted s es → Ends s es n
-  guessing : n ≡ 7 → IsGuessing s es → Ends s es n
-  colliding : n ≡ 8 → IsColliding s es → Ends s es n
+abbrev Ends : Setup → List Event → ℕ → Type 0
+Ends s es n = Outcome (IsUnhalted s es) (IsGuessing s es) (IsColliding s es) n
 
 opened : (s : Setup) → opening_collision s ≡ None → OpensCalmly s
 opened s h = calm_is s.hash [] (opening_strings s) (no_clash_none s.hash) h
@@ -142,13 +182,13 @@ ends s es = by_opening (opening_collision s) refl
     g = last_configuration s es
 
     by_halt : (h : Option (Event × Halt)) → OpensCalmly s → Shows s (opening_world s) es h → Ends s es (ending_status (ending_from w g None h))
-    by_halt None calm k = unhalted refl (calm, k)
-    by_halt (Some (e, Collided earlier later)) calm k = colliding refl (inr (calm, k))
-    by_halt (Some (e, Guessed party name)) calm k = guessing refl (calm, k)
+    by_halt None calm k = is_whole refl (calm, k)
+    by_halt (Some (e, Collided earlier later)) calm k = is_collision refl (inr (calm, k))
+    by_halt (Some (e, Guessed party name)) calm k = is_guess refl (calm, k)
 
     by_opening : (o : Option (List ℕ × List ℕ)) → opening_collision s ≡ o → Ends s es (ending_status (ending_from w g o (first_halt s es)))
     by_opening (Some pair) h =
-        colliding refl (inl (pair.0, pair.1, collides s.hash [] (opening_strings s) pair.0 pair.1 (no_clash_none s.hash) h))
+        is_collision refl (inl (pair.0, pair.1, collides s.hash [] (opening_strings s) pair.0 pair.1 (no_clash_none s.hash) h))
     by_opening None h = by_halt (first_halt s es) (opened s h) (shown s es (opening_world s) (opening_clear s h))
 
 -- ---- the causes are different
@@ -169,24 +209,53 @@ guessing_colliding s es g (inr c) = guess_or_collision s (opening_world s) es g.
 
 -- ---- the theorem
 
-ends_whole : (s : Setup) (es : List Event) (n : ℕ) → Ends s es n → (n ≡ 0) ↔ IsUnhalted s es
-ends_whole s es n (unhalted h u) = (λ e. u, λ e. h)
-ends_whole s es n (guessing h g) = (λ e. absurd (omega (arith, e, h)), λ u. absurd (unhalted_guessing s es u g))
-ends_whole s es n (colliding h c) = (λ e. absurd (omega (arith, e, h)), λ u. absurd (unhalted_colliding s es u c))
-
-ends_guessed : (s : Setup) (es : List Event) (n : ℕ) → Ends s es n → (n ≡ 7) ↔ IsGuessing s es
-ends_guessed s es n (unhalted h u) = (λ e. absurd (omega (arith, e, h)), λ g. absurd (unhalted_guessing s es u g))
-ends_guessed s es n (guessing h g) = (λ e. g, λ e. h)
-ends_guessed s es n (colliding h c) = (λ e. absurd (omega (arith, e, h)), λ g. absurd (guessing_colliding s es g c))
-
-ends_collided : (s : Setup) (es : List Event) (n : ℕ) → Ends s es n → (n ≡ 8) ↔ IsColliding s es
-ends_collided s es n (unhalted h u) = (λ e. absurd (omega (arith, e, h)), λ c. absurd (unhalted_colliding s es u c))
-ends_collided s es n (guessing h g) = (λ e. absurd (omega (arith, e, h)), λ c. absurd (guessing_colliding s es g c))
-ends_collided s es n (colliding h c) = (λ e. c, λ e. h)
+pub run_exactly : (s : Setup) (es : List Event)
+    → Exactly (IsUnhalted s es) (IsGuessing s es) (IsColliding s es) (ending_status (ending s es))
+run_exactly s es =
+    exactly (IsUnhalted s es) (IsGuessing s es) (IsColliding s es) (ending_status (ending s es))
+    (record {
+      whole_guess = unhalted_guessing s es;
+      whole_collision = unhalted_colliding s es;
+      guess_collision = guessing_colliding s es;
+    })
+    (ends s es)
 
 pub runs_halt : RunsHaltByCauses
 runs_halt = record {
-  whole = λ s es. ends_whole s es (ending_status (ending s es)) (ends s es);
-  guessed = λ s es. ends_guessed s es (ending_status (ending s es)) (ends s es);
-  collided = λ s es. ends_collided s es (ending_status (ending s es)) (ends s es);
+  whole = λ s es. (run_exactly s es).whole;
+  guessed = λ s es. (run_exactly s es).guess;
+  collided = λ s es. (run_exactly s es).collision;
 }
+
+-- ---- the last world
+
+-- the opening of a run that isn't halted doesn't collide
+pub opens_calmly : (s : Setup) (es : List Event) → ending_status (ending s es) ≡ 0 → opening_collision s ≡ None
+opens_calmly s es h = by_opening (opening_collision s) h
+  where
+    by_opening : (o : Option (List ℕ × List ℕ))
+        → ending_status (ending_from (last_world s es) (last_configuration s es) o (first_halt s es)) ≡ 0 → o ≡ None
+    by_opening None k = refl
+    by_opening (Some pair) k = absurd (omega (arith, k))
+
+-- no two messages of the world that these events leave clash
+clear_after : (s : Setup) (es : List Event) (w : World) → NoClash s.hash w.hashed
+    → NoClash s.hash (world_after w (played_from s w es).passed).hashed
+clear_after s [] w fresh = fresh
+clear_after s (e ∷ es) w fresh =
+    let d = draft s w e in
+    by_answer (collision s.hash w.hashed d.hashes) (guess s w.posted d.posts d.allowed) refl (clear_after s es)
+  where
+    by_answer : (c : Option (List ℕ × List ℕ)) (u : Option HeldSecret) → collision s.hash w.hashed (draft s w e).hashes ≡ c
+        → ((next : World) → NoClash s.hash next.hashed → NoClash s.hash (world_after next (played_from s next es).passed).hashed)
+        → NoClash s.hash (world_after w (goes_on e (settle w (draft s w e) c u) (λ next. played_from s next es)).passed).hashed
+    by_answer (Some pair) u ec ih = fresh
+    by_answer None (Some held) ec ih = fresh
+    by_answer None None ec ih = ih (settled w (draft s w e)) (no_clash s.hash w.hashed (draft s w e).hashes fresh ec)
+
+pub last_clear : (s : Setup) (es : List Event) → opening_collision s ≡ None → NoClash s.hash (last_world s es).hashed
+last_clear s es h =
+    let w = opening_world s in
+    let ps = (played s es).passed in
+    subst (λ (x : World). NoClash s.hash x.hashed) (sym (last_left s (world_after w ps).posted ps (opening_configuration s) w))
+    (clear_after s es w (opening_clear s h))

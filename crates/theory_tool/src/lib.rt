@@ -4,6 +4,7 @@
 ghost use Rattle.spec_tool.specs.Causes.{CausesTheorem};
 ghost use Rattle.spec_tool.specs.Reading.{TextsTheorem, CompletenessTheorem};
 ghost use Rattle.theory_tool.specs.Runs.{RunsHaltByCauses};
+ghost use Rattle.theory_tool.specs.Statuses.{StatusesTheorem};
 
 /// Where the files of a command are there and no read fails, its answer is that to their texts,
 /// whether a file is longer than it may be or not.
@@ -29,4 +30,12 @@ pub fn statuses_have_causes()
 /// before, and else at the end of all events.
 pub fn runs_halt_by_causes()
     ensures { RunsHaltByCauses }
+{}
+
+/// Each status that a played run or a further file gives comes exactly by its cause: 7 where an event
+/// guesses, or one that a strategy tries; 8 where the opening or an event collides, or what is judged
+/// or tried after the run; 10 where the file of an audit is too long; 11 where a strategy is refused; and 0
+/// where nothing is refused and nothing halts.
+pub fn statuses_have_exact_causes()
+    ensures { StatusesTheorem }
 {}

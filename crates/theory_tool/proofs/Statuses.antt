@@ -201,7 +201,7 @@ abbrev made_ending : (List ℕ → List ℕ) → ℕ → ℕ → Ending
 made_ending hash number size =
     ending (setup_of hash (made_run number size) (made_contract number size ∷ [])) ((made_run number size).events)
 
-known : (hash : List ℕ → List ℕ) (command : Command) (texts : List Text) → has_number (text_answer hash command texts).status statuses
+pub known : (hash : List ℕ → List ℕ) (command : Command) (texts : List Text) → has_number (text_answer hash command texts).status statuses
     ≡ true
 known hash (check contract) texts = without_known (status_of hash (check contract) texts) (check_is (contract_in (text_at texts 0)))
 known hash (play run contracts) texts = both_known (run_answer play_text) of_play hash (run_in (text_at texts 0)) _

@@ -3,8 +3,11 @@
 
 ghost use Rattle.spec_tool.specs.Causes.{CausesTheorem};
 ghost use Rattle.spec_tool.specs.Reading.{TextsTheorem, CompletenessTheorem};
+ghost use Rattle.theory_tool.specs.Auto.{AutoTheorem};
+ghost use Rattle.theory_tool.specs.Ended.{CallsEnd};
 ghost use Rattle.theory_tool.specs.Runs.{RunsHaltByCauses};
 ghost use Rattle.theory_tool.specs.Statuses.{StatusesTheorem};
+ghost use Rattle.theory_tool.specs.Texts.{FurtherTextsTheorem};
 
 /// Where the files of a command are there and no read fails, its answer is that to their texts,
 /// whether a file is longer than it may be or not.
@@ -38,4 +41,23 @@ pub fn runs_halt_by_causes()
 /// where nothing is refused and nothing halts.
 pub fn statuses_have_exact_causes()
     ensures { StatusesTheorem }
+{}
+
+/// So do `make`, the commands on files with partially signed transactions, `audit` and `auto`: of a
+/// further file that is longer than it may be nothing is taken.
+pub fn commands_answer_further_texts()
+    ensures { FurtherTextsTheorem }
+{}
+
+/// A call ends with 4 exactly where there was something to write and the write failed, and else with
+/// the status of its answer; it never ends with 12, and with 5 only where memory was wanting.
+pub fn calls_end_by_causes()
+    ensures { CallsEnd }
+{}
+
+/// With a valid run and a well-formed contract `auto` writes the longer run where nothing halts, and
+/// else the halt of the run, or of an event that a rule tries; a strategy that is refused comes before
+/// these, for its size, its first fault, or the events or the bytes that it would add to the run.
+pub fn auto_answers_every_case()
+    ensures { AutoTheorem }
 {}

@@ -6,3 +6,4 @@ pub mod Outcomes
 pub mod FurtherTexts
 pub mod Ended
 pub mod Auto
+pub mod Strategies

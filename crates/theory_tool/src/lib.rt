@@ -7,6 +7,7 @@ ghost use Rattle.theory_tool.specs.Auto.{AutoTheorem};
 ghost use Rattle.theory_tool.specs.Ended.{CallsEnd};
 ghost use Rattle.theory_tool.specs.Runs.{RunsHaltByCauses};
 ghost use Rattle.theory_tool.specs.Statuses.{StatusesTheorem};
+ghost use Rattle.theory_tool.specs.Strategies.{StrategiesAreRead};
 ghost use Rattle.theory_tool.specs.Texts.{FurtherTextsTheorem};
 
 /// Where the files of a command are there and no read fails, its answer is that to their texts,
@@ -60,4 +61,11 @@ pub fn calls_end_by_causes()
 /// these, for its size, its first fault, or the events or the bytes that it would add to the run.
 pub fn auto_answers_every_case()
     ensures { AutoTheorem }
+{}
+
+/// A strategy file is read as the rules that its lines spell exactly where each line that isn't empty
+/// spells one and they aren't too many; else it is refused for its first line that spells none, or
+/// that is one rule too many.
+pub fn strategies_are_read()
+    ensures { StrategiesAreRead }
 {}

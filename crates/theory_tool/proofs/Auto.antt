@@ -1,5 +1,6 @@
 -- What `auto` answers in each case.
-use Rattle.std.proofs.Common.{◌≡◌, ℕ, ◌+◌, ◌*◌, ◌≤◌, ◌<◌, Bool, true, false, List, [], ◌∷◌, length, Some, None, Ok, Err, refl, ap, ◌∙◌, arith}
+use Rattle.std.proofs.Common.{◌≡◌, ℕ, ◌+◌, ◌*◌, ◌≤◌, ◌<◌, Bool, true, false, List, [], ◌∷◌, length, Some, None, Ok, Err, refl, ap, ◌∙◌}
+use Rattle.std.proofs.Common.{arith}
 use Rattle.std.specs.Prelude.{if◌then◌else◌, nat_le, nat_lt, Result}
 use Rattle.std.proofs.lemmas.Bool.{leb-false, leb-true, ltb-false, ltb-true, true_from_ne_false, false_from_ne_true}
 use Rattle.spec_run.specs.declared.event.Event.{Event}
@@ -15,7 +16,8 @@ use Rattle.spec_tool.specs.Sizes.{most_strategy_bytes, rule_line_bytes}
 use Rattle.spec_tool.specs.Commands.{Printed, setup_of, ending_status}
 use Rattle.spec_tool.specs.Strategy.{read_strategy}
 use Rattle.spec_tool.specs.Turns.{Progressed, extended}
-use Rattle.spec_tool.specs.AutoText.{size_limit, events_limit, has_room, fits_within, judged_rules, strategy_refused, auto_answer, progressed_answer}
+use Rattle.spec_tool.specs.AutoText.{size_limit, events_limit, has_room, fits_within, judged_rules, strategy_refused}
+use Rattle.spec_tool.specs.AutoText.{auto_answer, progressed_answer}
 use Rattle.spec_tool.specs.Answers.{unless_stopped, if_whole, rules_judged, strategy_file}
 use Rattle.theory_tool.specs.Texts.{bounded}
 use Rattle.theory_tool.specs.Auto.{IsTaken, HaltIsAnswered, auto_there, AutoTheorem}
@@ -70,7 +72,8 @@ module _ (s : Setup) (es : List Event) (run strategy : List ℕ) where
 
   too_long : most_strategy_bytes < length strategy → beside ≡ strategy_refused size_limit
   too_long h =
-      ap (λ (b : Bool). strategy_file (Some run) (if b then Some strategy else None) s es) (le_is_not (length strategy) most_strategy_bytes h)
+      ap (λ (b : Bool). strategy_file (Some run) (if b then Some strategy else None) s es)
+      (le_is_not (length strategy) most_strategy_bytes h)
 
   read_in : (r : Result (List Rule) StrategyFault) → length strategy ≤ most_strategy_bytes → read_strategy s.header strategy ≡ r
       → beside ≡ rules_judged (judged_rules (length run) es r) s es
@@ -99,7 +102,8 @@ auto_answers hash there run contract strategy f =
     let is : auto_there hash there run contract strategy f ≡ beside s es f.run_bytes f.strategy_bytes =
     further_texts.auto_texts hash there run f.run_bytes contract f.contract_bytes strategy f.strategy_bytes f.run_there f.contract_there
     f.strategy_there
-    ∙ judged_status (strategy_file (Some f.run_bytes) (bounded most_strategy_bytes f.strategy_bytes)) hash f.run_bytes (f.contract_bytes ∷ [])
+    ∙ judged_status (strategy_file (Some f.run_bytes) (bounded most_strategy_bytes f.strategy_bytes)) hash f.run_bytes
+    (f.contract_bytes ∷ [])
     f.played f.adverts f.valid f.well_formed in
     record {
       goes_on = λ rules progress t zero h.

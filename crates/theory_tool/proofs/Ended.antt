@@ -8,6 +8,7 @@ use Rattle.spec_tool.specs.Commands.{Command}
 use Rattle.spec_tool.specs.Answers.{read_answer, tool_answer, ended}
 use Rattle.theory_tool.specs.Ended.{call_statuses, CallsEnd}
 use Rattle.theory_tool.proofs.Statuses.{apart, known}
+use Rattle.theory_tool.proofs.Written.{tool_written}
 
 -- the statuses of answers
 abbrev answer_statuses : List ℕ
@@ -64,6 +65,7 @@ calls_end = record {
   write_failed = λ hash command reads written.
       let p = tool_answer hash command reads in
       fails p.status p.text (tool_known hash command reads) written;
+  nothing_to_write = tool_written;
   written = λ hash command reads. refl;
   nothing_written = λ hash command reads h.
       let p = tool_answer hash command reads in

@@ -8,7 +8,8 @@ use Rattle.spec_text.specs.RunFile.{read_run}
 use Rattle.spec_text.specs.Refusals.{Judged, run_of, judged_run}
 use Rattle.spec_tool.specs.Sizes.{most_psbt_bytes, most_audit_bytes, most_strategy_bytes}
 use Rattle.spec_tool.specs.Reads.{Text, within, reads_in, texts_read}
-use Rattle.spec_tool.specs.Commands.{JudgedAll, files_of, run_file, contract_file, psbt_file, psbt_shown, psbt_joined, audit, auto, contracts_from, both_judged}
+use Rattle.spec_tool.specs.Commands.{JudgedAll, files_of, run_file, contract_file, psbt_file, psbt_shown, psbt_joined}
+use Rattle.spec_tool.specs.Commands.{audit, auto, contracts_from, both_judged}
 use Rattle.spec_tool.specs.Answers.{audited_file, strategy_file, too_long_run}
 use Rattle.spec_tool.specs.Reading.{Files}
 use Rattle.theory_text.proofs.Options.{some}
@@ -65,7 +66,8 @@ further_texts = record {
       by_texts hash (auto run contract strategy) (reads_in there None 0 (files_of (auto run contract strategy)))
       (bounded most_run_bytes run_text ∷ (bounded most_text_bytes text ∷ (bounded most_strategy_bytes strategy_text ∷ [])))
       (three_texts there most_strategy_bytes run run_text contract text strategy strategy_text h k l)
-      ∙ (both_bounded (strategy_file (bounded most_run_bytes run_text) (bounded most_strategy_bytes strategy_text)) hash run_text (text ∷ [])
+      ∙ (both_bounded (strategy_file (bounded most_run_bytes run_text) (bounded most_strategy_bytes strategy_text)) hash run_text
+      (text ∷ [])
       ∙ beside hash run_text (bounded most_strategy_bytes strategy_text) (contracts_from 0 (text ∷ []))
       (nat_le (length run_text) most_run_bytes) refl);
 }

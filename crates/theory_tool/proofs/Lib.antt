@@ -4,6 +4,7 @@ pub mod Statuses
 pub mod Runs
 pub mod Outcomes
 pub mod FurtherTexts
+pub mod Written
 pub mod Ended
 pub mod Auto
 pub mod Strategies

@@ -323,7 +323,8 @@ abbrev Rules : Text → Text → Setup → List Event → Judged (List Rule)
 Rules run t s es = strategy_in (size_of run) s.header es t
 
 auto_says : (run t : Text)
-    → Says (strategy_file run t) (λ s es. HasRules (Rules run t s es) (AutoWhole s es)) (λ s es. HasRules (Rules run t s es) (AutoGuess s es))
+    → Says (strategy_file run t) (λ s es. HasRules (Rules run t s es) (AutoWhole s es))
+    (λ s es. HasRules (Rules run t s es) (AutoGuess s es))
     (λ s es. HasRules (Rules run t s es) (AutoCollision s es)) none (λ s es. IsRefused (size_of run) s.header es t)
 auto_says run t = record {
   whole = λ s es. (at s es).whole;
@@ -334,7 +335,8 @@ auto_says run t = record {
 }
   where
     at : (s : Setup) (es : List Event)
-        → SaysAt (strategy_file run t s es).status (HasRules (Rules run t s es) (AutoWhole s es)) (HasRules (Rules run t s es) (AutoGuess s es))
+        → SaysAt (strategy_file run t s es).status (HasRules (Rules run t s es) (AutoWhole s es))
+        (HasRules (Rules run t s es) (AutoGuess s es))
         (HasRules (Rules run t s es) (AutoCollision s es)) ⊥ (IsRefused (size_of run) s.header es t)
     at s es = rules_exactly (Rules run t s es) _ (strategy_exactly (size_of run) s.header es t) s es
 
@@ -414,7 +416,8 @@ Said hash command texts =
 says : (hash : List ℕ → List ℕ) (command : Command) (texts : List Text) → Said hash command texts
 says hash (check contract) texts = check_says (contract_in (text_at texts 0))
 says hash (play run contracts) texts =
-    files_say (run_answer play_text) _ _ _ _ _ (run_says play_text) hash (run_in (text_at texts 0)) (contracts_of (play run contracts) texts)
+    files_say (run_answer play_text) _ _ _ _ _ (run_says play_text) hash (run_in (text_at texts 0))
+    (contracts_of (play run contracts) texts)
 says hash (plan run contract) texts =
     files_say (run_answer plan_text) _ _ _ _ _ (run_says plan_text) hash (run_in (text_at texts 0)) (contracts_of (plan run contract) texts)
 says hash (make number size) texts =

@@ -1,5 +1,6 @@
 -- Runs end with a collision or a guess exactly where one is there.
-use Rattle.std.proofs.Common.{◌≡◌, ℕ, ◌↔◌, List, [], ◌∷◌, ◌++◌, Bool, true, false, Option, Some, None, refl, sym, ap, subst, ◌∙◌, inl, inr, arith}
+use Rattle.std.proofs.Common.{◌≡◌, ℕ, ◌↔◌, List, [], ◌∷◌, ◌++◌, Bool, true, false, Option, Some, None, refl, sym, ap, subst, ◌∙◌}
+use Rattle.std.proofs.Common.{inl, inr, arith}
 use Rattle.std.specs.Prelude.{◌||◌}
 use Rattle.std.proofs.Common.{append_assoc}
 use Rattle.spec_data.specs.Lists.{is_among, has_number}
@@ -181,7 +182,8 @@ ends s es = by_opening (opening_collision s) refl
     g : Configuration
     g = last_configuration s es
 
-    by_halt : (h : Option (Event × Halt)) → OpensCalmly s → Shows s (opening_world s) es h → Ends s es (ending_status (ending_from w g None h))
+    by_halt : (h : Option (Event × Halt)) → OpensCalmly s → Shows s (opening_world s) es h
+        → Ends s es (ending_status (ending_from w g None h))
     by_halt None calm k = is_whole refl (calm, k)
     by_halt (Some (e, Collided earlier later)) calm k = is_collision refl (inr (calm, k))
     by_halt (Some (e, Guessed party name)) calm k = is_guess refl (calm, k)

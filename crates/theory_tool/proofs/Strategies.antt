@@ -1,5 +1,6 @@
 -- The rules of a strategy are those that its lines spell, and its fault is of the first line that is wrong.
-use Rattle.std.proofs.Common.{◌≡◌, ℕ, ◌+◌, ◌≤◌, ◌<◌, Bool, true, false, List, [], ◌∷◌, ◌++◌, length, Option, Some, None, Ok, Err, refl, sym, ap, subst, ◌∙◌, inl, inr, arith}
+use Rattle.std.proofs.Common.{◌≡◌, ℕ, ◌+◌, ◌≤◌, ◌<◌, Bool, true, false, List, [], ◌∷◌, ◌++◌, length, Option, Some, None, Ok, Err, refl, sym, ap, subst}
+use Rattle.std.proofs.Common.{◌∙◌, inl, inr, arith}
 use Rattle.std.specs.Prelude.{if◌then◌else◌, nat_lt, Result}
 use Rattle.std.proofs.lemmas.Bool.{ltb-false, ltb-true, true_from_ne_false, false_from_ne_true}
 use Rattle.spec_run.specs.declared.header.Header.{Header}
@@ -10,7 +11,7 @@ use Rattle.spec_tool.specs.declared.rule.StrategyFault.TheVariants as faults
 use Rattle.spec_tool.specs.Sizes.{most_rules}
 use Rattle.spec_tool.specs.Strategy.{Said, bad, over, empty, says, rule_of, said_within, said_words, said_line, counted, with_rule}
 use Rattle.spec_tool.specs.Strategy.{rule_step, rules_from}
-use Rattle.theory_tool.specs.Strategies.{Spell, IsStrategy, FirstFault, IsBad, IsOver, HasFault, StrategiesAreRead}
+use Rattle.theory_tool.specs.Strategies.{Spell, FirstFault, IsBad, IsOver, HasFault, StrategiesAreRead}
 
 abbrev Answer : Type 0
 Answer = Result (List Rule) StrategyFault
@@ -107,12 +108,14 @@ module _ (h : Header) where
           told_here count n line lines (IsOver h) few (r, e, omega (arith, few, ltb-false count most_rules k))
 
       by_rule : (o : Option Rule) → (words_of line ≡ [] → ⊥) → rule_of h (words_of line) ≡ o → Later
-          → Told count n (line ∷ lines) (rule_step n (said_within count o) (rules_from h (counted count (said_within count o)) (n + 1) lines))
+          → Told count n (line ∷ lines)
+          (rule_step n (said_within count o) (rules_from h (counted count (said_within count o)) (n + 1) lines))
       by_rule None some e later = told_here count n line lines (IsBad h) few (some, e)
       by_rule (Some r) some e later = by_room (nat_lt count most_rules) r e refl later
 
       by_words : (ws : List (List ℕ)) → words_of line ≡ ws → Later
-          → Told count n (line ∷ lines) (rule_step n (said_words h count ws) (rules_from h (counted count (said_words h count ws)) (n + 1) lines))
+          → Told count n (line ∷ lines)
+          (rule_step n (said_words h count ws) (rules_from h (counted count (said_words h count ws)) (n + 1) lines))
       by_words [] e later = told_empty count n line lines (rules_from h count (n + 1) lines) e (later count (n + 1) few)
       by_words (w ∷ ws) e later =
           by_rule (rule_of h (w ∷ ws)) (λ k. some (sym k ∙ e)) (ap (λ (x : List (List ℕ)). rule_of h x) e) later
@@ -137,13 +140,15 @@ module _ (h : Header) where
       → said_line h count line ≡ says r
   says_is count line r e few =
       said_rule count (words_of line) r e
-      ∙ ap (λ (b : Bool). if b then says r else over) (true_from_ne_false (nat_lt count most_rules) (λ k. omega (arith, ltb-false _ _ k, few)))
+      ∙ ap (λ (b : Bool). if b then says r else over)
+      (true_from_ne_false (nat_lt count most_rules) (λ k. omega (arith, ltb-false _ _ k, few)))
 
   over_is : (count : ℕ) (line : List ℕ) (r : Rule) → rule_of h (words_of line) ≡ Some r → count ≡ most_rules
       → said_line h count line ≡ over
   over_is count line r e full =
       said_rule count (words_of line) r e
-      ∙ ap (λ (b : Bool). if b then says r else over) (false_from_ne_true (nat_lt count most_rules) (λ k. omega (arith, ltb-true _ _ k, full)))
+      ∙ ap (λ (b : Bool). if b then says r else over)
+      (false_from_ne_true (nat_lt count most_rules) (λ k. omega (arith, ltb-true _ _ k, full)))
 
   bad_words : (count : ℕ) (ws : List (List ℕ)) → (ws ≡ [] → ⊥) → rule_of h ws ≡ None → said_words h count ws ≡ bad
   bad_words count [] some e = absurd (some refl)

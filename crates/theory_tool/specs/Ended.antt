@@ -14,6 +14,9 @@ pub record CallsEnd : Type 0 where
   pub write_failed : (hash : List ℕ → List ℕ) (command : Option Command) (reads : List Read) (written : Bool)
       → (ended (tool_answer hash command reads) written ≡ 4)
       ↔ ((written ≡ false) × ((tool_answer hash command reads).text ≡ [] → ⊥))
+  -- there is nothing to write exactly where a read failed
+  pub nothing_to_write : (hash : List ℕ → List ℕ) (command : Option Command) (reads : List Read)
+      → ((tool_answer hash command reads).text ≡ []) ↔ ((tool_answer hash command reads).status ≡ 3)
   -- the answer's own status where the write went through, or where there was nothing to write
   pub written : (hash : List ℕ → List ℕ) (command : Option Command) (reads : List Read)
       → ended (tool_answer hash command reads) true ≡ (tool_answer hash command reads).status

@@ -51,7 +51,7 @@ pub fn commands_answer_further_texts()
 {}
 
 /// A call ends with 4 exactly where there was something to write and the write failed, and else with
-/// the status of its answer; it never ends with 12, and with 5 only where memory was wanting.
+/// the status of its answer, which is neither 5 nor 12; nothing is to write exactly where a read failed.
 pub fn calls_end_by_causes()
     ensures { CallsEnd }
 {}

@@ -1,9 +1,9 @@
 -- The statuses of played runs and of further files come exactly by their causes.
 use Rattle.std.proofs.Common.{◌≡◌, ℕ, ◌↔◌, Bool, true, false, List, [], ◌∷◌, Option, Some, None, Ok, Err, refl, sym, ap, subst, inl, inr}
-use Rattle.std.proofs.Common.{arith}
-use Rattle.std.specs.Prelude.{◌⊎◌, if◌then◌else◌, Result, is_err}
+use Rattle.std.proofs.Common.{◌∙◌, ◌<◌, length, arith}
+use Rattle.std.specs.Prelude.{◌⊎◌, nat_le, if◌then◌else◌, Result, is_err}
 use Rattle.std.proofs.lemmas.Bool.{false≢true, leb-false, leb-true, ltb-false, ltb-true}
-use Rattle.spec_data.specs.Lists.{has_number}
+use Rattle.spec_data.specs.Lists.{has_number, look_up}
 use Rattle.spec_terms.specs.Advert.{Advert}
 use Rattle.spec_run.specs.declared.event.Event.{Event}
 use Rattle.spec_run.specs.declared.event.Run.{Run}
@@ -15,13 +15,15 @@ use Rattle.spec_run.specs.Translation.{last_world}
 use Rattle.spec_text.specs.PlayText.{Ending, whole, guessed, collided}
 use Rattle.spec_text.specs.Played.{ending, play_text}
 use Rattle.spec_text.specs.PlanText.{plan_text, make_text}
-use Rattle.spec_text.specs.Refusals.{Judged}
+use Rattle.spec_text.specs.Refusals.{Judged, run_of}
 use Rattle.spec_text.specs.Generator.{made_contract, made_run}
 use Rattle.spec_tool.specs.declared.rule.Rule.{Rule}
 use Rattle.spec_tool.specs.declared.rule.StrategyFault.{StrategyFault}
+use Rattle.spec_tool.specs.Sizes.{most_audit_bytes}
 use Rattle.spec_tool.specs.Reads.{Text, text_at}
 use Rattle.spec_tool.specs.Commands.{Command, check, play, plan, make, psbt_of, psbt_shown, psbt_joined, weigh, audit, auto}
-use Rattle.spec_tool.specs.Commands.{Printed, JudgedAll, check_judged, both_judged, run_answer, ending_status, setup_of}
+use Rattle.spec_tool.specs.Commands.{Printed, JudgedAll, check_judged, both_judged, run_answer, ending_status, contracts_from}
+use Rattle.spec_tool.specs.Commands.{setup_of}
 use Rattle.spec_tool.specs.Psbt.{Psbt}
 use Rattle.spec_tool.specs.PsbtBytes.{Discord, combined}
 use Rattle.spec_tool.specs.PsbtText.{psbt_text, psbt_in, shown_judged, joined_judged, combined_answer}
@@ -36,11 +38,15 @@ use Rattle.spec_tool.specs.Answers.{contract_in, run_in, unless_stopped, if_whol
 use Rattle.spec_tool.specs.Answers.{rules_judged, strategy_file, size_of, text_answer}
 use Rattle.spec_tool.specs.Causes.{contracts_of, are_refused}
 use Rattle.theory_run.proofs.Halting.Halts.{calm_is, collides}
+use Rattle.spec_tool.specs.Reading.{Files, answer_there}
+use Rattle.theory_tool.specs.Texts.{bounded}
 use Rattle.theory_tool.specs.Runs.{IsGuessing, IsColliding, IsUnhalted}
 use Rattle.theory_tool.specs.Statuses.{OfRun, PlaysFiles, HasBytes, HasRules, IsTooMuch, IsRefused, AuditCollides, AuditIsCalm}
 use Rattle.theory_tool.specs.Statuses.{TurnsCollide, TurnsGuess, TurnsEnd, Guess, Collision, AuditRefused, StrategyRefused}
 use Rattle.theory_tool.specs.Statuses.{Plays, AllIsWell, StatusesTheorem}
 use Rattle.theory_tool.proofs.Statuses.{Answers, apart}
+use Rattle.theory_tool.proofs.Completeness.{judged_status}
+use Rattle.theory_tool.proofs.FurtherTexts.{further_texts}
 use Rattle.theory_tool.proofs.Runs.{Outcome, is_whole, is_guess, is_collision, Different, Exactly, exactly, run_exactly}
 use Rattle.theory_tool.proofs.Runs.{apart_or_collides, opens_calmly, last_clear}
 
@@ -438,11 +444,40 @@ says hash (auto run contract strategy) texts =
     files_say (strategy_file (text_at texts 0) (text_at texts 2)) _ _ _ _ _ (auto_says (text_at texts 0) (text_at texts 2)) hash
     (run_in (text_at texts 0)) (contracts_of (auto run contract strategy) texts)
 
+-- ---- the size of an audited file
+
+bounded_none : (limit : ℕ) (text : List ℕ) → (bounded limit text ≡ None) ↔ (limit < length text)
+bounded_none limit text = by_test (nat_le (length text) limit) refl
+  where
+    some_none : (x : List ℕ) → Some x ≡ None → ⊥
+    some_none x e = cc
+
+    by_test : (b : Bool) → nat_le (length text) limit ≡ b → ((if b then Some text else None) ≡ None) ↔ (limit < length text)
+    by_test true k = (λ e. absurd (some_none text e), λ h. absurd (omega (arith, h, leb-true (length text) limit k)))
+    by_test false k = (λ e. leb-false (length text) limit k, λ h. refl)
+
+too_long : (hash : List ℕ → List ℕ) (there : Files) (run run_text contract text file file_text : List ℕ) (r : Run) (adverts : List Advert)
+    → look_up run there ≡ Some run_text → look_up contract there ≡ Some text → look_up file there ≡ Some file_text
+    → run_of run_text ≡ Ok r → contracts_from 0 (text ∷ []) ≡ Ok adverts
+    → ((answer_there hash there (audit run contract file)).status ≡ 10) ↔ (most_audit_bytes < length file_text)
+too_long hash there run run_text contract text file file_text r adverts h k l e f =
+    let t : Text = bounded most_audit_bytes file_text in
+    let is : (answer_there hash there (audit run contract file)).status ≡ (audited_file t (setup_of hash r adverts) r.events).status =
+    ap (λ (p : Printed). p.status)
+    (further_texts.audit_texts hash there run run_text contract text file file_text h k l
+    ∙ judged_status (audited_file t) hash run_text (text ∷ []) r adverts e f) in
+    let says_ten = (audit_says t).audit (setup_of hash r adverts) r.events in
+    let size = bounded_none most_audit_bytes file_text in (
+      λ ten_is. size.0 (says_ten.0 (sym is ∙ ten_is)),
+      λ long. is ∙ says_ten.1 (size.1 long),
+    )
+
 pub exact_causes : StatusesTheorem
 exact_causes = record {
   whole = λ hash command texts. (says hash command texts).whole;
   guessed = λ hash command texts. (says hash command texts).guess;
   collided = λ hash command texts. (says hash command texts).collision;
   audit_refused = λ hash command texts. (says hash command texts).audit;
+  audit_too_long = too_long;
   strategy_refused = λ hash command texts. (says hash command texts).strategy;
 }

@@ -1,5 +1,7 @@
 -- What is claimed of the statuses that a played run and a further file give: each comes exactly by its cause.
 use Rattle.std.specs.Prelude.{◌≡◌, ℕ, ◌+◌, ◌*◌, ◌≤◌, ◌<◌, List, [], ◌∷◌, ◌++◌, ◌⊎◌, ◌↔◌, length, false, Some, None, Ok, Err, is_err}
+use Rattle.spec_data.specs.Lists.{look_up}
+use Rattle.spec_terms.specs.Advert.{Advert}
 use Rattle.spec_run.specs.declared.event.Event.{Event}
 use Rattle.spec_run.specs.declared.event.Run.{Run}
 use Rattle.spec_run.specs.declared.header.Header.{Header}
@@ -9,13 +11,13 @@ use Rattle.spec_run.specs.Halting.{AreApart, Collides}
 use Rattle.spec_run.specs.Translation.{last_world}
 use Rattle.spec_text.specs.Generator.{made_contract, made_run}
 use Rattle.spec_text.specs.Limits.{most_run_bytes, most_events}
-use Rattle.spec_text.specs.Refusals.{Judged}
+use Rattle.spec_text.specs.Refusals.{Judged, run_of}
 use Rattle.spec_tool.specs.declared.rule.Rule.{Rule}
 use Rattle.spec_tool.specs.declared.rule.StrategyFault.{StrategyFault}
-use Rattle.spec_tool.specs.Sizes.{rule_line_bytes}
+use Rattle.spec_tool.specs.Sizes.{most_audit_bytes, rule_line_bytes}
 use Rattle.spec_tool.specs.Reads.{Text, text_at}
 use Rattle.spec_tool.specs.Commands.{Command, check, play, plan, make, psbt_of, psbt_shown, psbt_joined, weigh, audit, auto}
-use Rattle.spec_tool.specs.Commands.{JudgedAll, setup_of}
+use Rattle.spec_tool.specs.Commands.{JudgedAll, contracts_from, setup_of}
 use Rattle.spec_tool.specs.PsbtText.{psbt_in}
 use Rattle.spec_tool.specs.Audit.{audit_strings}
 use Rattle.spec_tool.specs.Strategy.{read_strategy}
@@ -23,6 +25,7 @@ use Rattle.spec_tool.specs.Turns.{Progress, extended}
 use Rattle.spec_tool.specs.AutoText.{strategy_in}
 use Rattle.spec_tool.specs.Answers.{text_answer, contract_in, run_in, size_of}
 use Rattle.spec_tool.specs.Causes.{contracts_of, are_refused}
+use Rattle.spec_tool.specs.Reading.{Files, answer_there}
 use Rattle.theory_tool.specs.Runs.{IsGuessing, IsColliding, IsUnhalted}
 
 -- ---- what is played
@@ -159,5 +162,11 @@ pub record StatusesTheorem : Type 0 where
       → ((text_answer hash command texts).status ≡ 8) ↔ Plays hash (Collision command texts) command texts
   pub audit_refused : (hash : List ℕ → List ℕ) (command : Command) (texts : List Text)
       → ((text_answer hash command texts).status ≡ 10) ↔ Plays hash (AuditRefused command texts) command texts
+  -- so where the files are there, the run is valid and the contract well-formed, by the size of the file
+  pub audit_too_long : (hash : List ℕ → List ℕ) (there : Files) (run run_text contract text file file_text : List ℕ) (r : Run)
+      (adverts : List Advert)
+      → look_up run there ≡ Some run_text → look_up contract there ≡ Some text → look_up file there ≡ Some file_text
+      → run_of run_text ≡ Ok r → contracts_from 0 (text ∷ []) ≡ Ok adverts
+      → ((answer_there hash there (audit run contract file)).status ≡ 10) ↔ (most_audit_bytes < length file_text)
   pub strategy_refused : (hash : List ℕ → List ℕ) (command : Command) (texts : List Text)
       → ((text_answer hash command texts).status ≡ 11) ↔ Plays hash (StrategyRefused command texts) command texts

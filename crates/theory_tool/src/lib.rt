@@ -44,8 +44,9 @@ pub fn statuses_have_exact_causes()
     ensures { StatusesTheorem }
 {}
 
-/// So do `make`, the commands on files with partially signed transactions, `audit` and `auto`: of a
-/// further file that is longer than it may be nothing is taken.
+/// Where their files are there, `audit`, `auto` and the commands on files with partially signed
+/// transactions answer to the texts of these too, and `make` to its words; of a further file that is
+/// longer than it may be nothing is taken.
 pub fn commands_answer_further_texts()
     ensures { FurtherTextsTheorem }
 {}

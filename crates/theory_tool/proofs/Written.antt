@@ -70,10 +70,12 @@ report_filled : (deposits : List (List ℕ × ℕ)) (es : List Entry) (e : Endin
 report_filled deposits es (whole tip live g offers) =
     right_filled (start_lines 0 deposits) _ (right_filled (entries_text 1 es) _ (ending_filled (length es + 1) (whole tip live g offers)))
 report_filled deposits es (guessed event party secret) =
-    right_filled (start_lines 0 deposits) _ (right_filled (entries_text 1 es) _ (ending_filled (length es + 1) (guessed event party secret)))
+    right_filled (start_lines 0 deposits) _
+    (right_filled (entries_text 1 es) _ (ending_filled (length es + 1) (guessed event party secret)))
 report_filled deposits es (collided None earlier later) = first_filled _ _
 report_filled deposits es (collided (Some event) earlier later) =
-    right_filled (start_lines 0 deposits) _ (right_filled (entries_text 1 es) _ (ending_filled (length es + 1) (collided (Some event) earlier later)))
+    right_filled (start_lines 0 deposits) _
+    (right_filled (entries_text 1 es) _ (ending_filled (length es + 1) (collided (Some event) earlier later)))
 
 play_filled : (s : Setup) (es : List Event) → Filled (play_text s es)
 unfolding play_text

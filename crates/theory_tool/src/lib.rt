@@ -38,8 +38,8 @@ pub fn runs_halt_by_causes()
 
 /// Each status that a played run or a further file gives comes exactly by its cause: 7 where an event
 /// guesses, or one that a strategy tries; 8 where the opening or an event collides, or what is judged
-/// or tried after the run; 10 where the file of an audit is too long; 11 where a strategy is refused; and 0
-/// where nothing is refused and nothing halts.
+/// or tried after the run; 10 where the file of an audit is too long; 11 where a strategy is refused;
+/// and 0 where nothing is refused and nothing halts.
 pub fn statuses_have_exact_causes()
     ensures { StatusesTheorem }
 {}

@@ -29,13 +29,14 @@ use Rattle.spec_tool.specs.AuditText.{audit_answer, audited, audit_text}
 use Rattle.spec_tool.specs.Answers.{audited_file}
 use Rattle.spec_tool.specs.Reading.{Files}
 use Rattle.theory_text.proofs.Options.{some}
-use Rattle.theory_tool.proofs.Texts.{bounded, text_there, texts_onto, both_bounded, by_texts, texts_are_answered}
+use Rattle.theory_tool.specs.Texts.{bounded}
+use Rattle.theory_tool.proofs.Texts.{text_there, texts_onto, both_bounded, by_texts, texts_are_answered}
 
 abbrev status_of : Printed → ℕ
 status_of printed = printed.status
 
 -- what is answered of a valid run and well-formed contracts
-judged_status : (of : Setup → List Event → Printed) (hash : List ℕ → List ℕ) (run_text : List ℕ) (texts : List (List ℕ)) (r : Run)
+pub judged_status : (of : Setup → List Event → Printed) (hash : List ℕ → List ℕ) (run_text : List ℕ) (texts : List (List ℕ)) (r : Run)
     (adverts : List Advert)
     → run_of run_text ≡ Ok r → contracts_from 0 texts ≡ Ok adverts
     → both_judged of hash (run_of run_text) (contracts_from 0 texts) ≡ of (setup_of hash r adverts) r.events
@@ -48,7 +49,7 @@ whole_status : (text : Setup → List Event → List ℕ) (s : Setup) (es : List
 whole_status text s es h = ap (λ (n : ℕ). status_of (unless_stopped n (ending s es) (printed_of text s es))) h
 
 -- a file within its size
-within_size : (limit : ℕ) (text : List ℕ) → nat_le (length text) limit ≡ true → bounded limit text ≡ some text
+pub within_size : (limit : ℕ) (text : List ℕ) → nat_le (length text) limit ≡ true → bounded limit text ≡ some text
 within_size limit text h = ap (λ (b : Bool). if b then some text else None) h
 
 psbt_there : (there : Files) (file text : List ℕ) → look_up file there ≡ Some text → nat_le (length text) most_psbt_bytes ≡ true

@@ -40,7 +40,7 @@ after_files = 0 ∷ 7 ∷ 8 ∷ 10 ∷ 11 ∷ []
 abbrev IsAfter : Printed → Type 0
 IsAfter printed = has_number printed.status after_files ≡ true
 
-abbrev Answers : Type 0
+abbrev pub Answers : Type 0
 Answers = Setup → List Event → Printed
 
 -- ---- runs
@@ -104,7 +104,7 @@ one_six : contract_status ≡ 6 → ⊥
 one_six e = omega (arith, e)
 
 -- what tells a status from those of a list
-apart : (n : ℕ) (numbers : List ℕ) → has_number n numbers ≡ false → (status : ℕ) → has_number status numbers ≡ true → status ≡ n → ⊥
+pub apart : (n : ℕ) (numbers : List ℕ) → has_number n numbers ≡ false → (status : ℕ) → has_number status numbers ≡ true → status ≡ n → ⊥
 apart n numbers none status h e = false≢true (sym none ∙ subst (λ (k : ℕ). has_number k numbers ≡ true) e h)
 
 wider : (a b c d e x y z : Bool) → (a || (b || (c || (d || (e || false))))) ≡ true
@@ -201,7 +201,7 @@ abbrev made_ending : (List ℕ → List ℕ) → ℕ → ℕ → Ending
 made_ending hash number size =
     ending (setup_of hash (made_run number size) (made_contract number size ∷ [])) ((made_run number size).events)
 
-known : (hash : List ℕ → List ℕ) (command : Command) (texts : List Text) → has_number (text_answer hash command texts).status statuses
+pub known : (hash : List ℕ → List ℕ) (command : Command) (texts : List Text) → has_number (text_answer hash command texts).status statuses
     ≡ true
 known hash (check contract) texts = without_known (status_of hash (check contract) texts) (check_is (contract_in (text_at texts 0)))
 known hash (play run contracts) texts = both_known (run_answer play_text) of_play hash (run_in (text_at texts 0)) _

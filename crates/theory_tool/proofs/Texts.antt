@@ -24,12 +24,9 @@ use Rattle.spec_text.specs.PlanText.{plan_text}
 use Rattle.spec_tool.specs.PsbtText.{psbt_text}
 use Rattle.spec_tool.specs.WeighText.{weigh_text}
 use Rattle.spec_tool.specs.Reading.{Files, texts_there, TextsTheorem}
+use Rattle.theory_tool.specs.Texts.{bounded}
 
 -- ---- the text of a file
-
--- what is taken of a text of which so many bytes are asked for
-abbrev pub bounded : ℕ → List ℕ → Text
-bounded limit text = if nat_le (length text) limit then Some text else None
 
 text_picked : (b : Bool) (text : List ℕ) → text_read (if b then got text else too_long) ≡ some (if b then Some text else None)
 text_picked true text = refl
@@ -65,7 +62,7 @@ contract_texts there n (name ∷ names) texts h =
 
 -- ---- what is refused for its length
 
-not_within : (n m : ℕ) → nat_le n m ≡ false → nat_lt m n ≡ true
+pub not_within : (n m : ℕ) → nat_le n m ≡ false → nat_lt m n ≡ true
 not_within n m h = true_from_ne_false (nat_lt m n) (λ k. omega (arith, leb-false n m h, ltb-false m n k))
 
 contract_picked : (text : List ℕ) (b : Bool) → nat_le (length text) most_text_bytes ≡ b → contract_in (if b then Some text else None)

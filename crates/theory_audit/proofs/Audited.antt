@@ -25,5 +25,6 @@ audits_find = record {
     missing = all_missing s w k;
   };
   halts = λ s es text run.
-      halts_as s (last_world s es) text (record { one = (worlds_of_runs s es run).messages.different }) (audit_collision s (last_world s es) text) refl;
+      halts_as s (last_world s es) text (record { one = (worlds_of_runs s es run).messages.different })
+      (audit_collision s (last_world s es) text) refl;
 }

@@ -1,5 +1,6 @@
 -- Each line that isn't empty has its finding, which says what the line is, in order.
-use Rattle.std.proofs.Common.{◌≡◌, ℕ, zero, suc, ◌+◌, ◌≤◌, List, [], ◌∷◌, Bool, Option, Some, None, Result, Ok, Err, refl, sym, ap, ◌∙◌, subst, inl, inr, arith}
+use Rattle.std.proofs.Common.{◌≡◌, ℕ, zero, suc, ◌+◌, ◌≤◌, List, [], ◌∷◌, Bool, Option, Some, None, Result, Ok, Err, refl, sym, ap, ◌∙◌}
+use Rattle.std.proofs.Common.{subst, inl, inr, arith}
 use Rattle.std.specs.Prelude.{slice_get}
 use Rattle.std.specs.List.{Contains, filter}
 use Rattle.std.specs.Option.{option_map_or}
@@ -17,7 +18,8 @@ use Rattle.spec_tool.specs.declared.which.Which.{Which}
 use Rattle.spec_tool.specs.declared.finding.Kind.{Kind as LineKind}
 use Rattle.spec_tool.specs.declared.finding.Finding.{Finding}
 use Rattle.spec_tool.specs.Listed.{Listed}
-use Rattle.spec_tool.specs.Audit.{Given, given_by, given_bytes, given_words, given_line, listed_in, names_among, now_by, now_for, kind_given, finding, findings_from}
+use Rattle.spec_tool.specs.Audit.{Given, given_by, given_bytes, given_words, given_line, listed_in, names_among, now_by, now_for}
+use Rattle.spec_tool.specs.Audit.{kind_given, finding, findings_from}
 use Rattle.theory_calculus.proofs.Members.{Is_in, in_from_contains, contains_from_in, in_filter, filter_has}
 use Rattle.theory_bitcoin.proofs.Top.{fault_is_first, read_is_spelled}
 use Rattle.theory_script.proofs.Listing.Stands.{some_same}

@@ -1,5 +1,6 @@
 -- What is absent and what is missing.
-use Rattle.std.proofs.Common.{◌≡◌, ℕ, zero, suc, ◌+◌, List, [], ◌∷◌, map, Bool, true, false, Some, refl, sym, ap, ◌∙◌, subst, inl, inr, arith}
+use Rattle.std.proofs.Common.{◌≡◌, ℕ, zero, suc, ◌+◌, List, [], ◌∷◌, map, Bool, true, false, Some, refl, sym, ap, ◌∙◌, subst, inl, inr}
+use Rattle.std.proofs.Common.{arith}
 use Rattle.std.specs.Prelude.{◌⊎◌, not, slice_get}
 use Rattle.std.specs.List.{Contains, filter, list_any}
 use Rattle.std.proofs.lemmas.Bool.{or_left, or_right, or_cases, not-true, not_from_false}
@@ -165,7 +166,8 @@ module _ (s : Setup) (w : World) (k : ℕ) where
         let signs : xs ≡ labels = some_same f in
         let here = in_images (missed which from) (filter (lacks x) xs) label
         (filter_has (lacks x) xs label (subst (Is_in label) (sym signs) i)
-        (not_from_false _ (subst (λ (y : Spent). has_signed w.book (key_of s.hash label) (digest_of_spent s.hash tx y) ≡ false) (sym same) h))) in
+        (not_from_false _ (subst (λ (y : Spent). has_signed w.book (key_of s.hash label) (digest_of_spent s.hash tx y) ≡ false)
+        (sym same) h))) in
         let zero_more : from ≡ from + 0 = omega arith in
         in_left (missed which (from + 0) label) (map (missed which from) (filter (lacks x) xs)) (lacking (from + 1) rest others)
         (subst (λ n. Is_in (missed which n label) (map (missed which from) (filter (lacks x) xs))) zero_more here)

@@ -48,7 +48,8 @@ entry_there hash path [] v h = cc
 entry_there hash path (e ∷ es) v h = by_test (path_eq e.0 path) refl h (entry_there hash path es v)
   where
     by_test : (b : Bool) → path_eq e.0 path ≡ b
-        → (if b then Some (prepared hash e.1) else at_path path (map {B = List PathStep × Prepared} (λ e'. (e'.0, prepared hash e'.1)) es)) ≡ Some v
+        → (if b then Some (prepared hash e.1) else at_path path
+        (map {B = List PathStep × Prepared} (λ e'. (e'.0, prepared hash e'.1)) es)) ≡ Some v
         → (at_path path (map {B = List PathStep × Prepared} (λ e'. (e'.0, prepared hash e'.1)) es) ≡ Some v
         → (d : Unsigned) × Is_in {A = List PathStep × Unsigned} (path, d) es)
         → (d : Unsigned) × Is_in {A = List PathStep × Unsigned} (path, d) (e ∷ es)
@@ -71,7 +72,8 @@ module _ (hash : List ℕ → List ℕ) (instance : Instance) where
   path_there path d h =
       let v = prepared hash d in
       let e = entry_there hash path entries v (paths_are_listed hash instance path ∙ ap (option_map (prepared hash)) h) in
-      let same : e.0 ≡ d = some_same (sym (entry_right (unsigned_at hash instance) entries (path, e.0) (transactions_right hash instance) e.1) ∙ h) in
+      let same : e.0 ≡ d = some_same
+      (sym (entry_right (unsigned_at hash instance) entries (path, e.0) (transactions_right hash instance) e.1) ∙ h) in
       subst (λ x. Is_in {A = List PathStep × Unsigned} (path, x) entries) same e.1
 
   abbrev listed_entry : List PathStep × Unsigned → Listed
@@ -87,7 +89,8 @@ module _ (hash : List ℕ → List ℕ) (instance : Instance) where
         ap (λ (x : Listed). x.which) (sym q),
       )
 
-  pub named_there : (which : Which) (l : Listed) → listed_at hash instance which ≡ Some l → Is_in l (listed hash instance) × (l.which ≡ which)
+  pub named_there : (which : Which) (l : Listed) → listed_at hash instance which ≡ Some l
+      → Is_in l (listed hash instance) × (l.which ≡ which)
   named_there names.Init l h = let q : initial_listed hash instance ≡ l = some_same h in (inl (sym q), ap (λ (x : Listed). x.which) (sym q))
   named_there (names.At path) l h = path_listed_there path (unsigned_at hash instance path) l refl h
 

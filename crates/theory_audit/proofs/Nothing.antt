@@ -48,7 +48,8 @@ one_hex line bytes other a b =
     let word : a.0 ≡ b.0 = cc in
     some_same (sym a.2 ∙ (ap read_hex word ∙ b.2))
 
-module _ (s : Setup) (w : World) (k : ℕ) (line bytes : List ℕ) (tx : Tx) (which : Which) (hex : IsHexOf line bytes) (spelled : Spells bytes tx)
+module _ (s : Setup) (w : World) (k : ℕ) (line bytes : List ℕ) (tx : Tx) (which : Which) (hex : IsHexOf line bytes)
+    (spelled : Spells bytes tx)
     (named : IsNamed s w k tx which) where
   -- what is said of a line that spells the transaction names it
   kind_names : (n : ℕ) (kind : Kind) → IsKind s w k line kind → Contains (names_in (record { line = n; kind = kind })) which
@@ -119,7 +120,8 @@ module _ (hash : List ℕ → List ℕ) (book : List Pair) (contract : ℕ) (adv
       let r = signed_first (branch_label contract path p) (map (branch_label contract path) ps) digest h in
       by_asked (is_asked b p) r.0 (branch_met b digest ps r.1)
     where
-      by_asked : (t : Bool) → has_signed book (key_of hash (branch_label contract path p)) digest ≡ true → all_met book (map (need_by digest) (unasked b ps)) ≡ true
+      by_asked : (t : Bool) → has_signed book (key_of hash (branch_label contract path p)) digest ≡ true
+          → all_met book (map (need_by digest) (unasked b ps)) ≡ true
           → all_met book (map (need_by digest) (if not t then p ∷ unasked b ps else unasked b ps)) ≡ true
       by_asked true e f = f
       by_asked false e f = and_from _ _ e f
@@ -152,7 +154,8 @@ module _ (hash : List ℕ → List ℕ) (book : List Pair) (contract : ℕ) (adv
       all_append (is_met book) (branch_needs hash contract advert path b digest) (put_needs hash advert path puts (digests spends))
       (branch_met b digest (participants advert) e) (puts_met puts spends (0 + 1) p.1)
 
-  found_met : (o : Option term.Guarded) (spends : List Spent) → lacking 0 spends (option_map_or (branch_signers contract advert path) o []) ≡ []
+  found_met : (o : Option term.Guarded) (spends : List Spent)
+      → lacking 0 spends (option_map_or (branch_signers contract advert path) o []) ≡ []
       → all_met book (option_map_or (λ b. needs_of hash contract advert path b (digests spends)) o []) ≡ true
   found_met None spends h = refl
   found_met (Some b) spends h = path_met b spends h
@@ -175,7 +178,8 @@ module _ (hash : List ℕ → List ℕ) (instance : Instance) (book : List Pair)
   all_endorsed : missing_of hash book (listed hash instance) ≡ [] → is_endorsed hash instance book ≡ true
   all_endorsed h =
       let paths = path_transactions hash instance in
-      entries_met paths (parts_nothing (of_listed (initial_listed hash instance)) (flat_map of_listed (map (λ p. path_listed instance (p.0) (p.1)) paths)) h).1
+      entries_met paths (parts_nothing (of_listed (initial_listed hash instance))
+      (flat_map of_listed (map (λ p. path_listed instance (p.0) (p.1)) paths)) h).1
 
 endorsed : (s : Setup) (w : World) (instance : Instance) (o : Option Instance) → o ≡ Some instance
     → missing_of s.hash w.book (listed_by s o) ≡ [] → is_endorsed s.hash instance w.book ≡ true

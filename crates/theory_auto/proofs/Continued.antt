@@ -1,6 +1,8 @@
 -- The rules of a strategy go on with a run.
-use Rattle.std.proofs.Common.{◌≡◌, ℕ, ◌+◌, List, [], ◌∷◌, length, Option, Some, None, refl, sym, ap, ◌∙◌, subst, arith}
+use Rattle.std.proofs.Common.{◌≡◌, ℕ, ◌+◌, List, [], ◌∷◌, ◌++◌, length, Option, Some, None, refl, sym, ap, ◌∙◌, subst, arith}
 use Rattle.std.specs.List.{AllByRecursion}
+use Rattle.std.proofs.lemmas.List.{length-append}
+use Rattle.std.proofs.lemmas.List.Sorted.{length_permutation}
 use Rattle.spec_run.specs.declared.event.Event.{Event}
 use Rattle.spec_data.specs.Messages.{collision}
 use Rattle.spec_run.specs.Setup.{Setup}
@@ -17,7 +19,7 @@ use Rattle.theory_auto.specs.Continued.{AreTaken, IsRefusal, IsRefusedIf, IsIdle
 use Rattle.theory_auto.proofs.Fewer.{Within, collision_within, again_calm}
 use Rattle.theory_auto.proofs.Hashless.{carried, rule_same, rule_draft}
 use Rattle.theory_auto.proofs.Tries.{Rests, RestsBy, RestsIf}
-use Rattle.theory_auto.proofs.Rounds.{Ended, EndsBy, rounds_end}
+use Rattle.theory_auto.proofs.Rounds.{as_many, Ended, EndsBy, rounds_end}
 use Rattle.theory_auto.proofs.Longer.{longer}
 
 -- ---- rules that rest are idle
@@ -57,7 +59,8 @@ all_idle s w hs xs clear within (r ∷ rs) h = (idle s w hs clear r xs within h.
 clear_after : (s : Setup) (es : List Event) → IsRun s es → NoClash s.hash (last_world s es).hashed
 clear_after s es run = record { one = (worlds_of_runs s es run).messages.different }
 
-ends : (s : Setup) (es : List Event) (rules : List Rule) → IsRun s es → EndsBy s (last_world s es) rules (extended s (last_world s es) rules)
+ends : (s : Setup) (es : List Event) (rules : List Rule) → IsRun s es
+    → EndsBy s (last_world s es) rules (extended s (last_world s es) rules)
 ends s es rules run =
     let w = last_world s es in
     rounds_end s (length rules + 1) rules w w.hashed (omega arith) (λ t i. i) (clear_after s es run)
@@ -72,6 +75,12 @@ goes_on s es rules p on h =
     record {
       rules_taken = h.taken;
       each_once = h.each_once;
+      count = omega (
+        arith,
+        length_permutation (h.taken ++ p.left) rules h.each_once,
+        length-append h.taken p.left,
+        as_many s h.taken p.events (last_world s es) h.last h.by,
+      );
       taken = subst (λ x. AreTaken s (last_world s es) h.taken p.events x) (sym l.world) h.by;
       whole = l.whole;
       grown = l.grown;

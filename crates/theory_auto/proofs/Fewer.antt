@@ -54,7 +54,8 @@ either_none (Some x) b h = cc
 clash_none : (hash : List ℕ → List ℕ) (ms : List (List ℕ)) (m : List ℕ) → find (is_twin hash m) ms ≡ None → clash hash ms m ≡ None
 clash_none hash ms m h = ap (option_map (λ earlier. (earlier, m))) h
 
-clash_within : (hash : List ℕ → List ℕ) (xs ys : List (List ℕ)) (m : List ℕ) → Within xs ys → clash hash ys m ≡ None → clash hash xs m ≡ None
+clash_within : (hash : List ℕ → List ℕ) (xs ys : List (List ℕ)) (m : List ℕ) → Within xs ys → clash hash ys m ≡ None
+    → clash hash xs m ≡ None
 clash_within hash xs ys m h c =
     let none = map_none _ (find (is_twin hash m) ys) c in
     clash_none hash xs m (none_found (is_twin hash m) xs (λ u i. none_passes (is_twin hash m) ys u none (h u i)))

@@ -15,8 +15,10 @@ use Rattle.spec_run.specs.World.{ContractPosition, World, live_position_at}
 use Rattle.spec_run.specs.Draft.{Draft, unless, done, posting}
 use Rattle.spec_run.specs.Compiled.{compiled_instance}
 use Rattle.spec_run.specs.Committing.{commit_row, digest_row, committed_strings, with_promise, committed_draft, strings_compiled}
-use Rattle.spec_run.specs.Signing.{with_pairs, endorse_row, endorsing_pairs, init_row, initial_pairs, authorise_row, authorising_pairs, branch_if_live, branch_pair, prepared_if_compiled}
-use Rattle.spec_run.specs.Firing.{first_unshown, shown_string, unknown_secret, position_instance, unknown_at, fire_row, fire_init_row, reaches_if, initial_by, taking_of_position, taking_of_parts}
+use Rattle.spec_run.specs.Signing.{with_pairs, endorse_row, endorsing_pairs, init_row, initial_pairs, authorise_row, authorising_pairs}
+use Rattle.spec_run.specs.Signing.{branch_if_live, branch_pair, prepared_if_compiled}
+use Rattle.spec_run.specs.Firing.{first_unshown, shown_string, unknown_secret, position_instance, unknown_at, fire_row, fire_init_row}
+use Rattle.spec_run.specs.Firing.{reaches_if, initial_by, taking_of_position, taking_of_parts}
 use Rattle.spec_run.specs.Ledger.{judged, verdict_in, contract_in, position_path}
 use Rattle.spec_run.specs.Event.{draft}
 use Rattle.spec_tool.specs.declared.rule.Act.{Act}
@@ -56,7 +58,8 @@ module _ (s : Setup) (w : World) (hs : List (List ℕ)) where
   instance_same : (k : ℕ) → compiled_instance s more k ≡ compiled_instance s w k
   instance_same k = compiled_same s w w.book hs k
 
-  unless_same : (r : Option Reason) (hashes : List (List ℕ)) (d : Draft) → unless r more hashes (carried hs d) ≡ carried hs (unless r w hashes d)
+  unless_same : (r : Option Reason) (hashes : List (List ℕ)) (d : Draft)
+      → unless r more hashes (carried hs d) ≡ carried hs (unless r w hashes d)
   unless_same None hashes d = refl
   unless_same (Some reason) hashes d = refl
 
@@ -86,7 +89,8 @@ module _ (s : Setup) (w : World) (hs : List (List ℕ)) where
       let b = branch_if_live s (live_position_at w n) i in
       ap (λ o. unknown_secret s more o b) (held_same (live_position_at w n)) ∙ secret_same (position_instance s w (live_position_at w n)) b
 
-  pairs_same : (party : List ℕ) (o : Option ContractPosition) (branch : ℕ) → authorising_pairs s more party o branch ≡ authorising_pairs s w party o branch
+  pairs_same : (party : List ℕ) (o : Option ContractPosition) (branch : ℕ)
+      → authorising_pairs s more party o branch ≡ authorising_pairs s w party o branch
   pairs_same party None branch = refl
   pairs_same party (Some held) branch =
       ap (λ o. branch_pair s party held.contract (position_path held branch) (prepared_if_compiled s o (position_path held branch)))
@@ -97,7 +101,8 @@ module _ (s : Setup) (w : World) (hs : List (List ℕ)) where
   taking_same (Some held) branch = rw (instance_same held.contract)
       (parts_same held branch (compiled_instance s w held.contract) (contract_in (contract_at s held.contract) held.position) _ _)
     where
-      parts_same : (held : ContractPosition) (branch : ℕ) (o : Option Instance) (c : Option term.Contract) (b : Option term.Guarded) (m : Option _)
+      parts_same : (held : ContractPosition) (branch : ℕ) (o : Option Instance) (c : Option term.Contract) (b : Option term.Guarded)
+          (m : Option _)
           → taking_of_parts s more held branch o c b m ≡ taking_of_parts s w held branch o c b m
       parts_same held branch None c b m = refl
       parts_same held branch (Some instance) None b m = refl
@@ -105,14 +110,18 @@ module _ (s : Setup) (w : World) (hs : List (List ℕ)) where
       parts_same held branch (Some instance) (Some choice) (Some b) None = refl
       parts_same held branch (Some instance) (Some choice) (Some b) (Some made) = refl
 
-  commit_same : (k : ℕ) (party : List ℕ) (digests : List (List ℕ × List ℕ)) → draft s more (events.Commit k party digests) ≡ carried hs (draft s w (events.Commit k party digests))
+  commit_same : (k : ℕ) (party : List ℕ) (digests : List (List ℕ × List ℕ))
+      → draft s more (events.Commit k party digests) ≡ carried hs (draft s w (events.Commit k party digests))
   commit_same k party digests =
       let next = with_promise s w k party digests in
       let strings = committed_strings s k party in
-      let done_same : committed_draft s (record next { hashed = hs }) k party strings ≡ carried hs (committed_draft s next k party strings) =
+      let done_same : committed_draft s (record next { hashed = hs }) k party strings ≡ carried hs
+      (committed_draft s next k party strings) =
       ap (λ o. done (record next { hashed = hs }) (strings ++ strings_compiled s o)) (compiled_same s next next.book hs k) in
-      ap (λ d. unless (first_reason (commit_row s w k party digests)) more [] (unless (first_reason (digest_row s w k party digests)) more strings d)) done_same
-      ∙ (ap (unless (first_reason (commit_row s w k party digests)) more []) (unless_same (first_reason (digest_row s w k party digests)) strings (committed_draft s next k party strings))
+      ap (λ d. unless (first_reason (commit_row s w k party digests)) more []
+      (unless (first_reason (digest_row s w k party digests)) more strings d)) done_same
+      ∙ (ap (unless (first_reason (commit_row s w k party digests)) more [])
+      (unless_same (first_reason (digest_row s w k party digests)) strings (committed_draft s next k party strings))
       ∙ unless_same (first_reason (commit_row s w k party digests)) [] _)
 
   endorse_same : (k : ℕ) (party : List ℕ) → draft s more (events.Endorse k party) ≡ carried hs (draft s w (events.Endorse k party))
@@ -123,10 +132,13 @@ module _ (s : Setup) (w : World) (hs : List (List ℕ)) where
   init_same k party = rw (instance_same k)
       (unless_same (first_reason (init_row s w k party)) [] (done (with_pairs w (initial_pairs s party (compiled_instance s w k))) []))
 
-  authorise_same : (party : List ℕ) (n i : ℕ) → draft s more (events.Authorise party n i) ≡ carried hs (draft s w (events.Authorise party n i))
+  authorise_same : (party : List ℕ) (n i : ℕ)
+      → draft s more (events.Authorise party n i) ≡ carried hs (draft s w (events.Authorise party n i))
   authorise_same party n i =
-      ap (λ ps. unless (first_reason (authorise_row s w party n i)) more [] (done (with_pairs more ps) [])) (pairs_same party (live_position_at w n) i)
-      ∙ unless_same (first_reason (authorise_row s w party n i)) [] (done (with_pairs w (authorising_pairs s w party (live_position_at w n) i)) [])
+      ap (λ ps. unless (first_reason (authorise_row s w party n i)) more [] (done (with_pairs more ps) []))
+      (pairs_same party (live_position_at w n) i)
+      ∙ unless_same (first_reason (authorise_row s w party n i)) []
+      (done (with_pairs w (authorising_pairs s w party (live_position_at w n) i)) [])
 
   begin_same : (k : ℕ) → draft s more (events.FireInit k) ≡ carried hs (draft s w (events.FireInit k))
   begin_same k = rw (instance_same k) (
@@ -138,7 +150,8 @@ module _ (s : Setup) (w : World) (hs : List (List ℕ)) where
       ap (unless (first_reason (fire_row s w n i)) more []) (reaches_same (taking_of_position s w (live_position_at w n) i))
       ∙ unless_same (first_reason (fire_row s w n i)) [] (reaches_if s w (taking_of_position s w (live_position_at w n) i)))
 
-  reveal_same : (k : ℕ) (party secret : List ℕ) → draft s more (events.Reveal k party secret) ≡ carried hs (draft s w (events.Reveal k party secret))
+  reveal_same : (k : ℕ) (party secret : List ℕ)
+      → draft s more (events.Reveal k party secret) ≡ carried hs (draft s w (events.Reveal k party secret))
   reveal_same k party secret =
       unless_same (first_reason (reveal_row s w k party secret)) []
       (posting w (own_secret s party secret) (Some (party, secret)))
@@ -149,7 +162,8 @@ module _ (s : Setup) (w : World) (hs : List (List ℕ)) where
   taking party None e h = cc
   taking party (Some p) e h = subst (λ x. draft s more x ≡ carried hs (draft s w x)) (some_same h) (authorise_same party p.0 p.1)
 
-  firing : (o : Option (ℕ × ℕ)) (e : Event) → (o >>= λ p. Some (events.Fire (p.0) (p.1))) ≡ Some e → draft s more e ≡ carried hs (draft s w e)
+  firing : (o : Option (ℕ × ℕ)) (e : Event) → (o >>= λ p. Some (events.Fire (p.0) (p.1))) ≡ Some e
+      → draft s more e ≡ carried hs (draft s w e)
   firing None e h = cc
   firing (Some p) e h = subst (λ x. draft s more x ≡ carried hs (draft s w x)) (some_same h) (fire_same p.0 p.1)
 
@@ -158,7 +172,8 @@ module _ (s : Setup) (w : World) (hs : List (List ℕ)) where
   act_draft party acts.Endorse e h = subst (λ x. draft s more x ≡ carried hs (draft s w x)) (some_same h) (endorse_same 0 party)
   act_draft party acts.Init e h = subst (λ x. draft s more x ≡ carried hs (draft s w x)) (some_same h) (init_same 0 party)
   act_draft party (acts.Authorise path) e h = taking party (taken_at s w path) e h
-  act_draft party (acts.Reveal secret) e h = subst (λ x. draft s more x ≡ carried hs (draft s w x)) (some_same h) (reveal_same 0 party secret)
+  act_draft party (acts.Reveal secret) e h = subst (λ x. draft s more x ≡ carried hs (draft s w x)) (some_same h)
+      (reveal_same 0 party secret)
   act_draft party acts.FireInit e h = subst (λ x. draft s more x ≡ carried hs (draft s w x)) (some_same h) (begin_same 0)
   act_draft party (acts.Fire path) e h = firing (taken_at s w path) e h
 

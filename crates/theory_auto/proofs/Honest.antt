@@ -9,7 +9,8 @@ use Rattle.spec_text.specs.Words.{◌>>=◌, one_of}
 use Rattle.spec_tool.specs.declared.rule.Rule.{Rule}
 use Rattle.spec_tool.specs.declared.rule.StrategyFault.{StrategyFault}
 use Rattle.spec_tool.specs.Sizes.{most_rules}
-use Rattle.spec_tool.specs.Strategy.{contract_word, act_by, rule, rule_of, Said, bad, over, empty, says, said_within, said_words, said_line, counted, with_rule, rule_step, rules_from}
+use Rattle.spec_tool.specs.Strategy.{contract_word, act_by, rule, rule_of, Said, bad, over, empty, says, said_within, said_words}
+use Rattle.spec_tool.specs.Strategy.{said_line, counted, with_rule, rule_step, rules_from}
 use Rattle.theory_text.proofs.Options.{some, some_is, none_some, came, given_is}
 use Rattle.theory_auto.specs.OwnRules.{IsHonest, StrategiesAreHonest}
 
@@ -61,7 +62,8 @@ with_honest : (h : Header) (r : Rule) (later : Judged) → IsHonest h r → AreH
 with_honest h r (Ok rules) e f = (e, f)
 with_honest h r (Err fault) e f = tt
 
-step_honest : (h : Header) (n : ℕ) (said : Said) (later : Judged) → SaysHonest h said → AreHonest h later → AreHonest h (rule_step n said later)
+step_honest : (h : Header) (n : ℕ) (said : Said) (later : Judged) → SaysHonest h said → AreHonest h later
+    → AreHonest h (rule_step n said later)
 step_honest h n bad later e f = tt
 step_honest h n over later e f = tt
 step_honest h n empty later e f = f

@@ -1,5 +1,6 @@
 -- What rounds come to: which rules are taken, and that those which are left rest.
-use Rattle.std.proofs.Common.{◌≡◌, ℕ, zero, suc, ◌<◌, List, [], ◌∷◌, ◌++◌, length, Bool, true, false, Option, Some, None, Ok, Err, refl, sym, ap, subst, append_assoc, arith}
+use Rattle.std.proofs.Common.{◌≡◌, ℕ, zero, suc, ◌<◌, List, [], ◌∷◌, ◌++◌, length, Bool, true, false, Option, Some, None, Ok, Err, refl}
+use Rattle.std.proofs.Common.{sym, ap, subst, append_assoc, arith}
 use Rattle.std.specs.Prelude.{◌==◌, if◌then◌else◌, IsPermutation}
 use Rattle.std.specs.List.{AllByRecursion}
 use Rattle.std.proofs.lemmas.Bool.{eqb-true}
@@ -41,7 +42,8 @@ round_moves s (r ∷ rs) w hs within clear =
     (by_event (rule_event s w r) refl (round_moves s rs))
   where
     by_event : (o : Option Event) → rule_event s w r ≡ o
-        → ((v : World) (gs : List (List ℕ)) → Within v.hashed gs → NoClash s.hash gs → MovesBy s v gs rs (round s (record v { hashed = gs }) rs))
+        → ((v : World) (gs : List (List ℕ)) → Within v.hashed gs → NoClash s.hash gs → MovesBy s v gs rs
+        (round s (record v { hashed = gs }) rs))
         → MovesBy s w hs (r ∷ rs) (tried_if s (record w { hashed = hs }) r o (λ next. round s next rs))
     by_event None h later =
         kept_moved s w hs hs r rs (round s (record w { hashed = hs }) rs) (λ t i. i) (λ x k. subst (RestsIf s w x) (sym h) tt)
@@ -55,7 +57,7 @@ nothing_taken s w last [] [] h t = t
 nothing_taken s w last (r ∷ rs) [] h t = absurd t
 nothing_taken s w last rs (e ∷ es) h t = cc
 
-as_many : (s : Setup) (rs : List Rule) (es : List Event) (w last : World) → AreTaken s w rs es last → length rs ≡ length es
+pub as_many : (s : Setup) (rs : List Rule) (es : List Event) (w last : World) → AreTaken s w rs es last → length rs ≡ length es
 as_many s [] [] w last t = refl
 as_many s [] (e ∷ es) w last t = absurd t
 as_many s (r ∷ rs) [] w last t = absurd t
@@ -103,7 +105,8 @@ ends_here s w hs rules p m none = record {
   world = m.world;
   within = m.within;
   clear = m.clear;
-  rests = subst (λ x. AllByRecursion (Rests s x p.world.hashed) p.left) (nothing_taken s w m.last m.taken p.events none m.by) (m.rests none);
+  rests = subst (λ x. AllByRecursion (Rests s x p.world.hashed) p.left) (nothing_taken s w m.last m.taken p.events none m.by)
+      (m.rests none);
 }
 
 -- each other leaves fewer rules
@@ -130,7 +133,8 @@ behind s w hs rules p m (Err halt) h = record {
   others = h.others;
   each_once =
       let back = IsPermutation-append_right m.taken (h.rules_taken ++ h.rule ∷ h.others) p.left h.each_once in
-      subst (λ xs. IsPermutation xs rules) (sym (append_assoc m.taken h.rules_taken (h.rule ∷ h.others))) (IsPermutation-trans _ _ _ back m.each_once);
+      subst (λ xs. IsPermutation xs rules) (sym (append_assoc m.taken h.rules_taken (h.rule ∷ h.others)))
+      (IsPermutation-trans _ _ _ back m.each_once);
   halting = h.halting;
   has = h.has;
   halts = h.halts;

@@ -1,5 +1,6 @@
 -- What a round comes to when the event of a rule is tried: it halts, the rule is kept, or it is taken.
-use Rattle.std.proofs.Common.{◌≡◌, ℕ, List, [], ◌∷◌, ◌++◌, length, Bool, true, false, Option, Some, None, Ok, Err, refl, sym, ap, ◌∙◌, subst, append_assoc}
+use Rattle.std.proofs.Common.{◌≡◌, ℕ, List, [], ◌∷◌, ◌++◌, length, Bool, true, false, Option, Some, None, Ok, Err, refl, sym, ap, ◌∙◌}
+use Rattle.std.proofs.Common.{subst, append_assoc}
 use Rattle.std.specs.Prelude.{if◌then◌else◌, IsPermutation}
 use Rattle.std.specs.List.{AllByRecursion}
 use Rattle.std.proofs.lemmas.List.Sorted.{IsPermutation-refl, IsPermutation-cons, IsPermutation-middle, IsPermutation-trans}
@@ -98,7 +99,8 @@ kept_moved s w hs more r rs (Ok p) grows rests m = record {
 
 -- ---- a rule that is taken
 
-module _ (s : Setup) (w next : World) (d : Draft) (r : Rule) (e : Event) (has : rule_event s w r ≡ Some e) (went : event s w e ≡ Went d next)
+module _ (s : Setup) (w next : World) (d : Draft) (r : Rule) (e : Event) (has : rule_event s w r ≡ Some e)
+    (went : event s w e ≡ Went d next)
     (not_refused : is_refused d.outcome ≡ false) where
   taken_first : (rs : List Rule) (es : List Event) (last : World) → AreTaken s next rs es last → AreTaken s w (r ∷ rs) (e ∷ es) last
   taken_first rs es last t = record { has = has; came_to = d; next = next; went = went; not_refused = not_refused; goes_on = t }
@@ -192,7 +194,8 @@ module _ (s : Setup) (w : World) (hs : List (List ℕ)) (r : Rule) (rs : List Ru
           heard = λ t i. h t (all_new hs comes.hashes t (ap (λ (d : Draft). is_among t d.hashes) same ∙ i));
           unguessed = ap (λ (d : Draft). guess s w.posted d.posts d.allowed) (sym same) ∙ unguessed;
         }) in
-        subst (λ x. MovesBy s w hs (r ∷ rs) (keeps r (go x))) (sym kept) (kept_moved s w hs after r rs (go (record w { hashed = after })) grows rests m)
+        subst (λ x. MovesBy s w hs (r ∷ rs) (keeps r (go x))) (sym kept)
+        (kept_moved s w hs after r rs (go (record w { hashed = after })) grows rests m)
 
     done_moved : is_refused comes.outcome ≡ false → MovesBy s w hs (r ∷ rs) (takes e (go (settled there comes)))
     done_moved done =
@@ -200,7 +203,8 @@ module _ (s : Setup) (w : World) (hs : List (List ℕ)) (r : Rule) (rs : List Ru
         let next = settled w d in
         let hs' = noted_all hs d.hashes in
         let calm' : collision s.hash hs d.hashes ≡ None = ap (λ (x : Draft). collision s.hash hs x.hashes) (sym same) ∙ calm in
-        let unguessed' : guess s w.posted d.posts d.allowed ≡ None = ap (λ (x : Draft). guess s w.posted x.posts x.allowed) (sym same) ∙ unguessed in
+        let unguessed' : guess s w.posted d.posts d.allowed ≡ None = ap (λ (x : Draft). guess s w.posted x.posts x.allowed) (sym same)
+        ∙ unguessed in
         let calm_there : collision s.hash w.hashed d.hashes ≡ None = collision_within s.hash w.hashed hs d.hashes within calm' in
         let went_there : event s w e ≡ Went d next = rw (calm_there, unguessed') refl in
         let is : settled there comes ≡ record next { hashed = hs' } = ap (settled there) same in

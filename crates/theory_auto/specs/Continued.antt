@@ -1,5 +1,6 @@
 -- What is claimed of the rules of a strategy that go on with a run.
 use Rattle.std.specs.Prelude.{◌≡◌, ℕ, List, [], ◌∷◌, ◌++◌, map, true, false, Option, Some, None, Ok, Err, IsPermutation}
+use Rattle.std.specs.Prelude.{◌+◌, length}
 use Rattle.std.specs.List.{AllByRecursion}
 use Rattle.spec_data.specs.Lists.{is_among}
 use Rattle.spec_run.specs.declared.event.Event.{Event}
@@ -74,6 +75,8 @@ pub record GoesOnBy (s : Setup) (es : List Event) (rules : List Rule) (p : Progr
   -- each rule is taken once or left
   pub rules_taken : List Rule
   pub each_once : IsPermutation (rules_taken ++ p.left) rules
+  -- so there are no more events than rules
+  pub count : length p.events + length p.left ≡ length rules
   -- the events are theirs, each in the world that the run with those before it leaves
   pub taken : AreTaken s (last_world s es) rules_taken p.events (last_world s (with_events es p))
   -- the longer run isn't halted, and comes to the same and then to these events

@@ -1,7 +1,11 @@
+mod Births
+mod EventEnds
 mod Fewer
 mod Hashless
 mod Longer
+mod Reread
 mod Rounds
+mod Shorter
 mod Tries
 pub mod Continued
 pub mod Honest

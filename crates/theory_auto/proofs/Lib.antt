@@ -1,3 +1,4 @@
+mod Added
 mod Births
 mod EventEnds
 mod Fewer
@@ -10,3 +11,4 @@ mod Tries
 pub mod Continued
 pub mod Honest
 pub mod OwnRules
+pub mod Spelled

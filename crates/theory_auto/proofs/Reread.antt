@@ -170,7 +170,7 @@ record HeaderAlone (h : Header) (lines : List (List ℕ)) : Type 0 where
   read : read_header no_header 1 lines ≡ headed (h, rest, number)
   idle : read_events h.parties 0 number rest ≡ events_read []
 
-abbrev alone : Header → Run
+abbrev pub alone : Header → Run
 alone h = record { header = h; events = [] }
 
 events_none : (g h : Header) (read : Result (List Event) RunFault) → with_header g read ≡ a_run (alone h) → (g ≡ h) × (read ≡ events_read [])

@@ -1,2 +1,3 @@
 pub mod Continued
 pub mod OwnRules
+pub mod Spelled

@@ -1,6 +1,7 @@
 pub mod Order
 pub mod Signatures
 pub mod Maps
+pub mod ReadFits
 pub mod Reading
 pub mod Records
 pub mod Kept

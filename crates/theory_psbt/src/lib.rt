@@ -1,6 +1,7 @@
 //! What follows of partially signed transactions: each theorem is the contract of a function that does nothing.
 #![tactic(auto)]
 
+ghost use Rattle.theory_psbt.specs.Again.{ReadIsFitting, ReadIsReadAgain};
 ghost use Rattle.theory_psbt.specs.Joined.{CombinedIsJoined, CombinedBothWays, OtherTxExactly, ConflictExactly};
 ghost use Rattle.theory_psbt.specs.Spelled.{SpelledIsRead, ReadIsSpelled, OnePsbt, SpelledIsPsbt, WrittenIsSpelled, WrittenIsRead};
 
@@ -33,6 +34,16 @@ pub fn written_is_spelled()
 /// What is written is read again as the same.
 pub fn written_is_read()
     ensures { WrittenIsRead }
+{}
+
+/// What is read of bytes can be written: its numbers are within their widths.
+pub fn read_is_fitting()
+    ensures { ReadIsFitting }
+{}
+
+/// What is read of bytes and written again is read as the same.
+pub fn read_is_read_again()
+    ensures { ReadIsReadAgain }
 {}
 
 /// Two that can be combined give one of the transaction of both, with the records of both, whose

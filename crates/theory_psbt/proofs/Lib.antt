@@ -1,6 +1,8 @@
 pub mod Order
 pub mod Signatures
 pub mod Maps
+pub mod KeysDiffer
+pub mod ListedFits
 pub mod ReadFits
 pub mod Reading
 pub mod Records

@@ -90,7 +90,7 @@ script_fits key records each = by_value (look_up key records) refl
     by_value None is = tt
     by_value (Some bytes) is = found_string key records bytes each is
 
-put_fits : (r : Pairing) (ss : List Pairing) → IsSignature r → AllByRecursion IsSignature ss → AllByRecursion IsSignature (insert_signature r ss)
+pub put_fits : (r : Pairing) (ss : List Pairing) → IsSignature r → AllByRecursion IsSignature ss → AllByRecursion IsSignature (insert_signature r ss)
 put_fits r [] h k = (h, tt)
 put_fits r (s ∷ ss) h k = by_place (is_before (r.0) (s.0)) (put_fits r ss h k.1)
   where

@@ -3,6 +3,7 @@
 
 ghost use Rattle.theory_psbt.specs.Again.{ReadIsFitting, ReadIsReadAgain};
 ghost use Rattle.theory_psbt.specs.Joined.{CombinedIsJoined, CombinedBothWays, OtherTxExactly, ConflictExactly};
+ghost use Rattle.theory_psbt.specs.Listed.{KeysDiffer, ListedIsFitting, ListedIsRead};
 ghost use Rattle.theory_psbt.specs.Spelled.{SpelledIsRead, ReadIsSpelled, OnePsbt, SpelledIsPsbt, WrittenIsSpelled, WrittenIsRead};
 
 /// What bytes spell is read of them, foreign records or not.
@@ -44,6 +45,23 @@ pub fn read_is_fitting()
 /// What is read of bytes and written again is read as the same.
 pub fn read_is_read_again()
     ensures { ReadIsReadAgain }
+{}
+
+/// A compiled transaction with the signatures that a book has for it is a partially signed
+/// transaction that can be written, where the keys of each input's signers are different.
+pub fn listed_is_fitting()
+    ensures { ListedIsFitting }
+{}
+
+/// What is written of it is read as the same.
+pub fn listed_is_read()
+    ensures { ListedIsRead }
+{}
+
+/// The keys of different parties for a branch are different, where no two texts of their labels
+/// collide.
+pub fn keys_differ()
+    ensures { KeysDiffer }
 {}
 
 /// Two that can be combined give one of the transaction of both, with the records of both, whose

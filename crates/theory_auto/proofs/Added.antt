@@ -1,9 +1,9 @@
 -- The events that rules have are read from their canonical lines, each of which is short.
 use Rattle.std.proofs.Common.{◌≡◌, ℕ, suc, ◌+◌, ◌*◌, ◌<◌, ◌≤◌, ◌^◌, Bool, true, List, [], ◌∷◌, ◌++◌, length, Option, Some, None}
-use Rattle.std.proofs.Common.{false, refl, sym, ap, subst, ◌∙◌, arith, append_assoc}
-use Rattle.std.specs.Prelude.{codes, is_some, if◌then◌else◌, nat_lt, option_and_then}
+use Rattle.std.proofs.Common.{false, refl, sym, ap, subst, ◌∙◌, arith}
+use Rattle.std.specs.Prelude.{codes, is_some, if◌then◌else◌, option_and_then}
 use Rattle.std.specs.Fmt.{decimal, digits}
-use Rattle.std.specs.List.{AllByRecursion, list_all}
+use Rattle.std.specs.List.{AllByRecursion}
 use Rattle.std.proofs.lemmas.Bool.{lt-ltb}
 use Rattle.std.proofs.lemmas.Fmt.{length-decimal-le}
 use Rattle.std.proofs.lemmas.List.{append-nil, length-append}
@@ -18,7 +18,7 @@ use Rattle.spec_run.specs.declared.event.Event.{Event}
 use Rattle.spec_run.specs.declared.event.Event.TheVariants as events
 use Rattle.spec_run.specs.Setup.{Setup, is_declared, contract_at}
 use Rattle.spec_run.specs.World.{Output, World, live_position}
-use Rattle.spec_run.specs.Conditions.{IsSetup, IsEvent}
+use Rattle.spec_run.specs.Conditions.{IsSetup}
 use Rattle.spec_run.specs.Ledger.{branch_in}
 use Rattle.spec_text.specs.declared.run_fault.RunLimit.TheVariants as limits
 use Rattle.spec_text.specs.Limits.{most_events}
@@ -31,7 +31,7 @@ use Rattle.spec_tool.specs.declared.rule.Act.{Act}
 use Rattle.spec_tool.specs.declared.rule.Act.TheVariants as acts
 use Rattle.spec_tool.specs.declared.rule.Rule.{Rule}
 use Rattle.spec_tool.specs.Weights.{last_branch, position_of}
-use Rattle.spec_tool.specs.Turns.{stands_at, standing_from, standing_at, taken_at, act_event, rule_event}
+use Rattle.spec_tool.specs.Turns.{stands_at, standing_from, standing_at, taken_at, act_event}
 use Rattle.theory_text.proofs.Options.{some, some_is, none_some, came, given_is}
 use Rattle.theory_text.proofs.Lines.LineBytes.{LineWord, name_line, name_short, decimal_line, spaced_ends, line_is, line_ends}
 use Rattle.theory_text.proofs.Lines.Separated.{spaced, spaced_words}
@@ -40,13 +40,11 @@ use Rattle.theory_generator.proofs.NumberWords.{small_back, line_word, output_wo
 use Rattle.theory_world.proofs.Contracts.Checking.{contract_checked}
 use Rattle.theory_world.proofs.Labels.{path_fine}
 use Rattle.theory_auto.specs.Continued.{AreTaken}
-use Rattle.theory_auto.specs.OwnRules.{IsHonest, IsDoneBy}
 use Rattle.theory_auto.proofs.Births.{most_births, next_few}
 use Rattle.theory_auto.proofs.EventEnds.{EndsNowhere}
 use Rattle.theory_auto.proofs.Honest.{IsNamed, HasNames}
 use Rattle.theory_auto.proofs.OwnRules.{done_by, is_event}
 use Rattle.theory_auto.proofs.Reread.{IsWritten, AreWritten}
-use Rattle.theory_auto.proofs.Shorter.{lines_size}
 
 -- ---- an event by its words
 

@@ -1,7 +1,7 @@
 -- A run's world has fewer outputs than 4 bytes can number: no event makes more than a gift can.
-use Rattle.std.proofs.Common.{◌≡◌, ℕ, suc, ◌+◌, ◌*◌, ◌<◌, ◌≤◌, ◌^◌, List, [], ◌∷◌, ◌++◌, length, true, Option, Some, None, Result, Ok, Err}
+use Rattle.std.proofs.Common.{◌≡◌, ℕ, suc, ◌+◌, ◌*◌, ◌≤◌, List, [], ◌∷◌, ◌++◌, length, true, Option, Some, None, Result, Ok, Err}
 use Rattle.std.proofs.Common.{refl, sym, ap, subst, ◌∙◌, arith, length-append}
-use Rattle.std.specs.Prelude.{◌&&◌, nat_le, slice_get, option_map, option_and_then}
+use Rattle.std.specs.Prelude.{nat_le, slice_get, option_map, option_and_then}
 use Rattle.std.specs.List.{flat_map, AllByRecursion}
 use Rattle.std.proofs.lemmas.Bool.{and_parts}
 use Rattle.std.proofs.lemmas.Bool.Decides.{nat_tests}
@@ -21,19 +21,18 @@ use Rattle.spec_bitcoin.specs.Spelling.{long_word, sized, output_bytes}
 use Rattle.spec_bitcoin.specs.Digests.{txid, opening_transaction}
 use Rattle.spec_bitcoin.specs.Reading.{transaction_of}
 use Rattle.spec_compiler.specs.Instance.{Instance}
-use Rattle.spec_compiler.specs.declared.unsigned.Unsigned.{Unsigned}
 use Rattle.spec_compiler.specs.declared.prepared.Prepared.{Prepared}
-use Rattle.spec_compiler.specs.Transactions.{Standing, tx_of, prepared, part_outputs, core_outputs, branch_unsigned, root_standing}
+use Rattle.spec_compiler.specs.Transactions.{Standing, prepared, part_outputs, core_outputs, branch_unsigned, root_standing}
 use Rattle.spec_compiler.specs.ByPath as by_path
 use Rattle.spec_compiler.specs.ByPath.{PathEnd, branch_end, continued_end, next_end, end_at, as_position, as_unsigned, position_at, prepared_at}
 use Rattle.spec_run.specs.declared.event.Event.{Event}
 use Rattle.spec_run.specs.declared.event.Event.TheVariants as events
 use Rattle.spec_run.specs.declared.outcome.Reason.{Reason}
-use Rattle.spec_run.specs.Setup.{Setup, contract_at}
+use Rattle.spec_run.specs.Setup.{Setup}
 use Rattle.spec_run.specs.World.{ContractPosition, World, live_position_at}
 use Rattle.spec_run.specs.Compiled.{compiled_instance}
 use Rattle.spec_run.specs.Conditions.{IsSetup, IsPiece, IsEvent}
-use Rattle.spec_run.specs.Draft.{Draft, Answer, Went, Halted, unless, guess, settled, settle}
+use Rattle.spec_run.specs.Draft.{Draft, Went, unless, guess, settled, settle}
 use Rattle.spec_data.specs.Messages.{collision}
 use Rattle.spec_run.specs.declared.header.HeldSecret.{HeldSecret}
 use Rattle.spec_run.specs.Translation.{world_after, last_world}
@@ -42,9 +41,9 @@ use Rattle.spec_run.specs.Advertising.{advertise_row}
 use Rattle.spec_run.specs.Signing.{with_pairs, endorse_row, init_row, authorise_row, sign_row, prepared_if_compiled}
 use Rattle.spec_run.specs.Revealing.{reveal_row}
 use Rattle.spec_run.specs.Giving.{give_row, given_output, given_pairs, gift}
-use Rattle.spec_run.specs.Ledger.{spend_from, made_from, kind_of, new_position, verdict_in, judged, reaches, contract_in, position_path, position_branch}
+use Rattle.spec_run.specs.Ledger.{spend_from, made_from, kind_of, new_position, verdict_in, judged, reaches, position_path}
 use Rattle.spec_run.specs.Firing.{initial_by, taking_of_parts, taking_of_position, reaches_if, fire_init_row, fire_row}
-use Rattle.spec_run.specs.Event.{Passed, opening_outputs, opening_world, append_read, mine_row, draft, event, holds_nothing, goes_on, played, played_from}
+use Rattle.spec_run.specs.Event.{opening_outputs, opening_world, append_read, mine_row, draft, event, holds_nothing, goes_on, played_from}
 use Rattle.spec_run.specs.Statements.{IsRun}
 use Rattle.theory_bitcoin.proofs.Formats.{wide64}
 use Rattle.theory_bitcoin.proofs.Top.{read_is_spelled}

@@ -1,13 +1,13 @@
 -- A header's canonical text with lines of events behind it is read as that header and those events.
-use Rattle.std.proofs.Common.{◌≡◌, ℕ, ◌+◌, ◌≤◌, Bool, true, false, List, [], ◌∷◌, ◌++◌, length, map, Option, Some, None, Result, Ok, Err}
-use Rattle.std.proofs.Common.{refl, sym, ap, subst, ◌∙◌, arith, append_assoc, append-nil}
+use Rattle.std.proofs.Common.{◌≡◌, ℕ, ◌+◌, ◌≤◌, Bool, List, [], ◌∷◌, ◌++◌, length, map, Result, Ok, Err}
+use Rattle.std.proofs.Common.{refl, sym, ap, ◌∙◌, arith, append_assoc}
 use Rattle.std.specs.Prelude.{◌==◌, ◌&&◌, flat_map, codes}
 use Rattle.std.specs.List.{AllByRecursion}
 use Rattle.spec_run.specs.declared.event.Event.{Event}
 use Rattle.spec_run.specs.declared.event.Run.{Run}
 use Rattle.spec_run.specs.declared.header.Header.{Header}
 use Rattle.spec_text.specs.declared.run_fault.RunFault.{RunFault}
-use Rattle.spec_text.specs.Lines.{lines_of, line_byte, onto_lines, onto_first, begins_line_feed, LineByte, line_feed, dropped, kept as as_it_is, if_feed}
+use Rattle.spec_text.specs.Lines.{lines_of, line_byte, onto_lines, begins_line_feed, LineByte, line_feed, dropped, kept as as_it_is, if_feed}
 use Rattle.spec_text.specs.RunText.{newline, event_text, party_text, honest_text, secret_text, deposit_text, header_text, run_text}
 use Rattle.spec_text.specs.RunFile.{Line, bad, over, empty, rule, says, no_header, header_line, kept, Headed, header_step, read_header}
 use Rattle.spec_text.specs.RunFile.{event_of_line, with_event, counted, event_step, read_events, with_header, read_rest, read_run}

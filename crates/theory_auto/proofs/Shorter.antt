@@ -1,7 +1,7 @@
 -- The canonical lines of a run are no longer than the text that it was read from, with a line feed at its end.
-use Rattle.std.proofs.Common.{◌≡◌, ℕ, suc, ◌+◌, ◌≤◌, Bool, true, false, List, [], ◌∷◌, ◌++◌, length, map, Option, Some, None, Result, Ok, Err}
+use Rattle.std.proofs.Common.{◌≡◌, ℕ, suc, ◌+◌, ◌≤◌, Bool, true, false, List, [], ◌∷◌, ◌++◌, length, Option, Some, None, Result, Ok}
 use Rattle.std.proofs.Common.{refl, sym, ap, subst, ◌∙◌, arith, length-append}
-use Rattle.std.specs.Prelude.{◌==◌, ◌&&◌, if◌then◌else◌, nat_lt, flat_map, codes}
+use Rattle.std.specs.Prelude.{if◌then◌else◌, nat_lt, flat_map, codes}
 use Rattle.std.specs.Fmt.{decimal}
 use Rattle.std.specs.List.{AllZip}
 use Rattle.std.specs.Str.{bytes_eq}
@@ -16,10 +16,9 @@ use Rattle.spec_text.specs.Lines.{lines_of, words_of, onto_lines, onto_first, li
 use Rattle.spec_text.specs.Words.{amount}
 use Rattle.spec_text.specs.EventLines.{event_of}
 use Rattle.spec_text.specs.RunText.{newline, event_text, party_text, honest_text, secret_text, deposit_text, header_text}
-use Rattle.spec_text.specs.RunFile.{Line, bad, over, empty, rule, says, spelled_within, is_long, no_header, party_line, honest_line}
+use Rattle.spec_text.specs.RunFile.{Line, bad, over, empty, rule, says, spelled_within, is_long, party_line, honest_line}
 use Rattle.spec_text.specs.RunFile.{held_secret, secret_of, secret_line, deposit_of, deposit_line, rule_line, header_words, header_line}
 use Rattle.spec_text.specs.RunFile.{kept, Headed, header_step, read_header, event_within, event_words, event_of_line}
-use Rattle.theory_text.proofs.ListFacts.{by_test}
 use Rattle.theory_text.proofs.Options.{some}
 use Rattle.theory_text.proofs.Lines.Words.{total, total-words}
 use Rattle.theory_text.proofs.Lines.Separated.{spaced, spaced_length}
@@ -27,7 +26,6 @@ use Rattle.theory_text.proofs.Lines.Digests.{Twin}
 use Rattle.theory_text.proofs.Lines.Events.{event_again}
 use Rattle.theory_text.proofs.Lines.HexBack.{read_hex_back}
 use Rattle.theory_text.proofs.Lines.PrintedWords.{same_bytes, amount_word}
-use Rattle.theory_text.proofs.Lines.ValidHeaders.{says_header, within}
 use Rattle.theory_text.proofs.Lines.ValidRuns.{an_event, event_eq, over_says, bad_says, empty_says, not_long}
 
 -- ---- an event

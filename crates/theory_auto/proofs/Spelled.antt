@@ -1,7 +1,7 @@
 -- The text of a longer run is read as it.
-use Rattle.std.proofs.Common.{◌≡◌, ℕ, suc, ◌+◌, ◌*◌, ◌<◌, ◌≤◌, ◌^◌, Bool, true, false, List, [], ◌∷◌, ◌++◌, length, map, Option, Some, None}
+use Rattle.std.proofs.Common.{◌≡◌, ℕ, suc, ◌+◌, ◌*◌, ◌<◌, ◌≤◌, Bool, true, false, List, [], ◌∷◌, ◌++◌, length, map}
 use Rattle.std.proofs.Common.{Result, Ok, Err, refl, sym, ap, subst, ◌∙◌, arith, inl, inr}
-use Rattle.std.specs.Prelude.{if◌then◌else◌, nat_lt, nat_le, flat_map, codes}
+use Rattle.std.specs.Prelude.{if◌then◌else◌, nat_lt, flat_map, codes}
 use Rattle.std.specs.List.{AllByRecursion, list_all}
 use Rattle.std.proofs.lemmas.Bool.{le-ltb}
 use Rattle.std.proofs.lemmas.Bool.Decides.{nat_tests}
@@ -35,7 +35,7 @@ use Rattle.theory_text.proofs.Lines.ValidRuns.{an_event, a_run, run_eq, fault_ru
 use Rattle.theory_auto.specs.OwnRules.{IsHonest}
 use Rattle.theory_auto.specs.Spelled.{GoesWith, LongerRunsAreSpelled}
 use Rattle.theory_auto.proofs.Added.{IsRule, AreAdded, taken_written}
-use Rattle.theory_auto.proofs.Births.{most_births, last_few}
+use Rattle.theory_auto.proofs.Births.{last_few}
 use Rattle.theory_auto.proofs.Continued.{strategies_go}
 use Rattle.theory_auto.proofs.EventEnds.{among_named, event_ends}
 use Rattle.theory_auto.proofs.Honest.{HasNames, strategies_honest, strategies_named}

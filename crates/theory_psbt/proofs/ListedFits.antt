@@ -1,7 +1,7 @@
 -- A compiled transaction with the signatures that a book has for it is a partially signed transaction that can be written.
-use Rattle.std.proofs.Common.{◌≡◌, ℕ, suc, ◌<◌, List, [], ◌∷◌, ◌++◌, length, map, Bool, true, false, not, eqb, Option, Some, None}
-use Rattle.std.proofs.Common.{refl, sym, ap, subst, ◌∙◌, arith, lit<}
-use Rattle.std.specs.Prelude.{if◌then◌else◌, ◌&&◌, ◌||◌}
+use Rattle.std.proofs.Common.{◌≡◌, ℕ, suc, List, [], ◌∷◌, ◌++◌, length, map, Bool, true, false, not, eqb, Some, None}
+use Rattle.std.proofs.Common.{refl, ap, ◌∙◌, arith, lit<}
+use Rattle.std.specs.Prelude.{if◌then◌else◌}
 use Rattle.std.specs.List.{list_all, AllByRecursion}
 use Rattle.std.specs.Str.{bytes_eq}
 use Rattle.std.proofs.lemmas.Bool.{eq-eqb, ne_eqb, or_parts}
@@ -12,11 +12,9 @@ use Rattle.spec_data.proofs.ByteLemmas.{IsBytes-append}
 use Rattle.spec_terms.specs.Precondition.{names_of}
 use Rattle.spec_bitcoin.specs.declared.label.Label.{Label}
 use Rattle.spec_bitcoin.specs.Keys.{Pair, key_of, label_text, signature_of, has_signed}
-use Rattle.spec_bitcoin.specs.Spelling.{IsString, IsOutput}
 use Rattle.spec_compiler.specs.declared.unsigned.Spent.{Spent}
 use Rattle.spec_compiler.specs.declared.unsigned.Unsigned.{Unsigned}
-use Rattle.spec_compiler.specs.Transactions.{input_of, tx_of, digest_of_spent, pays}
-use Rattle.spec_tool.specs.declared.psbt.PsbtInput.{PsbtInput}
+use Rattle.spec_compiler.specs.Transactions.{input_of, tx_of, digest_of_spent}
 use Rattle.spec_tool.specs.Listed.{Listed}
 use Rattle.spec_tool.specs.Psbt.{Pairing, are_ascending, is_bare_input, is_unsigned, insert_signature}
 use Rattle.spec_tool.specs.PsbtText.{signatures_there, signed_input, signed_inputs, listed_psbt}

@@ -1,24 +1,22 @@
 -- What is read of bytes can be written again: its numbers are within their widths.
-use Rattle.std.proofs.Common.{◌≡◌, ℕ, suc, ◌<◌, List, [], ◌∷◌, ◌++◌, length, Bool, true, false, eqb, Option, Some, None, Result, Ok, Err}
-use Rattle.std.proofs.Common.{refl, sym, ap, subst, ◌∙◌, arith}
-use Rattle.std.specs.Prelude.{if◌then◌else◌, ◌&&◌, IfSome, is_some}
+use Rattle.std.proofs.Common.{◌≡◌, ℕ, suc, List, [], ◌∷◌, ◌++◌, length, Bool, true, false, eqb, Option, Some, None, Result, Ok, Err}
+use Rattle.std.proofs.Common.{refl, sym, subst, arith}
+use Rattle.std.specs.Prelude.{if◌then◌else◌, IfSome}
 use Rattle.std.specs.List.{list_all, AllByRecursion}
 use Rattle.std.specs.Str.{bytes_eq}
 use Rattle.std.proofs.lemmas.Bool.{eqb-true}
-use Rattle.spec_data.specs.Digits.{onto}
 use Rattle.spec_data.specs.Lists.{look_up}
 use Rattle.spec_bitcoin.specs.declared.tx.Tx.{Tx}
-use Rattle.spec_bitcoin.specs.declared.tx.TxOut.{TxOut}
-use Rattle.spec_bitcoin.specs.Spelling.{sized, witness_bytes, output_bytes, IsBytes, IsString, IsOutput, IsTransaction}
+use Rattle.spec_bitcoin.specs.Spelling.{witness_bytes, output_bytes, IsBytes, IsString, IsOutput, IsTransaction}
 use Rattle.spec_bitcoin.specs.Reading.{any, output_at, witness_at, transaction_of}
 use Rattle.spec_text.specs.Words.{◌>>=◌, given}
 use Rattle.spec_tool.specs.declared.psbt.PsbtInput.{PsbtInput}
-use Rattle.spec_tool.specs.Psbt.{Psbt, Pairing, is_before, is_unsigned, IsPairing, IsMap, type_of, is_alone, whole, unsigned_of, output_of}
-use Rattle.spec_tool.specs.Psbt.{witness_of, all_type, global_fits, global_of, input_fits, insert_signature, key_behind_type, signatures_of}
+use Rattle.spec_tool.specs.Psbt.{Psbt, Pairing, is_before, is_unsigned, IsPairing, IsMap, type_of, whole, unsigned_of, output_of}
+use Rattle.spec_tool.specs.Psbt.{witness_of, global_fits, global_of, input_fits, insert_signature, key_behind_type, signatures_of}
 use Rattle.spec_tool.specs.Psbt.{input_said, input_of, inputs_of, Spells}
 use Rattle.spec_tool.specs.PsbtBytes.{psbt_of}
 use Rattle.theory_bitcoin.proofs.Exact.{Exact}
-use Rattle.theory_bitcoin.proofs.Parts.{Is, Output, an_output}
+use Rattle.theory_bitcoin.proofs.Parts.{Is, an_output}
 use Rattle.theory_bitcoin.proofs.Top as top
 use Rattle.theory_text.proofs.ListFacts.{and_left, and_right}
 use Rattle.theory_text.proofs.Options.{some, some_is, none_some, came, onto_is, given_is}

@@ -1,17 +1,19 @@
 -- The keys of different parties for a branch are different, where no two texts of their labels collide.
 use Rattle.std.proofs.Common.{◌≡◌, ℕ, ◌<◌, ◌^◌, List, [], ◌∷◌, map, Bool, true, false, not, refl, sym, ap, ◌∙◌}
-use Rattle.std.specs.Prelude.{◌||◌}
+use Rattle.std.specs.Prelude.{fold, if◌then◌else◌, ◌++◌, ◌||◌}
 use Rattle.std.specs.List.{AllByRecursion}
 use Rattle.std.specs.Str.{bytes_eq}
 use Rattle.std.proofs.lemmas.Bool.{or_parts}
 use Rattle.spec_data.specs.Lists.{is_among, are_different}
+use Rattle.spec_terms.specs.Parties.{choice_mentions, add_new}
+use Rattle.spec_terms.specs.Precondition.{party_of}
 use Rattle.spec_terms.specs.declared.path.PathStep.{PathStep}
 use Rattle.spec_bitcoin.specs.Keys.{IsStep, key_of}
 use Rattle.spec_compiler.specs.Instance.{branch_label}
 use Rattle.spec_run.specs.Signing.{label_party}
 use Rattle.theory_bitcoin.proofs.Labels.{one_label}
-use Rattle.theory_text.proofs.ListFacts.{and_is, and_left, and_right, not_yes, not_no, or_no, or_yes}
-use Rattle.theory_psbt.specs.Listed.{AreCalm, KeysDiffer}
+use Rattle.theory_text.proofs.ListFacts.{and_is, and_left, and_right, not_yes, not_no, or_no, or_yes, different_push}
+use Rattle.theory_psbt.specs.Listed.{AreCalm, KeysDiffer, ParticipantsDiffer}
 use Rattle.theory_psbt.proofs.Order.{bytes_same, not_same}
 
 tail_is : (xs ys : List ℕ) → 2 ∷ xs ≡ 2 ∷ ys → xs ≡ ys
@@ -60,3 +62,19 @@ module _ (hash : List ℕ → List ℕ) (contract : ℕ) (path : List PathStep) 
 
 pub keys_differ : KeysDiffer
 keys_differ hash contract path parties small steps apart calm = differ hash contract path parties small steps calm parties (λ x i. i) apart
+
+-- ---- the participants of a contract
+
+one_new : (names : List (List ℕ)) (a : List ℕ) → are_different names ≡ true → are_different (add_new names a) ≡ true
+one_new names a h = by_test (is_among a names) refl
+  where
+    by_test : (t : Bool) → is_among a names ≡ t → are_different (if t then names else (names ++ a ∷ [])) ≡ true
+    by_test true e = h
+    by_test false e = different_push names a h e
+
+all_new : (names new : List (List ℕ)) → are_different names ≡ true → are_different (fold add_new names new) ≡ true
+all_new names [] h = h
+all_new names (a ∷ new) h = all_new (add_new names a) new (one_new names a h)
+
+pub participants_differ : ParticipantsDiffer
+participants_differ advert = all_new [] (map party_of advert.pre ++ choice_mentions advert.root) refl

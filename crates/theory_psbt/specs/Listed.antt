@@ -3,6 +3,8 @@ use Rattle.std.specs.Prelude.{◌≡◌, ℕ, ◌<◌, ◌^◌, List, length, ma
 use Rattle.std.specs.List.{AllByRecursion}
 use Rattle.spec_data.specs.Hashes.{HashesBytes}
 use Rattle.spec_data.specs.Lists.{is_among, are_different}
+use Rattle.spec_terms.specs.Advert.{Advert}
+use Rattle.spec_terms.specs.Parties.{participants}
 use Rattle.spec_terms.specs.declared.path.PathStep.{PathStep}
 use Rattle.spec_bitcoin.specs.Keys.{Pair, IsStep, key_of, label_text}
 use Rattle.spec_bitcoin.specs.Spelling.{IsString, IsTransaction}
@@ -53,3 +55,7 @@ abbrev pub KeysDiffer : Type 0
 KeysDiffer = (hash : List ℕ → List ℕ) (contract : ℕ) (path : List PathStep) (parties : List (List ℕ)) → contract < 2 ^ 32
     → AllByRecursion IsStep path → are_different parties ≡ true → AreCalm hash contract path parties
     → are_different (map (key_of hash) (map (branch_label contract path) parties)) ≡ true
+
+-- and no party stands twice among a contract's participants
+abbrev pub ParticipantsDiffer : Type 0
+ParticipantsDiffer = (advert : Advert) → are_different (participants advert) ≡ true

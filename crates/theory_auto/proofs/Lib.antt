@@ -11,4 +11,5 @@ mod Tries
 pub mod Continued
 pub mod Honest
 pub mod OwnRules
+pub mod Printed
 pub mod Spelled

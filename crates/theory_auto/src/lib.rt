@@ -3,6 +3,7 @@
 
 ghost use Rattle.theory_auto.specs.Continued.{StrategiesGoOn};
 ghost use Rattle.theory_auto.specs.OwnRules.{StrategiesAreHonest, StrategiesKeepToRules};
+ghost use Rattle.theory_auto.specs.Printed.{PrintedIsLonger};
 ghost use Rattle.theory_auto.specs.Spelled.{LongerRunsAreSpelled};
 
 /// The rules of a strategy go on with a run by events that the longer run does or accepts, each a
@@ -28,4 +29,10 @@ pub fn strategies_keep_to_rules()
 /// limits of a run file.
 pub fn longer_runs_are_spelled()
     ensures { LongerRunsAreSpelled }
+{}
+
+/// What `auto` prints with the status 0 spells a run that has the header of the run file and begins
+/// with its events.
+pub fn printed_is_longer()
+    ensures { PrintedIsLonger }
 {}

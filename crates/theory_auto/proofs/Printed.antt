@@ -1,14 +1,12 @@
 -- What `auto` prints with the status 0 is read as a longer run.
-use Rattle.std.proofs.Common.{◌≡◌, ℕ, List, [], ◌∷◌, ◌++◌, length, Bool, true, false, eqb, Option, Some, None, Result, Ok, Err}
-use Rattle.std.proofs.Common.{refl, sym, ap, subst, ◌∙◌, arith}
+use Rattle.std.proofs.Common.{◌≡◌, ℕ, List, [], ◌∷◌, length, Bool, true, false, eqb, Option, Some, None, Ok, Err}
+use Rattle.std.proofs.Common.{refl, ap, subst, ◌∙◌, arith}
 use Rattle.std.specs.Prelude.{if◌then◌else◌}
 use Rattle.std.proofs.lemmas.Bool.{eqb-true, eq-eqb}
 use Rattle.spec_terms.specs.Advert.{Advert}
-use Rattle.spec_calculus.specs.Configuration.{Configuration}
 use Rattle.spec_run.specs.declared.event.Event.{Event}
 use Rattle.spec_run.specs.declared.event.Run.{Run}
 use Rattle.spec_run.specs.Setup.{Setup}
-use Rattle.spec_run.specs.World.{World}
 use Rattle.spec_run.specs.Draft.{Halt, Collided, Guessed}
 use Rattle.spec_run.specs.Event.{opening_collision}
 use Rattle.spec_run.specs.Conditions.{HashesBytes}
@@ -22,7 +20,7 @@ use Rattle.spec_tool.specs.Commands.{Printed, prints, JudgedAll, contracts_from,
 use Rattle.spec_tool.specs.Answers.{unless_stopped, rules_judged, strategy_file}
 use Rattle.spec_tool.specs.Statements.{ValidRunTheorem}
 use Rattle.spec_tool.specs.AutoText.{strategy_in, longer_run, progressed_answer, auto_answer}
-use Rattle.spec_tool.specs.Turns.{Progress, Progressed, extended}
+use Rattle.spec_tool.specs.Turns.{Progressed, extended}
 use Rattle.theory_auto.specs.Printed.{IsLonger, PrintedIsLonger}
 use Rattle.theory_auto.specs.Spelled.{GoesWith}
 use Rattle.theory_auto.proofs.Spelled.{longer_spelled}

@@ -12,3 +12,4 @@ pub mod Writing
 pub mod SameTx
 pub mod InputsApart
 pub mod Combining
+pub mod Signers

@@ -8,10 +8,11 @@ use Rattle.spec_terms.specs.Parties.{participants}
 use Rattle.spec_terms.specs.declared.path.PathStep.{PathStep}
 use Rattle.spec_bitcoin.specs.Keys.{Pair, IsStep, key_of, label_text}
 use Rattle.spec_bitcoin.specs.Spelling.{IsString, IsTransaction}
-use Rattle.spec_compiler.specs.Instance.{branch_label}
+use Rattle.spec_compiler.specs.Instance.{Instance, branch_label}
 use Rattle.spec_compiler.specs.declared.unsigned.Spent.{Spent}
 use Rattle.spec_compiler.specs.Transactions.{tx_of}
-use Rattle.spec_tool.specs.Listed.{Listed}
+use Rattle.spec_tool.specs.declared.which.Which.{Which}
+use Rattle.spec_tool.specs.Listed.{Listed, listed_at}
 use Rattle.spec_tool.specs.PsbtBytes.{psbt_of, psbt_bytes}
 use Rattle.spec_tool.specs.PsbtText.{listed_psbt}
 use Rattle.theory_psbt.specs.Fitting.{IsFitting}
@@ -59,3 +60,10 @@ KeysDiffer = (hash : List ℕ → List ℕ) (contract : ℕ) (path : List PathSt
 -- and no party stands twice among a contract's participants
 abbrev pub ParticipantsDiffer : Type 0
 ParticipantsDiffer = (advert : Advert) → are_different (participants advert) ≡ true
+
+-- ---- signers
+
+-- a contract's transaction has signers for each of its inputs
+abbrev pub SignersForEach : Type 0
+SignersForEach = (hash : List ℕ → List ℕ) (instance : Instance) (which : Which) (l : Listed) → listed_at hash instance which ≡ Some l
+    → length l.signers ≡ length l.draft.spends

@@ -3,7 +3,7 @@
 
 ghost use Rattle.theory_psbt.specs.Again.{ReadIsFitting, ReadIsReadAgain};
 ghost use Rattle.theory_psbt.specs.Joined.{CombinedIsJoined, CombinedBothWays, OtherTxExactly, ConflictExactly};
-ghost use Rattle.theory_psbt.specs.Listed.{KeysDiffer, ListedIsFitting, ListedIsRead, ParticipantsDiffer};
+ghost use Rattle.theory_psbt.specs.Listed.{KeysDiffer, ListedIsFitting, ListedIsRead, ParticipantsDiffer, SignersForEach};
 ghost use Rattle.theory_psbt.specs.Spelled.{SpelledIsRead, ReadIsSpelled, OnePsbt, SpelledIsPsbt, WrittenIsSpelled, WrittenIsRead};
 
 /// What bytes spell is read of them, foreign records or not.
@@ -67,6 +67,11 @@ pub fn keys_differ()
 /// No party stands twice among the participants of a contract.
 pub fn participants_differ()
     ensures { ParticipantsDiffer }
+{}
+
+/// Each transaction of a contract has signers for each of its inputs.
+pub fn signers_for_each()
+    ensures { SignersForEach }
 {}
 
 /// Two that can be combined give one of the transaction of both, with the records of both, whose

@@ -11,9 +11,8 @@ use Rattle.spec_compiler.specs.Instance.{Instance}
 use Rattle.spec_compiler.specs.ByPath as by_path
 use Rattle.spec_compiler.specs.ByPath.{PathEnd, end_at, as_unsigned}
 use Rattle.spec_compiler.specs.Transactions.{branch_unsigned}
-use Rattle.spec_tool.specs.declared.which.Which.{Which}
 use Rattle.spec_tool.specs.declared.which.Which.TheVariants as names
-use Rattle.spec_tool.specs.Listed.{Listed, initial_listed, path_listed, path_signers, branch_signers, listed_at}
+use Rattle.spec_tool.specs.Listed.{Listed, path_listed, path_signers, branch_signers}
 use Rattle.theory_script.proofs.Listing.Stands.{some_same, IfAgrees, agrees_at}
 use Rattle.theory_psbt.specs.Listed.{SignersForEach}
 

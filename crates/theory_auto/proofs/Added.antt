@@ -94,7 +94,8 @@ module _ (parties : List (List ℕ)) (party : List ℕ) (named : is_name party �
   authorise_spelled : (n i : ℕ) → n < 2 ^ 32 → i < 2 ^ 32 → IsSpelled parties (events.Authorise party n i)
   authorise_spelled n i less few = record {
     words = codes "authorise" ∷ party ∷ (35 ∷ decimal n) ∷ decimal i ∷ [];
-    text = ap (λ (xs : List ℕ). codes "authorise " ++ (party ++ (codes " #" ++ (decimal n ++ (codes " " ++ xs))))) (sym (append-nil (decimal i)));
+    text = ap (λ (xs : List ℕ). codes "authorise " ++ (party ++ (codes " #" ++ (decimal n ++ (codes " " ++ xs)))))
+        (sym (append-nil (decimal i)));
     all = (line_word _ refl, (name_line party named, (output_word n (omega (arith, less)), (decimal_line i (omega (arith, few)), tt))));
     read = rw (declared, small_back n less, small_back i few) refl;
     short = omega (
@@ -165,7 +166,8 @@ last_step (Into k ∷ []) h = omega arith
 last_step (s ∷ (t ∷ steps)) h = last_step (t ∷ steps) h.1
 
 -- the steps of a path that a contract has
-path_steps : (s : Setup) → IsSetup s → (path : List PathStep) → is_some (branch_in (contract_at s 0) path) ≡ true → AllByRecursion IsStep path
+path_steps : (s : Setup) → IsSetup s → (path : List PathStep) → is_some (branch_in (contract_at s 0) path) ≡ true
+    → AllByRecursion IsStep path
 path_steps s is path h = by_contract (contract_at s 0) refl h
   where
     by_contract : (o : Option Advert) → contract_at s 0 ≡ o → is_some (branch_in o path) ≡ true → AllByRecursion IsStep path
@@ -184,7 +186,9 @@ record AreSmall (w : World) (p : ℕ × ℕ) : Type 0 where
 
 taken_small : (s : Setup) → IsSetup s → (w : World) (path : List PathStep) (p : ℕ × ℕ) → taken_at s w path ≡ some p → AreSmall w p
 taken_small s is w path p h =
-    let a = came (given (is_some (branch_in (contract_at s 0) path)) path) (λ known. standing_at w 0 (position_of known) >>= λ n. some (n, last_branch known)) p h in
+    let a = came (given (is_some (branch_in (contract_at s 0) path)) path)
+    (λ known. standing_at w 0 (position_of known) >>= λ n. some (n, last_branch known))
+    p h in
     let b = came (standing_at w 0 (position_of a.first)) (λ n. some (n, last_branch a.first)) p a.then' in
     let g = given_is (is_some (branch_in (contract_at s 0) path)) path a.first a.is in
     let less = first_below 0 (position_of a.first) 0 b.first w.outputs b.is in
@@ -216,8 +220,10 @@ module _ (s : Setup) (is : IsSetup s) (w : World) (room : length w.outputs ≤ 2
       (fire_spelled s.header.parties (p.0) (p.1) (omega (arith, small.output, room)) small.branch)
 
   act_spelled : (act : Act) → IsNamed act → (e : Event) → act_event s w party act ≡ some e → Spelled e
-  act_spelled acts.Commit known e h = subst Spelled (some_is (events.Commit 0 party []) e h) (commit_spelled s.header.parties party named declared)
-  act_spelled acts.Endorse known e h = subst Spelled (some_is (events.Endorse 0 party) e h) (endorse_spelled s.header.parties party named declared)
+  act_spelled acts.Commit known e h =
+      subst Spelled (some_is (events.Commit 0 party []) e h) (commit_spelled s.header.parties party named declared)
+  act_spelled acts.Endorse known e h =
+      subst Spelled (some_is (events.Endorse 0 party) e h) (endorse_spelled s.header.parties party named declared)
   act_spelled acts.Init known e h = subst Spelled (some_is (events.Init 0 party) e h) (init_spelled s.header.parties party named declared)
   act_spelled (acts.Authorise path) known e h = authorised (taken_at s w path) (taken_small s is w path) e h
   act_spelled (acts.Reveal secret) known e h =

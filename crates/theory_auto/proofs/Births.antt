@@ -24,7 +24,8 @@ use Rattle.spec_compiler.specs.Instance.{Instance}
 use Rattle.spec_compiler.specs.declared.prepared.Prepared.{Prepared}
 use Rattle.spec_compiler.specs.Transactions.{Standing, prepared, part_outputs, core_outputs, branch_unsigned, root_standing}
 use Rattle.spec_compiler.specs.ByPath as by_path
-use Rattle.spec_compiler.specs.ByPath.{PathEnd, branch_end, continued_end, next_end, end_at, as_position, as_unsigned, position_at, prepared_at}
+use Rattle.spec_compiler.specs.ByPath.{PathEnd, branch_end, continued_end, next_end}
+use Rattle.spec_compiler.specs.ByPath.{end_at, as_position, as_unsigned, position_at, prepared_at}
 use Rattle.spec_run.specs.declared.event.Event.{Event}
 use Rattle.spec_run.specs.declared.event.Event.TheVariants as events
 use Rattle.spec_run.specs.declared.outcome.Reason.{Reason}
@@ -218,7 +219,12 @@ module _ (s : Setup) (is : IsSetup s) (w : World) where
   event_grows (events.Post bytes) h = same_grows
   event_grows (events.Sign party label digest) h = unless_grows (first_reason (sign_row s party label)) [] _ same_grows
   event_grows (events.Give party inputs outputs) h =
-      let few : length (gift s w party inputs outputs).outputs ≤ most_births = omega (arith, length_map (given_output s) outputs, h.few_outputs) in
+      let few : length (gift s w party inputs outputs).outputs ≤ most_births = omega (
+        arith,
+        length_map
+            (given_output s) outputs,
+        h.few_outputs,
+      ) in
       unless_grows (first_reason (give_row s w party inputs outputs)) [] _
       (reaches_grows (with_pairs w (given_pairs s w party inputs outputs)).book (gift s w party inputs outputs) few)
   event_grows (events.Append bytes) h = read_grows bytes h (transaction_of bytes) refl
@@ -238,7 +244,8 @@ went_few : (s : Setup) (w next : World) (d d' : Draft) (c : Option (List ℕ × 
     → length next.outputs ≤ length w.outputs + most_births
 went_few s w next d d' (Some pair) g h e = cc
 went_few s w next d d' None (Some held) h e = cc
-went_few s w next d d' None None h e = let same : settled w d ≡ next = cc in subst (λ (x : World). length x.outputs ≤ length w.outputs + most_births) same h
+went_few s w next d d' None None h e =
+    let same : settled w d ≡ next = cc in subst (λ (x : World). length x.outputs ≤ length w.outputs + most_births) same h
 
 pub next_few : (s : Setup) → IsSetup s → (w next : World) (e : Event) (d : Draft) → IsEvent s e → event s w e ≡ Went d next
     → length next.outputs ≤ length w.outputs + most_births
@@ -254,7 +261,8 @@ after_few s is (e ∷ es) w fine =
   where
     by_answer : (c : Option (List ℕ × List ℕ)) (g : Option HeldSecret)
         → length (draft s w e).world.outputs ≤ length w.outputs + most_births
-        → ((next : World) → length (world_after next (played_from s next es).passed).outputs ≤ length next.outputs + most_births * length es)
+        → ((next : World)
+        → length (world_after next (played_from s next es).passed).outputs ≤ length next.outputs + most_births * length es)
         → length (world_after w (goes_on e (settle w (draft s w e) c g) (λ next. played_from s next es)).passed).outputs
         ≤ length w.outputs + most_births * suc (length es)
     by_answer (Some pair) g h ih = omega arith

@@ -15,7 +15,8 @@ use Rattle.spec_bitcoin.specs.Keys.{IsStep, IsLabel, step_text, path_text, label
 use Rattle.spec_run.specs.declared.event.Event.{Event}
 use Rattle.spec_run.specs.declared.event.Event.TheVariants as events
 use Rattle.spec_text.specs.Lines.{parts_of}
-use Rattle.spec_text.specs.Words.{◌>>=◌, given, small, amount, output, a_name, one_of, digest, two_parts, named, all_of, path, label_of, label}
+use Rattle.spec_text.specs.Words.{◌>>=◌, given, small, amount, output, a_name, one_of}
+use Rattle.spec_text.specs.Words.{digest, two_parts, named, all_of, path, label_of, label}
 use Rattle.spec_text.specs.EventLines.{advertise, commit, contract_and_party, authorise, reveal, bytes_event, sign, at_arrow, shares}
 use Rattle.spec_text.specs.EventLines.{is_some_list, give, fire, mine, event_by, event_of}
 use Rattle.spec_text.specs.RunText.{output_text, outputs_text, bindings_text, digests_text, shares_text, contract_party_text, event_text}
@@ -80,7 +81,8 @@ digest_ends word bytes h = hex_ends word bytes (digest_back word bytes h).hex
 
 -- ---- words with a name, and many words
 
-module _ {A : Type 0} (read : List ℕ → Option A) (text : A → List ℕ) (f : (word : List ℕ) (x : A) → read word ≡ some x → EndsNowhere (text x)) where
+module _ {A : Type 0} (read : List ℕ → Option A) (text : A → List ℕ) (f : (word : List ℕ) (x : A) → read word ≡ some x
+    → EndsNowhere (text x)) where
   abbrev named_text : List ℕ × A → List ℕ
   named_text p = codes " " ++ (p.0 ++ (codes "=" ++ text p.1))
 
@@ -132,7 +134,8 @@ label_names (kind ∷ party ∷ []) l h is =
     subst (λ (x : Label). EndsNowhere (label_text x)) (some_is (Deposit d.first) l d.then') one
 label_names (kind ∷ contract ∷ place ∷ []) l h is = absurd (none_some l h)
 label_names (kind ∷ contract ∷ place ∷ party ∷ []) l h is =
-    let c = came (given (bytes_eq kind (codes "B")) contract) (λ word. small word >>= λ k. path place >>= λ q. a_name party >>= λ p. some (Branch k q p)) l h in
+    let c = came (given (bytes_eq kind (codes "B")) contract)
+    (λ word. small word >>= λ k. path place >>= λ q. a_name party >>= λ p. some (Branch k q p)) l h in
     let d = came (small c.first) (λ k. path place >>= λ q. a_name party >>= λ p. some (Branch k q p)) l c.then' in
     let e = came (path place) (λ q. a_name party >>= λ p. some (Branch d.first q p)) l d.then' in
     let f = came (a_name party) (λ p. some (Branch d.first e.first p)) l e.then' in
@@ -282,15 +285,20 @@ module _ (parties : List (List ℕ)) (are : list_all is_name parties ≡ true) w
   shares_end (a ∷ v ∷ ws) os h =
       let o = onto_is (one_of parties a >>= λ p. amount v >>= λ n. some (p, n)) (shares parties ws) os h in
       subst (λ (xs : List Share). EndsNowhere (shares_text xs)) (sym o.all)
-      (join (codes " " ++ (o.first.0 ++ (codes " " ++ decimal o.first.1))) (shares_text o.others) (share_ends a v o.first o.is) (shares_end ws o.others o.are))
+      (join (codes " " ++ (o.first.0 ++ (codes " " ++ decimal o.first.1))) (shares_text o.others) (share_ends a v o.first o.is)
+      (shares_end ws o.others o.are))
 
   give_ends : (words : List (List ℕ)) (e : Event) → give parties words ≡ some e → Ends e
   give_ends [] e h = absurd (none_some e h)
   give_ends (a ∷ ws) e h =
-      let c = came (one_of parties a) (λ p. at_arrow ws >>= λ q. all_of output (q.0) >>= λ is. shares parties (q.1) >>= λ os. given (is_some_list is && is_some_list os) (events.Give p is os)) e h in
-      let d = came (at_arrow ws) (λ q. all_of output (q.0) >>= λ is. shares parties (q.1) >>= λ os. given (is_some_list is && is_some_list os) (events.Give c.first is os)) e c.then' in
-      let f = came (all_of output (d.first.0)) (λ is. shares parties (d.first.1) >>= λ os. given (is_some_list is && is_some_list os) (events.Give c.first is os)) e d.then' in
-      let g = came (shares parties (d.first.1)) (λ os. given (is_some_list f.first && is_some_list os) (events.Give c.first f.first os)) e f.then' in
+      let c = came (one_of parties a) (λ p. at_arrow ws >>= λ q. all_of output (q.0) >>= λ is. shares parties (q.1) >>= λ os.
+      given (is_some_list is && is_some_list os) (events.Give p is os)) e h in
+      let d = came (at_arrow ws) (λ q. all_of output (q.0) >>= λ is. shares parties (q.1) >>= λ os.
+      given (is_some_list is && is_some_list os) (events.Give c.first is os)) e c.then' in
+      let f = came (all_of output (d.first.0)) (λ is. shares parties (d.first.1) >>= λ os. given (is_some_list is && is_some_list os)
+      (events.Give c.first is os)) e d.then' in
+      let g = came (shares parties (d.first.1)) (λ os. given (is_some_list f.first && is_some_list os)
+      (events.Give c.first f.first os)) e f.then' in
       let t = given_is (is_some_list f.first && is_some_list g.first) (events.Give c.first f.first g.first) e g.then' in
       subst Ends t.same
       (behind (codes "give ") _ refl (join c.first _ (party_ends a c.first c.is)
@@ -316,7 +324,8 @@ module _ (parties : List (List ℕ)) (are : list_all is_name parties ≡ true) w
       by_test (bytes_eq word (codes "append")) _ _ (some e) (Ends e) h9
       (λ w x. bytes_ends events.Append (λ b y. behind (codes "append ") _ refl y) words e x) (λ h10.
       by_test (bytes_eq word (codes "fire")) _ _ (some e) (Ends e) h10 (λ w x. fire_ends words e x) (λ h11.
-      by_test (bytes_eq word (codes "mine")) _ _ (some e) (Ends e) h11 (λ w x. mine_ends words e x) (λ h12. absurd (none_some e h12)))))))))))))
+      by_test (bytes_eq word (codes "mine")) _ _ (some e) (Ends e) h11 (λ w x. mine_ends words e x)
+      (λ h12. absurd (none_some e h12)))))))))))))
 
   pub event_ends : (words : List (List ℕ)) (e : Event) → event_of parties words ≡ some e → EndsNowhere (event_text e)
   event_ends [] e h = absurd (none_some e h)

@@ -14,7 +14,8 @@ use Rattle.spec_tool.specs.declared.rule.Act.TheVariants as acts
 use Rattle.spec_tool.specs.declared.rule.Rule.{Rule}
 use Rattle.spec_tool.specs.declared.rule.StrategyFault.{StrategyFault}
 use Rattle.spec_tool.specs.Sizes.{most_rules}
-use Rattle.spec_tool.specs.Strategy.{contract_word, alone, authorise_act, reveal_act, fire_act, act_by, rule, rule_of, Said, bad, over, empty}
+use Rattle.spec_tool.specs.Strategy.{contract_word, alone, authorise_act, reveal_act, fire_act, act_by}
+use Rattle.spec_tool.specs.Strategy.{rule, rule_of, Said, bad, over, empty}
 use Rattle.spec_tool.specs.Strategy.{says, said_within, said_words}
 use Rattle.spec_tool.specs.Strategy.{said_line, counted, with_rule, rule_step, rules_from, read_strategy}
 use Rattle.theory_text.proofs.ListFacts.{by_test}

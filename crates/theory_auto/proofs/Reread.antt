@@ -7,7 +7,8 @@ use Rattle.spec_run.specs.declared.event.Event.{Event}
 use Rattle.spec_run.specs.declared.event.Run.{Run}
 use Rattle.spec_run.specs.declared.header.Header.{Header}
 use Rattle.spec_text.specs.declared.run_fault.RunFault.{RunFault}
-use Rattle.spec_text.specs.Lines.{lines_of, line_byte, onto_lines, begins_line_feed, LineByte, line_feed, dropped, kept as as_it_is, if_feed}
+use Rattle.spec_text.specs.Lines.{lines_of, line_byte, onto_lines, begins_line_feed}
+use Rattle.spec_text.specs.Lines.{LineByte, line_feed, dropped, kept as as_it_is, if_feed}
 use Rattle.spec_text.specs.RunText.{newline, event_text, party_text, honest_text, secret_text, deposit_text, header_text, run_text}
 use Rattle.spec_text.specs.RunFile.{Line, bad, over, empty, rule, says, no_header, header_line, kept, Headed, header_step, read_header}
 use Rattle.spec_text.specs.RunFile.{event_of_line, with_event, counted, event_step, read_events, with_header, read_rest, read_run}
@@ -43,7 +44,8 @@ two_texts [] rest = refl
 two_texts (x ∷ xs) rest =
     let same : line_byte x (xs ++ 10 ∷ rest) ≡ line_byte x (xs ++ newline) =
     (λ i. line_byte_by x (same_start xs rest [] 10 i)) in
-    (λ i. onto_lines (same i) x (two_texts xs rest i)) ∙ onto_both (line_byte x (xs ++ newline)) x (lines_of (xs ++ newline)) (lines_of rest) (some_lines xs)
+    (λ i. onto_lines (same i) x (two_texts xs rest i))
+    ∙ onto_both (line_byte x (xs ++ newline)) x (lines_of (xs ++ newline)) (lines_of rest) (some_lines xs)
   where
     line_byte_by : ℕ → Bool → LineByte
     line_byte_by b feed = if_feed (b == 10) ((b == 13) && feed)
@@ -150,7 +152,9 @@ five_parts : (a b c d e f : List ℕ) → a ++ (b ++ (c ++ (d ++ (e ++ f)))) ≡
 five_parts a b c d e f = simp append_assoc
 
 front_is : (h : Header) → header_text h ≡ front_text h ++ newline
-front_is h = five_parts (flat_map party_text h.parties) (flat_map honest_text h.honest) (flat_map secret_text h.secrets) (flat_map deposit_text h.deposits) (codes "--") newline
+front_is h =
+    five_parts (flat_map party_text h.parties) (flat_map honest_text h.honest) (flat_map secret_text h.secrets)
+    (flat_map deposit_text h.deposits) (codes "--") newline
 
 run_lines : (h : Header) (es : List Event) (parties : List (List ℕ)) → AreWritten parties 0 es
     → lines_of (run_text (record { header = h; events = es })) ≡ lines_of (header_text h) ++ map event_text es
@@ -173,7 +177,8 @@ record HeaderAlone (h : Header) (lines : List (List ℕ)) : Type 0 where
 abbrev pub alone : Header → Run
 alone h = record { header = h; events = [] }
 
-events_none : (g h : Header) (read : Result (List Event) RunFault) → with_header g read ≡ a_run (alone h) → (g ≡ h) × (read ≡ events_read [])
+events_none : (g h : Header) (read : Result (List Event) RunFault) → with_header g read ≡ a_run (alone h)
+    → (g ≡ h) × (read ≡ events_read [])
 events_none g h (Err fault) e = absurd (fault_run fault (alone h) e)
 events_none g h (Ok es) e =
     let same = run_eq (record { header = g; events = es }) (alone h) e in

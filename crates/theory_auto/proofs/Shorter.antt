@@ -114,7 +114,8 @@ at_most line words again is any size count =
 abbrev Adds : List ℕ → Header → Header → Type 0
 Adds line h k = length (header_text k) ≤ length (header_text h) + (length line + 1)
 
-party_adds : (h : Header) (a line : List ℕ) → words_of line ≡ codes "party" ∷ a ∷ [] → Adds line h (record h { parties = h.parties ++ a ∷ [] })
+party_adds : (h : Header) (a line : List ℕ) → words_of line ≡ codes "party" ∷ a ∷ []
+    → Adds line h (record h { parties = h.parties ++ a ∷ [] })
 party_adds h a line is =
     let words = codes "party" ∷ a ∷ [] in
     omega (
@@ -127,7 +128,8 @@ party_adds h a line is =
       at_most line words words is (omega arith) refl refl,
     )
 
-honest_adds : (h : Header) (a line : List ℕ) → words_of line ≡ codes "honest" ∷ a ∷ [] → Adds line h (record h { honest = h.honest ++ a ∷ [] })
+honest_adds : (h : Header) (a line : List ℕ) → words_of line ≡ codes "honest" ∷ a ∷ []
+    → Adds line h (record h { honest = h.honest ++ a ∷ [] })
 honest_adds h a line is =
     let words = codes "honest" ∷ a ∷ [] in
     omega (
@@ -189,7 +191,8 @@ Fair line h bad = Unit {0}
 Fair line h (over limit) = Unit {0}
 Fair line h empty = Unit {0}
 
-fair_within : (line : List ℕ) (h k : Header) (ok room : Bool) (limit : RunLimit) → Adds line h k → Fair line h (spelled_within ok room limit k)
+fair_within : (line : List ℕ) (h k : Header) (ok room : Bool) (limit : RunLimit) → Adds line h k
+    → Fair line h (spelled_within ok room limit k)
 fair_within line h k true true limit f = f
 fair_within line h k true false limit f = tt
 fair_within line h k false room limit f = tt
@@ -267,7 +270,8 @@ headed_is x y h = cc
 abbrev Within : Header → ℕ → Headed → Type 0
 Within h size x = (length (header_text x.0) + lines_size x.1) + 3 ≤ length (header_text h) + size
 
-step_within : (h : Header) (n : ℕ) (line : List ℕ) (lines : List (List ℕ)) (said : Line Header) (later : Result Headed RunFault) (x : Headed)
+step_within : (h : Header) (n : ℕ) (line : List ℕ) (lines : List (List ℕ)) (said : Line Header) (later : Result Headed RunFault)
+    (x : Headed)
     → Fair line h said → (later ≡ headed x → Within (kept h said) (lines_size lines) x) → header_step h n lines said later ≡ headed x
     → Within h (lines_size (line ∷ lines)) x
 step_within h n line lines bad later x fair f e = cc
@@ -279,7 +283,8 @@ step_within h n line lines rule later x fair f e =
     subst (Within h (lines_size (line ∷ lines))) same one
 step_within h n line lines (says k) later x fair f e = let g = f e in omega (arith, g, fair)
 
-pub header_within : (h : Header) (n : ℕ) (lines : List (List ℕ)) (x : Headed) → read_header h n lines ≡ headed x → Within h (lines_size lines) x
+pub header_within : (h : Header) (n : ℕ) (lines : List (List ℕ)) (x : Headed) → read_header h n lines ≡ headed x
+    → Within h (lines_size lines) x
 header_within h n [] x e = cc
 header_within h n (line ∷ lines) x e =
     step_within h n line lines (header_line h line) (read_header (kept h (header_line h line)) (n + 1) lines) x (line_fair h line)
@@ -291,7 +296,8 @@ first_size : (b : ℕ) (lines : List (List ℕ)) (n : ℕ) → lines_size lines 
 first_size b [] n h = omega arith
 first_size b (line ∷ lines) n h = omega (arith, h)
 
-onto_size : (said : LineByte) (b : ℕ) (lines : List (List ℕ)) (n : ℕ) → lines_size lines ≤ n + 1 → lines_size (onto_lines said b lines) ≤ suc n + 1
+onto_size : (said : LineByte) (b : ℕ) (lines : List (List ℕ)) (n : ℕ) → lines_size lines ≤ n + 1
+    → lines_size (onto_lines said b lines) ≤ suc n + 1
 onto_size line_feed b lines n h = omega (arith, h)
 onto_size dropped b lines n h = omega (arith, h)
 onto_size as_it_is b lines n h = first_size b lines n h

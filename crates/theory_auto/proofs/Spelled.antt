@@ -57,7 +57,8 @@ record IsRewritten (parties : List (List ℕ)) (count : ℕ) (lines : List (List
   size : lines_size (map event_text es) ≤ lines_size lines
 
 module _ (parties : List (List ℕ)) (names : list_all is_name parties ≡ true) where
-  one_rewritten : (count : ℕ) (line : List ℕ) (lines : List (List ℕ)) (event : Event) (later : Result (List Event) RunFault) (es : List Event)
+  one_rewritten : (count : ℕ) (line : List ℕ) (lines : List (List ℕ)) (event : Event) (later : Result (List Event) RunFault)
+      (es : List Event)
       → event_of_line parties count line ≡ an_event event
       → ((ds : List Event) → later ≡ events_read ds → IsRewritten parties (count + 1) lines ds) → with_event event later ≡ events_read es
       → IsRewritten parties count (line ∷ lines) es
@@ -74,7 +75,8 @@ module _ (parties : List (List ℕ)) (names : list_all is_name parties ≡ true)
 
   step_rewritten : (count n : ℕ) (line : List ℕ) (lines : List (List ℕ)) (said : Line Event) (later : Result (List Event) RunFault)
       (es : List Event) → event_of_line parties count line ≡ said
-      → ((ds : List Event) → later ≡ events_read ds → IsRewritten parties (counted count said) lines ds) → event_step n said later ≡ events_read es
+      → ((ds : List Event) → later ≡ events_read ds → IsRewritten parties (counted count said) lines ds)
+      → event_step n said later ≡ events_read es
       → IsRewritten parties count (line ∷ lines) es
   step_rewritten count n line lines bad later es is f e = cc
   step_rewritten count n line lines (over limit) later es is f e = cc

@@ -40,7 +40,8 @@ module _ (hash : List ℕ → List ℕ) (contract : ℕ) (path : List PathStep) 
       ap label_party (one_label (branch_label contract path a) (branch_label contract path b) (small, steps) (small, steps)
       (calm a b p q (tail_is _ _ e)))
 
-  absent : (a : List ℕ) (names : List (List ℕ)) → is_among a parties ≡ true → ((x : List ℕ) → is_among x names ≡ true → is_among x parties ≡ true)
+  absent : (a : List ℕ) (names : List (List ℕ)) → is_among a parties ≡ true → ((x : List ℕ) → is_among x names ≡ true
+      → is_among x parties ≡ true)
       → is_among a names ≡ false → is_among (key a) (keys names) ≡ false
   absent a [] p all h = refl
   absent a (x ∷ names) p all h =

@@ -61,7 +61,8 @@ module _ (hash : List ℕ → List ℕ) (fine : HashesBytes hash) (book : List P
     where
       by_signed : (t : Bool) → AllByRecursion IsSignature (signatures_there hash book rest (hash message))
           → AllByRecursion IsSignature (if t
-          then insert_signature (key_of hash label, signature_of (key_of hash label) (hash message)) (signatures_there hash book rest (hash message))
+          then insert_signature (key_of hash label, signature_of (key_of hash label) (hash message)) (signatures_there hash book rest
+          (hash message))
           else signatures_there hash book rest (hash message))
       by_signed true later = put_fits _ _ (one_signature label message) later
       by_signed false later = later
@@ -95,7 +96,8 @@ module _ (hash : List ℕ → List ℕ) (fine : HashesBytes hash) (book : List P
             absent = λ other e.
                 let parts = or_parts (bytes_eq key other) (is_among other (keys_of rest)) e in
                 put_found other (key, signature_of key digest) others apart
-                ∙ (ap (λ (t : Bool). if t then Some (signature_of key digest) else look_up other others) parts.0 ∙ later.absent other parts.1);
+                ∙ (ap (λ (t : Bool). if t then Some (signature_of key digest) else look_up other others) parts.0
+                ∙ later.absent other parts.1);
           }
       by_signed false later = record {
         ascend = later.ascend;

@@ -33,7 +33,8 @@ found_string : (key : List ℕ) (records : List Pairing) (value : List ℕ) → 
 found_string key [] value h e = absurd (none_some value e)
 found_string key (r ∷ rs) value h e = by_key (bytes_eq (r.0) key) e (found_string key rs value h.1)
   where
-    by_key : (t : Bool) → (if t then Some (r.1) else look_up key rs) ≡ some value → (look_up key rs ≡ some value → IsString value) → IsString value
+    by_key : (t : Bool) → (if t then Some (r.1) else look_up key rs) ≡ some value → (look_up key rs ≡ some value → IsString value)
+        → IsString value
     by_key true f later = subst IsString (some_is (r.1) value f) h.0.value
     by_key false f later = later f
 
@@ -69,7 +70,8 @@ global_fit records tx map e =
 -- ---- an input
 
 -- a part that the value of a record spells
-part_fits : {A : Type 0} (Fits : A → Type 0) (read : List ℕ → Option A) → ((bytes : List ℕ) (a : A) → IsBytes bytes → read bytes ≡ some a → Fits a)
+part_fits : {A : Type 0} (Fits : A → Type 0) (read : List ℕ → Option A) → ((bytes : List ℕ) (a : A) → IsBytes bytes
+    → read bytes ≡ some a → Fits a)
     → (key : List ℕ) (records : List Pairing) → AllByRecursion IsPairing records → IfSome (look_up key records >>= read) Fits
 part_fits Fits read f key records each = by_value (look_up key records) refl
   where
@@ -88,7 +90,8 @@ script_fits key records each = by_value (look_up key records) refl
     by_value None is = tt
     by_value (Some bytes) is = found_string key records bytes each is
 
-pub put_fits : (r : Pairing) (ss : List Pairing) → IsSignature r → AllByRecursion IsSignature ss → AllByRecursion IsSignature (insert_signature r ss)
+pub put_fits : (r : Pairing) (ss : List Pairing) → IsSignature r → AllByRecursion IsSignature ss
+    → AllByRecursion IsSignature (insert_signature r ss)
 put_fits r [] h k = (h, tt)
 put_fits r (s ∷ ss) h k = by_place (is_before (r.0) (s.0)) (put_fits r ss h k.1)
   where

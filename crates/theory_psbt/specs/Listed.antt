@@ -38,7 +38,8 @@ ListedIsFitting = (hash : List ℕ → List ℕ) → HashesBytes hash → (book 
 -- and what is written of it is read as the same
 abbrev pub ListedIsRead : Type 0
 ListedIsRead = (hash : List ℕ → List ℕ) → HashesBytes hash → (book : List Pair) (l : Listed) → IsListed hash l
-    → length (psbt_bytes (listed_psbt hash book l)) < 2 ^ 64 → psbt_of (psbt_bytes (listed_psbt hash book l)) ≡ Some (listed_psbt hash book l)
+    → length (psbt_bytes (listed_psbt hash book l)) < 2 ^ 64
+    → psbt_of (psbt_bytes (listed_psbt hash book l)) ≡ Some (listed_psbt hash book l)
 
 -- ---- keys
 

@@ -1,8 +1,15 @@
+mod Added
+mod Births
+mod EventEnds
 mod Fewer
 mod Hashless
 mod Longer
+mod Reread
 mod Rounds
+mod Shorter
 mod Tries
 pub mod Continued
 pub mod Honest
 pub mod OwnRules
+pub mod Printed
+pub mod Spelled

@@ -40,7 +40,7 @@ fired_by : (party : List ℕ) (path : List PathStep) (o : Option (ℕ × ℕ)) (
 fired_by party path None e h = cc
 fired_by party path (Some p) e h = (p.0, p.1, sym (some_same h))
 
-done_by : (s : Setup) (w : World) (party : List ℕ) (act : Act) (e : Event) → act_event s w party act ≡ Some e → IsDoneBy party act e
+pub done_by : (s : Setup) (w : World) (party : List ℕ) (act : Act) (e : Event) → act_event s w party act ≡ Some e → IsDoneBy party act e
 done_by s w party acts.Commit e h = sym (some_same h)
 done_by s w party acts.Endorse e h = sym (some_same h)
 done_by s w party acts.Init e h = sym (some_same h)
@@ -51,7 +51,7 @@ done_by s w party (acts.Fire path) e h = fired_by party path (taken_at s w path)
 
 -- ---- declared parties
 
-declared_among : (a : List ℕ) (names parties : List (List ℕ)) → are_all_among names parties ≡ true → is_among a names ≡ true
+pub declared_among : (a : List ℕ) (names parties : List (List ℕ)) → are_all_among names parties ≡ true → is_among a names ≡ true
     → is_among a parties ≡ true
 declared_among a [] parties h k = cc
 declared_among a (x ∷ names) parties h k =
@@ -64,7 +64,7 @@ declared_among a (x ∷ names) parties h k =
     by_case (inr i) first later = later i
 
 -- what a declared party does by a rule is an event
-is_event : (s : Setup) (party : List ℕ) (act : Act) (e : Event) → is_declared s party ≡ true → IsDoneBy party act e → IsEvent s e
+pub is_event : (s : Setup) (party : List ℕ) (act : Act) (e : Event) → is_declared s party ≡ true → IsDoneBy party act e → IsEvent s e
 is_event s party acts.Commit e d h = subst (IsEvent s) (sym h) (d, tt)
 is_event s party acts.Endorse e d h = subst (IsEvent s) (sym h) d
 is_event s party acts.Init e d h = subst (IsEvent s) (sym h) d
@@ -92,11 +92,11 @@ all_then : {X : Type 0} (P Q : X → Type 0) → ((x : X) → P x → Q x) → (
 all_then P Q f [] h = tt
 all_then P Q f (x ∷ xs) h = (f x h.0, all_then P Q f xs h.1)
 
-all_append : {X : Type 0} (P : X → Type 0) (xs ys : List X) → AllByRecursion P xs → AllByRecursion P ys → AllByRecursion P (xs ++ ys)
+pub all_append : {X : Type 0} (P : X → Type 0) (xs ys : List X) → AllByRecursion P xs → AllByRecursion P ys → AllByRecursion P (xs ++ ys)
 all_append P [] ys h k = k
 all_append P (x ∷ xs) ys h k = (h.0, all_append P xs ys h.1 k)
 
-all_in : {X : Type 0} (P : X → Type 0) (xs : List X) (x : X) → AllByRecursion P xs → Is_in x xs → P x
+pub all_in : {X : Type 0} (P : X → Type 0) (xs : List X) (x : X) → AllByRecursion P xs → Is_in x xs → P x
 all_in P [] x h i = absurd i
 all_in P (y ∷ xs) x h (inl e) = subst P (sym e) h.0
 all_in P (y ∷ xs) x h (inr i) = all_in P xs x h.1 i

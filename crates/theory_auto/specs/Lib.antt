@@ -1,2 +1,4 @@
 pub mod Continued
 pub mod OwnRules
+pub mod Printed
+pub mod Spelled

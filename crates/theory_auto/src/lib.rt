@@ -3,6 +3,8 @@
 
 ghost use Rattle.theory_auto.specs.Continued.{StrategiesGoOn};
 ghost use Rattle.theory_auto.specs.OwnRules.{StrategiesAreHonest, StrategiesKeepToRules};
+ghost use Rattle.theory_auto.specs.Printed.{PrintedIsLonger};
+ghost use Rattle.theory_auto.specs.Spelled.{LongerRunsAreSpelled};
 
 /// The rules of a strategy go on with a run by events that the longer run does or accepts, each a
 /// rule's and no rule twice, until no rule that is left is enabled; or the first event that is tried
@@ -21,4 +23,16 @@ pub fn strategies_are_honest()
 /// by what they did in the run or have a rule for.
 pub fn strategies_keep_to_rules()
     ensures { StrategiesKeepToRules }
+{}
+
+/// The text of the run that goes on by the rules of a strategy is read as that very run, within all
+/// limits of a run file.
+pub fn longer_runs_are_spelled()
+    ensures { LongerRunsAreSpelled }
+{}
+
+/// What `auto` prints with the status 0 spells a run that has the header of the run file and begins
+/// with its events.
+pub fn printed_is_longer()
+    ensures { PrintedIsLonger }
 {}

@@ -7,11 +7,11 @@ use Rattle.spec_bitcoin.specs.declared.tx.Tx.{Tx}
 use Rattle.spec_run.specs.Ledger.{same_bare}
 use Rattle.spec_tool.specs.declared.psbt.PsbtInput.{PsbtInput}
 use Rattle.spec_tool.specs.Psbt.{Psbt, is_unsigned, is_psbt}
-use Rattle.spec_tool.specs.PsbtBytes.{Discord, other_tx, conflict, inputs_differ, first_conflict, input_joined, inputs_joined, joined_unless, combined}
+use Rattle.spec_tool.specs.PsbtBytes.{Discord, other_tx, conflict, inputs_differ, first_conflict, inputs_joined, joined_unless, combined}
 use Rattle.theory_text.proofs.ListFacts.{and_is, and_left, and_right}
 use Rattle.theory_text.proofs.Options.{some_is, none_some}
 use Rattle.theory_psbt.specs.Fitting.{IsKnown, IsFitting}
-use Rattle.theory_psbt.specs.Joined.{AreApart, FirstApart, NoneApart, AllHaveBoth, IsJoined}
+use Rattle.theory_psbt.specs.Joined.{FirstApart, NoneApart, AllHaveBoth, IsJoined}
 use Rattle.theory_psbt.proofs.InputsApart.{differ_back, joined_back, differ_are_apart, calm_not_apart, has_both}
 use Rattle.theory_psbt.proofs.Kept.{signs_ascend}
 use Rattle.theory_psbt.proofs.SameTx.{tx_same, tx_own}

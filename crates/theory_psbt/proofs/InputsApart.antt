@@ -5,12 +5,11 @@ use Rattle.std.specs.Cmp.Lexicographic.{pointwise}
 use Rattle.std.specs.Option.{option_map, option_or}
 use Rattle.std.specs.Str.{bytes_eq}
 use Rattle.spec_data.specs.Lists.{look_up}
-use Rattle.spec_bitcoin.specs.declared.tx.TxOut.{TxOut}
 use Rattle.spec_bitcoin.specs.Spelling.{output_bytes, witness_bytes, IsOutput}
 use Rattle.spec_run.specs.Ledger.{same_output}
 use Rattle.spec_tool.specs.declared.psbt.PsbtInput.{PsbtInput}
 use Rattle.spec_tool.specs.Psbt.{all_type, output_of, witness_of}
-use Rattle.spec_tool.specs.PsbtBytes.{input_records, are_at_odds, signatures_differ, inputs_differ, signatures_joined, input_joined}
+use Rattle.spec_tool.specs.PsbtBytes.{input_records, are_at_odds, signatures_differ, inputs_differ, input_joined}
 use Rattle.theory_text.proofs.ListFacts.{or_left, or_right}
 use Rattle.theory_text.proofs.Options.{some, some_is, none_some}
 use Rattle.theory_psbt.specs.Fitting.{IsStack, IsKnown}

@@ -1,8 +1,7 @@
 -- What is read and what is combined is a partially signed transaction.
-use Rattle.std.proofs.Common.{◌≡◌, ℕ, suc, List, [], ◌∷◌, ◌++◌, length, Bool, true, false, eqb, Option, Some, None, Result, Ok, Err, refl, sym, ap, subst, ◌∙◌}
+use Rattle.std.proofs.Common.{◌≡◌, ℕ, suc, List, [], ◌∷◌, ◌++◌, length, Bool, true, Option, None, Result, Ok, Err, refl, sym, ap, subst, ◌∙◌}
 use Rattle.std.specs.List.{list_all, AllByRecursion}
-use Rattle.std.proofs.lemmas.Bool.{eq-eqb, eqb-true}
-use Rattle.spec_data.specs.Digits.{onto}
+use Rattle.std.proofs.lemmas.Bool.{eq-eqb}
 use Rattle.spec_data.specs.Lists.{look_up}
 use Rattle.spec_terms.specs.Precondition.{names_of}
 use Rattle.spec_bitcoin.specs.declared.tx.Tx.{Tx}
@@ -10,7 +9,7 @@ use Rattle.spec_bitcoin.specs.Reading.{transaction_of}
 use Rattle.spec_text.specs.Words.{◌>>=◌, given}
 use Rattle.spec_tool.specs.declared.psbt.PsbtInput.{PsbtInput}
 use Rattle.spec_tool.specs.Psbt.{Psbt, Pairing, are_ascending, is_unsigned, is_psbt, IsMap, unsigned_of, global_fits, global_of, input_fits, input_said, input_of, inputs_of, Spells}
-use Rattle.theory_text.proofs.ListFacts.{and_is, and_left, and_right}
+use Rattle.theory_text.proofs.ListFacts.{and_is}
 use Rattle.theory_text.proofs.Options.{some, some_is, none_some, came, onto_is, given_is}
 use Rattle.theory_psbt.proofs.Records.{signed}
 

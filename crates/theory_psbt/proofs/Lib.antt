@@ -1,6 +1,9 @@
 pub mod Order
 pub mod Signatures
 pub mod Maps
+pub mod KeysDiffer
+pub mod ListedFits
+pub mod ReadFits
 pub mod Reading
 pub mod Records
 pub mod Kept
@@ -9,3 +12,4 @@ pub mod Writing
 pub mod SameTx
 pub mod InputsApart
 pub mod Combining
+pub mod Signers

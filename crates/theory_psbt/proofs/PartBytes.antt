@@ -1,6 +1,5 @@
 -- The parts of a transaction are written as bytes, and a written part is read as it.
-use Rattle.std.proofs.Common.{◌≡◌, lit<, ℕ, zero, suc, ◌+◌, ◌<◌, List, [], ◌∷◌, ◌++◌, length, Bool, true, false, Some, None, Result, Ok, Err, refl, sym, ap, subst, ◌∙◌, arith}
-use Rattle.std.specs.Prelude.{◌||◌}
+use Rattle.std.proofs.Common.{◌≡◌, lit<, ℕ, zero, suc, ◌<◌, List, [], ◌∷◌, ◌++◌, length, true, false, None, Result, Ok, Err, refl, sym, ap, subst, ◌∙◌, arith}
 use Rattle.std.specs.Int.{w16, w32, w64, byte_at, bytes_low_first, to_le_bytes}
 use Rattle.std.specs.List.{flat_map, list_all, AllByRecursion}
 use Rattle.std.proofs.lemmas.List.{append-nil}
@@ -9,14 +8,14 @@ use Rattle.spec_data.proofs.ByteLemmas.{IsBytes-append}
 use Rattle.spec_bitcoin.specs.declared.tx.TxIn.{TxIn}
 use Rattle.spec_bitcoin.specs.declared.tx.TxOut.{TxOut}
 use Rattle.spec_bitcoin.specs.declared.tx.Tx.{Tx}
-use Rattle.spec_bitcoin.specs.Spelling.{compact, sized, word, long_word, place_bytes, input_bytes, output_bytes, witness_bytes, inputs_bytes, outputs_bytes, stripped, is_filled, is_marked, IsBytes, IsString, IsPlace, IsInput, IsOutput, IsTransaction}
-use Rattle.spec_bitcoin.specs.Reading.{◌>>=◌, any, many, compact_at, string_at, output_at, witness_at, transaction_of}
+use Rattle.spec_bitcoin.specs.Spelling.{compact, sized, word, long_word, place_bytes, input_bytes, output_bytes, witness_bytes, inputs_bytes, outputs_bytes, stripped, is_filled, is_marked, IsBytes, IsString, IsInput, IsOutput, IsTransaction}
+use Rattle.spec_bitcoin.specs.Reading.{any, many, compact_at, string_at, output_at, witness_at, transaction_of}
 use Rattle.spec_text.specs.Words.{given}
 use Rattle.spec_tool.specs.Psbt.{is_bare_input, is_unsigned, output_of, witness_of, unsigned_of}
 use Rattle.theory_bitcoin.proofs.Exact.{Exact, bind, transfer, bytes_none, bytes_cons}
 use Rattle.theory_bitcoin.proofs.Formats.{Form, single, two, four, eight, form_of, Count, count}
 use Rattle.theory_bitcoin.proofs.Languages.{Seq}
-use Rattle.theory_bitcoin.proofs.Parts.{Is, Are, the_many, the_string, Output, an_output}
+use Rattle.theory_bitcoin.proofs.Parts.{Is, Are, the_many, the_string, an_output}
 use Rattle.theory_bitcoin.proofs.Top as top
 use Rattle.theory_text.proofs.ListFacts.{and_left, and_right, or_no, not_yes}
 use Rattle.theory_text.proofs.Options.{some}

@@ -1,7 +1,6 @@
 -- The records of an input: they ascend, and what each key finds among them.
-use Rattle.std.proofs.Common.{◌≡◌, ℕ, List, [], ◌∷◌, ◌++◌, map, Bool, true, false, eqb, Option, Some, None, refl, sym, ap, subst, ◌∙◌}
-use Rattle.std.specs.Prelude.{if◌then◌else◌, ◌&&◌}
-use Rattle.std.specs.List.{AllByRecursion}
+use Rattle.std.proofs.Common.{◌≡◌, ℕ, List, [], ◌∷◌, ◌++◌, map, Bool, true, false, eqb, Option, Some, None, refl, sym, ap, ◌∙◌}
+use Rattle.std.specs.Prelude.{if◌then◌else◌}
 use Rattle.std.specs.Option.{option_map, option_or}
 use Rattle.std.specs.Str.{bytes_eq}
 use Rattle.std.proofs.lemmas.Bool.{eqb-true}
@@ -11,7 +10,7 @@ use Rattle.spec_bitcoin.specs.Spelling.{output_bytes, witness_bytes}
 use Rattle.spec_tool.specs.declared.psbt.PsbtInput.{PsbtInput}
 use Rattle.spec_tool.specs.Psbt.{Pairing, is_before, are_ascending, all_type, type_of, key_behind_type, insert_signature, signatures_of}
 use Rattle.spec_tool.specs.PsbtBytes.{part, as_it_is, all_part, input_records}
-use Rattle.theory_text.proofs.ListFacts.{and_left, and_right, by_test, not_yes}
+use Rattle.theory_text.proofs.ListFacts.{and_left, and_right, not_yes}
 use Rattle.theory_psbt.proofs.Order.{Before, same_bytes, ascend_with, first_before, others_ascend, ascending_different}
 use Rattle.theory_psbt.proofs.Signatures.{look_none, none_among, put_ascends, put_found}
 

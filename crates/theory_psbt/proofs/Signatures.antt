@@ -1,7 +1,6 @@
 -- Signatures by their keys: put in their place, found, and joined.
 use Rattle.std.proofs.Common.{◌≡◌, ℕ, List, [], ◌∷◌, Bool, true, false, not, Option, Some, None, refl, sym, ap, subst, ◌∙◌}
 use Rattle.std.specs.Prelude.{◌||◌, if◌then◌else◌}
-use Rattle.std.specs.List.{list_any, AllByRecursion}
 use Rattle.std.specs.Option.{option_map_or, option_or}
 use Rattle.std.specs.Str.{bytes_eq}
 use Rattle.spec_data.specs.Lists.{look_up, is_among}
@@ -10,7 +9,7 @@ use Rattle.spec_tool.specs.Psbt.{Pairing, is_before, are_ascending, insert_signa
 use Rattle.spec_tool.specs.PsbtBytes.{are_at_odds, signatures_differ, signatures_joined}
 use Rattle.theory_text.proofs.ListFacts.{and_is, or_left, or_right, by_test, bytes_ne-back}
 use Rattle.theory_text.proofs.Options.{some, some_is, none_some}
-use Rattle.theory_psbt.proofs.Order.{Before, same_bytes, bytes_same, not_same, before_both, before_after, apart_before, apart_after, all_before, first_before, others_ascend, ascend_with, before_absent}
+use Rattle.theory_psbt.proofs.Order.{Before, same_bytes, bytes_same, before_both, apart_before, all_before, first_before, others_ascend, ascend_with, before_absent}
 
 -- ---- what is found
 

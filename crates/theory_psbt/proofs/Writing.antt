@@ -1,19 +1,18 @@
 -- What is written of a partially signed transaction spells it.
-use Rattle.std.proofs.Common.{◌≡◌, lit<, ℕ, zero, suc, ◌+◌, ◌<◌, ◌≤◌, ◌^◌, List, [], ◌∷◌, ◌++◌, length, map, replicate, Bool, true, false, eqb, Option, Some, None, refl, sym, ap, subst, ◌∙◌, arith}
+use Rattle.std.proofs.Common.{◌≡◌, lit<, ℕ, zero, suc, ◌+◌, ◌<◌, ◌^◌, List, [], ◌∷◌, ◌++◌, length, map, replicate, Bool, true, false, eqb, Option, Some, None, refl, sym, ap, ◌∙◌, arith}
 use Rattle.std.specs.Prelude.{IfSome, is_some, if◌then◌else◌, ◌&&◌}
 use Rattle.std.specs.List.{flat_map, list_all, AllByRecursion}
 use Rattle.std.specs.Option.{option_map}
 use Rattle.std.proofs.lemmas.Bool.{eq-eqb, eqb-true, ne_eqb}
-use Rattle.std.proofs.lemmas.List.{length-append, append-nil}
+use Rattle.std.proofs.lemmas.List.{length-append}
 use Rattle.std.proofs.lemmas.List.Concat.{flat_map-cons}
 use Rattle.std.proofs.lemmas.List.Folds.{flat_map-map, list_all-append}
 use Rattle.spec_data.specs.Lists.{look_up}
-use Rattle.spec_terms.specs.Precondition.{names_of}
 use Rattle.spec_bitcoin.specs.declared.tx.TxOut.{TxOut}
 use Rattle.spec_bitcoin.specs.Spelling.{compact, sized, stripped, output_bytes, witness_bytes, IsBytes, IsString, IsOutput}
 use Rattle.spec_text.specs.Words.{◌>>=◌}
 use Rattle.spec_tool.specs.declared.psbt.PsbtInput.{PsbtInput}
-use Rattle.spec_tool.specs.Psbt.{Psbt, Pairing, pairing_bytes, map_bytes, magic, all_type, is_psbt, is_unsigned, are_ascending, IsPairing, IsMap, global_of, output_of, witness_of, input_fits, input_said, input_of, inputs_of, signatures_of, Spells}
+use Rattle.spec_tool.specs.Psbt.{Psbt, Pairing, pairing_bytes, map_bytes, magic, all_type, is_unsigned, IsPairing, IsMap, output_of, witness_of, input_fits, input_said, input_of, inputs_of, signatures_of, Spells}
 use Rattle.spec_tool.specs.PsbtBytes.{part, as_it_is, all_part, input_records, psbt_bytes, psbt_of}
 use Rattle.theory_bitcoin.proofs.Exact.{bytes_none, bytes_cons}
 use Rattle.theory_text.proofs.ListFacts.{and_is, and_left, and_right}

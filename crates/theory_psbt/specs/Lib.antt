@@ -1,3 +1,5 @@
+pub mod Again
 pub mod Fitting
 pub mod Joined
+pub mod Listed
 pub mod Spelled

@@ -1,7 +1,9 @@
 //! What follows of partially signed transactions: each theorem is the contract of a function that does nothing.
 #![tactic(auto)]
 
+ghost use Rattle.theory_psbt.specs.Again.{ReadIsFitting, ReadIsReadAgain};
 ghost use Rattle.theory_psbt.specs.Joined.{CombinedIsJoined, CombinedBothWays, OtherTxExactly, ConflictExactly};
+ghost use Rattle.theory_psbt.specs.Listed.{KeysDiffer, ListedIsFitting, ListedIsRead, ParticipantsDiffer, SignersForEach};
 ghost use Rattle.theory_psbt.specs.Spelled.{SpelledIsRead, ReadIsSpelled, OnePsbt, SpelledIsPsbt, WrittenIsSpelled, WrittenIsRead};
 
 /// What bytes spell is read of them, foreign records or not.
@@ -33,6 +35,43 @@ pub fn written_is_spelled()
 /// What is written is read again as the same.
 pub fn written_is_read()
     ensures { WrittenIsRead }
+{}
+
+/// What is read of bytes can be written: its numbers are within their widths.
+pub fn read_is_fitting()
+    ensures { ReadIsFitting }
+{}
+
+/// What is read of bytes and written again is read as the same.
+pub fn read_is_read_again()
+    ensures { ReadIsReadAgain }
+{}
+
+/// A compiled transaction with the signatures that a book has for it is a partially signed
+/// transaction that can be written, where the keys of each input's signers are different.
+pub fn listed_is_fitting()
+    ensures { ListedIsFitting }
+{}
+
+/// What is written of it is read as the same.
+pub fn listed_is_read()
+    ensures { ListedIsRead }
+{}
+
+/// The keys of different parties for a branch are different, where no two texts of their labels
+/// collide.
+pub fn keys_differ()
+    ensures { KeysDiffer }
+{}
+
+/// No party stands twice among the participants of a contract.
+pub fn participants_differ()
+    ensures { ParticipantsDiffer }
+{}
+
+/// Each transaction of a contract has signers for each of its inputs.
+pub fn signers_for_each()
+    ensures { SignersForEach }
 {}
 
 /// Two that can be combined give one of the transaction of both, with the records of both, whose

@@ -1,0 +1,5 @@
+use Rattle.theory_psbt.proofs.KeysDiffer as proof
+use Rattle.theory_psbt.proofs.keys_differ.Goals as goal
+
+pub returns : goal.returns
+returns c = proof.keys_differ

@@ -13,7 +13,8 @@ use Rattle.spec_compiler.specs.Statements.{IsHash}
 use Rattle.spec_compiler.specs.Transactions.{Standing, prepared, tx_of, input_of, initial_unsigned}
 use Rattle.spec_compiler.specs.Compilation.{compilation, path_transactions}
 use Rattle.spec_compiler.specs.ByPath.{position_at, unsigned_at}
-use Rattle.spec_tool.specs.Weights.{weights, weight_with, path_weight, last_branch, position_of, choices_at, reveal_count, exactly, initial_weight, all_weights}
+use Rattle.spec_tool.specs.Weights.{weights, weight_with, path_weight, exactly, initial_weight, all_weights}
+use Rattle.spec_tool.specs.Weights.{last_branch, position_of, choices_at, reveal_count}
 use Rattle.theory_script.proofs.Listing.Transactions.{AreRight, transactions_right}
 use Rattle.theory_script.proofs.Listing.OutputScripts.{scripts_are_listed}
 use Rattle.theory_weights.specs.Sizes.{marked_weight, branch_bytes, deposit_bytes, initial_sized, script_size, bare_size, path_sized}
@@ -39,7 +40,9 @@ module _ (hash : List ℕ → List ℕ) (s : Instance) (size : IsHash hash) wher
       let b = map_count input_of d.spends in
       let c = (weights_by_sizes hash s size).paths path d h n in
       let e : sized_with (sizes s.advert (compilation hash s).scripts path (tx_of d)) n ≡ path_sized hash s path n d =
-      (λ j. marked_weight (bare_size d) (branch_bytes (length (participants s.advert)) (reveal_count s.advert path) n (last_branch path) (choices_at s.advert path) (a j) + (b j - 1) * deposit_bytes)) in
+      (λ j. marked_weight (bare_size d)
+      (branch_bytes (length (participants s.advert)) (reveal_count s.advert path) n (last_branch path) (choices_at s.advert path) (a j)
+      + (b j - 1) * deposit_bytes)) in
       e ∙ sym c
 
   each_is : (ps : List (List PathStep × Unsigned)) → AreRight (unsigned_at hash s) ps
@@ -59,7 +62,8 @@ module _ (hash : List ℕ → List ℕ) (s : Instance) (size : IsHash hash) wher
       let b = (weights_by_sizes hash s size).initial in
       ap (λ n. exactly (initial_sized (bare_size d) n)) a ∙ ap exactly (sym b)
 
-  pub listed_are_weights : listed_weights s.advert (compilation hash s).init (compilation hash s).paths (compilation hash s).scripts ≡ weights hash s
+  pub listed_are_weights :
+      listed_weights s.advert (compilation hash s).init (compilation hash s).paths (compilation hash s).scripts ≡ weights hash s
   listed_are_weights =
       let a = initial_is in
       let b = each_is (path_transactions hash s) (transactions_right hash s) in

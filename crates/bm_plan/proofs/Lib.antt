@@ -1,0 +1,4 @@
+pub mod AsCompiled
+pub mod Choices
+pub mod LastStep
+pub mod Secrets

@@ -1,0 +1,67 @@
+-- The world of a run that opened.
+use Rattle.std.proofs.Common.{◌≡◌, ℕ, List, [], ◌≤◌, length, Some, None, refl, sym, ap, ◌∙◌, subst}
+use Rattle.std.specs.List.{AllByRecursion}
+use Rattle.spec_data.specs.Hashes.{HashesBytes}
+use Rattle.spec_data.specs.Messages.{noted_all, collision}
+use Rattle.spec_terms.specs.Advert.{Advert}
+use Rattle.spec_terms.specs.Faults.{IsWellFormed}
+use Rattle.spec_run.specs.declared.header.Header.{Header}
+use Rattle.spec_run.specs.declared.outcome.Record.{Record}
+use Rattle.spec_run.specs.Setup.{Setup}
+use Rattle.spec_run.specs.Conditions.{IsHeader, IsSetup}
+use Rattle.spec_run.specs.Event.{opening_strings, opening_world, opening_collision}
+use Rattle.spec_run.specs.Translation.{opening_configuration}
+use Rattle.theory_run.proofs.Facts.Bookkeeping.{KeptBooks, opening_keeps}
+use Rattle.bm_hash.specs.declared.messages.TrailError.{TrailError}
+use Rattle.bm_hash.specs.declared.messages.TrailError.TheVariants as errors
+use Rattle.bm_hash.specs.Messages.{evidence_of}
+use Rattle.bm_hash.specs.Trails.{Hashed, Stops}
+use Rattle.bm_hash.proofs.Collisions.{hashed_adds, stopped_shows}
+use Rattle.bm_board.specs.declared.board.Board.{Board}
+use Rattle.bm_board.specs.Drafts.{setup_of, world_of}
+use Rattle.bm_opening.specs.Opening.{setup_with, IsOpened}
+use Rattle.bm_world.specs.declared.halt.StartError.{StartError}
+use Rattle.bm_world.specs.declared.halt.StartError.TheVariants.{Collided, Memory}
+use Rattle.bm_world.specs.Playing.{IsWorld}
+use Rattle.bm_world.specs.Starting.{Opens}
+
+module _ {H : Type 0} (digest : H → List ℕ → List ℕ) (hash here : H) (header : Header) (contracts : List Advert) (b : Board) (messages : List (List ℕ)) (same : here ≡ hash)
+    (opened : IsOpened (setup_with (digest hash) header contracts) b) (hashed : Hashed (digest hash) [] messages (opening_strings (setup_with (digest hash) header contracts))) where
+  abbrev s : Setup
+  s = setup_with (digest hash) header contracts
+
+  adds : (messages ≡ noted_all [] (opening_strings s)) × (opening_collision s ≡ None)
+  adds = hashed_adds (digest hash) [] messages (opening_strings s) refl hashed
+
+  at : setup_of (digest here) b ≡ s
+  at = ap (λ x. setup_of (digest x) b) same ∙ opened.setup
+
+  world : world_of b messages ≡ opening_world s
+  world = ap (world_of b) adds.0 ∙ opened.world
+
+  pub opened_world : HashesBytes (digest hash) → IsHeader header → length contracts ≤ 16 → IsWorld (setup_of (digest here) b) b.accounts (world_of b messages) None
+  opened_world bytes fine few =
+      let setup : IsSetup s = record { hash = bytes; header = fine; few_contracts = few; contracts = subst (AllByRecursion IsWellFormed) (ap (λ (x : Setup). x.contracts) opened.setup) opened.well_formed } in
+      let base : IsWorld s b.accounts (world_of b messages) None = record {
+        setup = setup;
+        accounts_are = opened.accounts;
+        kept = λ h. record { config = opening_configuration s; books = subst (KeptBooks s (opening_configuration s)) (sym world) (opening_keeps s setup adds.1) };
+        clear = λ h. hashed.clear;
+      } in
+      subst (λ x. IsWorld x b.accounts (world_of b messages) None) (sym at) base
+
+  pub opened_is : (trace : List Record) → trace ≡ []
+      → Opens digest hash header contracts (record { hasher = here; header = b.header; contracts = b.contracts; world = world_of b messages; trace = trace; halt = None })
+  opened_is trace none = record {
+    apart = adds.1;
+    is = λ i. record { hasher = same i; header = (opened.setup i).header; contracts = (opened.setup i).contracts; world = world i; trace = none i; halt = None };
+  }
+
+-- the collision that is shown is that of the opening strings
+pub collided_is : {H : Type 0} (digest : H → List ℕ → List ℕ) (hash here : H) (messages xs : List (List ℕ)) (error : TrailError) (result : StartError) → here ≡ hash
+    → Stops (digest hash) [] messages xs error → (error ≡ errors.Memory → result ≡ Memory)
+    → ((first second : List ℕ) → result ≡ Collided first second → evidence_of (digest here) messages ≡ Some (first, second))
+    → (first second : List ℕ) → result ≡ Collided first second → collision (digest hash) [] xs ≡ Some (first, second)
+collided_is digest hash here messages xs errors.Memory result same stops memory shown first second e = let m = memory refl in cc
+collided_is digest hash here messages xs errors.Collided result same stops memory shown first second e =
+    sym ((stopped_shows (digest hash) [] messages xs refl stops).0) ∙ ap (λ h. evidence_of (digest h) messages) (sym same) ∙ shown first second e

@@ -1,0 +1,12 @@
+//! The world of a run, event by event.
+#![tactic(auto)]
+
+mod drafting;
+mod halt;
+mod kinds;
+mod playing;
+mod starting;
+mod world;
+
+pub use halt::{Halt, StartError};
+pub use world::World;

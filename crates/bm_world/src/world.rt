@@ -1,0 +1,156 @@
+//! The world of a run.
+
+ghost use Rattle.std.specs.Prelude.{◌≡◌, ◌≤◌, List, ℕ, length, None, Some, IfOk, IfErr};
+ghost use Rattle.spec_data.specs.Ranges.{most_contracts};
+ghost use Rattle.spec_run.specs.Conditions.{IsHeader, IsEvent};
+ghost use Rattle.spec_run.specs.Event.{opening_collision};
+ghost use Rattle.spec_run.specs.Ledger.{chain_of};
+ghost use Rattle.bm_world.specs.declared.halt.StartError.TheVariants.{Collided};
+ghost use Rattle.bm_world.specs.Playing.{setup_in, Went, Stopped};
+ghost use Rattle.bm_opening.specs.Opening.{setup_with};
+ghost use Rattle.bm_world.specs.Starting.{Opens};
+
+use crate::halt::{Halt, StartError};
+use crate::playing::play;
+use crate::starting::start_error;
+use bm_board::Board;
+use bm_book::Book;
+use bm_exchange::Exchange;
+use bm_hash::{Hash32, Trail};
+use bm_ledger::Ledger;
+use bm_opening::open_board;
+use bm_wellformed::Checked;
+use spec_data::Seq;
+use spec_run::{Event, Header, Outcome, Record};
+use std::alloc::Global;
+use std::marker::Model;
+
+/// The world of a run: the ledger with its contract outputs, what is signed, what the parties have told each other, and the records so far.
+#[derive(Drop)]
+pub struct World<H: Hash32> {
+    alloc: Global,
+    trail: Trail<H>,
+    board: Board,
+    trace: Seq<Record>,
+    halt: Option<Halt>,
+}
+
+impl<H: Hash32> Model for World<H> {
+    ghost use Rattle.std.specs.Coded.{codes};
+    ghost use Rattle.spec_terms.specs.TermCode.{coded_choice};
+    ghost use Rattle.bm_world.specs.Playing.{Played, IsWorld};
+
+    ghost Value = { Played H };
+
+    ghost coded = { Prim.hlevel (codes, coded_choice) };
+
+    ghost use Rattle.std.specs.Prelude.{◌≡◌, map};
+    ghost use Rattle.bm_board.specs.Accounts.{account_of};
+    ghost use Rattle.bm_board.specs.Drafts.{setup_of, world_of};
+
+    ghost view = { λ w. record { hasher = w.trail.hasher; header = w.board.header; contracts = w.board.contracts; world = world_of w.board w.trail.messages; trace = w.trace; halt = w.halt } };
+
+    ghost invariant = { λ w. IsWorld (setup_of (H.digest_of w.trail.hasher) w.board) w.board.accounts (world_of w.board w.trail.messages) w.halt };
+}
+
+impl<H: Hash32 + Drop> World<H> {
+    /// The world before any event. It hashes the labels and the scripts of the declared parties' deposits, and the opening transaction.
+    /// An error drops the contracts and the hash.
+    pub fn start(
+        alloc: Global,
+        header: &Header,
+        contracts: Vec<Checked>,
+        hash: H,
+    ) -> Result<World<H>, StartError>
+        requires header { IsHeader header.now }
+        requires few { length contracts.items ≤ most_contracts }
+        ensures opens { IfOk result (Opens H.digest_of hash header.now contracts.items) }
+        ensures collided { IfErr result (λ error. (first second : List ℕ) → error ≡ Collided first second → opening_collision (setup_with (H.digest_of hash) header.now contracts.items) ≡ Some (first, second)) }
+    {
+        let mut trail = Trail::new(alloc, hash);
+        match open_board(alloc, &mut trail, header, contracts) {
+            Ok(board) => Ok(World {
+                alloc,
+                trail,
+                board,
+                trace: Seq::new(alloc),
+                halt: None,
+            }),
+            Err(error) => Err(start_error(alloc, &trail, error)),
+        }
+    }
+
+    /// The records so far.
+    pub fn trace(&self) -> &[Record]
+        ensures { result.now ≡ self.now.trace }
+    {
+        self.trace.as_slice()
+    }
+
+    /// The ledger.
+    pub fn ledger(&self) -> &Ledger
+        ensures { result.now ≡ chain_of self.now.world }
+    {
+        self.board.coins.ledger()
+    }
+
+    /// The messages that were hashed, with the hash.
+    pub fn trail(&self) -> &Trail<H>
+        ensures { result.now ≡ record { hasher = self.now.hasher; messages = self.now.world.hashed } }
+    {
+        &self.trail
+    }
+
+    /// What the parties have told each other.
+    pub fn exchange(&self) -> &Exchange
+        ensures { result.now ≡ record { posted = self.now.world.posted; advertised = self.now.world.advertised; promises = self.now.world.promises } }
+    {
+        &self.board.exchange
+    }
+
+    /// The signatures.
+    pub fn book(&self) -> &Book
+        ensures { result.now ≡ self.now.world.book }
+    {
+        &self.board.book
+    }
+
+    /// The header of the run.
+    pub fn header(&self) -> &Header
+        ensures { result.now ≡ self.now.header }
+    {
+        &self.board.header
+    }
+
+    /// The contracts by their number.
+    pub fn contracts(&self) -> &[Checked]
+        ensures { result.now ≡ self.now.contracts }
+    {
+        self.board.contracts.as_slice()
+    }
+
+    // One event. After a halt nothing but the trail has changed, and every later call answers the same. Callers have a call
+    // for each kind that is built: of any other event this says that memory is short.
+    pub(crate) fn event(&mut self, event: &Event) -> Result<Outcome, Halt>
+        requires is { IsEvent (setup_in H.digest_of self.old) event.now }
+        ensures went { IfOk result (Went H.digest_of self.old self.new event.now) }
+        ensures stopped { IfErr result (Stopped H.digest_of self.old self.new event.now) }
+    {
+        if let Some(halt) = &self.halt {
+            return Err(halt.same());
+        }
+        match play(
+            self.alloc,
+            &mut self.trail,
+            &mut self.board,
+            &mut self.trace,
+            event,
+        ) {
+            Ok(outcome) => Ok(outcome),
+            Err(halt) => {
+                self.halt = Some(halt.same());
+                Err(halt)
+            }
+        }
+    }
+}

@@ -1,6 +1,6 @@
 //! What a played run prints. What each call prints is proved, and not that it succeeds.
 
-ghost use Rattle.std.specs.Prelude.{◌≡◌};
+ghost use Rattle.std.specs.Prelude.{true, ◌≡◌};
 ghost use Rattle.bm_report.specs.Endings.{IsNumbered};
 
 use crate::timed_commitment::{all_names, begun};

@@ -1,15 +1,12 @@
-//! Contracts of worked values are compiled: how large their scripts are, what their outputs pay, which node a path leads to,
-//! and that each branch has keys of its own.
-
-ghost use Rattle.std.specs.Prelude.{◌≡◌, IfSome};
-ghost use Rattle.spec_nodes.specs.Nodes.{nodes_of};
+//! Contracts of worked values are compiled: how large their scripts are, that each branch has keys of its own, and what a
+//! witness ends in.
 
 use bm_branch::{prefix_script, witness};
-use bm_compile::{Compiled, Prepared, are_bound, compile};
+use bm_compile::{Compiled, are_bound, compile};
 use bm_hash::{Sha, Trail};
 use bm_ops::decode_script;
 use bm_reader::read_advert;
-use bm_syntax::{Name, Path, PathStep, Pred};
+use bm_syntax::{Name, Pred};
 use bm_wellformed::{Checked, check};
 use spec_bitcoin::{Op, OutPoint};
 use spec_data::{Bytes, OutOfMemory};
@@ -17,8 +14,8 @@ use std::alloc::Global;
 use std::test::Fail;
 use theory_text::reader_theorem;
 
-/// A commitment that ends at height 1000.
-pub const TIMED: &[u8] =
+// A commitment that ends at height 1000.
+const TIMED: &[u8] =
     b"{A:! 100000000 @ x | B:! 0 @ y | A: secret a} (reveal a . withdraw A + after 1000 : withdraw B)";
 
 fn outpoint(vout: u32) -> OutPoint {
@@ -44,9 +41,7 @@ fn compiled_with(
     checked: &Checked,
     bound: &[(Name, OutPoint)],
     digests: &[(Name, [u8; 32])],
-) -> Option<Compiled>
-    ensures { IfSome result (λ whole. whole.nodes ≡ nodes_of checked.now.root) }
-{
+) -> Option<Compiled> {
     if !are_bound(&checked.advert().pre, bound) {
         return None;
     }
@@ -57,22 +52,15 @@ fn compiled_with(
     }
 }
 
-/// The contract of this text and what it is compiled to, with deposits x and y and a secret a.
-pub fn compiled(alloc: Global, text: &[u8]) -> Option<(Checked, Compiled)>
-    ensures { IfSome result (λ made. made.1.nodes ≡ nodes_of made.0.root) }
-{
+// What the contract of this text is compiled to, with deposits x and y and a secret a.
+fn compiled(alloc: Global, text: &[u8]) -> Option<Compiled> {
     let checked = checked(alloc, text)?;
     let bound = [
         (Name::new(b"x")?, outpoint(0)),
         (Name::new(b"y")?, outpoint(1)),
     ];
     let digests = [(Name::new(b"a")?, [3; 32])];
-    let whole = compiled_with(alloc, &checked, &bound, &digests)?;
-    Some((checked, whole))
-}
-
-fn path(alloc: Global, steps: &[PathStep]) -> Result<Path, OutOfMemory> {
-    Ok(Path::of(Vec::from_slice(alloc, steps)?))
+    compiled_with(alloc, &checked, &bound, &digests)
 }
 
 // How many of these operations count against Bitcoin's limit.
@@ -84,7 +72,7 @@ fn counted(ops: &[Op]) -> usize {
 
 // The bytes and the counted operations of the root's script.
 fn root_size(alloc: Global, text: &[u8]) -> Result<(usize, usize), Fail> {
-    let (_, whole) = compiled(alloc, text).ok_or("not compiled")?;
+    let whole = compiled(alloc, text).ok_or("not compiled")?;
     let script = whole.script(0).ok_or("no script")?;
     let ops = decode_script(alloc, script.as_slice()).map_err(|_| "no operations")?;
     Ok((script.as_slice().len(), counted(&ops)))
@@ -103,7 +91,7 @@ fn scripts_are_as_large_as_worked(rt: HostRuntime) -> Result<(), Fail> {
 fn equal_branches_have_keys_of_their_own(rt: HostRuntime) -> Result<(), Fail> {
     let alloc = rt.alloc();
     let text = b"{A:! 10 @ x | B:! 0 @ y} (A : withdraw B + B : withdraw B)";
-    let (_, whole) = compiled(alloc, text).ok_or("not compiled")?;
+    let whole = compiled(alloc, text).ok_or("not compiled")?;
     let first = whole.transaction(1).ok_or("no branch")?;
     let second = whole.transaction(2).ok_or("no branch")?;
     assert!(rt; first.txid == second.txid);
@@ -122,60 +110,6 @@ fn equal_branches_have_keys_of_their_own(rt: HostRuntime) -> Result<(), Fail> {
             assert!(rt; *key != *other);
         }
     }
-    Ok(())
-}
-
-// What the outputs of a transaction pay, in satoshi.
-fn paid(alloc: Global, made: &Prepared) -> Result<Vec<u64>, OutOfMemory> {
-    let outputs = made.tx.outputs.as_slice();
-    outputs.iter().map(|output| output.value).collect(alloc)
-}
-
-#[test]
-fn each_transaction_leaves_the_fee(rt: HostRuntime) -> Result<(), Fail> {
-    let alloc = rt.alloc();
-    let text = b"{A:! 10 @ x} fee 1 split [5 -> withdraw A, 3 -> withdraw A]";
-    let (_, whole) = compiled(alloc, text).ok_or("not compiled")?;
-    assert!(rt; paid(alloc, whole.init())?.as_slice() == [9].as_slice());
-    let rows: [(&[PathStep], &[u64]); 3] = [
-        (&[PathStep::Branch(0)], &[5, 3]),
-        (
-            &[PathStep::Branch(0), PathStep::Part(0), PathStep::Branch(0)],
-            &[4],
-        ),
-        (
-            &[PathStep::Branch(0), PathStep::Part(1), PathStep::Branch(0)],
-            &[2],
-        ),
-    ];
-    for (steps, values) in rows {
-        let made = whole
-            .transaction_at(&path(alloc, steps)?)
-            .ok_or("no branch")?;
-        assert!(rt; paid(alloc, made)?.as_slice() == values);
-    }
-    Ok(())
-}
-
-#[test]
-fn paths_lead_to_the_nodes_of_the_text(rt: HostRuntime) -> Result<(), Fail> {
-    let alloc = rt.alloc();
-    let (_, whole) = compiled(alloc, TIMED).ok_or("not compiled")?;
-    assert_eq!(rt; whole.arena().len(), 5);
-    let rows: [(&[PathStep], Option<u32>, Option<u32>); 5] = [
-        (&[], None, Some(0)),
-        (&[PathStep::Branch(0)], Some(1), Some(2)),
-        (&[PathStep::Branch(0), PathStep::Branch(0)], Some(3), None),
-        (&[PathStep::Branch(1)], Some(4), None),
-        (&[PathStep::Branch(2)], None, None),
-    ];
-    for (steps, branch, choice) in rows {
-        let path = path(alloc, steps)?;
-        assert!(rt; whole.arena().find(&path) == branch);
-        assert!(rt; whole.arena().find_choice(&path) == choice);
-    }
-    let late = whole.transaction(4).ok_or("no branch")?;
-    assert_eq!(rt; late.tx.lock, 1000);
     Ok(())
 }
 

@@ -11,8 +11,6 @@ mod digests;
 #[cfg(test)]
 mod files;
 #[cfg(test)]
-mod gates;
-#[cfg(test)]
 mod hashing;
 #[cfg(test)]
 mod keys;

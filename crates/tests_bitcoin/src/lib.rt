@@ -5,8 +5,6 @@
 #[cfg(test)]
 mod branches;
 #[cfg(test)]
-mod compiler;
-#[cfg(test)]
 mod digests;
 #[cfg(test)]
 mod files;

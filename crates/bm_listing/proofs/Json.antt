@@ -1,0 +1,5 @@
+pub mod Digits
+pub mod Escapes
+pub mod Paths
+pub mod Texts
+pub mod Values

@@ -1,0 +1,4 @@
+pub mod Symbols
+pub mod ReadBack
+pub mod OnlyWritten
+pub mod Standard

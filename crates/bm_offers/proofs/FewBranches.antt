@@ -8,7 +8,8 @@ use Rattle.spec_terms.specs.Term.{branches, Parts, no_part, part}
 use Rattle.spec_terms.specs.Advert.{Advert}
 use Rattle.spec_terms.specs.Faults.{IsWellFormed}
 use Rattle.spec_terms.specs.Paths.{Subterm, position, at_branch, contract_under}
-use Rattle.spec_terms.specs.Readable.{most_choices, is_readable_contract, is_readable_count, is_readable_split, are_readable, is_readable_branch, are_readable_parts}
+use Rattle.spec_terms.specs.Readable.{most_choices, is_readable_contract, is_readable_count}
+use Rattle.spec_terms.specs.Readable.{is_readable_split, are_readable, is_readable_branch, are_readable_parts}
 use Rattle.spec_terms.specs.declared.path.PathStep.{PathStep}
 use Rattle.spec_calculus.specs.Offers.{branches_at}
 use Rattle.theory_script.proofs.Listing.Subterms.{Each, EachUnder, EachPart, each_at}

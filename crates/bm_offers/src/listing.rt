@@ -54,7 +54,8 @@ fn add_taking(
     branch: u32,
     taken: &Guarded,
 ) -> Result<(), OutOfMemory>
-    ensures { OnOk result (found.new.items ≡ found.old.items ++ offered config.now (spec.taking output branch (core_of (guarded taken.now)))) }
+    ensures { OnOk result (found.new.items
+        ≡ found.old.items ++ offered config.now (spec.taking output branch (core_of (guarded taken.now)))) }
 {
     match step_of(output, branch, core(taken)) {
         Some(step) => add(found, config, step, Event::Fire { output, branch }),

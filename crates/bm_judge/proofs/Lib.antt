@@ -1,2 +1,3 @@
+pub mod FewEvents
 pub mod InOrder
 pub mod Taken

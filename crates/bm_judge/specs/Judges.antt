@@ -1,6 +1,7 @@
 -- What the code says of files, against how they are judged.
-use Rattle.std.specs.Prelude.{◌≡◌, ℕ, List, ◌++◌, length, Result, Ok, Err}
+use Rattle.std.specs.Prelude.{◌≡◌, ◌≤◌, ℕ, List, ◌++◌, length, Result, Ok, Err}
 use Rattle.spec_terms.specs.Advert.{Advert}
+use Rattle.spec_text.specs.Limits.{most_events}
 use Rattle.spec_text.specs.Refusals.{Judged}
 use Rattle.spec_run.specs.declared.event.Event.{Event}
 use Rattle.spec_run.specs.declared.event.Run.{Run}
@@ -61,7 +62,12 @@ abbrev pub JudgesFiles : Judged Run → List Text → Judgement → Type 0
 JudgesFiles run texts (Refused reply) = Replies run (contracts_in 0 texts) reply
 JudgesFiles run texts (Taken taken contracts) = Takes run texts taken contracts.items
 
--- a run that is taken is one of which the theorems on runs speak
-abbrev pub IsReadIfTaken : Judgement → Type 0
-IsReadIfTaken (Refused reply) = Unit {0}
-IsReadIfTaken (Taken taken contracts) = IsReadRun taken
+-- a run that is taken is one of which the theorems on runs speak, and has no more events than it may have
+pub record IsTaken (run : Run) : Type 0 where
+  pub read : IsReadRun run
+  pub few : length run.events ≤ most_events
+
+-- so is the run, where it is taken
+abbrev pub IsTakenIfAny : Judgement → Type 0
+IsTakenIfAny (Refused reply) = Unit {0}
+IsTakenIfAny (Taken taken contracts) = IsTaken taken

@@ -2,7 +2,7 @@
 
 ghost use Rattle.std.specs.Prelude.{Ok, IfOk};
 ghost use Rattle.spec_tool.specs.Answers.{run_in};
-ghost use Rattle.bm_judge.specs.Judges.{JudgesFiles, IsReadIfTaken};
+ghost use Rattle.bm_judge.specs.Judges.{JudgesFiles, IsTakenIfAny};
 
 use crate::contracts::contracts_in;
 use crate::error::{ContractsError, JudgeError};
@@ -48,11 +48,11 @@ pub fn judge_both(
     contracts: &[Option<Bytes>],
 ) -> Result<Judgement, OutOfMemory>
     ensures files { IfOk result (JudgesFiles (run_in run.now) contracts.now) }
-    ensures read { IfOk result IsReadIfTaken }
+    ensures taken { IfOk result IsTakenIfAny }
 {
     run_files_spell_runs();
     match run_in(alloc, run) {
-        Ok(run) => judge_contracts(alloc, run, contracts),
+        Ok(taken) => judge_contracts(alloc, taken, contracts),
         Err(JudgeError::Refused(why)) => Ok(Judgement::Refused(run_refused(
             alloc,
             why.as_slice(),

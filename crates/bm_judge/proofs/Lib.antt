@@ -1,0 +1,3 @@
+pub mod FewEvents
+pub mod InOrder
+pub mod Taken

@@ -1,0 +1,2 @@
+pub mod FewBranches
+pub mod Steps

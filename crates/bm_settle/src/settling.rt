@@ -99,6 +99,14 @@ fn make_change(board: &mut Board, change: &Change) -> Result<(), OutOfMemory>
                 .advertise(told.contract, told.bindings.as_slice())?;
             Ok(())
         }
+        Change::Commit(promising) => {
+            board.exchange.commit(
+                promising.contract,
+                promising.party,
+                promising.digests.as_slice(),
+            )?;
+            Ok(())
+        }
         Change::Append(appending) => {
             append(board, appending)?;
             Ok(())

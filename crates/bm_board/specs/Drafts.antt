@@ -15,7 +15,7 @@ use Rattle.bm_coins.specs.Coined.{position_by}
 use Rattle.bm_board.specs.declared.board.Board.{Board}
 use Rattle.bm_board.specs.declared.drafted.Appending.{Appending}
 use Rattle.bm_board.specs.declared.drafted.Change.{Change}
-use Rattle.bm_board.specs.declared.drafted.Change.TheVariants.{Nothing, Blocks, Advertise, Append}
+use Rattle.bm_board.specs.declared.drafted.Change.TheVariants.{Nothing, Blocks, Advertise, Commit, Append}
 use Rattle.bm_board.specs.declared.drafted.Drafted.{Drafted}
 
 -- what never changes, with this hash
@@ -40,6 +40,7 @@ abbrev pub tx_in : Change → Option Tx
 tx_in Nothing = None
 tx_in (Blocks blocks) = None
 tx_in (Advertise told) = None
+tx_in (Commit p) = None
 tx_in (Append a) = Some a.tx
 
 -- the contracts that have begun, with one more where there is one
@@ -52,6 +53,7 @@ abbrev pub changed : World → Change → World
 changed w Nothing = w
 changed w (Blocks blocks) = record w { tip = w.tip + blocks }
 changed w (Advertise told) = record w { advertised = w.advertised ++ told ∷ [] }
+changed w (Commit p) = record w { promises = w.promises ++ record { contract = p.contract; party = p.party; digests = p.digests } ∷ [] }
 changed w (Append a) = record w {
   outputs = spend_from 0 a.spent w.outputs ++ made_from (position_by a.purpose.positions) a.txid 0 a.tx.outputs;
   begun = with_begun a.purpose.begins w.begun;
@@ -74,6 +76,7 @@ abbrev pub IsReady : (List ℕ → List ℕ) → World → Change → Type 0
 IsReady hash w Nothing = Unit {0}
 IsReady hash w (Blocks blocks) = w.tip + blocks ≤ last_height
 IsReady hash w (Advertise told) = Unit {0}
+IsReady hash w (Commit p) = Unit {0}
 IsReady hash w (Append a) = IsAppendable hash w a
 
 -- what a call that drafts leaves: the strings of the draft are hashed, what was drafted in this world is the draft, and the change can be made

@@ -1,3 +1,4 @@
 pub mod Drafts
 pub mod Reaching
 pub mod Accounts
+pub mod Compiling

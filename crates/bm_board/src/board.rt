@@ -3,10 +3,12 @@
 ghost use Rattle.std.specs.Prelude.{◌≡◌, option_map, slice_get};
 ghost use Rattle.spec_data.specs.Lists.{is_among, has_number};
 ghost use Rattle.spec_run.specs.Setup.{people_of};
+ghost use Rattle.bm_board.specs.Compiling.{compiled_at};
 
 use crate::accounts::Account;
 use bm_book::Book;
 use bm_coins::Coins;
+use bm_compile::Compiled;
 use bm_exchange::Exchange;
 use bm_wellformed::Checked;
 use spec_data::{Name, Seq};
@@ -25,6 +27,8 @@ pub struct Board {
     pub accounts: Seq<Account>,
     /// The contracts whose initial transaction was accepted.
     pub begun: Seq<u32>,
+    /// What the contracts are compiled to by their number, `None` where not all participants have committed.
+    pub compiled: Seq<Option<Compiled>>,
 }
 
 /// Whether the name is one of these.
@@ -40,6 +44,16 @@ impl Board {
         ensures { option_map (λ c. c.now) result ≡ slice_get self.now.contracts contract }
     {
         self.contracts.as_slice().get(contract as usize)
+    }
+
+    /// What the contract of this number is compiled to, where it is.
+    pub fn compiled(&self, contract: u32) -> Option<&Compiled>
+        ensures { option_map (λ c. c.now) result ≡ compiled_at self.now.compiled contract }
+    {
+        match self.compiled.as_slice().get(contract as usize) {
+            Some(Some(compiled)) => Some(compiled),
+            _ => None,
+        }
     }
 
     /// Whether the party is honest.

@@ -29,6 +29,14 @@ pub struct Appending {
     pub purpose: Purpose,
 }
 
+/// A party's commitment for a contract, its digests in the precondition's order.
+#[derive(Drop)]
+pub struct Promising {
+    pub contract: u32,
+    pub party: Name,
+    pub digests: Seq<(Name, [u8; 32])>,
+}
+
 /// What an event changes last, besides what it posts.
 #[derive(Drop)]
 pub enum Change {
@@ -37,6 +45,8 @@ pub enum Change {
     Blocks(u32),
     /// A contract is advertised, with its bindings.
     Advertise(Advertised),
+    /// A party commits its secrets.
+    Commit(Promising),
     /// A transaction is appended to the ledger.
     Append(Appending),
 }

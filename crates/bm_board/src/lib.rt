@@ -8,5 +8,5 @@ mod reaching;
 
 pub use accounts::{Account, account_at, accounts_of, owner_of_script};
 pub use board::{Board, is_name_among};
-pub use drafted::{Appending, Change, Drafted, Purpose};
+pub use drafted::{Appending, Change, Drafted, Promising, Purpose};
 pub use reaching::{reach, spent_numbers};

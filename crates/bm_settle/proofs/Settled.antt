@@ -6,7 +6,7 @@ use Rattle.spec_run.specs.World.{World}
 use Rattle.bm_exchange.specs.Exchanged.{Exchanged}
 use Rattle.bm_board.specs.declared.board.Board.{Board}
 use Rattle.bm_board.specs.declared.drafted.Change.{Change}
-use Rattle.bm_board.specs.declared.drafted.Change.TheVariants.{Nothing, Blocks, Advertise, Append}
+use Rattle.bm_board.specs.declared.drafted.Change.TheVariants.{Nothing, Blocks, Advertise, Commit, Append}
 use Rattle.bm_board.specs.declared.drafted.Drafted.{Drafted}
 use Rattle.bm_board.specs.Drafts.{world_of, changed}
 use Rattle.bm_settle.specs.Settling.{Grows, Makes}
@@ -24,6 +24,7 @@ changed-posted : (w : World) (posted : List (List ℕ)) (change : Change) → ch
 changed-posted w posted Nothing = refl
 changed-posted w posted (Blocks blocks) = refl
 changed-posted w posted (Advertise told) = refl
+changed-posted w posted (Commit p) = refl
 changed-posted w posted (Append a) = refl
 
 -- nor what is hashed
@@ -31,6 +32,7 @@ pub changed-hashed : (w : World) (hashed : List (List ℕ)) (change : Change) �
 changed-hashed w hashed Nothing = refl
 changed-hashed w hashed (Blocks blocks) = refl
 changed-hashed w hashed (Advertise told) = refl
+changed-hashed w hashed (Commit p) = refl
 changed-hashed w hashed (Append a) = refl
 
 pub makes : (old new : Board) (exchange : Exchanged) (x : Drafted) → exchange ≡ record old.exchange { posted = old.exchange.posted ++ x.posts }
@@ -42,4 +44,5 @@ makes old new exchange x posts world rest = record {
   header = ap (λ (b : Board). b.header) rest;
   contracts = ap (λ (b : Board). b.contracts) rest;
   accounts = ap (λ (b : Board). b.accounts) rest;
+  compiled = ap (λ (b : Board). b.compiled) rest;
 }

@@ -12,7 +12,7 @@ use Rattle.bm_coins.specs.Coined.{Coined}
 use Rattle.bm_board.specs.declared.board.Board.{Board}
 use Rattle.bm_board.specs.declared.drafted.Appending.{Appending}
 use Rattle.bm_board.specs.declared.drafted.Change.{Change}
-use Rattle.bm_board.specs.declared.drafted.Change.TheVariants.{Nothing, Blocks, Advertise, Append}
+use Rattle.bm_board.specs.declared.drafted.Change.TheVariants.{Nothing, Blocks, Advertise, Commit, Append}
 use Rattle.bm_board.specs.declared.drafted.Drafted.{Drafted}
 use Rattle.bm_board.specs.Drafts.{world_of, changed, tx_in}
 
@@ -28,6 +28,7 @@ abbrev pub IsMakeable : Board → Change → Type 0
 IsMakeable b Nothing = Unit {0}
 IsMakeable b (Blocks blocks) = b.coins.tip + blocks ≤ last_height
 IsMakeable b (Advertise told) = Unit {0}
+IsMakeable b (Commit p) = Unit {0}
 IsMakeable b (Append a) = CanAppend b.coins a
 
 -- nothing but posted strings has come
@@ -42,6 +43,7 @@ pub record Makes (old new : Board) (x : Drafted) : Type 0 where
   pub header : new.header ≡ old.header
   pub contracts : new.contracts ≡ old.contracts
   pub accounts : new.accounts ≡ old.accounts
+  pub compiled : new.compiled ≡ old.compiled
 
 -- the record of an event of which this was drafted
 abbrev pub recorded : Event → Drafted → Record

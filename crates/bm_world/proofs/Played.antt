@@ -30,7 +30,7 @@ use Rattle.bm_board.specs.declared.board.Board.{Board}
 use Rattle.bm_world.specs.declared.halt.Halt.{Halt}
 use Rattle.bm_world.specs.declared.halt.Halt.TheVariants.{Guessed, Memory}
 use Rattle.bm_board.specs.declared.drafted.Change.{Change}
-use Rattle.bm_board.specs.declared.drafted.Change.TheVariants.{Nothing, Blocks, Advertise, Append}
+use Rattle.bm_board.specs.declared.drafted.Change.TheVariants.{Nothing, Blocks, Advertise, Commit, Append}
 use Rattle.bm_board.specs.declared.drafted.Drafted.{Drafted}
 use Rattle.bm_board.specs.declared.accounts.Account.{Account}
 use Rattle.bm_board.specs.Accounts.{account_of}
@@ -46,6 +46,7 @@ makeable : (hash : List ℕ → List ℕ) (b : Board) (messages : List (List ℕ
 makeable hash b messages Nothing h = tt
 makeable hash b messages (Blocks blocks) h = h
 makeable hash b messages (Advertise told) h = tt
+makeable hash b messages (Commit p) h = tt
 makeable hash b messages (Append a) h = record {
   room = h.room;
   passed = (or_else-none (first_reason (whole_row b.coins.tip (live_from 0 b.coins.outputs) a.tx)) (inputs_refusal hash b.book (live_from 0 b.coins.outputs) a.tx 0 a.tx.inputs) h.passed).0;

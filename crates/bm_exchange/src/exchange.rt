@@ -3,11 +3,11 @@
 ghost use Rattle.std.specs.Prelude.{◌≡◌, ◌++◌, ◌∷◌, [], ◌≤◌, ◌==◌, length, take, is_some, IfOk, IfSome, OnOk, OnErr};
 ghost use Rattle.std.specs.List.{list_any};
 ghost use Rattle.spec_data.specs.Lists.{is_among};
-ghost use Rattle.spec_run.specs.World.{is_promise_of, bindings_at};
+ghost use Rattle.spec_run.specs.World.{is_promise_of, bindings_at, digests_at};
 ghost use Rattle.spec_run.specs.Committing.{used_digests};
 ghost use Rattle.bm_exchange.specs.Exchanged.{digests_by};
 
-use crate::promised::{Promised, add_promise, digests_of, has_promised};
+use crate::promised::{Promised, add_promise, all_digests, digests_of, has_promised};
 use crate::strings::Strings;
 use spec_calculus::Advertised;
 use spec_data::{Name, OutOfMemory, Seq};
@@ -157,6 +157,13 @@ impl Exchange {
         ensures digests { IfSome result (λ digests. digests.now ≡ digests_by self.now.promises contract party.now) }
     {
         digests_of(self.promises.as_slice(), contract, party)
+    }
+
+    /// The digests that were committed for the contract, by all parties, in the order of the commitments.
+    pub fn all_digests(&self, contract: u32) -> Result<Seq<(Name, [u8; 32])>, OutOfMemory>
+        ensures { IfOk result (λ digests. digests ≡ digests_at self.now.promises contract) }
+    {
+        all_digests(self.alloc, self.promises.as_slice(), contract)
     }
 
     /// Whether the digest stands in some commitment.

@@ -2,12 +2,13 @@
 
 ghost use Rattle.std.specs.Prelude.{◌≡◌, ◌++◌, ◌∷◌, [], ◌≤◌, length, map, take, is_some, IfOk, IfSome, OnOk, OnErr};
 ghost use Rattle.std.specs.List.{list_any};
-ghost use Rattle.spec_run.specs.World.{is_promise_of};
+ghost use Rattle.spec_run.specs.World.{is_promise_of, digests_at};
 ghost use Rattle.spec_run.specs.Committing.{used_digests};
 ghost use Rattle.bm_exchange.specs.Exchanged.{digests_by};
 
 use crate::strings::Strings;
 use spec_data::{Name, OutOfMemory, Seq};
+use std::alloc::Global;
 use std::marker::Model;
 
 /// The digests that a party has committed, each beside the name of its secret, in the precondition's order.
@@ -76,6 +77,36 @@ pub(crate) fn digests_of<'a>(
         }
     }
     None
+}
+
+// Puts these digests to the others.
+fn put_digests(
+    list: &mut Seq<(Name, [u8; 32])>,
+    digests: &[(Name, [u8; 32])],
+) -> Result<(), OutOfMemory>
+    ensures { OnOk result (list.new ≡ list.old ++ digests.now) }
+{
+    for pair in digests {
+        list.push(*pair)?;
+    }
+    Ok(())
+}
+
+/// The digests that were committed for the contract, by all parties, in the order of the commitments.
+pub(crate) fn all_digests(
+    alloc: Global,
+    promises: &[Promised],
+    contract: u32,
+) -> Result<Seq<(Name, [u8; 32])>, OutOfMemory>
+    ensures { IfOk result (λ digests. digests ≡ digests_at promises.now contract) }
+{
+    let mut list = Seq::new(alloc);
+    for promise in promises {
+        if promise.contract == contract {
+            put_digests(&mut list, promise.digests())?;
+        }
+    }
+    Ok(list)
 }
 
 // Adds these digests; on an error some of them are added.

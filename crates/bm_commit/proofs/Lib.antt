@@ -1,0 +1,6 @@
+mod Own
+mod Used
+mod Completed
+mod Others
+mod Whole
+pub mod Bound

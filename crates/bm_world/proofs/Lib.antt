@@ -1,3 +1,9 @@
+mod Births
+mod Compiling
+mod Fewer
 mod Fresh
+mod Hashless
+mod Heard
 mod Opened
 mod Played
+mod Reaching

@@ -1,5 +1,5 @@
 -- The world of a run that opened.
-use Rattle.std.proofs.Common.{◌≡◌, ℕ, List, [], ◌≤◌, length, Some, None, refl, sym, ap, ◌∙◌, subst}
+use Rattle.std.proofs.Common.{◌≡◌, ℕ, List, [], ◌≤◌, ◌+◌, ◌*◌, length, Some, None, refl, sym, ap, ◌∙◌, subst, arith}
 use Rattle.std.specs.List.{AllByRecursion}
 use Rattle.spec_data.specs.Hashes.{HashesBytes}
 use Rattle.spec_data.specs.Messages.{noted_all, collision}
@@ -9,7 +9,11 @@ use Rattle.spec_run.specs.declared.header.Header.{Header}
 use Rattle.spec_run.specs.declared.outcome.Record.{Record}
 use Rattle.spec_run.specs.Setup.{Setup}
 use Rattle.spec_run.specs.Conditions.{IsHeader, IsSetup}
-use Rattle.spec_run.specs.Event.{opening_strings, opening_world, opening_collision}
+use Rattle.spec_bitcoin.specs.Digests.{txid, opening_transaction}
+use Rattle.spec_run.specs.World.{World}
+use Rattle.spec_run.specs.Event.{opening_outputs, opening_strings, opening_world, opening_collision, holds_nothing}
+use Rattle.theory_world.proofs.Tests.{length_map}
+use Rattle.theory_world.proofs.Ledger.Outputs.{length-made_from}
 use Rattle.spec_run.specs.Translation.{opening_configuration}
 use Rattle.theory_run.proofs.Facts.Bookkeeping.{KeptBooks, opening_keeps}
 use Rattle.bm_hash.specs.declared.messages.TrailError.{TrailError}
@@ -17,13 +21,16 @@ use Rattle.bm_hash.specs.declared.messages.TrailError.TheVariants as errors
 use Rattle.bm_hash.specs.Messages.{evidence_of}
 use Rattle.bm_hash.specs.Trails.{Hashed, Stops}
 use Rattle.bm_hash.proofs.Collisions.{hashed_adds, stopped_shows}
+use Rattle.bm_match.specs.Matches.{all_compiled}
 use Rattle.bm_board.specs.declared.board.Board.{Board}
 use Rattle.bm_board.specs.Drafts.{setup_of, world_of}
 use Rattle.bm_opening.specs.Opening.{setup_with, IsOpened}
 use Rattle.bm_world.specs.declared.halt.StartError.{StartError}
 use Rattle.bm_world.specs.declared.halt.StartError.TheVariants.{Collided, Memory}
 use Rattle.bm_world.specs.Playing.{IsWorld}
+use Rattle.bm_world.specs.Reached.{IsReached}
 use Rattle.bm_world.specs.Starting.{Opens}
+use Rattle.bm_world.proofs.Reaching.{reached_at_start}
 
 module _ {H : Type 0} (digest : H → List ℕ → List ℕ) (hash here : H) (header : Header) (contracts : List Advert) (b : Board) (messages : List (List ℕ)) (same : here ≡ hash)
     (opened : IsOpened (setup_with (digest hash) header contracts) b) (hashed : Hashed (digest hash) [] messages (opening_strings (setup_with (digest hash) header contracts))) where
@@ -39,16 +46,26 @@ module _ {H : Type 0} (digest : H → List ℕ → List ℕ) (hash here : H) (he
   world : world_of b messages ≡ opening_world s
   world = ap (world_of b) adds.0 ∙ opened.world
 
-  pub opened_world : HashesBytes (digest hash) → IsHeader header → length contracts ≤ 16 → IsWorld (setup_of (digest here) b) b.accounts (world_of b messages) None
-  opened_world bytes fine few =
+  few_at_start : IsHeader header → length b.coins.outputs ≤ 1000 + 262144 * 0
+  few_at_start fine =
+      let made = length-made_from holds_nothing (txid s.hash (opening_transaction (opening_outputs s))) 0 (opening_outputs s) in
+      let count : length (opening_outputs s) ≡ length s.header.deposits = length_map _ s.header.deposits in
+      let there : length b.coins.outputs ≡ length (opening_world s).outputs = ap (λ (w : World). length w.outputs) world in
+      omega (arith, made, count, there, fine.few_deposits)
+
+  pub opened_world : (trace : List Record) → trace ≡ [] → HashesBytes (digest hash) → IsHeader header → length contracts ≤ 16 → IsWorld (setup_of (digest here) b) b messages trace None
+  opened_world trace none bytes fine few =
       let setup : IsSetup s = record { hash = bytes; header = fine; few_contracts = few; contracts = subst (AllByRecursion IsWellFormed) (ap (λ (x : Setup). x.contracts) opened.setup) opened.well_formed } in
-      let base : IsWorld s b.accounts (world_of b messages) None = record {
+      let base : IsWorld s b messages [] None = record {
         setup = setup;
-        accounts_are = opened.accounts;
+        accounts = opened.accounts;
+        compiled = opened.compiled ∙ ap (all_compiled s) (sym world);
+        few = few_at_start fine;
+        reached = subst (λ v. IsReached s v []) (sym world) (reached_at_start s adds.1);
         kept = λ h. record { config = opening_configuration s; books = subst (KeptBooks s (opening_configuration s)) (sym world) (opening_keeps s setup adds.1) };
         clear = λ h. hashed.clear;
       } in
-      subst (λ x. IsWorld x b.accounts (world_of b messages) None) (sym at) base
+      subst (λ t. IsWorld (setup_of (digest here) b) b messages t None) (sym none) (subst (λ x. IsWorld x b messages [] None) (sym at) base)
 
   pub opened_is : (trace : List Record) → trace ≡ []
       → Opens digest hash header contracts (record { hasher = here; header = b.header; contracts = b.contracts; world = world_of b messages; trace = trace; halt = None })

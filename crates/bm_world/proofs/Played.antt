@@ -1,9 +1,10 @@
 -- What an event leaves, by what was drafted of it.
-use Rattle.std.proofs.Common.{◌≡◌, ℕ, List, [], ◌∷◌, ◌++◌, map, Option, Some, None, refl, sym, ap, subst, ◌∙◌}
-use Rattle.std.specs.Prelude.{IsSome}
+use Rattle.std.proofs.Common.{◌≡◌, ℕ, List, [], ◌∷◌, ◌++◌, length, ◌+◌, ◌*◌, ◌<◌, ◌≤◌, Bool, true, false, Option, Some, None, refl, sym, ap, subst, ◌∙◌, append-nil, length-append, arith}
+use Rattle.std.specs.Prelude.{IsSome, is_some, not, if◌then◌else◌}
 use Rattle.std.specs.List.{find}
 use Rattle.std.specs.Option.{option_map}
-use Rattle.spec_data.specs.Lists.{first_reason}
+use Rattle.spec_data.specs.Lists.{is_among, first_reason}
+use Rattle.spec_data.specs.Ranges.{most_header_deposits, most_gift_outputs}
 use Rattle.spec_data.proofs.ListLemmas.{or_else-none}
 use Rattle.spec_bitcoin.specs.Verdict.{whole_row, inputs_refusal}
 use Rattle.spec_run.specs.declared.event.Event.{Event}
@@ -12,33 +13,42 @@ use Rattle.spec_run.specs.declared.outcome.Outcome.{Outcome}
 use Rattle.spec_run.specs.declared.outcome.Record.{Record}
 use Rattle.spec_run.specs.Setup.{Setup}
 use Rattle.spec_run.specs.World.{World}
-use Rattle.spec_data.specs.Messages.{noted_all, collision}
+use Rattle.spec_data.specs.Messages as run_messages
+use Rattle.spec_data.specs.Messages.{collision}
 use Rattle.spec_run.specs.Draft.{Draft, Went, Halted, is_guessed, guess, settled, settle}
 use Rattle.spec_run.specs.Draft as run
-use Rattle.spec_run.specs.Event.{draft, event, record_of}
+use Rattle.spec_run.specs.Event.{draft, record_of}
 use Rattle.spec_run.specs.Ledger.{live_from}
 use Rattle.spec_run.specs.Conditions.{IsSetup, IsEvent}
 use Rattle.spec_run.specs.Steps.{steps_of}
+use Rattle.spec_run.specs.Values.{is_refused}
 use Rattle.spec_calculus.specs.Steps.{after_steps}
+use Rattle.theory_world.proofs.Hashed.{noted_more, all_more}
+use Rattle.bm_world.proofs.Fewer.{Within}
 use Rattle.theory_run.proofs.Facts.Bookkeeping.{KeptBooks, keeps_after}
 use Rattle.bm_hash.specs.declared.messages.TrailError.{TrailError}
 use Rattle.bm_hash.specs.declared.messages.TrailError.TheVariants as trail
 use Rattle.bm_world.specs.Halts.{halt_of}
-use Rattle.bm_hash.specs.Messages.{evidence_of}
-use Rattle.bm_hash.specs.Trails.{Stops}
+use Rattle.bm_hash.specs.Messages.{evidence_of, noted, noted_all}
+use Rattle.bm_hash.specs.Trails.{Hashed, Stops}
 use Rattle.bm_board.specs.declared.board.Board.{Board}
 use Rattle.bm_world.specs.declared.halt.Halt.{Halt}
 use Rattle.bm_world.specs.declared.halt.Halt.TheVariants.{Guessed, Memory}
 use Rattle.bm_board.specs.declared.drafted.Change.{Change}
 use Rattle.bm_board.specs.declared.drafted.Change.TheVariants.{Nothing, Blocks, Advertise, Commit, Append}
 use Rattle.bm_board.specs.declared.drafted.Drafted.{Drafted}
-use Rattle.bm_board.specs.declared.accounts.Account.{Account}
-use Rattle.bm_board.specs.Accounts.{account_of}
+use Rattle.bm_compile.specs.Numbered.{Numbered}
+use Rattle.bm_match.specs.Matches.{all_compiled}
+use Rattle.bm_board.specs.Compiling.{placed}
 use Rattle.bm_board.specs.Drafts.{world_of, tx_in, changed, IsReady, Drafts}
 use Rattle.bm_settle.specs.Settling.{IsMakeable, Makes}
-use Rattle.bm_world.specs.Playing.{Goes, Halts, Kept, IsWorld, collided_by}
+use Rattle.bm_world.specs.Playing.{most_records, HashedFront, JudgedHalts, Halts, Kept, IsPlayable, IsPlaced, Passes, Tests, SameBoard, GoesOn, IsWorld, collided_by}
 use Rattle.bm_hash.proofs.Collisions.{hashed_adds, stopped_shows}
 use Rattle.bm_settle.proofs.Settled.{changed-hashed}
+use Rattle.bm_world.specs.Reached.{IsReached}
+use Rattle.bm_world.proofs.Heard.{kept_heard}
+use Rattle.bm_world.proofs.Reaching.{IsCalm, calm_of, reached_more, reached_later}
+use Rattle.bm_world.proofs.Births.{event_grows}
 
 -- ---- a ready change can be made
 
@@ -59,6 +69,21 @@ makeable_of hash b old new d x h = makeable hash b old x.change h.ready
 
 -- ---- halts
 
+-- what was there is there still
+noted_within : (hash : List ℕ → List ℕ) (ms : List (List ℕ)) (x : List ℕ) → Within ms (noted hash ms x)
+noted_within hash ms x m h = by_test (is_some (evidence_of hash ms))
+  where
+    by_test : (b : Bool) → is_among m (if b then ms else run_messages.noted ms x) ≡ true
+    by_test true = h
+    by_test false = noted_more ms x m h
+
+within_all : (hash : List ℕ → List ℕ) (ms xs : List (List ℕ)) → Within ms (noted_all hash ms xs)
+within_all hash ms [] m h = h
+within_all hash ms (x ∷ xs) m h = within_all hash (noted hash ms x) xs m (noted_within hash ms x m h)
+
+pub front_within : (hash : List ℕ → List ℕ) (old new xs : List (List ℕ)) → HashedFront hash old new xs → Within old new
+front_within hash old new xs h m i = subst (λ l. is_among m l ≡ true) (sym h.messages) (within_all hash old h.front m i)
+
 shown_some : (o p : Option (List ℕ × List ℕ)) (s : Setup) (w : World) (d : Draft) (g : Option HeldSecret) → o ≡ p → IsSome p → option_map collided_by o ≡ Some (settle w d p g)
 shown_some o None s w d g e h = cc
 shown_some o (Some p) s w d g e h = ap (option_map collided_by) e
@@ -68,69 +93,180 @@ pub drafting_halts : (s : Setup) (w : World) (new : List (List ℕ)) (e : Event)
 drafting_halts s w new e trail.Collided clear h =
     let i = stopped_shows s.hash w.hashed new ((draft s w e).hashes) clear h in
     record {
+      hashed = record { front = (draft s w e).hashes; back = []; strings = sym (append-nil (draft s w e).hashes); messages = (h.collided refl).0 };
       collided = λ x. shown_some (evidence_of s.hash new) (collision s.hash w.hashed ((draft s w e).hashes)) s w (draft s w e) (guess s w.posted ((draft s w e).posts) ((draft s w e).allowed)) i.0 i.1;
       guessed = λ party secret x. cc;
     }
-drafting_halts s w new e trail.Memory clear h = record { collided = λ x. cc; guessed = λ party secret x. cc }
+drafting_halts s w new e trail.Memory clear h =
+    let m = h.memory refl in
+    record {
+      hashed = record { front = m.0; back = m.1; strings = m.2; messages = m.3 };
+      collided = λ x. cc;
+      guessed = λ party secret x. cc;
+    }
 
-pub memory_halts : (s : Setup) (w : World) (new : List (List ℕ)) (e : Event) → Halts s w new e Memory
-memory_halts s w new e = record { collided = λ x. cc; guessed = λ party secret x. cc }
+-- all is hashed
+all_hashed : (hash : List ℕ → List ℕ) (old new xs : List (List ℕ)) → Hashed hash old new xs → HashedFront hash old new xs
+all_hashed hash old new xs h = record { front = xs; back = []; strings = sym (append-nil xs); messages = h.all }
 
 module _ (s : Setup) (w v : World) (new : List (List ℕ)) (e : Event) (x : Drafted) (clear : evidence_of s.hash w.hashed ≡ None) (drafts : Drafts s.hash v w.hashed new (draft s w e) x) where
-  noted : (new ≡ noted_all w.hashed (draft s w e).hashes) × (collision s.hash w.hashed (draft s w e).hashes ≡ None)
-  noted = hashed_adds s.hash w.hashed new ((draft s w e).hashes) clear drafts.hashed
+  heard : (new ≡ run_messages.noted_all w.hashed (draft s w e).hashes) × (collision s.hash w.hashed (draft s w e).hashes ≡ None)
+  heard = hashed_adds s.hash w.hashed new ((draft s w e).hashes) clear drafts.hashed
 
   same_guess : find (is_guessed w.posted x.posts x.allowed) s.header.secrets ≡ guess s w.posted ((draft s w e).posts) ((draft s w e).allowed)
   same_guess = ap (λ (d : Draft). guess s w.posted d.posts d.allowed) drafts.same
 
+  -- memory is short
+  pub memory_halts : Halts s w new e Memory
+  memory_halts = record {
+    hashed = all_hashed s.hash w.hashed new (draft s w e).hashes drafts.hashed;
+    collided = λ y. cc;
+    guessed = λ party secret y. cc;
+  }
+
   -- a secret is guessed
   pub guess_halts : (held : HeldSecret) → find (is_guessed w.posted x.posts x.allowed) s.header.secrets ≡ Some held → Halts s w new e (Guessed held.party held.name)
   guess_halts held found = record {
+    hashed = all_hashed s.hash w.hashed new (draft s w e).hashes drafts.hashed;
     collided = λ y. cc;
     guessed = λ party secret y.
         let p : held.party ≡ party = cc in
         let q : held.name ≡ secret = cc in
-        (λ i. settle w (draft s w e) (noted.1 i) ((sym same_guess ∙ found) i)) ∙ (λ i. Halted (run.Guessed (p i) (q i)));
+        (λ i. settle w (draft s w e) (heard.1 i) ((sym same_guess ∙ found) i)) ∙ (λ i. Halted (run.Guessed (p i) (q i)));
   }
 
-  -- the event goes on
-  pub goes_by : (mid new_board : Board) (trace later : List Record) (outcome : Outcome) → v ≡ world_of mid w.hashed → mid.exchange.posted ≡ w.posted → find (is_guessed w.posted x.posts x.allowed) s.header.secrets ≡ None
-      → Makes mid new_board x → outcome ≡ x.outcome → later ≡ trace ++ record { event = e; outcome = x.outcome; tx = tx_in x.change } ∷ [] → Goes s w (world_of new_board new) trace later e outcome
-  goes_by mid new_board trace later outcome at posted unguessed makes o t =
-      let d = draft s w e in
-      let world : changed (world_of mid w.hashed) x.change ≡ (draft s w e).world = ap (λ y. changed y x.change) (sym at) ∙ ap (λ (y : Draft). y.world) drafts.same in
-      let posts : x.posts ≡ (draft s w e).posts = ap (λ (y : Draft). y.posts) drafts.same in
-      let next : world_of new_board new ≡ settled w (draft s w e) =
-      makes.world new
+  -- nothing collides, and no secret is guessed
+  pub passes_by : (compiled : List (Option Numbered)) (entry : Option (ℕ × Numbered)) → find (is_guessed w.posted x.posts x.allowed) s.header.secrets ≡ None → IsPlaced s w compiled e entry
+      → Passes s w v new compiled e x entry
+  passes_by compiled entry unguessed placed = record {
+    went = λ i. settle w (draft s w e) (heard.1 i) ((sym same_guess ∙ unguessed) i);
+    drafts = drafts;
+    placed = placed;
+  }
+
+-- ---- an event that goes on
+
+module _ (s : Setup) (w v : World) (new : List (List ℕ)) (compiled : List (Option Numbered)) (e : Event) (x : Drafted) (entry : Option (ℕ × Numbered)) (clear : evidence_of s.hash w.hashed ≡ None)
+    (passes : Passes s w v new compiled e x entry) where
+  abbrev d : Draft
+  d = draft s w e
+
+  messages_are : new ≡ run_messages.noted_all w.hashed (draft s w e).hashes
+  messages_are = (hashed_adds s.hash w.hashed new (draft s w e).hashes clear passes.drafts.hashed).0
+
+  pub tests_by : Tests s w new e (not (is_refused x.outcome))
+  tests_by = record {
+    went = passes.went;
+    hashed = messages_are;
+    clear = passes.drafts.hashed.clear;
+    passes = ap (λ (y : Draft). not (is_refused y.outcome)) passes.drafts.same;
+  }
+
+  -- what was drafted is made, and the contract is placed
+  pub goes_by : (mid made last : Board) (trace later : List Record) → v ≡ world_of mid w.hashed → mid.exchange.posted ≡ w.posted → mid.compiled ≡ compiled
+      → Makes mid made x → last ≡ record made { compiled = last.compiled } → last.compiled ≡ placed entry made.compiled
+      → later ≡ trace ++ record { event = e; outcome = x.outcome; tx = tx_in x.change } ∷ [] → GoesOn s w last new trace later e x.outcome
+  goes_by mid made last trace later at posted before makes rest put t =
+      let world : changed (world_of mid w.hashed) x.change ≡ (draft s w e).world = ap (λ y. changed y x.change) (sym at) ∙ ap (λ (y : Draft). y.world) passes.drafts.same in
+      let posts : x.posts ≡ (draft s w e).posts = ap (λ (y : Draft). y.posts) passes.drafts.same in
+      let next : world_of last new ≡ settled w (draft s w e) =
+      ap (λ b. world_of b new) rest
+      ∙ makes.world new
       ∙ ap (λ (y : World). record y { posted = mid.exchange.posted ++ x.posts }) (changed-hashed (world_of mid w.hashed) new x.change)
-      ∙ (λ i. record (world i) { hashed = noted.0 i; posted = posted i ++ posts i }) in
+      ∙ (λ i. record (world i) { hashed = messages_are i; posted = posted i ++ posts i }) in
       record {
-        went = (λ i. settle w (draft s w e) (noted.1 i) ((sym same_guess ∙ unguessed) i)) ∙ (λ i. Went (draft s w e) (sym next i));
-        outcome = o ∙ ap (λ (y : Draft). y.outcome) drafts.same;
-        trace = t ∙ ap (λ (y : Draft). trace ++ record_of e y ∷ []) drafts.same;
+        goes = record {
+          went = passes.went ∙ (λ i. Went (draft s w e) (sym next i));
+          outcome = ap (λ (y : Draft). y.outcome) passes.drafts.same;
+          trace = t ∙ ap (λ (y : Draft). trace ++ record_of e y ∷ []) passes.drafts.same;
+        };
+        compiled = put ∙ ap (placed entry) (makes.compiled ∙ before) ∙ passes.placed ∙ ap (all_compiled s) (sym next);
+        clear = passes.drafts.hashed.clear;
       }
 
 -- ---- what is kept
 
-went_calm : (w next : World) (d : Draft) (c : Option (List ℕ × List ℕ)) (g : Option HeldSecret) → settle w d c g ≡ Went d next → (c ≡ None) × (settled w d ≡ next)
-went_calm w next d (Some p) g h = cc
-went_calm w next d None (Some held) h = cc
-went_calm w next d None None h = (refl, cc)
+pub kept_after : (s : Setup) (w next : World) (e : Event) → IsSetup s → IsEvent s e → Kept s w → IsCalm s w next (draft s w e) → Kept s next
+kept_after s w next e setup is kept calm = record {
+  config = after_steps kept.config (steps_of s [] kept.config w (settled w (draft s w e)) e (draft s w e));
+  books = subst (λ v. KeptBooks s (after_steps kept.config (steps_of s [] kept.config w (settled w (draft s w e)) e (draft s w e))) v) calm.left (keeps_after s setup [] kept.config w kept.books e is calm.calm);
+}
 
-pub kept_after : (s : Setup) (w next : World) (e : Event) → IsSetup s → IsEvent s e → Kept s w → event s w e ≡ Went (draft s w e) next → Kept s next
-kept_after s w next e setup is kept went =
-    let calm = went_calm w next (draft s w e) (collision s.hash w.hashed ((draft s w e).hashes)) (guess s w.posted ((draft s w e).posts) ((draft s w e).allowed)) went in
-    record {
-      config = after_steps kept.config (steps_of s [] kept.config w (settled w (draft s w e)) e (draft s w e));
-      books = subst (λ v. KeptBooks s (after_steps kept.config (steps_of s [] kept.config w (settled w (draft s w e)) e (draft s w e))) v) calm.1 (keeps_after s setup [] kept.config w kept.books e is calm.0);
-    }
+-- there are few outputs after one more event
+few_after : (s : Setup) → IsSetup s → (w next : World) (before trace : List Record) (e : Event) → IsEvent s e → IsCalm s w next (draft s w e) → trace ≡ before ++ record_of e (draft s w e) ∷ []
+    → length w.outputs ≤ most_header_deposits + most_gift_outputs * length before → length next.outputs ≤ most_header_deposits + most_gift_outputs * length trace
+few_after s setup w next before trace e is calm at few =
+    let grows = event_grows s setup w e is in
+    let same : length (draft s w e).world.outputs ≡ length next.outputs = ap (λ (v : World). length v.outputs) calm.left in
+    let count = ap length at ∙ length-append before (record_of e (draft s w e) ∷ []) in
+    omega (arith, grows, same, count, few)
 
 -- the world after an event that went on
-pub world_after : (s t : Setup) (accounts : List Account) (w next : World) (trace later : List Record) (e : Event) (outcome : Outcome) (halt : Option Halt) → IsSetup s → IsEvent s e → Kept s w → evidence_of s.hash next.hashed ≡ None
-    → Goes s w next trace later e outcome → accounts ≡ map (account_of s.hash) s.header.parties → t ≡ s → IsWorld t accounts next halt
-world_after s t accounts w next trace later e outcome halt setup is kept clear goes at same = subst (λ x. IsWorld x accounts next halt) (sym same) (record {
-  setup = setup;
-  accounts_are = at;
-  kept = λ h. kept_after s w next e setup is kept goes.went;
+pub world_after : (s t : Setup) (old new : Board) (messages later : List (List ℕ)) (before trace : List Record) (e : Event) (outcome : Outcome) (halt : Option Halt) → IsWorld s old messages before None → IsEvent s e
+    → GoesOn s (world_of old messages) new later before trace e outcome → SameBoard old new → t ≡ s → IsWorld t new later trace halt
+world_after s t old new messages later before trace e outcome halt was is goes same at =
+    let calm = calm_of s (world_of old messages) (world_of new later) (draft s (world_of old messages) e) goes.goes.went in
+    subst (λ x. IsWorld x new later trace halt) (sym at) (record {
+      setup = was.setup;
+      accounts = same.accounts ∙ was.accounts;
+      compiled = goes.compiled;
+      few = few_after s was.setup (world_of old messages) (world_of new later) before trace e is calm goes.goes.trace was.few;
+      reached = subst (IsReached s (world_of new later)) (sym goes.goes.trace) (reached_more s (world_of old messages) (world_of new later) before e was.reached is calm);
+      kept = λ h. kept_after s (world_of old messages) (world_of new later) e was.setup is (was.kept refl) calm;
+      clear = λ h. goes.clear;
+    })
+
+-- the world after a halt
+pub world_halted : (s t : Setup) (b : Board) (old later xs : List (List ℕ)) (trace : List Record) (halt : Halt) → IsWorld s b old trace None → HashedFront s.hash old later xs → t ≡ s → IsWorld t b later trace (Some halt)
+world_halted s t b old later xs trace halt was front at = subst (λ x. IsWorld x b later trace (Some halt)) (sym at) (record {
+  setup = was.setup;
+  accounts = was.accounts;
+  compiled = was.compiled;
+  few = was.few;
+  reached = reached_later s (world_of b old) later trace (front_within s.hash old later xs front) was.reached;
+  kept = λ h. cc;
+  clear = λ h. cc;
+})
+
+-- before an event nothing has halted, and there is room
+pub playable_of : (s : Setup) (b : Board) (messages : List (List ℕ)) (trace : List Record) (halt : Option Halt) → IsWorld s b messages trace halt → halt ≡ None → length trace < most_records → IsPlayable s b messages
+playable_of s b messages trace halt is none few =
+    let outputs = is.few in
+    record {
+      setup = is.setup;
+      accounts = is.accounts;
+      compiled = is.compiled;
+      kept = is.kept none;
+      clear = is.clear none;
+      room = omega (arith, outputs, few);
+    }
+
+-- the world where only more was hashed
+pub world_hears : (s t : Setup) (b : Board) (old later xs : List (List ℕ)) (trace : List Record) (halt : Option Halt) → IsWorld s b old trace None → t ≡ s
+    → later ≡ run_messages.noted_all old xs → evidence_of s.hash later ≡ None → collision s.hash old xs ≡ None → IsWorld t b later trace halt
+world_hears s t b old later xs trace halt was at hashed clear calm = subst (λ x. IsWorld x b later trace halt) (sym at) (record {
+  setup = was.setup;
+  accounts = was.accounts;
+  compiled = was.compiled;
+  few = was.few;
+  reached = reached_later s (world_of b old) later trace (λ m i. subst (λ l. is_among m l ≡ true) (sym hashed) (all_more old xs m i)) was.reached;
+  kept = λ h. subst (λ l. Kept s (world_of b l)) (sym hashed) (kept_heard s (world_of b old) xs was.setup (was.kept refl) calm);
   clear = λ h. clear;
 })
+
+-- ---- a transaction that is judged
+
+-- the call stopped
+pub judged_halts : (hash : List ℕ → List ℕ) (old new xs : List (List ℕ)) (error : TrailError) (halt : Halt) → evidence_of hash old ≡ None → Stops hash old new xs error → halt ≡ halt_of error → JudgedHalts hash old new xs halt
+judged_halts hash old new xs trail.Collided halt clear h is = record {
+  hashed = record { front = xs; back = []; strings = sym (append-nil xs); messages = (h.collided refl).0 };
+  collided = λ x. stopped_shows hash old new xs clear h;
+  unguessed = λ party secret x. cc;
+}
+judged_halts hash old new xs trail.Memory halt clear h is =
+    let m = h.memory refl in
+    record {
+      hashed = record { front = m.0; back = m.1; strings = m.2; messages = m.3 };
+      collided = λ x. cc;
+      unguessed = λ party secret x. cc;
+    }

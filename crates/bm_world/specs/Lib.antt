@@ -1,3 +1,4 @@
 pub mod Halts
 pub mod Playing
+pub mod Reached
 pub mod Starting

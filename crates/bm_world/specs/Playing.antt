@@ -1,5 +1,6 @@
 -- What an event leaves.
-use Rattle.std.specs.Prelude.{◌≡◌, ℕ, List, [], ◌∷◌, ◌++◌, map, Option, Some, None}
+use Rattle.std.specs.Prelude.{◌≡◌, ℕ, ◌+◌, ◌*◌, ◌<◌, ◌≤◌, ◌^◌, List, [], ◌∷◌, ◌++◌, map, length, Bool, not, Option, Some, None, IsSome}
+use Rattle.spec_data.specs.Ranges.{most_header_deposits, most_gift_outputs, most_piece_bytes}
 use Rattle.std.specs.Option.{option_map}
 use Rattle.spec_terms.specs.Advert.{Advert}
 use Rattle.spec_calculus.specs.Configuration.{Configuration}
@@ -10,14 +11,27 @@ use Rattle.spec_run.specs.declared.outcome.Record.{Record}
 use Rattle.spec_run.specs.Setup.{Setup}
 use Rattle.spec_run.specs.World.{World}
 use Rattle.spec_run.specs.Conditions.{IsSetup}
-use Rattle.spec_run.specs.Draft.{Answer, Halted}
+use Rattle.spec_data.specs.Messages.{collision}
+use Rattle.spec_data.specs.Messages.{noted_all as heard_all}
+use Rattle.spec_bitcoin.specs.declared.tx.Tx.{Tx}
+use Rattle.spec_bitcoin.specs.declared.verdict.Refusal.{Refusal}
+use Rattle.spec_bitcoin.specs.Verdict.{refusal_of}
+use Rattle.spec_run.specs.Ledger.{live_from, strings_of}
+use Rattle.spec_run.specs.Values.{is_refused}
+use Rattle.spec_run.specs.Draft.{Answer, Halted, settled}
 use Rattle.spec_run.specs.Draft as run
 use Rattle.spec_run.specs.Event.{draft, event, record_of}
-use Rattle.bm_hash.specs.Messages.{evidence_of}
+use Rattle.bm_hash.specs.Messages.{evidence_of, noted_all}
 use Rattle.theory_run.proofs.Facts.Bookkeeping.{KeptBooks}
 use Rattle.bm_world.specs.declared.halt.Halt.{Halt}
 use Rattle.bm_world.specs.declared.halt.Halt.TheVariants.{Collided, Guessed}
-use Rattle.bm_board.specs.declared.accounts.Account.{Account}
+use Rattle.bm_compile.specs.Numbered.{Numbered}
+use Rattle.bm_match.specs.Matches.{all_compiled}
+use Rattle.bm_board.specs.declared.board.Board.{Board}
+use Rattle.bm_board.specs.Compiling.{placed}
+use Rattle.bm_board.specs.declared.drafted.Drafted.{Drafted}
+use Rattle.bm_board.specs.Drafts.{world_of, Drafts}
+use Rattle.bm_world.specs.Reached.{IsReached}
 use Rattle.bm_board.specs.Accounts.{account_of}
 
 -- what a world stands for
@@ -46,23 +60,80 @@ pub record Goes (s : Setup) (w next : World) (before later : List Record) (e : E
 abbrev pub collided_by : List ℕ × List ℕ → Answer
 collided_by p = Halted (run.Collided (p.0) (p.1))
 
+-- the first of these strings were hashed in turn, up to a clash at most
+pub record HashedFront (hash : List ℕ → List ℕ) (old new all : List (List ℕ)) : Type 0 where
+  pub front : List (List ℕ)
+  pub back : List (List ℕ)
+  pub strings : all ≡ front ++ back
+  pub messages : new ≡ noted_all hash old front
+
 -- the event halted: at a collision, which the messages then show, at a guess, or for want of memory
 pub record Halts (s : Setup) (w : World) (messages : List (List ℕ)) (e : Event) (halt : Halt) : Type 0 where
+  pub hashed : HashedFront s.hash w.hashed messages (draft s w e).hashes
   pub collided : halt ≡ Collided → option_map collided_by (evidence_of s.hash messages) ≡ Some (event s w e)
   pub guessed : (party secret : List ℕ) → halt ≡ Guessed party secret → event s w e ≡ Halted (run.Guessed party secret)
 
 -- ---- what a world keeps
+
+-- an event comes after fewer records
+abbrev pub most_records : ℕ
+most_records = 16000
 
 -- a configuration with which all is kept that the theorems keep of a run
 pub record Kept (s : Setup) (w : World) : Type 0 where
   pub config : Configuration
   pub books : KeptBooks s config w
 
-pub record IsWorld (s : Setup) (accounts : List Account) (w : World) (halt : Option Halt) : Type 0 where
+-- a board with these messages before an event
+pub record IsPlayable (s : Setup) (b : Board) (messages : List (List ℕ)) : Type 0 where
   pub setup : IsSetup s
-  pub accounts_are : accounts ≡ map (account_of s.hash) s.header.parties
-  pub kept : halt ≡ None → Kept s w
-  pub clear : halt ≡ None → evidence_of s.hash w.hashed ≡ None
+  pub accounts : b.accounts ≡ map (account_of s.hash) s.header.parties
+  pub compiled : b.compiled ≡ all_compiled s (world_of b messages)
+  pub kept : Kept s (world_of b messages)
+  pub clear : evidence_of s.hash messages ≡ None
+  -- the outputs of one more transaction can be numbered
+  pub room : length b.coins.outputs + most_piece_bytes < 2 ^ 32
+
+-- a board with these messages and records after some events, of which the last may have halted
+pub record IsWorld (s : Setup) (b : Board) (messages : List (List ℕ)) (trace : List Record) (halt : Option Halt) : Type 0 where
+  pub setup : IsSetup s
+  pub accounts : b.accounts ≡ map (account_of s.hash) s.header.parties
+  pub compiled : b.compiled ≡ all_compiled s (world_of b messages)
+  pub reached : IsReached s (world_of b messages) trace
+  pub few : length b.coins.outputs ≤ most_header_deposits + most_gift_outputs * length trace
+  pub kept : halt ≡ None → Kept s (world_of b messages)
+  pub clear : halt ≡ None → evidence_of s.hash messages ≡ None
+
+-- ---- what an event leaves of a board
+
+-- with this contract placed, the board has what the contracts are compiled to after an event
+abbrev pub IsPlaced : Setup → World → List (Option Numbered) → Event → Option (ℕ × Numbered) → Type 0
+IsPlaced s w compiled e entry = placed entry compiled ≡ all_compiled s (draft s w e).world
+
+-- the event goes on, these are its messages, and this was drafted in the second world, with the contract that is compiled then
+pub record Passes (s : Setup) (w v : World) (messages : List (List ℕ)) (compiled : List (Option Numbered)) (e : Event) (x : Drafted) (entry : Option (ℕ × Numbered)) : Type 0 where
+  pub went : event s w e ≡ run.Went (draft s w e) (settled w (draft s w e))
+  pub drafts : Drafts s.hash v w.hashed messages (draft s w e) x
+  pub placed : IsPlaced s w compiled e entry
+
+-- the event would go on, these are then the messages, and whether it wouldn't be refused
+pub record Tests (s : Setup) (w : World) (messages : List (List ℕ)) (e : Event) (result : Bool) : Type 0 where
+  pub went : event s w e ≡ run.Went (draft s w e) (settled w (draft s w e))
+  pub hashed : messages ≡ heard_all w.hashed (draft s w e).hashes
+  pub clear : evidence_of s.hash messages ≡ None
+  pub passes : result ≡ not (is_refused (draft s w e).outcome)
+
+-- what never changes is the same
+pub record SameBoard (old new : Board) : Type 0 where
+  pub header : new.header ≡ old.header
+  pub contracts : new.contracts ≡ old.contracts
+  pub accounts : new.accounts ≡ old.accounts
+
+-- the event went on, and left this board with these messages
+pub record GoesOn (s : Setup) (w : World) (b : Board) (messages : List (List ℕ)) (before later : List Record) (e : Event) (result : Outcome) : Type 0 where
+  pub goes : Goes s w (world_of b messages) before later e result
+  pub compiled : b.compiled ≡ all_compiled s (world_of b messages)
+  pub clear : evidence_of s.hash messages ≡ None
 
 -- ---- what a call leaves
 
@@ -78,12 +149,47 @@ pub record Went {H : Type 0} (digest : H → List ℕ → List ℕ) (old new : P
   pub going : (old.halt ≡ None) × (new.halt ≡ None)
   pub goes : Goes (setup_in digest old) old.world new.world old.trace new.trace e result
 
--- an event halted, or came after a halt
-pub record Stopped {H : Type 0} (digest : H → List ℕ → List ℕ) (old new : Played H) (e : Event) (halt : Halt) : Type 0 where
+-- a call halted the run by this cause, or came after a halt
+pub record StoppedBy {H : Type 0} (old new : Played H) (halt : Halt) (why : Type 0) : Type 0 where
   pub setup : SameSetup old new
   pub kept : new.world ≡ record old.world { hashed = new.world.hashed }
   pub trace : new.trace ≡ old.trace
   pub halted : new.halt ≡ Some halt
   -- the same answer again, and nothing changes any more
   pub again : (earlier : Halt) → old.halt ≡ Some earlier → (halt ≡ earlier) × (new ≡ old)
-  pub cause : old.halt ≡ None → Halts (setup_in digest old) old.world new.world.hashed e halt
+  pub cause : old.halt ≡ None → why
+
+-- an event halted, or came after a halt
+abbrev pub Stopped : {H : Type 0} → (H → List ℕ → List ℕ) → Played H → Played H → Event → Halt → Type 0
+Stopped digest old new e halt = StoppedBy old new halt (Halts (setup_in digest old) old.world new.world.hashed e halt)
+
+-- ---- what a transaction or an event would come to
+
+-- only more is hashed
+pub record OnlyHears {H : Type 0} (old new : Played H) (hashed : List (List ℕ)) : Type 0 where
+  pub setup : SameSetup old new
+  pub going : (old.halt ≡ None) × (new.halt ≡ None)
+  pub world : new.world ≡ record old.world { hashed = hashed }
+  pub trace : new.trace ≡ old.trace
+
+-- the ledger said this of a transaction, whose strings are hashed and collide with none
+pub record Judged {H : Type 0} (digest : H → List ℕ → List ℕ) (old new : Played H) (tx : Tx) (result : Option Refusal) : Type 0 where
+  pub hears : OnlyHears old new (heard_all old.world.hashed (strings_of (setup_in digest old) old.world tx))
+  pub calm : collision (setup_in digest old).hash old.world.hashed (strings_of (setup_in digest old) old.world tx) ≡ None
+  pub refusal : result ≡ refusal_of (setup_in digest old).hash old.world.book old.world.tip (live_from 0 old.world.outputs) tx
+
+-- a transaction that was judged halted the run: its strings collided, as the messages then show, or memory was short
+pub record JudgedHalts (hash : List ℕ → List ℕ) (old new strings : List (List ℕ)) (halt : Halt) : Type 0 where
+  pub hashed : HashedFront hash old new strings
+  pub collided : halt ≡ Collided → (evidence_of hash new ≡ collision hash old strings) × IsSome (collision hash old strings)
+  pub unguessed : (party secret : List ℕ) → halt ≡ Guessed party secret → ⊥
+
+-- an event would go on, and come to this
+pub record Tested {H : Type 0} (digest : H → List ℕ → List ℕ) (old new : Played H) (e : Event) (result : Bool) : Type 0 where
+  pub hears : OnlyHears old new (heard_all old.world.hashed (draft (setup_in digest old) old.world e).hashes)
+  pub goes : event (setup_in digest old) old.world e ≡ run.Went (draft (setup_in digest old) old.world e) (settled old.world (draft (setup_in digest old) old.world e))
+  pub passes : result ≡ not (is_refused (draft (setup_in digest old) old.world e).outcome)
+
+abbrev pub StoppedJudging : {H : Type 0} → (H → List ℕ → List ℕ) → Played H → Played H → Tx → Halt → Type 0
+StoppedJudging digest old new tx halt = StoppedBy old new halt (
+    JudgedHalts (setup_in digest old).hash old.world.hashed new.world.hashed (strings_of (setup_in digest old) old.world tx) halt)

@@ -1,34 +1,29 @@
 //! The drafts of all events.
 
-ghost use Rattle.std.specs.Prelude.{◌≡◌, map, None, IfOk, IfErr};
-ghost use Rattle.bm_hash.specs.Messages.{evidence_of};
+ghost use Rattle.std.specs.Prelude.{◌≡◌, IfOk, IfErr};
 ghost use Rattle.bm_hash.specs.Trails.{StopsAlong};
-ghost use Rattle.spec_bitcoin.specs.declared.tx.Tx.{Tx};
-ghost use Rattle.theory_world.proofs.Ledger.Preimages.{IsNumbered};
 ghost use Rattle.spec_run.specs.Conditions.{IsEvent};
 ghost use Rattle.spec_run.specs.Event as run;
-ghost use Rattle.bm_board.specs.Accounts.{account_of};
 ghost use Rattle.bm_board.specs.Drafts.{setup_of, world_of, Drafts, Signs};
-ghost use Rattle.bm_board.specs.Reaching.{IsFresh};
+ghost use Rattle.bm_world.specs.Playing.{IsPlayable, IsPlaced};
 
 use bm_board::{Board, Drafted};
+use bm_compile::Compiled;
 use bm_drafts::{draft_advertise, draft_mine, draft_post, draft_reveal, draft_sign};
 use bm_hash::{Hash32, Trail, TrailError};
 use spec_run::Event;
 use std::alloc::Global;
 
-/// The draft of an event. The pairs that it signs are then in the book.
+// The draft of an event that commits nothing. The pairs that it signs are then in the book.
 #[tactic(auto, using(bm_hash::proofs::HashesLemmas::stops_early))]
-pub(crate) fn draft<H: Hash32 + Drop>(
+fn draft_other<H: Hash32 + Drop>(
     alloc: Global,
     trail: &mut Trail<H>,
     board: &mut Board,
     event: &Event,
 ) -> Result<Drafted, TrailError>
-    requires clear { evidence_of (H.digest_of trail.old.hasher) trail.old.messages ≡ None }
+    requires playable { IsPlayable (setup_of (H.digest_of trail.old.hasher) board.old) board.old trail.old.messages }
     requires is { IsEvent (setup_of (H.digest_of trail.old.hasher) board.old) event.now }
-    requires accounts { board.old.accounts ≡ map (account_of (H.digest_of trail.old.hasher)) board.old.header.parties }
-    requires fresh { (tx : Tx) → IsNumbered tx → IsFresh (setup_of (H.digest_of trail.old.hasher) board.old) (world_of board.old trail.old.messages) tx }
     ensures hasher { trail.new.hasher ≡ trail.old.hasher }
     ensures board { Signs board.old board.new }
     ensures ok { IfOk result (Drafts (H.digest_of trail.old.hasher) (world_of board.new trail.old.messages) trail.old.messages trail.new.messages (run.draft (setup_of (H.digest_of trail.old.hasher) board.old) (world_of board.old trail.old.messages) event.now)) }
@@ -61,5 +56,31 @@ pub(crate) fn draft<H: Hash32 + Drop>(
         }
         Event::Mine { blocks } => Ok(draft_mine(alloc, board, *blocks)),
         _ => Err(TrailError::Memory),
+    }
+}
+
+/// The draft of an event, and the contract that it compiles, where it is the last commitment to it. The pairs that it signs are then
+/// in the book; the compiled contract isn't yet placed on the board.
+#[tactic(auto, using(bm_hash::proofs::HashesLemmas::stops_early))]
+pub(crate) fn draft<H: Hash32 + Drop>(
+    alloc: Global,
+    trail: &mut Trail<H>,
+    board: &mut Board,
+    event: &Event,
+) -> Result<(Drafted, Option<(u32, Compiled)>), TrailError>
+    requires playable { IsPlayable (setup_of (H.digest_of trail.old.hasher) board.old) board.old trail.old.messages }
+    requires is { IsEvent (setup_of (H.digest_of trail.old.hasher) board.old) event.now }
+    ensures hasher { trail.new.hasher ≡ trail.old.hasher }
+    ensures board { Signs board.old board.new }
+    ensures ok { IfOk result (λ p. Drafts (H.digest_of trail.old.hasher) (world_of board.new trail.old.messages) trail.old.messages trail.new.messages (run.draft (setup_of (H.digest_of trail.old.hasher) board.old) (world_of board.old trail.old.messages) event.now) p.0) }
+    ensures compiled { IfOk result (λ p. IsPlaced (setup_of (H.digest_of trail.old.hasher) board.old) (world_of board.old trail.old.messages) board.old.compiled event.now p.1) }
+    ensures err { IfErr result (StopsAlong H.digest_of trail.old trail.new ((run.draft (setup_of (H.digest_of trail.old.hasher) board.old) (world_of board.old trail.old.messages) event.now).hashes)) }
+{
+    match event {
+        Event::Commit { .. } => Err(TrailError::Memory),
+        _ => {
+            let drafted = draft_other(alloc, trail, board, event)?;
+            Ok((drafted, None))
+        }
     }
 }

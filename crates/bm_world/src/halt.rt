@@ -30,7 +30,7 @@ pub enum StartError {
 
 impl Halt {
     /// An equal one.
-    pub fn same(&self) -> Halt
+    pub fn copy(&self) -> Halt
         ensures { result ≡ self.now }
     {
         match self {

@@ -2,12 +2,12 @@
 //! came of the event, which is then recorded, or what halted the run: then nothing but the trail has changed, and every later
 //! call answers the same.
 
-ghost use Rattle.std.specs.Prelude.{◌≡◌, ◌≤◌, true, IfOk, IfErr};
+ghost use Rattle.std.specs.Prelude.{◌≡◌, ◌<◌, ◌≤◌, length, true, IfOk, IfErr};
 ghost use Rattle.spec_bitcoin.specs.Keys.{IsLabel};
 ghost use Rattle.spec_run.specs.Setup.{is_declared};
 ghost use Rattle.spec_run.specs.Conditions.{IsPiece};
 ghost use Rattle.spec_run.specs.declared.event.Event.TheVariants as events;
-ghost use Rattle.bm_world.specs.Playing.{setup_in, Went, Stopped};
+ghost use Rattle.bm_world.specs.Playing.{most_records, setup_in, Went, Stopped};
 
 use crate::halt::Halt;
 use crate::world::World;
@@ -19,6 +19,7 @@ use spec_run::{Event, Outcome};
 impl<H: Hash32 + Drop> World<H> {
     /// A contract is posted with its deposits, each a name with a birth number.
     pub fn advertise(&mut self, contract: u32, bindings: Seq<(Name, u32)>) -> Result<Outcome, Halt>
+        requires few { length self.old.trace < most_records }
         ensures went { IfOk result (Went H.digest_of self.old self.new (events.Advertise contract bindings)) }
         ensures stopped { IfErr result (Stopped H.digest_of self.old self.new (events.Advertise contract bindings)) }
     {
@@ -28,6 +29,7 @@ impl<H: Hash32 + Drop> World<H> {
     /// An honest party posts its secret of this name.
     pub fn reveal(&mut self, contract: u32, party: Name, secret: Name) -> Result<Outcome, Halt>
         requires declared { is_declared (setup_in H.digest_of self.old) party ≡ true }
+        requires few { length self.old.trace < most_records }
         ensures went { IfOk result (Went H.digest_of self.old self.new (events.Reveal contract party secret)) }
         ensures stopped { IfErr result (Stopped H.digest_of self.old self.new (events.Reveal contract party secret)) }
     {
@@ -41,6 +43,7 @@ impl<H: Hash32 + Drop> World<H> {
     /// Some bytes are posted.
     pub fn post(&mut self, bytes: Bytes) -> Result<Outcome, Halt>
         requires piece { IsPiece bytes }
+        requires few { length self.old.trace < most_records }
         ensures went { IfOk result (Went H.digest_of self.old self.new (events.Post bytes)) }
         ensures stopped { IfErr result (Stopped H.digest_of self.old self.new (events.Post bytes)) }
     {
@@ -51,6 +54,7 @@ impl<H: Hash32 + Drop> World<H> {
     pub fn sign(&mut self, party: Name, label: Label, digest: [u8; 32]) -> Result<Outcome, Halt>
         requires declared { is_declared (setup_in H.digest_of self.old) party ≡ true }
         requires label { IsLabel label }
+        requires few { length self.old.trace < most_records }
         ensures went { IfOk result (Went H.digest_of self.old self.new (events.Sign party label digest)) }
         ensures stopped { IfErr result (Stopped H.digest_of self.old self.new (events.Sign party label digest)) }
     {
@@ -64,6 +68,7 @@ impl<H: Hash32 + Drop> World<H> {
     /// So many blocks come.
     pub fn mine(&mut self, blocks: u32) -> Result<Outcome, Halt>
         requires some { 1 ≤ blocks }
+        requires few { length self.old.trace < most_records }
         ensures went { IfOk result (Went H.digest_of self.old self.new (events.Mine blocks)) }
         ensures stopped { IfErr result (Stopped H.digest_of self.old self.new (events.Mine blocks)) }
     {

@@ -4,6 +4,7 @@
 mod drafting;
 mod halt;
 mod kinds;
+mod placing;
 mod playing;
 mod starting;
 mod world;

@@ -1,20 +1,53 @@
 //! One event.
 
-ghost use Rattle.std.specs.Prelude.{◌≡◌, map, None, IfOk, IfErr, OnOk, OnErr};
-ghost use Rattle.bm_hash.specs.Messages.{evidence_of};
-ghost use Rattle.spec_run.specs.Conditions.{IsSetup, IsEvent};
-ghost use Rattle.bm_board.specs.Accounts.{account_of};
+ghost use Rattle.std.specs.Prelude.{◌≡◌, IfOk, IfErr, OnErr};
+ghost use Rattle.spec_run.specs.Conditions.{IsEvent};
+ghost use Rattle.spec_run.specs.Values as values;
 ghost use Rattle.bm_board.specs.Drafts.{setup_of, world_of, Signs};
-ghost use Rattle.bm_world.specs.Playing.{Goes, Halts, Kept};
+ghost use Rattle.bm_world.specs.Playing.{IsPlayable, Passes, SameBoard, GoesOn, Tests, Halts};
 
 use crate::drafting::draft;
 use crate::halt::Halt;
-use bm_board::Board;
+use crate::placing::place;
+use bm_board::{Board, Drafted};
+use bm_compile::Compiled;
 use bm_hash::{Hash32, Trail};
 use bm_settle::{first_guessed, settle};
 use spec_data::Seq;
 use spec_run::{Event, Outcome, Record};
 use std::alloc::Global;
+
+// The draft of an event that goes on, and the contract that it compiles, where it does. Whether it goes on or halts, the pairs that
+// it signs are then in the book.
+fn draft_passing<H: Hash32 + Drop>(
+    alloc: Global,
+    trail: &mut Trail<H>,
+    board: &mut Board,
+    event: &Event,
+) -> Result<(Drafted, Option<(u32, Compiled)>), Halt>
+    requires playable { IsPlayable (setup_of (H.digest_of trail.old.hasher) board.old) board.old trail.old.messages }
+    requires is { IsEvent (setup_of (H.digest_of trail.old.hasher) board.old) event.now }
+    ensures hasher { trail.new.hasher ≡ trail.old.hasher }
+    ensures signs { Signs board.old board.new }
+    ensures passes { IfOk result (λ p. Passes (setup_of (H.digest_of trail.old.hasher) board.old) (world_of board.old trail.old.messages) (world_of board.new trail.old.messages) trail.new.messages board.old.compiled event.now p.0 p.1) }
+    ensures halts { IfErr result (Halts (setup_of (H.digest_of trail.old.hasher) board.old) (world_of board.old trail.old.messages) trail.new.messages event.now) }
+{
+    let answer = draft(alloc, trail, board, event)?;
+    let guessed = first_guessed(
+        alloc,
+        board.header.secrets.as_slice(),
+        &board.exchange,
+        answer.0.posts.as_slice(),
+        &answer.0.allowed,
+    )?;
+    if let Some(held) = guessed {
+        return Err(Halt::Guessed {
+            party: held.party,
+            secret: held.name,
+        });
+    }
+    Ok(answer)
+}
 
 // One event. After a halt the pairs that it signed are still in the book.
 fn attempt<H: Hash32 + Drop>(
@@ -24,34 +57,19 @@ fn attempt<H: Hash32 + Drop>(
     trace: &mut Seq<Record>,
     event: &Event,
 ) -> Result<Outcome, Halt>
-    requires setup { IsSetup (setup_of (H.digest_of trail.old.hasher) board.old) }
-    requires kept { Kept (setup_of (H.digest_of trail.old.hasher) board.old) (world_of board.old trail.old.messages) }
-    requires clear { evidence_of (H.digest_of trail.old.hasher) trail.old.messages ≡ None }
-    requires accounts { board.old.accounts ≡ map (account_of (H.digest_of trail.old.hasher)) board.old.header.parties }
+    requires playable { IsPlayable (setup_of (H.digest_of trail.old.hasher) board.old) board.old trail.old.messages }
     requires is { IsEvent (setup_of (H.digest_of trail.old.hasher) board.old) event.now }
     ensures hasher { trail.new.hasher ≡ trail.old.hasher }
-    ensures header { board.new.header ≡ board.old.header }
-    ensures accounts { board.new.accounts ≡ board.old.accounts }
-    ensures contracts { board.new.contracts ≡ board.old.contracts }
-    ensures goes { IfOk result (Goes (setup_of (H.digest_of trail.old.hasher) board.old) (world_of board.old trail.old.messages) (world_of board.new trail.new.messages) trace.old trace.new event.now) }
-    ensures clear { OnOk result (evidence_of (H.digest_of trail.old.hasher) trail.new.messages ≡ None) }
+    ensures same { SameBoard board.old board.new }
+    ensures goes { IfOk result (GoesOn (setup_of (H.digest_of trail.old.hasher) board.old) (world_of board.old trail.old.messages) board.new trail.new.messages trace.old trace.new event.now) }
     ensures halts { IfErr result (Halts (setup_of (H.digest_of trail.old.hasher) board.old) (world_of board.old trail.old.messages) trail.new.messages event.now) }
     ensures signs { OnErr result (Signs board.old board.new) }
     ensures records { OnErr result (trace.new ≡ trace.old) }
 {
-    let drafted = draft(alloc, trail, board, event)?;
-    if let Some(held) = first_guessed(
-        board.header.secrets.as_slice(),
-        &board.exchange,
-        drafted.posts.as_slice(),
-        &drafted.allowed,
-    ) {
-        return Err(Halt::Guessed {
-            party: held.party,
-            secret: held.name,
-        });
-    }
+    let answer = draft_passing(alloc, trail, board, event)?;
+    let (drafted, entry) = answer;
     settle(alloc, board, trace, event, &drafted)?;
+    place(alloc, &mut board.compiled, entry);
     Ok(drafted.outcome)
 }
 
@@ -63,17 +81,11 @@ pub(crate) fn play<H: Hash32 + Drop>(
     trace: &mut Seq<Record>,
     event: &Event,
 ) -> Result<Outcome, Halt>
-    requires setup { IsSetup (setup_of (H.digest_of trail.old.hasher) board.old) }
-    requires kept { Kept (setup_of (H.digest_of trail.old.hasher) board.old) (world_of board.old trail.old.messages) }
-    requires clear { evidence_of (H.digest_of trail.old.hasher) trail.old.messages ≡ None }
-    requires accounts { board.old.accounts ≡ map (account_of (H.digest_of trail.old.hasher)) board.old.header.parties }
+    requires playable { IsPlayable (setup_of (H.digest_of trail.old.hasher) board.old) board.old trail.old.messages }
     requires is { IsEvent (setup_of (H.digest_of trail.old.hasher) board.old) event.now }
     ensures hasher { trail.new.hasher ≡ trail.old.hasher }
-    ensures header { board.new.header ≡ board.old.header }
-    ensures accounts { board.new.accounts ≡ board.old.accounts }
-    ensures contracts { board.new.contracts ≡ board.old.contracts }
-    ensures goes { IfOk result (Goes (setup_of (H.digest_of trail.old.hasher) board.old) (world_of board.old trail.old.messages) (world_of board.new trail.new.messages) trace.old trace.new event.now) }
-    ensures clear { OnOk result (evidence_of (H.digest_of trail.old.hasher) trail.new.messages ≡ None) }
+    ensures same { SameBoard board.old board.new }
+    ensures goes { IfOk result (GoesOn (setup_of (H.digest_of trail.old.hasher) board.old) (world_of board.old trail.old.messages) board.new trail.new.messages trace.old trace.new event.now) }
     ensures halts { IfErr result (Halts (setup_of (H.digest_of trail.old.hasher) board.old) (world_of board.old trail.old.messages) trail.new.messages event.now) }
     ensures board { OnErr result (board.new ≡ board.old) }
     ensures records { OnErr result (trace.new ≡ trace.old) }
@@ -86,4 +98,53 @@ pub(crate) fn play<H: Hash32 + Drop>(
             Err(halt)
         }
     }
+}
+
+// Whether an event was refused.
+fn is_refused(outcome: &Outcome) -> bool
+    ensures { result ≡ values.is_refused outcome.now }
+{
+    match outcome {
+        Outcome::Refused(_) => true,
+        Outcome::Accepted { .. } => false,
+        Outcome::Done => false,
+    }
+}
+
+// Whether an event would be done or accepted. The pairs that it would sign are still in the book.
+fn try_event<H: Hash32 + Drop>(
+    alloc: Global,
+    trail: &mut Trail<H>,
+    board: &mut Board,
+    event: &Event,
+) -> Result<bool, Halt>
+    requires playable { IsPlayable (setup_of (H.digest_of trail.old.hasher) board.old) board.old trail.old.messages }
+    requires is { IsEvent (setup_of (H.digest_of trail.old.hasher) board.old) event.now }
+    ensures hasher { trail.new.hasher ≡ trail.old.hasher }
+    ensures signs { Signs board.old board.new }
+    ensures tests { IfOk result (Tests (setup_of (H.digest_of trail.old.hasher) board.old) (world_of board.old trail.old.messages) trail.new.messages event.now) }
+    ensures halts { IfErr result (Halts (setup_of (H.digest_of trail.old.hasher) board.old) (world_of board.old trail.old.messages) trail.new.messages event.now) }
+{
+    let answer = draft_passing(alloc, trail, board, event)?;
+    Ok(!is_refused(&answer.0.outcome))
+}
+
+/// Whether an event would be done or accepted. Only the trail is changed.
+pub(crate) fn test<H: Hash32 + Drop>(
+    alloc: Global,
+    trail: &mut Trail<H>,
+    board: &mut Board,
+    event: &Event,
+) -> Result<bool, Halt>
+    requires playable { IsPlayable (setup_of (H.digest_of trail.old.hasher) board.old) board.old trail.old.messages }
+    requires is { IsEvent (setup_of (H.digest_of trail.old.hasher) board.old) event.now }
+    ensures hasher { trail.new.hasher ≡ trail.old.hasher }
+    ensures board { board.new ≡ board.old }
+    ensures tests { IfOk result (Tests (setup_of (H.digest_of trail.old.hasher) board.old) (world_of board.old trail.old.messages) trail.new.messages event.now) }
+    ensures halts { IfErr result (Halts (setup_of (H.digest_of trail.old.hasher) board.old) (world_of board.old trail.old.messages) trail.new.messages event.now) }
+{
+    let signed = board.book.count();
+    let answer = try_event(alloc, trail, board, event);
+    board.book.cut(signed);
+    answer
 }

@@ -1,25 +1,30 @@
 //! The world of a run.
 
-ghost use Rattle.std.specs.Prelude.{◌≡◌, ◌≤◌, List, ℕ, length, None, Some, IfOk, IfErr};
+ghost use Rattle.std.specs.Prelude.{◌≡◌, ◌≤◌, ◌<◌, ◌^◌, List, ℕ, length, option_map, None, Some, IfOk, IfErr};
 ghost use Rattle.spec_data.specs.Ranges.{most_contracts};
 ghost use Rattle.spec_run.specs.Conditions.{IsHeader, IsEvent};
 ghost use Rattle.spec_run.specs.Event.{opening_collision};
+ghost use Rattle.spec_run.specs.Compiled.{compiled_instance};
 ghost use Rattle.spec_run.specs.Ledger.{chain_of};
+ghost use Rattle.bm_compile.specs.Numbered.{numbered};
 ghost use Rattle.bm_world.specs.declared.halt.StartError.TheVariants.{Collided};
-ghost use Rattle.bm_world.specs.Playing.{setup_in, Went, Stopped};
+ghost use Rattle.bm_world.specs.Playing.{most_records, setup_in, Went, Stopped, Tested, Judged, StoppedJudging};
+ghost use Rattle.bm_world.specs.Reached.{IsReached};
 ghost use Rattle.bm_opening.specs.Opening.{setup_with};
 ghost use Rattle.bm_world.specs.Starting.{Opens};
 
 use crate::halt::{Halt, StartError};
-use crate::playing::play;
+use crate::playing::{play, test};
 use crate::starting::start_error;
 use bm_board::Board;
 use bm_book::Book;
+use bm_compile::Compiled;
 use bm_exchange::Exchange;
 use bm_hash::{Hash32, Trail};
 use bm_ledger::Ledger;
 use bm_opening::open_board;
 use bm_wellformed::Checked;
+use spec_bitcoin::{Refusal, Tx};
 use spec_data::Seq;
 use spec_run::{Event, Header, Outcome, Record};
 use std::alloc::Global;
@@ -44,13 +49,20 @@ impl<H: Hash32> Model for World<H> {
 
     ghost coded = { Prim.hlevel (codes, coded_choice) };
 
-    ghost use Rattle.std.specs.Prelude.{◌≡◌, map};
-    ghost use Rattle.bm_board.specs.Accounts.{account_of};
     ghost use Rattle.bm_board.specs.Drafts.{setup_of, world_of};
 
     ghost view = { λ w. record { hasher = w.trail.hasher; header = w.board.header; contracts = w.board.contracts; world = world_of w.board w.trail.messages; trace = w.trace; halt = w.halt } };
 
-    ghost invariant = { λ w. IsWorld (setup_of (H.digest_of w.trail.hasher) w.board) w.board.accounts (world_of w.board w.trail.messages) w.halt };
+    ghost invariant = { λ w. IsWorld (setup_of (H.digest_of w.trail.hasher) w.board) w.board w.trail.messages w.trace w.halt };
+}
+
+// The halt, kept for later calls.
+fn halted(kept: &mut Option<Halt>, halt: Halt) -> Halt
+    ensures kept { kept.new ≡ Some halt }
+    ensures same { result ≡ halt }
+{
+    *kept = Some(halt.copy());
+    halt
 }
 
 impl<H: Hash32 + Drop> World<H> {
@@ -80,9 +92,10 @@ impl<H: Hash32 + Drop> World<H> {
         }
     }
 
-    /// The records so far.
+    /// The records so far: they are those of a run that led to this world.
     pub fn trace(&self) -> &[Record]
-        ensures { result.now ≡ self.now.trace }
+        ensures trace { result.now ≡ self.now.trace }
+        ensures reached { IsReached (setup_in H.digest_of self.now) self.now.world result.now }
     {
         self.trace.as_slice()
     }
@@ -129,15 +142,23 @@ impl<H: Hash32 + Drop> World<H> {
         self.board.contracts.as_slice()
     }
 
+    /// What the contract of this number is compiled to: there from the event on with which all its participants have committed.
+    pub fn compiled(&self, contract: u32) -> Option<&Compiled>
+        ensures { option_map (λ c. c.now) result ≡ option_map (numbered (setup_in H.digest_of self.now).hash) (compiled_instance (setup_in H.digest_of self.now) self.now.world contract) }
+    {
+        self.board.compiled(contract)
+    }
+
     // One event. After a halt nothing but the trail has changed, and every later call answers the same. Callers have a call
     // for each kind that is built: of any other event this says that memory is short.
     pub(crate) fn event(&mut self, event: &Event) -> Result<Outcome, Halt>
         requires is { IsEvent (setup_in H.digest_of self.old) event.now }
+        requires few { length self.old.trace < most_records }
         ensures went { IfOk result (Went H.digest_of self.old self.new event.now) }
         ensures stopped { IfErr result (Stopped H.digest_of self.old self.new event.now) }
     {
         if let Some(halt) = &self.halt {
-            return Err(halt.same());
+            return Err(halt.copy());
         }
         match play(
             self.alloc,
@@ -147,10 +168,44 @@ impl<H: Hash32 + Drop> World<H> {
             event,
         ) {
             Ok(outcome) => Ok(outcome),
-            Err(halt) => {
-                self.halt = Some(halt.same());
-                Err(halt)
-            }
+            Err(halt) => Err(halted(&mut self.halt, halt)),
+        }
+    }
+
+    /// Whether an event would go on here and be done or accepted. Nothing but the trail changes, and after a halt nothing but the
+    /// trail has changed, and every later call answers the same.
+    pub fn test(&mut self, event: &Event) -> Result<bool, Halt>
+        requires is { IsEvent (setup_in H.digest_of self.old) event.now }
+        requires few { length self.old.trace < most_records }
+        ensures tested { IfOk result (Tested H.digest_of self.old self.new event.now) }
+        ensures stopped { IfErr result (Stopped H.digest_of self.old self.new event.now) }
+    {
+        if let Some(halt) = &self.halt {
+            return Err(halt.copy());
+        }
+        match test(self.alloc, &mut self.trail, &mut self.board, event) {
+            Ok(passes) => Ok(passes),
+            Err(halt) => Err(halted(&mut self.halt, halt)),
+        }
+    }
+
+    /// Why the ledger would refuse a transaction here, if it would. Nothing but the trail changes, which hashes the strings of the
+    /// transaction; after a halt every later call answers the same.
+    pub fn judge(&mut self, tx: &Tx) -> Result<Option<Refusal>, Halt>
+        requires few { length tx.now.inputs < 2 ^ 32 }
+        ensures judged { IfOk result (Judged H.digest_of self.old self.new tx.now) }
+        ensures stopped { IfErr result (StoppedJudging H.digest_of self.old self.new tx.now) }
+    {
+        if let Some(halt) = &self.halt {
+            return Err(halt.copy());
+        }
+        match self
+            .board
+            .coins
+            .examine(&mut self.trail, &self.board.book, tx)
+        {
+            Ok(judged) => Ok(judged.refusal),
+            Err(error) => Err(halted(&mut self.halt, Halt::from(error))),
         }
     }
 }

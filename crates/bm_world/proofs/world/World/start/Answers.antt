@@ -12,7 +12,7 @@ invariant_of-result g c =
     let hashed : Hashed (g.H.Hash32.digest_of c.args.hash) [] c.open_board.new.trail.messages (opening_strings (setup_with (g.H.Hash32.digest_of c.args.hash) c.args.header.now c.args.contracts.items)) =
     rw c.new-trail.ensures at c.in-Ok.ensures.trail.1 in
     opened_world g.H.Hash32.digest_of c.args.hash c.open_board.new.trail.hasher c.args.header.now c.args.contracts.items c.in-Ok.board c.open_board.new.trail.messages same opened hashed
-    (record { size = g.met.H.Hash32.sized c.args.hash; bytes = g.met.H.Hash32.bytes c.args.hash }) c.requires.header c.requires.few
+    c.new.result c.new.ensures (record { size = g.met.H.Hash32.sized c.args.hash; bytes = g.met.H.Hash32.bytes c.args.hash }) c.requires.header c.requires.few
 
 pub returns-in-Ok-clause-opens : goal.returns-in-Ok-clause-opens
 returns-in-Ok-clause-opens g c =

@@ -1,0 +1,69 @@
+-- Fewer messages don't collide where more don't.
+use Rattle.std.proofs.Common.{◌≡◌, ℕ, List, [], ◌∷◌, Bool, true, false, Option, Some, None, refl, sym, ap, ◌∙◌, subst, inl, inr, cond}
+use Rattle.std.specs.Prelude.{◌⊎◌}
+use Rattle.std.specs.List.{find}
+use Rattle.std.specs.Option.{option_map, option_or}
+use Rattle.std.specs.Str.{bytes_eq}
+use Rattle.std.proofs.lemmas.Bool.{or_cases}
+use Rattle.spec_data.specs.Lists.{is_among}
+use Rattle.spec_data.specs.Messages.{noted, noted_all, is_twin, clash, collision}
+use Rattle.theory_calculus.proofs.Names.{bytes-true}
+use Rattle.theory_calculus.proofs.Faultless.{map_none}
+use Rattle.theory_world.proofs.Hashed.{among_head, among_tail, noted_more, noted_new, noted_back}
+
+-- each of these strings is one of those
+abbrev pub Within : List (List ℕ) → List (List ℕ) → Type 0
+Within xs ys = (m : List ℕ) → is_among m xs ≡ true → is_among m ys ≡ true
+
+noted_within : (xs ys : List (List ℕ)) (m : List ℕ) → Within xs ys → Within (noted xs m) (noted ys m)
+noted_within xs ys m h t i = by_case (noted_back xs m t i)
+  where
+    by_case : (is_among t xs ≡ true) ⊎ (t ≡ m) → is_among t (noted ys m) ≡ true
+    by_case (inl a) = noted_more ys m t (h t a)
+    by_case (inr e) = subst (λ x. is_among x (noted ys m) ≡ true) (sym e) (noted_new ys m)
+
+pub all_within : (xs ys ts : List (List ℕ)) → Within xs ys → Within (noted_all xs ts) (noted_all ys ts)
+all_within xs ys [] h = h
+all_within xs ys (t ∷ ts) h = all_within (noted xs t) (noted ys t) ts (noted_within xs ys t h)
+
+-- ---- nothing is found
+
+-- where nothing is found, nothing passes
+none_passes : (p : List ℕ → Bool) (ms : List (List ℕ)) (u : List ℕ) → find p ms ≡ None → is_among u ms ≡ true → p u ≡ false
+none_passes p [] u h k = cc
+none_passes p (m ∷ ms) u h k = by_test (p m) refl h (or_cases (bytes_eq m u) (is_among u ms) k) (none_passes p ms u)
+  where
+    by_test : (b : Bool) → p m ≡ b → cond b (Some m) (find p ms) ≡ None → (bytes_eq m u ≡ true) ⊎ (is_among u ms ≡ true)
+        → (find p ms ≡ None → is_among u ms ≡ true → p u ≡ false) → p u ≡ false
+    by_test true e x c later = cc
+    by_test false e x (inl q) later = subst (λ y. p y ≡ false) (bytes-true m u q) e
+    by_test false e x (inr q) later = later x q
+
+-- where nothing passes, nothing is found
+none_found : (p : List ℕ → Bool) (ms : List (List ℕ)) → ((u : List ℕ) → is_among u ms ≡ true → p u ≡ false) → find p ms ≡ None
+none_found p [] h = refl
+none_found p (m ∷ ms) h =
+    ap (λ b. cond b (Some m) (find p ms)) (h m (among_head m ms)) ∙ none_found p ms (λ u i. h u (among_tail u m ms i))
+
+either_none : {A : Type 0} (a b : Option A) → option_or a b ≡ None → (a ≡ None) × (b ≡ None)
+either_none None b h = (refl, h)
+either_none (Some x) b h = cc
+
+-- ---- nothing collides
+
+clash_none : (hash : List ℕ → List ℕ) (ms : List (List ℕ)) (m : List ℕ) → find (is_twin hash m) ms ≡ None → clash hash ms m ≡ None
+clash_none hash ms m h = ap (option_map (λ earlier. (earlier, m))) h
+
+clash_within : (hash : List ℕ → List ℕ) (xs ys : List (List ℕ)) (m : List ℕ) → Within xs ys → clash hash ys m ≡ None
+    → clash hash xs m ≡ None
+clash_within hash xs ys m h c =
+    let none = map_none _ (find (is_twin hash m) ys) c in
+    clash_none hash xs m (none_found (is_twin hash m) xs (λ u i. none_passes (is_twin hash m) ys u none (h u i)))
+
+pub collision_within : (hash : List ℕ → List ℕ) (xs ys ts : List (List ℕ)) → Within xs ys → collision hash ys ts ≡ None
+    → collision hash xs ts ≡ None
+collision_within hash xs ys [] h c = refl
+collision_within hash xs ys (t ∷ ts) h c =
+    let both = either_none (clash hash ys t) (collision hash (noted ys t) ts) c in
+    ap (λ o. option_or o (collision hash (noted xs t) ts)) (clash_within hash xs ys t h both.0)
+    ∙ collision_within hash (noted xs t) (noted ys t) ts (noted_within xs ys t h) both.1

@@ -1,3 +1,10 @@
-pub mod Owned
 pub mod Once
-pub mod Terms
+pub mod Moved
+pub mod Asked
+pub mod Left
+pub mod Strings
+pub mod Revealing
+pub mod Telling
+pub mod Kinded
+pub mod Turns
+pub mod Lookups

@@ -9,7 +9,7 @@ use Rattle.spec_data.specs.Lists.{is_among}
 use Rattle.spec_calculus.specs.declared.step.Owner.{Owner}
 use Rattle.spec_calculus.specs.declared.step.Owner.TheVariants.{Party, Outside}
 use Rattle.spec_run.specs.Steps.{parties_once}
-use Rattle.bm_translate.specs.Paid.{with_owner, with_owners}
+use Rattle.bm_translate.specs.Moving.{with_owner, with_owners}
 use Rattle.theory_calculus.proofs.Names.{bytes-true}
 
 -- ---- filters

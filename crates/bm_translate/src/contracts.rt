@@ -1,27 +1,24 @@
 //! The steps of a contract's own transactions.
 
-ghost use Rattle.std.specs.Prelude.{◌≡◌, ℕ, ◌++◌, ◌∷◌, [], Some, map, filter, IfOk, OnOk};
-ghost use Rattle.spec_terms.specs.Term.{Guarded};
+ghost use Rattle.std.specs.Prelude.{◌≡◌, ◌++◌, ◌∷◌, [], map, filter, Some, IfOk, OnOk};
 ghost use Rattle.spec_terms.specs.Core.{core as core_of};
-ghost use Rattle.spec_nodes.specs.Nodes.{asks_once, deed_of};
 ghost use Rattle.spec_calculus.specs.Configuration.{Configuration};
 ghost use Rattle.spec_calculus.specs.declared.step.Step.TheVariants as steps;
 ghost use Rattle.spec_calculus.specs.Beginning.{is_init_authorised};
 ghost use Rattle.spec_calculus.specs.Branches.{has_branch_authorised};
 ghost use Rattle.spec_run.specs.Setup.{Setup, pre_at};
 ghost use Rattle.spec_run.specs.Steps as spec;
-ghost use Rattle.bm_arena.specs.NodeView.{deed_view};
-ghost use Rattle.bm_translate.specs.Asking.{init_missing, awaited, deed_step};
+ghost use Rattle.bm_syntax.specs.View.{guarded};
+ghost use Rattle.bm_translate.specs.Asking.{init_missing, awaited, taking};
 
-use bm_arena::Core;
-use spec_calculus::Step;
-use spec_calculus::parts::{BranchAuthorisation, InitAuthorisation};
+use bm_syntax::{Guarded, asks, core};
+use spec_calculus::{BranchAuthorisation, InitAuthorisation, Step};
 use spec_data::{Name, OutOfMemory};
 use spec_terms::Pre;
 use std::alloc::Global;
 
-// Whether the contract may take this deposit.
-fn may_take(authorised: &[InitAuthorisation], contract: u32, deposit: &Name) -> bool
+/// Whether the contract may take this deposit.
+pub fn may_take(authorised: &[InitAuthorisation], contract: u32, deposit: &Name) -> bool
     ensures { result ≡ is_init_authorised authorised.now contract deposit.now }
 {
     authorised
@@ -85,8 +82,8 @@ pub fn begin_steps(
     Ok(made)
 }
 
-// Whether the party has authorised the branch.
-fn has_authorised(
+/// Whether the party has authorised the branch.
+pub fn has_authorised(
     authorised: &[BranchAuthorisation],
     output: u32,
     branch: u32,
@@ -102,26 +99,15 @@ fn is_awaited(
     authorised: &[BranchAuthorisation],
     output: u32,
     branch: u32,
-    asked: &[Name],
+    taken: &Guarded,
     party: &Name,
 ) -> bool
-    ensures { result ≡ awaited authorised.now output branch asked.now party.now }
+    ensures { result ≡ awaited authorised.now output branch (guarded taken.now) party.now }
 {
-    if !asked.contains(party) {
+    if !asks(taken, party) {
         return false;
     }
     !has_authorised(authorised, output, branch, party)
-}
-
-// The step that a core is.
-fn core_step(core: &Core, output: u32, branch: u32) -> Step
-    ensures { result ≡ deed_step output branch (deed_view core.now) }
-{
-    match core {
-        Core::PutReveal { .. } => Step::PutReveal { output, branch },
-        Core::Withdraw { .. } => Step::Withdraw { output, branch },
-        Core::Split { .. } => Step::Split { output, branch },
-    }
 }
 
 // The authorisations of those who are awaited.
@@ -131,14 +117,14 @@ fn agreements(
     people: &[Name],
     output: u32,
     branch: u32,
-    asked: &[Name],
+    taken: &Guarded,
 ) -> Result<Vec<Step>, OutOfMemory>
     ensures { IfOk result (λ made. made.items
-        ≡ map (spec.auth_branch output branch) (filter (awaited authorised.now output branch asked.now) people.now)) }
+        ≡ map (spec.auth_branch output branch) (filter (awaited authorised.now output branch (guarded taken.now)) people.now)) }
 {
     let mut made = Vec::new(alloc);
     for party in people {
-        if is_awaited(authorised, output, branch, asked, party) {
+        if is_awaited(authorised, output, branch, taken, party) {
             made.push(Step::AuthBranch {
                 party: *party,
                 output,
@@ -149,25 +135,47 @@ fn agreements(
     Ok(made)
 }
 
-/// The participants whom a branch asks authorise it where they haven't, in order, and then it is taken. The branch is that of
-/// this number of the active contract which the output is; its node has `asked` and `core`.
+// Adds the step that a core is.
+fn put_core(
+    steps: &mut Vec<Step>,
+    core: &Guarded,
+    output: u32,
+    branch: u32,
+) -> Result<(), OutOfMemory>
+    ensures { OnOk result (steps.new.items ≡ steps.old.items ++ spec.core_step output branch (guarded core.now)) }
+{
+    match core {
+        Guarded::PutReveal { .. } => {
+            steps.push(Step::PutReveal { output, branch })?;
+            Ok(())
+        }
+        Guarded::Withdraw { .. } => {
+            steps.push(Step::Withdraw { output, branch })?;
+            Ok(())
+        }
+        Guarded::Split { .. } => {
+            steps.push(Step::Split { output, branch })?;
+            Ok(())
+        }
+        _ => Ok(()),
+    }
+}
+
+/// The participants whom the branch asks authorise it where they haven't, in order, and then it is taken. The branch is that of
+/// this number of the active contract which the output is.
 pub fn branch_steps(
     alloc: Global,
     authorised: &[BranchAuthorisation],
     people: &[Name],
     output: u32,
     branch: u32,
-    asked: &[Name],
-    core: &Core,
+    taken: &Guarded,
 ) -> Result<Vec<Step>, OutOfMemory>
-    ensures listed { IfOk result (λ made. made.items
-        ≡ map (spec.auth_branch output branch) (filter (awaited authorised.now output branch asked.now) people.now)
-        ++ deed_step output branch (deed_view core.now) ∷ []) }
-    ensures defined { (g : Configuration) (b : Guarded) (n : ℕ) → g.branch_authorised ≡ authorised.now → asked.now ≡ asks_once b
-        → deed_view core.now ≡ deed_of n (core_of b)
-        → IfOk result (λ made. made.items ≡ spec.branch_steps g people.now output branch (Some b)) }
+    ensures listed { IfOk result (λ made. made.items ≡ taking authorised.now people.now output branch (guarded taken.now)) }
+    ensures defined { (g : Configuration) → g.branch_authorised ≡ authorised.now
+        → IfOk result (λ made. made.items ≡ spec.branch_steps g people.now output branch (Some (guarded taken.now))) }
 {
-    let mut made = agreements(alloc, authorised, people, output, branch, asked)?;
-    made.push(core_step(core, output, branch))?;
+    let mut made = agreements(alloc, authorised, people, output, branch, taken)?;
+    put_core(&mut made, core(taken), output, branch)?;
     Ok(made)
 }

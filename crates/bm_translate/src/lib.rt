@@ -2,12 +2,21 @@
 #![tactic(auto)]
 
 mod contracts;
+mod events;
+mod kinds;
+mod lengths;
 mod moves;
-mod owners;
+mod posts;
+mod running;
+mod told;
+mod watching;
 
-pub use bm_arena::Core;
-pub use contracts::{begin_steps, branch_steps};
-pub use moves::{move_of, move_steps};
-pub use owners::owner_by;
+pub use contracts::{begin_steps, branch_steps, has_authorised, may_take};
+pub use events::event_steps;
+pub use moves::move_steps;
+pub use posts::posted_by;
+pub use running::Running;
 pub use spec_calculus::{Move, Owner, Step};
 pub use spec_data::{Name, OutOfMemory};
+pub use told::init_steps;
+pub use watching::{Secrets, Watched};

@@ -3,11 +3,16 @@
 ghost use Rattle.std.specs.Prelude.{◌≡◌, ◌++◌, ◌∷◌, [], map, IfOk, OnOk};
 ghost use Rattle.spec_calculus.specs.declared.step.Step.TheVariants as steps;
 ghost use Rattle.spec_calculus.specs.declared.step.Owner.TheVariants.{Party};
+ghost use Rattle.spec_calculus.specs.Moves as calculus;
 ghost use Rattle.spec_run.specs.Setup.{Setup};
+ghost use Rattle.spec_run.specs.World.{World};
 ghost use Rattle.spec_run.specs.Steps as spec;
-ghost use Rattle.bm_translate.specs.Paid.{paid_list, owner_in, move_by, with_owner, with_owners};
+ghost use Rattle.theory_run.proofs.Steps.Moved.{AgreeOnMoney};
+ghost use Rattle.bm_board.specs.Accounts.{account_of, owner_in};
+ghost use Rattle.bm_translate.specs.Moving.{move_by, moved_steps, with_owner, with_owners};
 
-use crate::owners::owner_by;
+use bm_board::{Account, owner_of_script};
+use bm_calculus::Config;
 use spec_bitcoin::{Tx, TxOut};
 use spec_calculus::{Move, Owner, Step};
 use spec_data::{Name, OutOfMemory, Seq};
@@ -16,46 +21,39 @@ use std::alloc::Global;
 // The outputs as those of a move.
 fn moved_outputs(
     alloc: Global,
-    paid: &[(Name, [u8; 34])],
+    accounts: &[Account],
     outputs: &[TxOut],
 ) -> Result<Vec<(Owner, u64)>, OutOfMemory>
-    ensures { IfOk result (λ moved. moved.items ≡ map (λ o. (owner_in paid.now o.script, o.value)) outputs.now) }
+    ensures { IfOk result (λ moved. moved.items ≡ map (λ o. (owner_in accounts.now o.script, o.value)) outputs.now) }
 {
     let mut moved = Vec::new(alloc);
     for output in outputs {
-        moved.push((owner_by(paid, output.script.as_slice()), output.value))?;
+        moved.push((
+            owner_of_script(accounts, output.script.as_slice()),
+            output.value,
+        ))?;
     }
     Ok(moved)
 }
 
 // The move of a transaction that spends the outputs of these numbers.
-fn move_by(
-    alloc: Global,
-    paid: &[(Name, [u8; 34])],
-    tx: &Tx,
-    spent: &[u32],
-) -> Result<Move, OutOfMemory>
-    ensures { IfOk result (λ action. action ≡ move_by paid.now tx.now spent.now) }
+fn move_of(alloc: Global, accounts: &[Account], tx: &Tx, spent: &[u32]) -> Result<Move, OutOfMemory>
+    ensures { IfOk result (λ action. action ≡ move_by accounts.now tx.now spent.now) }
 {
     Ok(Move {
         inputs: Seq::of(Vec::from_slice(alloc, spent)?),
-        outputs: Seq::of(moved_outputs(alloc, paid, tx.outputs.as_slice())?),
+        outputs: Seq::of(moved_outputs(alloc, accounts, tx.outputs.as_slice())?),
     })
 }
 
-/// The move of a transaction that spends the outputs of these numbers, each output with its owner by its script. `paid` has each
-/// declared party in order, beside what its deposits pay to.
-pub fn move_of(
-    alloc: Global,
-    paid: &[(Name, [u8; 34])],
-    tx: &Tx,
-    spent: &[u32],
-) -> Result<Move, OutOfMemory>
-    ensures listed { IfOk result (λ action. action ≡ move_by paid.now tx.now spent.now) }
-    ensures declared { (s : Setup) → paid.now ≡ paid_list s → IfOk result (λ action. action ≡ spec.move_of s tx.now spent.now) }
+// The owner of the live deposit of this number, someone outside without one.
+fn owner_at(config: &Config, number: u32) -> Owner
+    ensures { result ≡ calculus.owner_at config.now.deposits number }
 {
-    let action = move_by(alloc, paid, tx, spent)?;
-    Ok(action)
+    match config.deposit(number) {
+        Some((owner, _)) => *owner,
+        None => Owner::Outside,
+    }
 }
 
 // The party as the last one, if it is new.
@@ -69,31 +67,31 @@ fn add_new(names: &mut Vec<Name>, party: &Name) -> Result<(), OutOfMemory>
 }
 
 // The owner as the last party, if it is a new one.
-fn add_owner(names: &mut Vec<Name>, owner: &Owner) -> Result<(), OutOfMemory>
-    ensures { OnOk result (names.new.items ≡ with_owner names.old.items owner.now) }
+fn add_owner(names: &mut Vec<Name>, owner: Owner) -> Result<(), OutOfMemory>
+    ensures { OnOk result (names.new.items ≡ with_owner names.old.items owner) }
 {
     match owner {
-        Owner::Party(party) => add_new(names, party),
+        Owner::Party(party) => add_new(names, &party),
         Owner::Outside => Ok(()),
     }
 }
 
-// Each party that stands in the list, added one by one where it is new.
-fn add_owners(alloc: Global, owners: &[Owner]) -> Result<Vec<Name>, OutOfMemory>
-    ensures { IfOk result (λ parties. parties.items ≡ with_owners [] owners.now) }
+// Each party that owns one of these deposits, added one by one where it is new.
+fn add_owners(alloc: Global, config: &Config, numbers: &[u32]) -> Result<Vec<Name>, OutOfMemory>
+    ensures { IfOk result (λ parties. parties.items ≡ with_owners [] (map (calculus.owner_at config.now.deposits) numbers.now)) }
 {
     let mut names = Vec::new(alloc);
-    for owner in owners {
-        add_owner(&mut names, owner)?;
+    for number in numbers {
+        add_owner(&mut names, owner_at(config, *number))?;
     }
     Ok(names)
 }
 
-// Each party that stands in the list, once, in the order in which they first come.
-fn parties_once(alloc: Global, owners: &[Owner]) -> Result<Vec<Name>, OutOfMemory>
-    ensures { IfOk result (λ parties. parties.items ≡ spec.parties_once owners.now) }
+// Each party that owns one of these deposits, once, in the order in which they first come.
+fn owners_once(alloc: Global, config: &Config, numbers: &[u32]) -> Result<Vec<Name>, OutOfMemory>
+    ensures { IfOk result (λ parties. parties.items ≡ spec.parties_once (map (calculus.owner_at config.now.deposits) numbers.now)) }
 {
-    let names = add_owners(alloc, owners)?;
+    let names = add_owners(alloc, config, numbers)?;
     Ok(names)
 }
 
@@ -112,13 +110,43 @@ fn agreements(alloc: Global, action: &Move, parties: &[Name]) -> Result<Vec<Step
     Ok(agreed)
 }
 
-/// Each party that owns an input agrees, in the order of its first input, and then the move is made.
-pub fn move_steps(alloc: Global, owners: &[Owner], action: Move) -> Result<Vec<Step>, OutOfMemory>
-    ensures { IfOk result (λ made. made.items
-        ≡ map (spec.auth_move action) (spec.parties_once owners.now) ++ steps.Move action ∷ []) }
+// These parties agree, and then the move is made.
+fn agreed_move(alloc: Global, parties: &[Name], action: Move) -> Result<Vec<Step>, OutOfMemory>
+    ensures { IfOk result (λ made. made.items ≡ map (spec.auth_move action) parties.now ++ steps.Move action ∷ []) }
 {
-    let parties = parties_once(alloc, owners)?;
-    let mut made = agreements(alloc, &action, &parties)?;
+    let mut made = agreements(alloc, &action, parties)?;
     made.push(Step::Move { action })?;
+    Ok(made)
+}
+
+// Each owner of these deposits agrees to the move of the transaction, and then it is made.
+fn moved_steps(
+    alloc: Global,
+    config: &Config,
+    accounts: &[Account],
+    tx: &Tx,
+    spent: &[u32],
+) -> Result<Vec<Step>, OutOfMemory>
+    ensures { IfOk result (λ made. made.items ≡ moved_steps accounts.now config.now.deposits tx.now spent.now) }
+{
+    let parties = owners_once(alloc, config, spent)?;
+    let action = move_of(alloc, accounts, tx, spent)?;
+    agreed_move(alloc, &parties, action)
+}
+
+/// Each party that owns an input of the transaction agrees, in the order of its first input, and then the move is made.
+/// The transaction spends the outputs of these numbers.
+pub fn move_steps(
+    alloc: Global,
+    config: &Config,
+    accounts: &[Account],
+    tx: &Tx,
+    spent: &[u32],
+) -> Result<Vec<Step>, OutOfMemory>
+    ensures listed { IfOk result (λ made. made.items ≡ moved_steps accounts.now config.now.deposits tx.now spent.now) }
+    ensures run { (s : Setup) (w : World) → accounts.now ≡ map (account_of s.hash) s.header.parties → AgreeOnMoney s config.now w
+        → IfOk result (λ made. made.items ≡ spec.move_steps s w tx.now spent.now) }
+{
+    let made = moved_steps(alloc, config, accounts, tx, spent)?;
     Ok(made)
 }

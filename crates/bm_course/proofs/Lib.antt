@@ -1,0 +1,5 @@
+pub mod Names
+pub mod Taken
+pub mod Later
+pub mod Here
+pub mod Course

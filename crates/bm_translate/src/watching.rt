@@ -1,0 +1,330 @@
+//! Secrets that are waited for.
+
+ghost use Rattle.std.specs.Prelude.{◌≡◌, ◌<◌, ◌^◌, ◌++◌, ◌∷◌, [], length, option_map, is_some, map, IfOk, OnOk};
+ghost use Rattle.spec_data.specs.Lists.{look_up};
+ghost use Rattle.spec_terms.specs.Precondition.{secrets};
+ghost use Rattle.spec_calculus.specs.Branches as branches;
+ghost use Rattle.spec_run.specs.Secrets.{digest_at, secrets_from, secrets_of_contract};
+ghost use Rattle.bm_translate.specs.Shown as spec;
+
+use crate::lengths::is_secret_long;
+use bm_calculus::Config;
+use bm_exchange::Exchange;
+use bm_hash::{Hash32, Trail};
+use bm_wellformed::Checked;
+use spec_calculus::{Revealed, Step};
+use spec_data::{Bytes, Name, OutOfMemory};
+use spec_terms::Pre;
+use std::alloc::Global;
+use std::marker::Model;
+
+/// A secret of a contract: the one string that fits what is committed for it in the end, where that is known, and whether it is posted so
+/// far.
+#[derive(Drop)]
+pub struct Watched {
+    pub secret: Revealed,
+    pub string: Option<Bytes>,
+    pub posted: bool,
+}
+
+/// All secrets of a run, by contract and precondition.
+#[derive(Drop)]
+pub struct Secrets {
+    watched: Vec<Watched>,
+}
+
+impl Model for Secrets {
+    ghost use Rattle.std.specs.Prelude.{List};
+    ghost use Rattle.bm_translate.specs.declared.watching.Watched.{Watched as Plain};
+
+    ghost Value = { List Plain };
+
+    ghost view = { λ a. a.watched.items };
+}
+
+// The digest of this name among these.
+fn digest_in(digests: &[(Name, [u8; 32])], name: &Name) -> Option<[u8; 32]>
+    ensures { result ≡ look_up name.now digests.now }
+{
+    for (known, digest) in digests {
+        if *known == *name {
+            return Some(*digest);
+        }
+    }
+    None
+}
+
+// The digest that is committed for the secret.
+fn digest_of(exchange: &Exchange, secret: &Revealed) -> Option<[u8; 32]>
+    ensures { result ≡ digest_at exchange.now.promises secret.now }
+{
+    match exchange.digests(secret.contract, &secret.party) {
+        Some(digests) => digest_in(digests, &secret.secret),
+        None => None,
+    }
+}
+
+// The message of this digest, if it has the size of a secret.
+fn message_of<'a, H: Hash32 + Drop>(trail: &'a Trail<H>, digest: &[u8; 32]) -> Option<&'a [u8]>
+    ensures { option_map (λ b. b.now) result ≡ spec.message_if_long (H.digest_of trail.now.hasher) trail.now.messages digest.now }
+{
+    let message = trail.message(digest)?;
+    if is_secret_long(message) {
+        Some(message)
+    } else {
+        None
+    }
+}
+
+// The string of this digest, copied.
+fn string_of<H: Hash32 + Drop>(
+    alloc: Global,
+    trail: &Trail<H>,
+    digest: Option<[u8; 32]>,
+) -> Result<Option<Bytes>, OutOfMemory>
+    ensures { IfOk result (λ string. string ≡ spec.string_of (H.digest_of trail.now.hasher) trail.now.messages digest) }
+{
+    let Some(digest) = digest else {
+        return Ok(None);
+    };
+    match message_of(trail, &digest) {
+        Some(message) => Ok(Some(Bytes::from_slice(alloc, message)?)),
+        None => Ok(None),
+    }
+}
+
+// A secret, of which nothing is posted yet.
+fn watch<H: Hash32 + Drop>(
+    alloc: Global,
+    trail: &Trail<H>,
+    exchange: &Exchange,
+    secret: Revealed,
+) -> Result<Watched, OutOfMemory>
+    ensures { IfOk result (λ watched. watched
+        ≡ spec.watched_of (H.digest_of trail.now.hasher) trail.now.messages exchange.now.promises [] secret) }
+{
+    let digest = digest_of(exchange, &secret);
+    let string = string_of(alloc, trail, digest)?;
+    Ok(Watched {
+        secret,
+        string,
+        posted: false,
+    })
+}
+
+// Adds the secret of an entry, if it is one.
+fn put_watched<H: Hash32 + Drop>(
+    alloc: Global,
+    trail: &Trail<H>,
+    exchange: &Exchange,
+    watched: &mut Vec<Watched>,
+    contract: u32,
+    entry: &Pre,
+) -> Result<(), OutOfMemory>
+    ensures { OnOk result (watched.new.items ≡ watched.old.items
+        ++ map (spec.watched_of (H.digest_of trail.now.hasher) trail.now.messages exchange.now.promises [])
+        (secrets_of_contract contract (secrets (entry.now ∷ [])))) }
+{
+    match entry {
+        Pre::Secret { party, name } => {
+            let secret = Revealed {
+                contract,
+                party: *party,
+                secret: *name,
+            };
+            watched.push(watch(alloc, trail, exchange, secret)?)?;
+            Ok(())
+        }
+        _ => Ok(()),
+    }
+}
+
+// Adds the secrets of a precondition.
+fn put_all<H: Hash32 + Drop>(
+    alloc: Global,
+    trail: &Trail<H>,
+    exchange: &Exchange,
+    watched: &mut Vec<Watched>,
+    contract: u32,
+    pre: &[Pre],
+) -> Result<(), OutOfMemory>
+    ensures { OnOk result (watched.new.items ≡ watched.old.items
+        ++ map (spec.watched_of (H.digest_of trail.now.hasher) trail.now.messages exchange.now.promises [])
+        (secrets_of_contract contract (secrets pre.now))) }
+{
+    for entry in pre {
+        put_watched(alloc, trail, exchange, watched, contract, entry)?;
+    }
+    Ok(())
+}
+
+// The secrets of these contracts.
+fn watch_all<H: Hash32 + Drop>(
+    alloc: Global,
+    trail: &Trail<H>,
+    exchange: &Exchange,
+    contracts: &[Checked],
+) -> Result<Vec<Watched>, OutOfMemory>
+    requires few { length contracts.now < 2 ^ 32 }
+    ensures { IfOk result (λ watched. watched.items
+        ≡ spec.watched_all (H.digest_of trail.now.hasher) trail.now.messages exchange.now.promises [] contracts.now) }
+{
+    let mut watched = Vec::new(alloc);
+    for (k, checked) in contracts.iter().enumerate() {
+        put_all(
+            alloc,
+            trail,
+            exchange,
+            &mut watched,
+            k as u32,
+            checked.advert().pre.as_slice(),
+        )?;
+    }
+    Ok(watched)
+}
+
+// Whether the string is there, and is shown.
+fn is_shown(shown: &Exchange, string: &Option<Bytes>) -> bool
+    ensures { result ≡ spec.is_one_of shown.now.posted string.now }
+{
+    match string {
+        Some(string) => shown.posted(string.as_slice()),
+        None => false,
+    }
+}
+
+// Whether the secret is committed.
+fn is_committed(config: &Config, secret: &Revealed) -> bool
+    ensures { result ≡ is_some (branches.length_at config.now.committed secret.now.contract secret.now.party secret.now.secret) }
+{
+    config
+        .secret(secret.contract, &secret.party, &secret.secret)
+        .is_some()
+}
+
+// Whether these strings are the first to show the secret, which is committed.
+fn comes_up(config: &Config, shown: &Exchange, watched: &Watched) -> bool
+    ensures { result ≡ spec.comes_up config.now.committed shown.now.posted watched.now }
+{
+    if watched.posted {
+        return false;
+    }
+    if !is_shown(shown, &watched.string) {
+        return false;
+    }
+    is_committed(config, &watched.secret)
+}
+
+// Whether it is a secret of the party in the contract, and posted.
+fn is_out(contract: u32, party: &Name, watched: &Watched) -> bool
+    ensures { result ≡ spec.is_out contract party.now watched.now }
+{
+    contract == watched.secret.contract && *party == watched.secret.party && watched.posted
+}
+
+// The step that reveals it.
+fn reveal_of(watched: &Watched) -> Step
+    ensures { result ≡ spec.reveal_of watched.now }
+{
+    Step::Reveal {
+        contract: watched.secret.contract,
+        party: watched.secret.party,
+        secret: watched.secret.secret,
+    }
+}
+
+// The secrets that these strings reveal.
+fn revealed_by(
+    alloc: Global,
+    config: &Config,
+    shown: &Exchange,
+    watched: &[Watched],
+) -> Result<Vec<Step>, OutOfMemory>
+    ensures { IfOk result (λ made. made.items ≡ spec.revealed_by config.now.committed shown.now.posted watched.now) }
+{
+    let mut made = Vec::new(alloc);
+    for one in watched {
+        if comes_up(config, shown, one) {
+            made.push(reveal_of(one))?;
+        }
+    }
+    Ok(made)
+}
+
+// Adds the secrets of the party in the contract that are posted already.
+fn put_revealed(
+    steps: &mut Vec<Step>,
+    contract: u32,
+    party: &Name,
+    watched: &[Watched],
+) -> Result<(), OutOfMemory>
+    ensures { OnOk result (steps.new.items ≡ steps.old.items ++ spec.revealed_of contract party.now watched.now) }
+{
+    for one in watched {
+        if is_out(contract, party, one) {
+            steps.push(reveal_of(one))?;
+        }
+    }
+    Ok(())
+}
+
+// Notes that these strings are posted.
+fn note_all(shown: &Exchange, watched: &mut Vec<Watched>)
+    ensures { watched.new.items ≡ map (spec.noted shown.now.posted) watched.old.items }
+{
+    for one in watched.iter_mut() {
+        if !one.posted {
+            one.posted = is_shown(shown, &one.string);
+        }
+    }
+}
+
+impl Secrets {
+    /// The secrets of these contracts, in a run that ends with what was hashed and told; nothing is posted yet.
+    pub fn of_run<H: Hash32 + Drop>(
+        alloc: Global,
+        trail: &Trail<H>,
+        exchange: &Exchange,
+        contracts: &[Checked],
+    ) -> Result<Secrets, OutOfMemory>
+        requires few { length contracts.now < 2 ^ 32 }
+        ensures { IfOk result (λ secrets. secrets
+            ≡ spec.watched_all (H.digest_of trail.now.hasher) trail.now.messages exchange.now.promises [] contracts.now) }
+    {
+        let watched = watch_all(alloc, trail, exchange, contracts)?;
+        Ok(Secrets { watched })
+    }
+
+    /// The steps that reveal what these strings are the first to show.
+    pub fn revealed(
+        &self,
+        alloc: Global,
+        config: &Config,
+        shown: &Exchange,
+    ) -> Result<Vec<Step>, OutOfMemory>
+        ensures { IfOk result (λ made. made.items ≡ spec.revealed_by config.now.committed shown.now.posted self.now) }
+    {
+        revealed_by(alloc, config, shown, &self.watched)
+    }
+
+    /// Adds the steps that reveal the secrets of the party in the contract which are posted already.
+    pub fn put_revealed(
+        &self,
+        steps: &mut Vec<Step>,
+        contract: u32,
+        party: &Name,
+    ) -> Result<(), OutOfMemory>
+        ensures { OnOk result (steps.new.items ≡ steps.old.items ++ spec.revealed_of contract party.now self.now) }
+    {
+        put_revealed(steps, contract, party, &self.watched)
+    }
+
+    /// Notes that these strings are posted.
+    pub fn note(&mut self, shown: &Exchange)
+        ensures { self.new ≡ map (spec.noted shown.now.posted) self.old }
+    {
+        if shown.posts() > 0 {
+            note_all(shown, &mut self.watched);
+        }
+    }
+}

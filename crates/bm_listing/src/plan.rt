@@ -37,7 +37,8 @@ fn told(alloc: Global, compiled: Option<&Compiled>) -> Result<Vec<u8>, OutOfMemo
 /// in the order of the text; `None` where the contract isn't compiled.
 pub fn plan_text(alloc: Global, compiled: Option<&Compiled>) -> Result<Vec<u8>, OutOfMemory>
     ensures told { IfOk result (λ text. text.items ≡ plan_told (option_map (λ c. c.now) compiled.entry)) }
-    ensures compiled { (hash : List ℕ → List ℕ) (s : Option Instance) → option_map (λ c. c.now) compiled.entry ≡ option_map (numbered hash) s
+    ensures compiled { (hash : List ℕ → List ℕ) (s : Option Instance)
+        → option_map (λ c. c.now) compiled.entry ≡ option_map (numbered hash) s
         → IfOk result (λ text. text.items ≡ spec.setting_text hash s) }
 {
     told(alloc, compiled)

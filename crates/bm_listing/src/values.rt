@@ -85,7 +85,8 @@ pub(crate) fn name_value(alloc: Global, path: &Path) -> Result<Value, OutOfMemor
 
 // A list of values.
 fn list_value(values: Vec<Value>) -> Value
-    ensures { (texts : List (List ℕ)) → map seen (map view values.items) ≡ map plain texts → seen (view result) ≡ plain (spec.bracketed texts) }
+    ensures { (texts : List (List ℕ)) → map seen (map view values.items) ≡ map plain texts
+        → seen (view result) ≡ plain (spec.bracketed texts) }
 {
     Value::from(values)
 }

@@ -29,7 +29,8 @@ fn path_value(
     prepared: &Prepared,
     weights: &(Weight, Weight),
 ) -> Result<Value, OutOfMemory>
-    ensures { IfOk result (λ v. seen (view v) ≡ plain (spec.transaction_value (spec.named_path (path.now, prepared.now)).0 prepared.now weights.now)) }
+    ensures { IfOk result (λ v. seen (view v)
+        ≡ plain (spec.transaction_value (spec.named_path (path.now, prepared.now)).0 prepared.now weights.now)) }
 {
     let name = name_value(alloc, path)?;
     let (weight, total) = weights;

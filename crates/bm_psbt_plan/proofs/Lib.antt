@@ -1,0 +1,4 @@
+pub mod Placed
+pub mod FoundOutputs
+pub mod Signers
+pub mod Telling

@@ -1,0 +1,47 @@
+//! The outputs of a contract's positions.
+
+ghost use Rattle.std.specs.Prelude.{◌≡◌, IfOk, option_map};
+ghost use Rattle.spec_tool.specs.Weights as weights;
+ghost use Rattle.bm_psbt_plan.specs.Parts as spec;
+
+use bm_compile::{Compiled, Prepared};
+use spec_bitcoin::TxOut;
+use spec_data::OutOfMemory;
+use spec_terms::{Path, PathStep};
+use std::alloc::Global;
+
+/// The steps to the position whose branch or part the path is.
+#[tactic(auto, using(bm_plan::proofs::LastStep::position_is_front))]
+pub(crate) fn front_of(alloc: Global, path: &Path) -> Result<Path, OutOfMemory>
+    ensures { IfOk result (λ front. front ≡ weights.position_of path.now) }
+{
+    let steps = path.steps();
+    let count = steps.len().saturating_sub(1);
+    Ok(Path::of(Vec::from_slice(alloc, &steps[..count])?))
+}
+
+// An output of a transaction.
+fn output_of(prepared: Option<&Prepared>, number: usize) -> Option<&TxOut>
+    ensures { option_map (λ o. o.now) result ≡ spec.output_of (option_map (λ p. p.now) prepared.entry) number }
+{
+    match prepared {
+        None => None,
+        Some(prepared) => prepared.tx.outputs.as_slice().get(number),
+    }
+}
+
+/// The output at a position, whose front is given with it.
+pub(crate) fn output_at<'a>(
+    compiled: &'a Compiled,
+    position: &Path,
+    front: &Path,
+) -> Option<&'a TxOut>
+    requires { front.now ≡ weights.position_of position.now }
+    ensures { option_map (λ o. o.now) result ≡ spec.output_at position.now compiled.now }
+{
+    match position.steps().last() {
+        None => output_of(Some(compiled.init()), 0),
+        Some(PathStep::Branch(_)) => output_of(compiled.transaction_at(position), 0),
+        Some(PathStep::Part(part)) => output_of(compiled.transaction_at(front), *part as usize),
+    }
+}

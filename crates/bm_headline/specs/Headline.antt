@@ -26,7 +26,8 @@ pub record Around : Type 0 where
 
 -- the same, put together
 abbrev pub around : Option Told → ℕ → Option (List ℕ) → ℕ → Around
-around told read_faults written write_faults = record { told = told; read_faults = read_faults; written = written; write_faults = write_faults }
+around told read_faults written write_faults =
+    record { told = told; read_faults = read_faults; written = written; write_faults = write_faults }
 
 -- the files that a command asks for; words that are none ask for no file
 abbrev pub asked_by : Option Command → List Asked

@@ -3,7 +3,8 @@
 ghost use Rattle.std.specs.Prelude.{◌≡◌, ◌++◌, OnOk};
 ghost use Rattle.std.specs.List.{flat_map};
 ghost use Rattle.spec_bitcoin.specs.Keys.{step_text, path_text};
-ghost use Rattle.spec_text.specs.Refusals.{limit_text, place_text, fault_name, fault_text, text_fault_text, exceeded_text, too_long_text, contract_refused_line};
+ghost use Rattle.spec_text.specs.Refusals.{limit_text, place_text, fault_name, fault_text, text_fault_text, exceeded_text};
+ghost use Rattle.spec_text.specs.Refusals.{too_long_text, contract_refused_line};
 
 use bm_syntax::{Limit, PathStep};
 use bm_text::{put, put_decimal};

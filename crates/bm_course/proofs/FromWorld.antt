@@ -1,5 +1,5 @@
 -- The board and the trail of a world are those of the run that led to it.
-use Rattle.std.proofs.Common.{◌≡◌, ℕ, ◌+◌, List, [], ◌∷◌, map, true, Option, Some, None, refl, sym, ap, ◌∙◌, subst}
+use Rattle.std.proofs.Common.{◌≡◌, ℕ, ◌+◌, List, [], ◌∷◌, map, true, Option, Some, refl, sym, ap, ◌∙◌, subst}
 use Rattle.std.specs.Prelude.{option_map}
 use Rattle.spec_data.specs.Lists.{is_among}
 use Rattle.spec_terms.specs.Advert.{Advert}
@@ -16,7 +16,7 @@ use Rattle.bm_board.specs.declared.board.Board.{Board}
 use Rattle.bm_board.specs.Drafts.{setup_of, world_of}
 use Rattle.bm_world.specs.declared.halt.Halt.{Halt}
 use Rattle.bm_world.specs.Playing.{Played, setup_in, IsWorld}
-use Rattle.bm_course.specs.Courses.{events_of, passed_in, end_of, IsPlayed}
+use Rattle.bm_course.specs.Courses.{passed_in, end_of, IsPlayed}
 
 -- what is compiled doesn't hang on what was hashed
 compiled_hashless : (s : Setup) (b : Board) (messages hashed : List (List ℕ)) (k : ℕ) (cs : List Advert)

@@ -1,5 +1,4 @@
-use Rattle.std.proofs.Common.{◌≡◌, sym, ap, ◌∙◌, subst}
-use Rattle.spec_run.specs.Setup.{Setup}
+use Rattle.std.proofs.Common.{sym, ap, ◌∙◌, subst}
 use Rattle.spec_run.specs.Statements.{Simulates, HoldsThroughout, licensed}
 use Rattle.spec_run.specs.Translation.{opening_configuration, translated, last_configuration}
 use Rattle.bm_board.specs.Drafts.{setup_of}

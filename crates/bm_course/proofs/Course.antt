@@ -1,39 +1,29 @@
 -- A run that was played, from its opening on.
-use Rattle.std.proofs.Common.{◌≡◌, ℕ, suc, ◌+◌, drop, get_or, ◌<◌, ◌^◌, List, [], ◌∷◌, ◌++◌, length, map, Bool, true, false, cond, Some, refl, sym, ap, ◌∙◌, subst, arith, append_assoc, append-nil}
-use Rattle.std.specs.Prelude.{◌||◌}
-use Rattle.std.proofs.lemmas.Bool.{both_ways}
-use Rattle.std.specs.Str.{bytes_eq}
-use Rattle.spec_data.specs.Lists.{is_among}
+use Rattle.std.proofs.Common.{◌≡◌, ℕ, suc, ◌+◌, drop, get_or, ◌<◌, ◌^◌, List, [], ◌∷◌, ◌++◌, length, map, refl, sym, ap, ◌∙◌, subst, arith, append_assoc, append-nil}
 use Rattle.spec_calculus.specs.declared.step.Step.{Step}
 use Rattle.spec_calculus.specs.Configuration.{Configuration}
 use Rattle.spec_calculus.specs.Steps.{after_steps}
-use Rattle.spec_run.specs.declared.event.Event.{Event}
 use Rattle.spec_run.specs.declared.outcome.Record.{Record}
 use Rattle.spec_run.specs.Setup.{Setup}
 use Rattle.spec_run.specs.World.{World}
-use Rattle.spec_run.specs.Event.{Passed, opening_world, played, record_of}
-use Rattle.spec_run.specs.Translation.{Turn, turn_of, turns_from, opening_configuration, last_configuration, last_or, last_world, translated, record_in, world_after}
+use Rattle.spec_run.specs.Event.{Passed, opening_world, record_of}
+use Rattle.spec_run.specs.Translation.{Turn, turn_of, turns_from, opening_configuration, last_configuration, last_or, translated, record_in, world_after}
 use Rattle.spec_run.specs.Steps.{outcome_steps}
 use Rattle.spec_run.specs.Statements.{HoldsFrom}
-use Rattle.spec_run.proofs.Courses.{last_left}
-use Rattle.theory_calculus.proofs.Names.{bytes-true, bytes_refl}
-use Rattle.theory_world.proofs.Hashed.{among_head, among_tail, NoClash}
-use Rattle.theory_run.proofs.Following.{kept_at_end}
-use Rattle.theory_run.proofs.Simulated.{KeptRun, kept_run, opening_run}
-use Rattle.bm_hash.specs.Messages.{message_of}
+use Rattle.theory_run.proofs.Simulated.{KeptRun, opening_run}
 use Rattle.std.proofs.lemmas.List.{drop_more}
 use Rattle.spec_terms.specs.Advert.{Advert}
 use Rattle.bm_match.specs.Matches.{compiled_from}
 use Rattle.bm_board.specs.declared.board.Board.{Board}
 use Rattle.bm_translate.specs.declared.running.Running.{Running}
 use Rattle.bm_translate.specs.Shown.{posts_of}
-use Rattle.bm_translate.specs.Moments.{AreHeard, IsEnd, IsMoment, IsTurn, IsLater}
+use Rattle.bm_translate.specs.Moments.{IsEnd, IsMoment, IsTurn, IsLater}
 use Rattle.bm_translate.proofs.Turns.{secrets_after}
 use Rattle.bm_course.specs.Passing.{after_all}
 use Rattle.bm_course.specs.Courses.{events_of, passed_in, end_of, IsPlayed, here, IsHere, IsNext, started, passed_by, IsUnderWay}
 use Rattle.bm_course.proofs.Taken.{config_after, inits_after_all, asked_after_all}
 use Rattle.bm_course.proofs.Later.{later_end}
-use Rattle.bm_course.proofs.Here.{keeps_here, all_here}
+use Rattle.bm_course.proofs.Here.{all_here}
 
 -- ---- lists
 

@@ -1,5 +1,5 @@
 -- Every event of a run is one after which all is kept, and whose steps are legal.
-use Rattle.std.proofs.Common.{◌≡◌, ℕ, List, [], refl}
+use Rattle.std.proofs.Common.{List, refl}
 use Rattle.spec_run.specs.declared.event.Event.{Event}
 use Rattle.spec_run.specs.Setup.{Setup}
 use Rattle.spec_run.specs.Statements.{IsRun, HoldsThroughout}

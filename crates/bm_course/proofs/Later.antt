@@ -1,12 +1,10 @@
 -- Each world of a run is followed by its last one.
 use Rattle.std.proofs.Common.{◌≡◌, ℕ, zero, suc, ◌≤◌, List, [], ◌∷◌, ◌++◌, length, Some, None, refl, sym, ap, ◌∙◌, subst, arith, append_assoc, append-nil}
-use Rattle.std.specs.Prelude.{slice_get}
-use Rattle.spec_calculus.specs.declared.parts.Advertised.{Advertised}
 use Rattle.spec_calculus.specs.Configuration.{Configuration}
 use Rattle.spec_run.specs.declared.event.Event.{Event}
 use Rattle.spec_run.specs.declared.outcome.Record.{Record}
 use Rattle.spec_run.specs.Setup.{Setup}
-use Rattle.spec_run.specs.World.{Output, Promise, World}
+use Rattle.spec_run.specs.World.{Output, World}
 use Rattle.spec_run.specs.Draft.{settled}
 use Rattle.spec_run.specs.Event.{Passed, draft}
 use Rattle.spec_run.specs.Translation.{turn_of, turns_from, world_after, record_in}
@@ -15,8 +13,8 @@ use Rattle.theory_world.proofs.Later.{Lasts}
 use Rattle.theory_run.proofs.Simulated.{KeptRun}
 use Rattle.theory_run.proofs.Facts.Growing.{Grows, grows}
 use Rattle.bm_translate.specs.Moments.{IsLater}
-use Rattle.bm_translate.proofs.Left.{Left, left, promises_by, adverts_by}
-use Rattle.bm_course.specs.Courses.{here, IsHere}
+use Rattle.bm_translate.proofs.Left.{left, promises_by, adverts_by}
+use Rattle.bm_course.specs.Courses.{here}
 
 -- ---- outputs
 

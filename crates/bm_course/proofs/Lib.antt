@@ -3,3 +3,4 @@ pub mod Taken
 pub mod Later
 pub mod Here
 pub mod Course
+pub mod FromWorld

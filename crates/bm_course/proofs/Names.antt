@@ -1,5 +1,5 @@
 -- The numbers that steps make.
-use Rattle.std.proofs.Common.{◌≡◌, ℕ, ◌+◌, ◌≤◌, List, [], ◌∷◌, refl, arith}
+use Rattle.std.proofs.Common.{◌≡◌, ◌+◌, ◌≤◌, List, [], ◌∷◌, refl, arith}
 use Rattle.spec_calculus.specs.declared.step.Step.{Step}
 use Rattle.spec_calculus.specs.declared.step.Step.TheVariants as steps
 use Rattle.spec_calculus.specs.Configuration.{Configuration}

@@ -1,5 +1,5 @@
 -- Steps that are taken leave the lists of the configuration that they lead to.
-use Rattle.std.proofs.Common.{◌≡◌, ℕ, ◌+◌, ◌<◌, ◌≤◌, ◌^◌, List, [], ◌∷◌, refl, sym, ap, ◌∙◌, subst, arith}
+use Rattle.std.proofs.Common.{◌≡◌, ◌+◌, ◌<◌, ◌^◌, List, [], ◌∷◌, refl, sym, ap, ◌∙◌, arith}
 use Rattle.spec_calculus.specs.declared.step.Step.{Step}
 use Rattle.spec_calculus.specs.declared.step.Step.TheVariants as steps
 use Rattle.spec_calculus.specs.Configuration.{Configuration}

@@ -2,6 +2,8 @@
 #![tactic(auto)]
 
 mod taking;
+mod translating;
 mod walking;
 
+pub use translating::translate;
 pub use walking::{Translation, translate_run};

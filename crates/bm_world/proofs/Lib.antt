@@ -7,3 +7,4 @@ mod Heard
 mod Opened
 mod Played
 mod Reaching
+pub mod Found

@@ -1,7 +1,8 @@
 -- The world of a run that opened.
-use Rattle.std.proofs.Common.{◌≡◌, ℕ, List, [], ◌≤◌, ◌+◌, ◌*◌, length, Some, None, refl, sym, ap, ◌∙◌, subst, arith}
+use Rattle.std.proofs.Common.{◌≡◌, true, ℕ, List, [], ◌≤◌, ◌+◌, ◌*◌, length, Some, None, refl, sym, ap, ◌∙◌, subst, arith}
 use Rattle.std.specs.List.{AllByRecursion}
 use Rattle.spec_data.specs.Hashes.{HashesBytes}
+use Rattle.spec_data.specs.Lists.{is_among}
 use Rattle.spec_data.specs.Messages.{noted_all, collision}
 use Rattle.spec_terms.specs.Advert.{Advert}
 use Rattle.spec_terms.specs.Faults.{IsWellFormed}
@@ -32,6 +33,9 @@ use Rattle.bm_world.specs.Reached.{IsReached}
 use Rattle.bm_world.specs.Starting.{Opens}
 use Rattle.bm_world.proofs.Reaching.{reached_at_start}
 
+nothing_posted : (t : List ℕ) → is_among t [] ≡ true → ⊥
+nothing_posted t h = cc
+
 module _ {H : Type 0} (digest : H → List ℕ → List ℕ) (hash here : H) (header : Header) (contracts : List Advert) (b : Board) (messages : List (List ℕ)) (same : here ≡ hash)
     (opened : IsOpened (setup_with (digest hash) header contracts) b) (hashed : Hashed (digest hash) [] messages (opening_strings (setup_with (digest hash) header contracts))) where
   abbrev s : Setup
@@ -61,6 +65,7 @@ module _ {H : Type 0} (digest : H → List ℕ → List ℕ) (hash here : H) (he
         accounts = opened.accounts;
         compiled = opened.compiled ∙ ap (all_compiled s) (sym world);
         few = few_at_start fine;
+        found = λ t h. absurd (nothing_posted t (subst (λ ts. is_among t ts ≡ true) (ap (λ (w : World). w.posted) world) h));
         reached = subst (λ v. IsReached s v []) (sym world) (reached_at_start s adds.1);
         kept = λ h. record { config = opening_configuration s; books = subst (KeptBooks s (opening_configuration s)) (sym world) (opening_keeps s setup adds.1) };
         clear = λ h. hashed.clear;

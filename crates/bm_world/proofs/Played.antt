@@ -47,6 +47,8 @@ use Rattle.bm_hash.proofs.Collisions.{hashed_adds, stopped_shows}
 use Rattle.bm_settle.proofs.Settled.{changed-hashed}
 use Rattle.bm_world.specs.Reached.{IsReached}
 use Rattle.bm_world.proofs.Heard.{kept_heard}
+use Rattle.bm_world.proofs.Found.{found_there, found_more}
+use Rattle.bm_world.specs.Reached.{IsReached, AreFound}
 use Rattle.bm_world.proofs.Reaching.{IsCalm, calm_of, reached_more, reached_later}
 use Rattle.bm_world.proofs.Births.{event_grows}
 
@@ -206,12 +208,15 @@ pub world_after : (s t : Setup) (old new : Board) (messages later : List (List �
     → GoesOn s (world_of old messages) new later before trace e outcome → SameBoard old new → t ≡ s → IsWorld t new later trace halt
 world_after s t old new messages later before trace e outcome halt was is goes same at =
     let calm = calm_of s (world_of old messages) (world_of new later) (draft s (world_of old messages) e) goes.goes.went in
+    let reached_there : IsReached s (world_of new later) trace =
+    subst (IsReached s (world_of new later)) (sym goes.goes.trace) (reached_more s (world_of old messages) (world_of new later) before e was.reached is calm) in
     subst (λ x. IsWorld x new later trace halt) (sym at) (record {
       setup = was.setup;
       accounts = same.accounts ∙ was.accounts;
       compiled = goes.compiled;
       few = few_after s was.setup (world_of old messages) (world_of new later) before trace e is calm goes.goes.trace was.few;
-      reached = subst (IsReached s (world_of new later)) (sym goes.goes.trace) (reached_more s (world_of old messages) (world_of new later) before e was.reached is calm);
+      reached = reached_there;
+      found = found_there s (world_of new later) trace was.setup reached_there goes.clear;
       kept = λ h. kept_after s (world_of old messages) (world_of new later) e was.setup is (was.kept refl) calm;
       clear = λ h. goes.clear;
     })
@@ -224,6 +229,7 @@ world_halted s t b old later xs trace halt was front at = subst (λ x. IsWorld x
   compiled = was.compiled;
   few = was.few;
   reached = reached_later s (world_of b old) later trace (front_within s.hash old later xs front) was.reached;
+  found = subst (λ ms. AreFound s.hash ms b.exchange.posted) (sym front.messages) (found_more s.hash old front.front b.exchange.posted was.found);
   kept = λ h. cc;
   clear = λ h. cc;
 })
@@ -250,6 +256,7 @@ world_hears s t b old later xs trace halt was at hashed clear calm = subst (λ x
   compiled = was.compiled;
   few = was.few;
   reached = reached_later s (world_of b old) later trace (λ m i. subst (λ l. is_among m l ≡ true) (sym hashed) (all_more old xs m i)) was.reached;
+  found = found_there s (world_of b later) trace was.setup (reached_later s (world_of b old) later trace (λ m i. subst (λ l. is_among m l ≡ true) (sym hashed) (all_more old xs m i)) was.reached) clear;
   kept = λ h. subst (λ l. Kept s (world_of b l)) (sym hashed) (kept_heard s (world_of b old) xs was.setup (was.kept refl) calm);
   clear = λ h. clear;
 })

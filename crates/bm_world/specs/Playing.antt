@@ -31,7 +31,7 @@ use Rattle.bm_board.specs.declared.board.Board.{Board}
 use Rattle.bm_board.specs.Compiling.{placed}
 use Rattle.bm_board.specs.declared.drafted.Drafted.{Drafted}
 use Rattle.bm_board.specs.Drafts.{world_of, Drafts}
-use Rattle.bm_world.specs.Reached.{IsReached}
+use Rattle.bm_world.specs.Reached.{IsReached, AreFound}
 use Rattle.bm_board.specs.Accounts.{account_of}
 
 -- what a world stands for
@@ -100,6 +100,8 @@ pub record IsWorld (s : Setup) (b : Board) (messages : List (List ℕ)) (trace :
   pub accounts : b.accounts ≡ map (account_of s.hash) s.header.parties
   pub compiled : b.compiled ≡ all_compiled s (world_of b messages)
   pub reached : IsReached s (world_of b messages) trace
+  -- each string that was posted is the message of its digest, also after a collision
+  pub found : AreFound s.hash messages b.exchange.posted
   pub few : length b.coins.outputs ≤ most_header_deposits + most_gift_outputs * length trace
   pub kept : halt ≡ None → Kept s (world_of b messages)
   pub clear : halt ≡ None → evidence_of s.hash messages ≡ None

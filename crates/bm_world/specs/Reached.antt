@@ -1,7 +1,8 @@
 -- The events of a run, and the world that they led to.
-use Rattle.std.specs.Prelude.{◌≡◌, ℕ, List, map, true, None}
+use Rattle.std.specs.Prelude.{◌≡◌, ℕ, List, map, true, Some, None}
 use Rattle.std.specs.List.{AllByRecursion}
 use Rattle.spec_data.specs.Lists.{is_among}
+use Rattle.bm_hash.specs.Messages.{message_of}
 use Rattle.spec_run.specs.declared.event.Event.{Event}
 use Rattle.spec_run.specs.declared.outcome.Record.{Record}
 use Rattle.spec_run.specs.Setup.{Setup}
@@ -27,3 +28,7 @@ pub record IsReached (s : Setup) (w : World) (trace : List Record) : Type 0 wher
   pub plays : played s (events_of trace) ≡ record { passed = passed; halt = None }
   pub records : map (λ p. record_of p.event p.draft) passed ≡ trace
   pub left : IsLeft (world_after (opening_world s) passed) w
+
+-- each of these strings is the message of its digest
+abbrev pub AreFound : (List ℕ → List ℕ) → List (List ℕ) → List (List ℕ) → Type 0
+AreFound hash messages strings = (t : List ℕ) → is_among t strings ≡ true → message_of hash messages (hash t) ≡ Some t

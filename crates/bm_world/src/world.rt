@@ -8,8 +8,9 @@ ghost use Rattle.spec_run.specs.Compiled.{compiled_instance};
 ghost use Rattle.spec_run.specs.Ledger.{chain_of};
 ghost use Rattle.bm_compile.specs.Numbered.{numbered};
 ghost use Rattle.bm_world.specs.declared.halt.StartError.TheVariants.{Collided};
-ghost use Rattle.bm_world.specs.Playing.{most_records, setup_in, Went, Stopped, Tested, Judged, StoppedJudging};
+ghost use Rattle.bm_world.specs.Playing.{most_records, setup_in, IsWorld, Went, Stopped, Tested, Judged, StoppedJudging};
 ghost use Rattle.bm_world.specs.Reached.{IsReached};
+ghost use Rattle.bm_board.specs.Drafts.{setup_of, world_of};
 ghost use Rattle.bm_opening.specs.Opening.{setup_with};
 ghost use Rattle.bm_world.specs.Starting.{Opens};
 
@@ -98,6 +99,16 @@ impl<H: Hash32 + Drop> World<H> {
         ensures reached { IsReached (setup_in H.digest_of self.now) self.now.world result.now }
     {
         self.trace.as_slice()
+    }
+
+    /// What the parties see, and what the contracts are compiled to.
+    pub fn board(&self) -> &Board
+        ensures same { world_of result.now self.now.world.hashed ≡ self.now.world }
+        ensures header { result.now.header ≡ self.now.header }
+        ensures contracts { result.now.contracts ≡ self.now.contracts }
+        ensures is { IsWorld (setup_of (H.digest_of self.now.hasher) result.now) result.now self.now.world.hashed self.now.trace self.now.halt }
+    {
+        &self.board
     }
 
     /// The ledger.

@@ -1,4 +1,4 @@
-use Rattle.std.proofs.Common.{◌∷◌, ◌+◌, drop, subst}
+use Rattle.std.proofs.Common.{◌+◌, drop, subst}
 use Rattle.bm_course.specs.Passing.{after_all}
 use Rattle.bm_course.proofs.Taken.{CanTake, can_room}
 use Rattle.bm_course.proofs.Course.{left_of}

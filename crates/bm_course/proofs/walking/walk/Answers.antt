@@ -1,4 +1,4 @@
-use Rattle.std.proofs.Common.{◌≡◌, [], ◌∷◌, ◌++◌, ◌+◌, drop, sym, subst}
+use Rattle.std.proofs.Common.{[], ◌+◌, drop, sym, subst}
 use Rattle.std.proofs.lemmas.List.{drop_all}
 use Rattle.spec_run.specs.Translation.{translated, last_configuration}
 use Rattle.bm_board.specs.Drafts.{setup_of}

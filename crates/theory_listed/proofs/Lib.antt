@@ -1,0 +1,4 @@
+pub mod Digests
+pub mod ScriptBytes
+pub mod Fitting
+pub mod InRuns

@@ -1,0 +1,12 @@
+//! What follows of the transactions that a run's contracts list: each theorem is the contract of a
+//! function that does nothing.
+#![tactic(auto)]
+
+ghost use Rattle.theory_listed.specs.InRuns.{ListedFitInRuns};
+
+/// At every world of a run, each transaction that a compiled contract lists is one whose partially
+/// signed transaction can be written: its numbers are within their widths, the scripts that it
+/// spends are bytes, and the keys of each input's signers are different.
+pub fn listed_fit_in_runs()
+    ensures { ListedFitInRuns }
+{}

@@ -1,7 +1,7 @@
 -- The transactions that a compiled contract lists fit, where the world has what every run keeps.
-use Rattle.std.proofs.Common.{◌≡◌, ℕ, suc, ◌+◌, ◌≤◌, ◌<◌, ◌^◌, List, [], ◌∷◌, ◌++◌, length, map, Bool, true, false, Option, Some, None, refl, sym, ap}
-use Rattle.std.proofs.Common.{◌∙◌, subst, arith, lit<, inl, inr, length-append}
-use Rattle.std.specs.Prelude.{◌&&◌, nat_le, slice_get, option_map, option_and_then}
+use Rattle.std.proofs.Common.{◌≡◌, ℕ, ◌≤◌, List, [], ◌∷◌, ◌++◌, length, map, true, Option, Some, None, refl, sym, ap}
+use Rattle.std.proofs.Common.{subst, arith, lit<, inl, inr, length-append}
+use Rattle.std.specs.Prelude.{◌&&◌, nat_le, option_map, option_and_then}
 use Rattle.std.specs.Option.{option_map_or}
 use Rattle.std.specs.List.{list_all, AllByRecursion}
 use Rattle.std.proofs.lemmas.Bool.{and_parts, leb-true}
@@ -15,24 +15,22 @@ use Rattle.spec_terms.specs.Advert.{Advert}
 use Rattle.spec_terms.specs.Core.{core, puts_of, reveals_of}
 use Rattle.spec_terms.specs.Faults.{IsWellFormed}
 use Rattle.spec_terms.specs.Parties.{participants}
-use Rattle.spec_terms.specs.Paths.{at}
-use Rattle.spec_terms.specs.Precondition.{Holding, holding, persistent, volatile, deposits, secrets, names_of}
-use Rattle.spec_terms.specs.Readable.{most_deposits, most_secrets, is_name, is_readable_pre, is_readable_contract, is_some_list, is_readable_entry}
+use Rattle.spec_terms.specs.Precondition.{Holding, persistent, volatile, deposits, secrets, names_of}
+use Rattle.spec_terms.specs.Readable.{most_deposits, most_secrets, is_name, is_readable_pre, is_readable_contract, is_some_list}
+use Rattle.spec_terms.specs.Readable.{is_readable_entry}
 use Rattle.spec_terms.specs.declared.path.PathStep.{PathStep}
-use Rattle.spec_terms.specs.declared.path.PathStep.TheVariants.{Branch as To}
 use Rattle.spec_terms.specs.declared.pre.Pre.{Pre}
 use Rattle.spec_terms.specs.declared.pre.Pre.TheVariants.{Persistent, Volatile, Secret}
 use Rattle.spec_bitcoin.specs.declared.label.Label.{Label}
 use Rattle.spec_bitcoin.specs.declared.label.Label.TheVariants as labels
 use Rattle.spec_bitcoin.specs.Keys.{IsLabel, key_of, label_text, checksig_byte}
 use Rattle.spec_bitcoin.specs.Spelling.{IsString, IsPlace, IsTransaction}
-use Rattle.spec_compiler.specs.Instance.{Instance, branch_path, branch_label, deposit_key, people}
+use Rattle.spec_compiler.specs.Instance.{Instance, branch_label, deposit_key}
 use Rattle.spec_compiler.specs.Endorsements.{put_owner}
 use Rattle.spec_compiler.specs.Statements.{IsCompiled}
 use Rattle.spec_compiler.specs.declared.unsigned.Spent.{Spent}
-use Rattle.spec_compiler.specs.declared.unsigned.Unsigned.{Unsigned}
-use Rattle.spec_compiler.specs.Transactions.{Standing, tx_of, party_script, deposit, holding_or_none, put_deposits, persistent_deposits}
-use Rattle.spec_compiler.specs.Transactions.{branch_unsigned, initial_unsigned}
+use Rattle.spec_compiler.specs.Transactions.{Standing, tx_of, party_script, deposit, holding_or_none, put_deposits}
+use Rattle.spec_compiler.specs.Transactions.{branch_unsigned}
 use Rattle.spec_compiler.specs.ByPath as by_path
 use Rattle.spec_compiler.specs.ByPath.{PathEnd, end_at, as_unsigned, position_at, unsigned_at}
 use Rattle.spec_calculus.specs.Configuration.{Configuration}
@@ -42,7 +40,7 @@ use Rattle.spec_run.specs.Compiled.{compiled_instance}
 use Rattle.spec_run.specs.Conditions.{IsSetup}
 use Rattle.spec_tool.specs.declared.which.Which.{Which}
 use Rattle.spec_tool.specs.declared.which.Which.TheVariants as names
-use Rattle.spec_tool.specs.Listed.{Listed, deposit_signer, initial_signers, branch_signers, path_signers, initial_listed, path_listed, listed_at}
+use Rattle.spec_tool.specs.Listed.{Listed, deposit_signer, branch_signers, path_signers, initial_listed, path_listed, listed_at}
 use Rattle.theory_bitcoin.proofs.Exact.{bytes_none, bytes_cons}
 use Rattle.theory_calculus.proofs.Faultless.{no_fault}
 use Rattle.theory_calculus.proofs.Members.{Is_in}
@@ -129,6 +127,18 @@ readable_pre a h =
       few = leb-true (length (deposits a.pre)) 32 (and_parts few fewer p.1).0;
     }
 
+count_persistent : (pre : List Pre) → length (persistent pre) ≤ length (deposits pre)
+count_persistent [] = omega arith
+count_persistent (Persistent party value name ∷ pre) = let r = count_persistent pre in omega (arith, r)
+count_persistent (Volatile party value name ∷ pre) = let r = count_persistent pre in omega (arith, r)
+count_persistent (Secret party name ∷ pre) = count_persistent pre
+
+pub few_persistent : (a : Advert) → IsWellFormed a → length (persistent a.pre) ≤ 32
+few_persistent a well =
+    let n = count_persistent a.pre in
+    let l = (readable_pre a well).few in
+    omega (arith, n, l)
+
 -- ---- signers
 
 module _ (hash : List ℕ → List ℕ) where
@@ -177,10 +187,16 @@ module _ (s : Setup) (setup : IsSetup s) (g : Configuration) (w : World) (kept :
   abbrev AreVolatile : List (List ℕ) → Type 0
   AreVolatile puts = list_all (λ n. is_among n (names_of (volatile st.advert.pre))) puts ≡ true
 
+  first_volatile : (n : List ℕ) (puts : List (List ℕ)) → AreVolatile (n ∷ puts)
+      → (is_among n (names_of (volatile st.advert.pre)) ≡ true) × AreVolatile puts
+  first_volatile n puts h =
+      let known = names_of (volatile st.advert.pre) in
+      and_parts (is_among n known) (list_all (λ m. is_among m known) puts) h
+
   puts_spent : (puts : List (List ℕ)) → AreVolatile puts → AllByRecursion IsSpent (put_deposits s.hash st puts)
   puts_spent [] h = tt
   puts_spent (n ∷ puts) h =
-      let p = and_parts (is_among n (names_of (volatile st.advert.pre))) (list_all (λ m. is_among m (names_of (volatile st.advert.pre))) puts) h in
+      let p = first_volatile n puts h in
       let r = volatile_named st.advert.pre n p.0 in
       let one = deposit_spent (n, r.0) r.2 in
       let here = subst (λ (o : Option Holding). IsSpent (deposit s.hash st n (holding_or_none o))) (sym r.1) one in
@@ -189,12 +205,12 @@ module _ (s : Setup) (setup : IsSetup s) (g : Configuration) (w : World) (kept :
   puts_placed : (puts : List (List ℕ)) → AreVolatile puts → (x : Spent) → Is_in x (put_deposits s.hash st puts) → IsPlace x.outpoint
   puts_placed [] h x i = absurd i
   puts_placed (n ∷ puts) h x (inl e) =
-      let p = and_parts (is_among n (names_of (volatile st.advert.pre))) (list_all (λ m. is_among m (names_of (volatile st.advert.pre))) puts) h in
+      let p = first_volatile n puts h in
       let r = volatile_named st.advert.pre n p.0 in
       let q = bound_place s setup w kept.book.adverts kept.book.placed_fine k st c (n, r.0) r.2 in
       subst (λ (y : Spent). IsPlace y.outpoint) (sym e) q
   puts_placed (n ∷ puts) h x (inr i) =
-      let p = and_parts (is_among n (names_of (volatile st.advert.pre))) (list_all (λ m. is_among m (names_of (volatile st.advert.pre))) puts) h in
+      let p = first_volatile n puts h in
       puts_placed puts p.1 x i
 
   -- ---- the initial transaction
@@ -209,8 +225,9 @@ module _ (s : Setup) (setup : IsSetup s) (g : Configuration) (w : World) (kept :
 
   -- ---- the transaction of a branch
 
-  module _ (path : List PathStep) (here : Standing) (i : ℕ) (b : term.Guarded) (ends : end_at s.hash st path ≡ Some (by_path.at_branch here i b)) where
-    at_place : IsBranch s.hash st path here i b
+  module _ (path : List PathStep) (here : Standing) (i : ℕ) (b : term.Guarded)
+      (ends : end_at s.hash st path ≡ Some (by_path.at_branch here i b)) where
+    pub at_place : IsBranch s.hash st path here i b
     at_place = known s.hash st path (by_path.at_branch here i b) ends
 
     compiled_there : IsCompiled st at_place.position at_place.choice

@@ -1,5 +1,13 @@
 -- What a run keeps lets the transactions that its contracts list fit, at every world.
-use Rattle.std.proofs.Common.{◌≡◌, ℕ, List, [], ◌∷◌, Some}
+use Rattle.std.proofs.Common.{◌≡◌, ℕ, List, [], Bool, Option, Some, refl, sym, ap, ◌∙◌, subst, arith}
+use Rattle.std.specs.Prelude.{if◌then◌else◌}
+use Rattle.std.specs.Option.{option_map_or}
+use Rattle.std.proofs.lemmas.Bool.Decides.{nat_tests}
+use Rattle.spec_compiler.specs.Instance.{Instance}
+use Rattle.spec_run.specs.Compiled.{compiled_instance}
+use Rattle.spec_tool.specs.declared.which.Which.{Which}
+use Rattle.spec_tool.specs.Listed.{Listed, listed_at}
+use Rattle.spec_tool.specs.PsbtText.{listed_psbt, psbt_line, no_path_line, setting_psbt, which_psbt, psbt_text, shown_judged}
 use Rattle.spec_calculus.specs.Configuration.{Configuration}
 use Rattle.spec_run.specs.declared.event.Event.{Event}
 use Rattle.spec_run.specs.declared.outcome.Record.{Record}
@@ -7,13 +15,15 @@ use Rattle.spec_run.specs.Setup.{Setup}
 use Rattle.spec_run.specs.World.{World}
 use Rattle.spec_run.specs.Conditions.{IsSetup}
 use Rattle.spec_run.specs.Event.{opening_world}
-use Rattle.spec_run.specs.Translation.{Turn, opening_configuration, course, last_configuration, last_world}
+use Rattle.spec_run.specs.Translation.{opening_configuration, course, last_configuration, last_world}
 use Rattle.spec_run.specs.Statements.{IsRun, HoldsThroughout, simulated}
 use Rattle.theory_run.proofs.Following.{Keeps, run_posts, claims_and_keeps, holds-map, kept_throughout, kept_at_end}
-use Rattle.theory_run.proofs.Simulated.{KeptRun, opening_run, kept_run, keeps_simulated}
-use Rattle.theory_listed.specs.InRuns.{ListsFitting, lists_fitting, ListedFitInRuns}
+use Rattle.theory_run.proofs.Simulated.{KeptRun, opening_run, keeps_simulated}
+use Rattle.theory_listed.specs.InRuns.{ListsFitting, ListedFitInRuns, IsReadBack, ReadsBack, ListedReadInRuns}
 use Rattle.theory_listed.proofs.Digests.{AreBytes, bytes_after}
 use Rattle.theory_listed.proofs.Fitting.{all_fit}
+use Rattle.theory_listed.proofs.ReadBack.{read_again}
+use Rattle.theory_listed.proofs.Small.{all_small, has_listed}
 
 -- what every run keeps, and that each committed digest is of bytes
 pub record KeptHere (s : Setup) (z : List (List ℕ)) (g : Configuration) (w : World) : Type 0 where
@@ -62,3 +72,43 @@ listed_fit s es run = record {
   events = at_turns s es run (ListsFitting s) (lists_fit s run.setup (run_posts s es));
   last = at_end s es run (ListsFitting s) (lists_fit s run.setup (run_posts s es));
 }
+
+-- ---- what is printed
+
+printed_is : (s : Setup) → IsSetup s → (z : List (List ℕ)) (g : Configuration) (w : World) → KeptHere s z g w
+    → (st : Instance) (which : Which) (l : Listed) → compiled_instance s w 0 ≡ Some st → listed_at s.hash st which ≡ Some l
+    → which_psbt s w which ≡ psbt_line (listed_psbt s.hash w.book l)
+printed_is s setup z g w kept st which l c e =
+    let there = has_listed s setup g w kept.run.books kept.bytes 0 st c which l e in
+    ap (λ (b : Bool). if b then setting_psbt s.hash w.book which (compiled_instance s w 0) else no_path_line which) there
+    ∙ ap (setting_psbt s.hash w.book which) c
+    ∙ ap (λ (o : Option Listed). option_map_or (λ x. psbt_line (listed_psbt s.hash w.book x)) o (no_path_line which)) e
+
+reads_lists : (s : Setup) → IsSetup s → (z : List (List ℕ)) (g : Configuration) (w : World) → KeptHere s z g w → ReadsBack s w
+reads_lists s setup z g w kept st which l c e =
+    let p = listed_psbt s.hash w.book l in
+    let same = printed_is s setup z g w kept st which l c e in
+    let fits = all_fit s setup g w kept.run.books kept.bytes 0 st c which l e in
+    let again = read_again s.hash setup.hash w.book l fits (all_small s setup g w kept.run.books kept.bytes 0 st c which l e) in
+    let few = again.small in
+    let here : IsReadBack s w l (psbt_line p) = record {
+      printed = refl;
+      small = grind (arith, nat_tests, few);
+      read = again.read;
+      shown = ap shown_judged again.read;
+    } in
+    subst (IsReadBack s w l) (sym same) here
+
+text_is : (s : Setup) (es : List Event) (which : Which) → psbt_text which s es ≡ which_psbt s (last_world s es) which
+unfolding psbt_text
+text_is s es which = refl
+
+pub listed_read : ListedReadInRuns
+listed_read s es run =
+    let holds = reads_lists s run.setup (run_posts s es) in
+    let end = at_end s es run (ReadsBack s) holds in
+    record {
+      opening = at_opening s es run (ReadsBack s) holds;
+      events = at_turns s es run (ReadsBack s) holds;
+      last = λ st which l c e. subst (IsReadBack s (last_world s es) l) (sym (text_is s es which)) (end st which l c e);
+    }

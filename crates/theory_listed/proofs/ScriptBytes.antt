@@ -1,5 +1,5 @@
 -- The scripts of positions are of bytes, where the committed digests are.
-use Rattle.std.proofs.Common.{◌≡◌, ℕ, zero, suc, ◌+◌, ◌/◌, ◌%◌, ◌<◌, ◌≤◌, List, [], ◌∷◌, ◌++◌, length, map, Bool, true, false, refl, arith, lit<}
+use Rattle.std.proofs.Common.{◌≡◌, ℕ, zero, suc, ◌+◌, ◌/◌, ◌%◌, ◌<◌, ◌≤◌, List, [], ◌∷◌, length, map, Bool, true, false, refl, arith, lit<}
 use Rattle.std.specs.Prelude.{pos, replicate, nat_le, nat_lt, ◌==◌, if◌then◌else◌}
 use Rattle.std.specs.List.{list_all, AllByRecursion}
 use Rattle.std.proofs.lemmas.Bool.{and_parts, leb-true}
@@ -19,7 +19,7 @@ use Rattle.spec_bitcoin.specs.Numbers.{signed_bytes, item_of_number}
 use Rattle.spec_bitcoin.specs.Scripts.{encode_op, encode, push_number}
 use Rattle.spec_bitcoin.specs.Opcodes.{op_drop, op_fromaltstack}
 use Rattle.spec_compiler.specs.Instance.{Instance, people, branch_path, branch_label, branch_keys, position_demands, position_script}
-use Rattle.spec_compiler.specs.Scripts.{formula_ops, test_ops, reveal_ops, reveals_ops, asks_secrets, secrets_ops, signed_ops}
+use Rattle.spec_compiler.specs.Scripts.{formula_ops, test_ops, reveal_ops, reveals_ops, secrets_ops, signed_ops}
 use Rattle.spec_compiler.specs.Scripts.{Demands, branch_ops, digest_of, output_ops, demands_from}
 use Rattle.spec_compiler.specs.Statements.{IsCompiled}
 use Rattle.theory_bitcoin.proofs.Exact.{bytes_none, bytes_cons}

@@ -2,3 +2,4 @@ pub mod Naming
 pub mod Chains
 pub mod Refusals
 pub mod Reached
+pub mod Compilations

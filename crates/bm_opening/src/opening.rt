@@ -9,11 +9,12 @@ ghost use Rattle.bm_hash.specs.Trails.{Hashes};
 ghost use Rattle.spec_bitcoin.specs.Digests as digests;
 ghost use Rattle.spec_run.specs.Event as run;
 ghost use Rattle.bm_board.specs.Accounts.{account_of};
-ghost use Rattle.bm_opening.specs.Opening.{setup_with, opening_output, opening_coins, IsOpenedWith, IsOpened};
+ghost use Rattle.bm_opening.specs.Opening.{setup_with, opening_output, opening_coins, none_compiled, IsOpenedWith, IsOpened};
 
 use bm_board::{Account, Board, account_at, accounts_of};
 use bm_book::Book;
 use bm_coins::Coins;
+use bm_compile::Compiled;
 use bm_exchange::Exchange;
 use bm_hash::{Hash32, Trail, TrailError};
 use bm_wellformed::Checked;
@@ -108,8 +109,19 @@ fn look_at(contracts: &[Checked])
     }
 }
 
+// For each of the contracts that it isn't compiled.
+fn not_compiled(alloc: Global, contracts: &[Checked]) -> Result<Seq<Option<Compiled>>, OutOfMemory>
+    ensures { IfOk result (λ compiled. compiled ≡ none_compiled contracts.now) }
+{
+    let mut compiled = Seq::new(alloc);
+    for _contract in contracts {
+        compiled.push(None)?;
+    }
+    Ok(compiled)
+}
+
 /// The board before any event. It hashes the opening strings of the run.
-#[tactic(auto, using(bm_hash::proofs::HashesLemmas::stops_early))]
+#[tactic(auto, using(bm_hash::proofs::HashesLemmas::stops_early, crate::proofs::NotCompiled::none_is))]
 pub fn open_board<H: Hash32 + Drop>(
     alloc: Global,
     trail: &mut Trail<H>,
@@ -123,6 +135,7 @@ pub fn open_board<H: Hash32 + Drop>(
     ensures trail { Hashes H.digest_of trail.old trail.new (run.opening_strings (setup_with (H.digest_of trail.old.hasher) header.now contracts.items)) result }
 {
     look_at(&contracts);
+    let compiled = not_compiled(alloc, &contracts)?;
     let copied = header.copy(alloc)?;
     let exchange = Exchange::new(alloc, contracts.len() as u32)?;
     let (accounts, coins) = open_coins(alloc, trail, header)?;
@@ -134,5 +147,6 @@ pub fn open_board<H: Hash32 + Drop>(
         book: Book::new(alloc),
         exchange,
         begun: Seq::new(alloc),
+        compiled,
     })
 }

@@ -33,8 +33,8 @@ fn record_of(alloc: Global, event: &Event, drafted: &Drafted) -> Result<Record, 
     })
 }
 
-// Posts these strings. After an error some of them are posted.
-fn post_all(exchange: &mut Exchange, strings: &[Bytes]) -> Result<(), OutOfMemory>
+/// Posts these strings. After an error some of them are posted.
+pub(crate) fn post_all(exchange: &mut Exchange, strings: &[Bytes]) -> Result<(), OutOfMemory>
     ensures ok { OnOk result (exchange.new ≡ record exchange.old { posted = exchange.old.posted ++ strings.now }) }
     ensures grows { Grows exchange.old exchange.new }
 {

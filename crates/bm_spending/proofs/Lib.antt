@@ -7,3 +7,4 @@ pub mod Signed
 pub mod Kept
 pub mod Carried
 pub mod Owning
+pub mod FewInputs

@@ -131,7 +131,6 @@ pub fn draft_give<H: Hash32 + Drop>(
     inputs: &[u32],
     outputs: &[(Name, u64)],
 ) -> Result<Drafted, TrailError>
-    requires few { length inputs.now < 2 ^ 32 }
     requires room { length board.old.coins.outputs + length outputs.now < 2 ^ 32 }
     requires clear { evidence_of (H.digest_of trail.old.hasher) trail.old.messages ≡ None }
     requires contracts { length board.old.contracts ≤ most_contracts }

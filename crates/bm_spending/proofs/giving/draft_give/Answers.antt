@@ -1,8 +1,16 @@
-use Rattle.std.proofs.Common.{[], sym, ◌∙◌}
+use Rattle.std.proofs.Common.{[], sym, ◌∙◌, arith}
 use Rattle.std.proofs.lemmas.Result.{err_from_is_err_and}
-use Rattle.bm_board.specs.Drafts.{world_of}
+use Rattle.bm_board.specs.Drafts.{setup_of, world_of}
 use Rattle.bm_board.proofs.Refusals.{drafts_refused, drafts_passed, stops_passed}
+use Rattle.bm_spending.proofs.FewInputs.{few_inputs}
 use Rattle.bm_spending.proofs.giving.draft_give.Goals as goal
+
+pub draft_gift-requires-clause-few : goal.draft_gift-requires-clause-few
+draft_gift-requires-clause-few g c =
+    let hash = g.H.Hash32.digest_of c.args.trail.now.hasher in
+    let messages = c.args.trail.now.messages in
+    let fewer = few_inputs (setup_of hash c.args.board.now) (world_of c.args.board.now messages) c.args.party.now c.args.inputs.now c.args.outputs.now (sym (c.give_refusal.ensures hash messages c.requires.accounts) ∙ c.in_default.is) in
+    omega (arith, fewer, c.requires.room)
 
 pub draft_gift-requires-clause-passed : goal.draft_gift-requires-clause-passed
 draft_gift-requires-clause-passed g c =

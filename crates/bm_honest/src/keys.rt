@@ -31,7 +31,7 @@ fn label_key<H: Hash32>(alloc: Global, hash: &H, label: &Label) -> Result<[u8; 3
 }
 
 /// A participant's key of a branch.
-pub(crate) fn branch_key<H: Hash32>(
+pub fn branch_key<H: Hash32>(
     alloc: Global,
     hash: &H,
     contract: u32,
@@ -49,7 +49,7 @@ pub(crate) fn branch_key<H: Hash32>(
 }
 
 /// A party's key of its deposits.
-pub(crate) fn deposit_key<H: Hash32>(
+pub fn deposit_key<H: Hash32>(
     alloc: Global,
     hash: &H,
     party: &Name,

@@ -14,6 +14,7 @@ pub use bm_hash::Hash32;
 pub use bm_wellformed::Checked;
 pub use endorsing::{Pair, endorsing_pairs};
 pub use gate::{Gate, may};
+pub use keys::{branch_key, deposit_key};
 pub use spec_compiler::Prepared;
 pub use spec_data::{Name, OutOfMemory};
 pub use spec_terms::{Path, PathStep};

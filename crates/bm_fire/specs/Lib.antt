@@ -1,0 +1,4 @@
+pub mod Filled
+pub mod Standing
+pub mod Shown
+pub mod Taken

@@ -1,0 +1,12 @@
+//! Compiled transactions that are handed to the ledger, with the witnesses that anyone can fill in.
+#![tactic(auto)]
+
+mod branches;
+mod deposits;
+mod filling;
+mod firing;
+mod initial;
+mod shown;
+mod taking;
+
+pub use firing::{draft_fire, draft_fire_init};

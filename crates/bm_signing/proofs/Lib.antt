@@ -1,0 +1,4 @@
+pub mod Fronts
+pub mod Shown
+pub mod Signed
+pub mod Refused

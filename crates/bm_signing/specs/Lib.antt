@@ -1,0 +1,3 @@
+pub mod Instances
+pub mod Starting
+pub mod Authorising

@@ -1,0 +1,9 @@
+pub mod Standing
+pub mod Kinded
+pub mod Twice
+pub mod Gifted
+pub mod Handed
+pub mod Signed
+pub mod Kept
+pub mod Carried
+pub mod Owning

@@ -1,0 +1,3 @@
+pub mod Placed
+pub mod Purposes
+pub mod Gifts

@@ -1,8 +1,7 @@
 -- What every run keeps of the outputs that contracts hold.
-use Rattle.std.proofs.Common.{◌≡◌, ℕ}
 use Rattle.spec_calculus.specs.Configuration.{Configuration}
 use Rattle.spec_run.specs.Setup.{Setup}
-use Rattle.spec_run.specs.World.{ContractPosition, World, live_position_at}
+use Rattle.spec_run.specs.World.{World}
 use Rattle.theory_world.proofs.Contracts.Standing.{term_choice}
 use Rattle.theory_run.proofs.Facts.Bookkeeping.{KeptBooks}
 use Rattle.theory_run.proofs.Facts.Kept.{HeldFine}

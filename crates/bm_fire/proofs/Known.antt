@@ -1,5 +1,5 @@
 -- Posted strings that fit a digest, by the one message that has it.
-use Rattle.std.proofs.Common.{◌≡◌, ℕ, List, [], ◌∷◌, length, Bool, true, false, Option, Some, None, refl, sym, ap, ◌∙◌, subst, inl, inr}
+use Rattle.std.proofs.Common.{◌≡◌, ℕ, List, [], ◌∷◌, length, Bool, true, false, Option, Some, None, refl, sym, ap, ◌∙◌}
 use Rattle.std.specs.Prelude.{◌&&◌, if◌then◌else◌}
 use Rattle.std.specs.List.{find}
 use Rattle.std.specs.Option.{option_and_then}
@@ -10,9 +10,9 @@ use Rattle.spec_compiler.specs.Scripts.{digest_of}
 use Rattle.spec_run.specs.Setup.{Setup}
 use Rattle.spec_run.specs.Committing.{is_secret_long}
 use Rattle.spec_run.specs.Revealing.{fits, fitting}
-use Rattle.theory_calculus.proofs.Names.{bytes-true, bytes_refl}
+use Rattle.theory_calculus.proofs.Names.{bytes-true}
 use Rattle.bm_hash.specs.Messages.{message_of, evidence_of}
-use Rattle.bm_hash.proofs.Evidence.{Among, find_among, none_at, apart, noted_among, among_noted}
+use Rattle.bm_hash.proofs.Evidence.{find_among, none_at, apart, noted_among, among_noted}
 use Rattle.bm_fire.specs.Shown.{if_shown, shown_by}
 
 module _ (s : Setup) (messages posted : List (List ℕ)) (clear : evidence_of s.hash messages ≡ None) (heard : (t : List ℕ) → is_among t posted ≡ true → is_among t messages ≡ true) where

@@ -1,16 +1,15 @@
 -- Initial transactions, by what their contracts are compiled to.
-use Rattle.std.proofs.Common.{◌≡◌, ℕ, List, [], ◌∷◌, map, true, false, not, Option, Some, None, refl, sym, ap, ◌∙◌, subst}
+use Rattle.std.proofs.Common.{◌≡◌, ℕ, [], ◌∷◌, true, not, Option, Some, None, refl, sym, ap, ◌∙◌}
 use Rattle.std.specs.Prelude.{option_map, is_some, if◌then◌else◌}
 use Rattle.spec_data.specs.Lists.{first_reason}
 use Rattle.spec_terms.specs.Advert.{Advert}
-use Rattle.spec_terms.specs.Precondition.{persistent}
 use Rattle.spec_compiler.specs.Instance.{Instance}
 use Rattle.spec_compiler.specs.Transactions.{prepared, initial_unsigned}
 use Rattle.spec_run.specs.declared.outcome.Reason.TheVariants as reason
-use Rattle.spec_run.specs.Setup.{Setup, has_contract, contract_at}
+use Rattle.spec_run.specs.Setup.{Setup, contract_at}
 use Rattle.spec_run.specs.World.{World}
 use Rattle.spec_run.specs.Compiled.{instance_if_complete, compiled_instance}
-use Rattle.spec_run.specs.Firing.{with_witnesses, initial_by, initial_transaction, fire_init_row}
+use Rattle.spec_run.specs.Firing.{with_witnesses, initial_by, fire_init_row}
 use Rattle.theory_world.proofs.Later.{compiled_is}
 use Rattle.bm_compile.specs.Numbered.{Numbered, numbered}
 use Rattle.bm_fire.specs.Filled.{initial_with, owners_in}

@@ -1,19 +1,19 @@
 -- The transaction of a branch of what is held, by what is found of it.
-use Rattle.std.proofs.Common.{◌≡◌, ℕ, ◌<◌, List, [], ◌∷◌, ◌++◌, length, map, Option, Some, None, refl, sym, ap, ◌∙◌, subst, arith, zero, suc}
-use Rattle.std.specs.Prelude.{slice_get, option_map, option_and_then}
+use Rattle.std.proofs.Common.{◌≡◌, ℕ, ◌<◌, List, [], ◌∷◌, ◌++◌, length, map, Option, Some, None, refl, sym, ap, ◌∙◌, arith, zero, suc}
+use Rattle.std.specs.Prelude.{slice_get, option_map}
 use Rattle.std.proofs.lemmas.Simd.{map-map}
 use Rattle.spec_terms.specs.Advert.{Advert}
 use Rattle.spec_terms.specs.Term as term
 use Rattle.spec_terms.specs.Term.{Contract, branches}
-use Rattle.spec_terms.specs.Core.{core, puts_of, reveals_of}
+use Rattle.spec_terms.specs.Core.{core, puts_of}
 use Rattle.spec_terms.specs.Parties.{participants}
 use Rattle.spec_terms.specs.Paths.{at, contract_under}
 use Rattle.spec_terms.specs.declared.path.PathStep.TheVariants.{Branch as To}
 use Rattle.spec_bitcoin.specs.Keys.{key_of, signature_of}
 use Rattle.spec_compiler.specs.declared.prepared.Prepared.{Prepared}
-use Rattle.spec_compiler.specs.Instance.{Instance, branch_keys, branch_label, position_script}
+use Rattle.spec_compiler.specs.Instance.{Instance, branch_label, position_script}
 use Rattle.spec_compiler.specs.Transactions.{Standing, prepared, branch_unsigned}
-use Rattle.spec_compiler.specs.ByPath.{prepared_at, position_at}
+use Rattle.spec_compiler.specs.ByPath.{prepared_at}
 use Rattle.spec_compiler.specs.Witness.{witness_of}
 use Rattle.spec_run.specs.Setup.{Setup, contract_at}
 use Rattle.spec_run.specs.World.{ContractPosition, World, digests_at}
@@ -27,7 +27,7 @@ use Rattle.theory_world.proofs.Later.{IsCompiledAt, compiled_is}
 use Rattle.theory_world.proofs.Contracts.Standing.{term_choice, term_branches, unsigned_of_branch}
 use Rattle.bm_fire.specs.Filled.{deposits_items, owner_in, signed_by}
 use Rattle.bm_fire.specs.Standing.{IsStanding}
-use Rattle.bm_fire.specs.Taken.{shown_for, witnesses_with, taking_with}
+use Rattle.bm_fire.specs.Taken.{shown_for, taking_with}
 
 -- ---- witnesses
 

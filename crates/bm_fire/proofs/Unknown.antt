@@ -1,5 +1,5 @@
 -- Secrets that aren't known of a branch that is to be taken.
-use Rattle.std.proofs.Common.{◌≡◌, ℕ, List, [], ◌∷◌, true, false, not, Option, Some, None, refl, sym, ap, ◌∙◌, subst}
+use Rattle.std.proofs.Common.{◌≡◌, ℕ, List, [], ◌∷◌, not, Option, Some, None, refl, sym, ap, ◌∙◌}
 use Rattle.std.specs.Prelude.{option_map, is_some, if◌then◌else◌}
 use Rattle.spec_data.specs.Lists.{first_reason}
 use Rattle.spec_terms.specs.Core.{core, reveals_of}
@@ -14,7 +14,7 @@ use Rattle.spec_run.specs.Ledger.{position_branch}
 use Rattle.spec_run.specs.Signing.{branch_if_live}
 use Rattle.spec_run.specs.Revealing.{fitting}
 use Rattle.spec_compiler.specs.Scripts.{digest_of}
-use Rattle.spec_run.specs.Firing.{first_unshown, unknown_secret, position_instance, unknown_at, fire_row}
+use Rattle.spec_run.specs.Firing.{first_unshown, unknown_secret, position_instance, fire_row}
 use Rattle.theory_world.proofs.Later.{compiled_is}
 use Rattle.bm_compile.specs.Numbered.{Numbered, numbered}
 use Rattle.bm_fire.specs.Shown.{first_unshown_by}

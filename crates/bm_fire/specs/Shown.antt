@@ -1,8 +1,7 @@
 -- Strings that were posted, by the messages that were hashed.
-use Rattle.std.specs.Prelude.{◌≡◌, ℕ, List, [], ◌∷◌, true, ◌&&◌, if◌then◌else◌, map, is_some, Option, Some, None}
-use Rattle.std.specs.Option.{option_and_then}
+use Rattle.std.specs.Prelude.{◌≡◌, ℕ, List, [], ◌∷◌, true, ◌&&◌, if◌then◌else◌, is_some, Option, Some, None}
 use Rattle.spec_data.specs.Lists.{is_among}
-use Rattle.spec_run.specs.Setup.{Setup, bytes_or_none}
+use Rattle.spec_run.specs.Setup.{Setup}
 use Rattle.spec_run.specs.World.{World}
 use Rattle.spec_run.specs.Revealing.{fitting}
 use Rattle.spec_run.specs.Committing.{is_secret_long}

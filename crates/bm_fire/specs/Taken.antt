@@ -1,5 +1,5 @@
 -- The transaction of a branch with its witnesses, by what is found of the branch.
-use Rattle.std.specs.Prelude.{ℕ, List, [], ◌∷◌, map}
+use Rattle.std.specs.Prelude.{ℕ, List, ◌∷◌, map}
 use Rattle.spec_terms.specs.Advert.{Advert}
 use Rattle.spec_terms.specs.Core.{core, puts_of, reveals_of}
 use Rattle.spec_terms.specs.Term as term

@@ -1,5 +1,4 @@
 use Rattle.std.proofs.Common.{◌∙◌, ◌∷◌, [], ◌++◌, ap}
-use Rattle.spec_bitcoin.specs.declared.tx.TxIn.{TxIn}
 use Rattle.bm_fire.specs.Filled.{input_with}
 use Rattle.bm_fire.proofs.Inputs.{witnessed_step}
 use Rattle.bm_fire.proofs.filling.witnessed.Goals as goal

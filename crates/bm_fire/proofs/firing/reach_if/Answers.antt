@@ -1,4 +1,4 @@
-use Rattle.std.proofs.Common.{◌≡◌, [], None, sym, subst}
+use Rattle.std.proofs.Common.{[], None, sym, subst}
 use Rattle.bm_hash.proofs.HashesLemmas.{hashed_none}
 use Rattle.spec_run.specs.Firing.{reaches_if}
 use Rattle.bm_board.specs.Drafts.{setup_of, world_of, IsReady, Drafts}

@@ -1,6 +1,5 @@
-use Rattle.std.proofs.Common.{◌≡◌, Some, None, sym, ap, ◌∙◌}
+use Rattle.std.proofs.Common.{sym, ap, ◌∙◌}
 use Rattle.std.specs.Prelude.{option_map}
-use Rattle.spec_run.specs.Setup.{contract_at}
 use Rattle.bm_board.specs.Drafts.{setup_of, world_of}
 use Rattle.bm_board.proofs.Compilations.{compiled_is}
 use Rattle.bm_fire.proofs.Started.{refused_nowhere, refused_uncompiled, passed}

@@ -1,5 +1,4 @@
-use Rattle.std.proofs.Common.{◌≡◌, ℕ, List, ◌∷◌, map, sym, ap, ◌∙◌}
-use Rattle.spec_terms.specs.Parties.{participants}
+use Rattle.std.proofs.Common.{◌∷◌, map, ap, ◌∙◌}
 use Rattle.spec_compiler.specs.Witness.{witness_of}
 use Rattle.spec_run.specs.Setup.{bytes_or_none}
 use Rattle.spec_run.specs.Firing.{with_witnesses, other_digests}

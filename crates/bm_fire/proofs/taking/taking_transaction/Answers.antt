@@ -8,7 +8,7 @@ use Rattle.bm_board.specs.Drafts.{setup_of, world_of}
 use Rattle.spec_run.specs.Compiled.{compiled_instance}
 use Rattle.spec_run.specs.Setup.{contract_at}
 use Rattle.spec_run.specs.Firing.{taking_of_position}
-use Rattle.bm_compile.specs.Numbered.{Numbered, numbered}
+use Rattle.bm_compile.specs.Numbered.{numbered}
 use Rattle.bm_board.specs.Compiling.{compiled_at}
 use Rattle.bm_board.proofs.Compilations.{compiled_is}
 use Rattle.bm_fire.proofs.Taken.{taking_none, advert_there}

@@ -6,4 +6,5 @@ mod Hashless
 mod Heard
 mod Opened
 mod Played
+mod Posts
 mod Reaching

@@ -27,11 +27,7 @@ use Rattle.theory_run.proofs.Facts.Growing.{grows}
 use Rattle.theory_run.proofs.Facts.Undertakings.{IsQuiet, told_stays}
 use Rattle.bm_compile.specs.Numbered.{numbered}
 use Rattle.bm_match.specs.Matches.{compiled_from, all_compiled}
-
--- it commits nothing
-abbrev pub IsNoCommit : Event → Type 0
-IsNoCommit (events.Commit contract party digests) = ⊥
-IsNoCommit _ = Unit {0}
+use Rattle.bm_world.specs.Kinds.{IsNoCommit}
 
 pub no_commit : (e : Event) → ((contract : ℕ) (party : List ℕ) (digests : List (List ℕ × List ℕ)) → e ≡ events.Commit contract party digests → ⊥) → IsNoCommit e
 no_commit (events.Commit contract party digests) h = h contract party digests refl

@@ -6,5 +6,6 @@ mod Hashless
 mod Heard
 mod Opened
 mod Played
+mod Posts
 mod Reaching
 pub mod Found

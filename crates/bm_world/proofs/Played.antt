@@ -42,7 +42,7 @@ use Rattle.bm_match.specs.Matches.{all_compiled}
 use Rattle.bm_board.specs.Compiling.{placed}
 use Rattle.bm_board.specs.Drafts.{world_of, tx_in, changed, IsReady, Drafts}
 use Rattle.bm_settle.specs.Settling.{IsMakeable, Makes}
-use Rattle.bm_world.specs.Playing.{most_records, HashedFront, JudgedHalts, Halts, Kept, IsPlayable, IsPlaced, Passes, Tests, SameBoard, GoesOn, IsWorld, collided_by}
+use Rattle.bm_world.specs.Playing.{most_records, HashedFront, JudgedHalts, Halts, Kept, IsPlayable, IsCompiledAfter, Passes, Tests, SameBoard, GoesOn, IsWorld, collided_by}
 use Rattle.bm_hash.proofs.Collisions.{hashed_adds, stopped_shows}
 use Rattle.bm_settle.proofs.Settled.{changed-hashed}
 use Rattle.bm_world.specs.Reached.{IsReached}
@@ -51,6 +51,7 @@ use Rattle.bm_world.proofs.Found.{found_there, found_more}
 use Rattle.bm_world.specs.Reached.{IsReached, AreFound}
 use Rattle.bm_world.proofs.Reaching.{IsCalm, calm_of, reached_more, reached_later}
 use Rattle.bm_world.proofs.Births.{event_grows}
+use Rattle.bm_world.proofs.Posts.{posts_reached}
 
 -- ---- a ready change can be made
 
@@ -138,7 +139,7 @@ module _ (s : Setup) (w v : World) (new : List (List ℕ)) (e : Event) (x : Draf
   }
 
   -- nothing collides, and no secret is guessed
-  pub passes_by : (compiled : List (Option Numbered)) (entry : Option (ℕ × Numbered)) → find (is_guessed w.posted x.posts x.allowed) s.header.secrets ≡ None → IsPlaced s w compiled e entry
+  pub passes_by : (compiled : List (Option Numbered)) (entry : Option (ℕ × Numbered)) → find (is_guessed w.posted x.posts x.allowed) s.header.secrets ≡ None → IsCompiledAfter s w compiled e entry
       → Passes s w v new compiled e x entry
   passes_by compiled entry unguessed placed = record {
     went = λ i. settle w (draft s w e) (heard.1 i) ((sym same_guess ∙ unguessed) i);
@@ -244,6 +245,7 @@ playable_of s b messages trace halt is none few =
       compiled = is.compiled;
       kept = is.kept none;
       clear = is.clear none;
+      posted = posts_reached s (world_of b messages) trace is.setup is.reached;
       room = omega (arith, outputs, few);
     }
 

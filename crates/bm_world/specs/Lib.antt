@@ -1,4 +1,5 @@
 pub mod Halts
+pub mod Kinds
 pub mod Playing
 pub mod Reached
 pub mod Starting

@@ -31,7 +31,12 @@ use Rattle.bm_board.specs.declared.board.Board.{Board}
 use Rattle.bm_board.specs.Compiling.{placed}
 use Rattle.bm_board.specs.declared.drafted.Drafted.{Drafted}
 use Rattle.bm_board.specs.Drafts.{world_of, Drafts}
+<<<<<<< HEAD
 use Rattle.bm_world.specs.Reached.{IsReached, AreFound}
+=======
+use Rattle.bm_fire.specs.Shown.{ArePostsHashed}
+use Rattle.bm_world.specs.Reached.{IsReached}
+>>>>>>> 8cb46edb6060bb8460658d6c07769ccd6f7ef55d
 use Rattle.bm_board.specs.Accounts.{account_of}
 
 -- what a world stands for
@@ -91,6 +96,7 @@ pub record IsPlayable (s : Setup) (b : Board) (messages : List (List ℕ)) : Typ
   pub compiled : b.compiled ≡ all_compiled s (world_of b messages)
   pub kept : Kept s (world_of b messages)
   pub clear : evidence_of s.hash messages ≡ None
+  pub posted : ArePostsHashed (world_of b messages)
   -- the outputs of one more transaction can be numbered
   pub room : length b.coins.outputs + most_piece_bytes < 2 ^ 32
 
@@ -109,14 +115,14 @@ pub record IsWorld (s : Setup) (b : Board) (messages : List (List ℕ)) (trace :
 -- ---- what an event leaves of a board
 
 -- with this contract placed, the board has what the contracts are compiled to after an event
-abbrev pub IsPlaced : Setup → World → List (Option Numbered) → Event → Option (ℕ × Numbered) → Type 0
-IsPlaced s w compiled e entry = placed entry compiled ≡ all_compiled s (draft s w e).world
+abbrev pub IsCompiledAfter : Setup → World → List (Option Numbered) → Event → Option (ℕ × Numbered) → Type 0
+IsCompiledAfter s w compiled e entry = placed entry compiled ≡ all_compiled s (draft s w e).world
 
 -- the event goes on, these are its messages, and this was drafted in the second world, with the contract that is compiled then
 pub record Passes (s : Setup) (w v : World) (messages : List (List ℕ)) (compiled : List (Option Numbered)) (e : Event) (x : Drafted) (entry : Option (ℕ × Numbered)) : Type 0 where
   pub went : event s w e ≡ run.Went (draft s w e) (settled w (draft s w e))
   pub drafts : Drafts s.hash v w.hashed messages (draft s w e) x
-  pub placed : IsPlaced s w compiled e entry
+  pub placed : IsCompiledAfter s w compiled e entry
 
 -- the event would go on, these are then the messages, and whether it wouldn't be refused
 pub record Tests (s : Setup) (w : World) (messages : List (List ℕ)) (e : Event) (result : Bool) : Type 0 where

@@ -5,12 +5,16 @@ ghost use Rattle.bm_hash.specs.Trails.{StopsAlong};
 ghost use Rattle.spec_run.specs.Conditions.{IsEvent};
 ghost use Rattle.spec_run.specs.Event as run;
 ghost use Rattle.bm_board.specs.Drafts.{setup_of, world_of, Drafts, Signs};
-ghost use Rattle.bm_world.specs.Playing.{IsPlayable, IsPlaced};
+ghost use Rattle.bm_world.specs.Kinds.{IsNoCommit};
+ghost use Rattle.bm_world.specs.Playing.{IsPlayable, IsCompiledAfter};
 
+use crate::handing::{draft_appended, draft_given, draft_initial, draft_taken};
 use bm_board::{Board, Drafted};
+use bm_commit::draft_commit;
 use bm_compile::Compiled;
 use bm_drafts::{draft_advertise, draft_mine, draft_post, draft_reveal, draft_sign};
 use bm_hash::{Hash32, Trail, TrailError};
+use bm_signing::{draft_authorise, draft_endorse, draft_init};
 use spec_run::Event;
 use std::alloc::Global;
 
@@ -24,6 +28,7 @@ fn draft_other<H: Hash32 + Drop>(
 ) -> Result<Drafted, TrailError>
     requires playable { IsPlayable (setup_of (H.digest_of trail.old.hasher) board.old) board.old trail.old.messages }
     requires is { IsEvent (setup_of (H.digest_of trail.old.hasher) board.old) event.now }
+    requires kind { IsNoCommit event.now }
     ensures hasher { trail.new.hasher ≡ trail.old.hasher }
     ensures board { Signs board.old board.new }
     ensures ok { IfOk result (Drafts (H.digest_of trail.old.hasher) (world_of board.new trail.old.messages) trail.old.messages trail.new.messages (run.draft (setup_of (H.digest_of trail.old.hasher) board.old) (world_of board.old trail.old.messages) event.now)) }
@@ -32,6 +37,42 @@ fn draft_other<H: Hash32 + Drop>(
     match event {
         Event::Advertise { contract, bindings } => {
             let drafted = draft_advertise(alloc, board, *contract, bindings.as_slice())?;
+            Ok(drafted)
+        }
+        Event::Commit { .. } => unreachable!(),
+        Event::Endorse { contract, party } => {
+            let drafted = draft_endorse(alloc, trail, board, *contract, party)?;
+            Ok(drafted)
+        }
+        Event::Init { contract, party } => {
+            let drafted = draft_init(alloc, trail, board, *contract, party)?;
+            Ok(drafted)
+        }
+        Event::Authorise {
+            party,
+            output,
+            branch,
+        } => {
+            let drafted = draft_authorise(alloc, trail, board, party, *output, *branch)?;
+            Ok(drafted)
+        }
+        Event::Give {
+            party,
+            inputs,
+            outputs,
+        } => {
+            let drafted = draft_given(
+                alloc,
+                trail,
+                board,
+                party,
+                inputs.as_slice(),
+                outputs.as_slice(),
+            )?;
+            Ok(drafted)
+        }
+        Event::Append { bytes } => {
+            let drafted = draft_appended(alloc, trail, board, bytes.as_slice())?;
             Ok(drafted)
         }
         Event::Post { bytes } => {
@@ -54,8 +95,15 @@ fn draft_other<H: Hash32 + Drop>(
             let drafted = draft_reveal(alloc, trail, board, *contract, party, secret)?;
             Ok(drafted)
         }
+        Event::FireInit { contract } => {
+            let drafted = draft_initial(alloc, trail, board, *contract)?;
+            Ok(drafted)
+        }
+        Event::Fire { output, branch } => {
+            let drafted = draft_taken(alloc, trail, board, *output, *branch)?;
+            Ok(drafted)
+        }
         Event::Mine { blocks } => Ok(draft_mine(alloc, board, *blocks)),
-        _ => Err(TrailError::Memory),
     }
 }
 
@@ -73,11 +121,18 @@ pub(crate) fn draft<H: Hash32 + Drop>(
     ensures hasher { trail.new.hasher ≡ trail.old.hasher }
     ensures board { Signs board.old board.new }
     ensures ok { IfOk result (λ p. Drafts (H.digest_of trail.old.hasher) (world_of board.new trail.old.messages) trail.old.messages trail.new.messages (run.draft (setup_of (H.digest_of trail.old.hasher) board.old) (world_of board.old trail.old.messages) event.now) p.0) }
-    ensures compiled { IfOk result (λ p. IsPlaced (setup_of (H.digest_of trail.old.hasher) board.old) (world_of board.old trail.old.messages) board.old.compiled event.now p.1) }
+    ensures compiled { IfOk result (λ p. IsCompiledAfter (setup_of (H.digest_of trail.old.hasher) board.old) (world_of board.old trail.old.messages) board.old.compiled event.now p.1) }
     ensures err { IfErr result (StopsAlong H.digest_of trail.old trail.new ((run.draft (setup_of (H.digest_of trail.old.hasher) board.old) (world_of board.old trail.old.messages) event.now).hashes)) }
 {
     match event {
-        Event::Commit { .. } => Err(TrailError::Memory),
+        Event::Commit {
+            contract,
+            party,
+            digests,
+        } => {
+            let answer = draft_commit(alloc, trail, board, *contract, party, digests.as_slice())?;
+            Ok(answer)
+        }
         _ => {
             let drafted = draft_other(alloc, trail, board, event)?;
             Ok((drafted, None))

@@ -3,7 +3,7 @@
 
 mod drafting;
 mod halt;
-mod kinds;
+mod handing;
 mod placing;
 mod playing;
 mod starting;

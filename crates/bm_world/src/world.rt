@@ -160,9 +160,9 @@ impl<H: Hash32 + Drop> World<H> {
         self.board.compiled(contract)
     }
 
-    // One event. After a halt nothing but the trail has changed, and every later call answers the same. Callers have a call
-    // for each kind that is built: of any other event this says that memory is short.
-    pub(crate) fn event(&mut self, event: &Event) -> Result<Outcome, Halt>
+    /// One event: what came of it, which is then recorded, or what halted the run. After a halt nothing but the trail has changed,
+    /// and every later call answers the same.
+    pub fn event(&mut self, event: &Event) -> Result<Outcome, Halt>
         requires is { IsEvent (setup_in H.digest_of self.old) event.now }
         requires few { length self.old.trace < most_records }
         ensures went { IfOk result (Went H.digest_of self.old self.new event.now) }

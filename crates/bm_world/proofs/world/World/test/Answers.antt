@@ -3,9 +3,12 @@ use Rattle.spec_run.specs.Event.{draft}
 use Rattle.spec_run.specs.Draft.{settled}
 use Rattle.bm_board.specs.Drafts.{setup_of, world_of}
 use Rattle.bm_world.specs.Playing.{IsWorld}
-use Rattle.bm_world.proofs.Played.{world_halted, world_hears}
+use Rattle.bm_world.proofs.Played.{playable_of, world_halted, world_hears}
 use Rattle.bm_world.proofs.Reaching.{calm_of}
 use Rattle.bm_world.proofs.world.World.test.Goals as goal
+
+pub test-requires-clause-playable : goal.test-requires-clause-playable
+test-requires-clause-playable g c = playable_of _ _ _ _ _ c.self.invariant c.in_default.is (rw (← c.self.view_is) at c.requires.few)
 
 pub invariant_of-self : goal.invariant_of-self
 invariant_of-self g c =

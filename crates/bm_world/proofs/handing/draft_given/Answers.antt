@@ -1,0 +1,16 @@
+use Rattle.std.proofs.Common.{arith}
+use Rattle.bm_spending.proofs.Kept.{placed_kept, apart_kept, fresh_gift}
+use Rattle.bm_world.proofs.handing.draft_given.Goals as goal
+
+pub draft_give-requires-clause-placed : goal.draft_give-requires-clause-placed
+draft_give-requires-clause-placed g c = placed_kept _ c.requires.playable.kept.config _ c.requires.playable.kept.books
+
+pub draft_give-requires-clause-apart : goal.draft_give-requires-clause-apart
+draft_give-requires-clause-apart g c = apart_kept _ c.requires.playable.kept.config _ c.requires.playable.kept.books
+
+pub draft_give-requires-clause-fresh : goal.draft_give-requires-clause-fresh
+draft_give-requires-clause-fresh g c =
+    fresh_gift _ c.requires.playable.setup c.requires.playable.kept.config _ c.requires.playable.kept.books c.args.party.now c.args.inputs.now c.args.outputs.now c.requires.gift
+
+pub draft_give-requires-clause-room : goal.draft_give-requires-clause-room
+draft_give-requires-clause-room g c = omega (arith, c.requires.playable.room, c.requires.gift.few_outputs)

@@ -1,0 +1,98 @@
+//! The drafts of events that hand a transaction to the ledger, in a world that a run led to.
+
+ghost use Rattle.std.specs.Prelude.{◌≡◌, IfOk, IfErr};
+ghost use Rattle.bm_hash.specs.Trails.{StopsAlong};
+ghost use Rattle.spec_run.specs.Conditions.{IsPiece, IsGift};
+ghost use Rattle.spec_run.specs.Event as run;
+ghost use Rattle.spec_run.specs.declared.event.Event.TheVariants as events;
+ghost use Rattle.bm_board.specs.Drafts.{setup_of, world_of, Drafts, Signs};
+ghost use Rattle.bm_world.specs.Playing.{IsPlayable};
+
+use bm_board::{Board, Drafted};
+use bm_fire::{draft_fire, draft_fire_init};
+use bm_hash::{Hash32, Trail, TrailError};
+use bm_spending::{draft_append, draft_give};
+use spec_data::Name;
+use std::alloc::Global;
+
+/// The draft of a transaction that is handed over as it is.
+#[tactic(auto, using(bm_hash::proofs::HashesLemmas::stops_early))]
+pub(crate) fn draft_appended<H: Hash32 + Drop>(
+    alloc: Global,
+    trail: &mut Trail<H>,
+    board: &Board,
+    bytes: &[u8],
+) -> Result<Drafted, TrailError>
+    requires playable { IsPlayable (setup_of (H.digest_of trail.old.hasher) board.now) board.now trail.old.messages }
+    requires piece { IsPiece bytes.now }
+    ensures hasher { trail.new.hasher ≡ trail.old.hasher }
+    ensures ok { let s = setup_of (H.digest_of trail.old.hasher) board.now in let w = world_of board.now trail.old.messages in
+        IfOk result (Drafts s.hash w trail.old.messages trail.new.messages (run.draft s w (events.Append bytes.now))) }
+    ensures err { let s = setup_of (H.digest_of trail.old.hasher) board.now in let w = world_of board.now trail.old.messages in
+        IfErr result (StopsAlong H.digest_of trail.old trail.new ((run.draft s w (events.Append bytes.now)).hashes)) }
+{
+    let drafted = draft_append(alloc, trail, board, bytes)?;
+    Ok(drafted)
+}
+
+/// The draft of a gift, whose pairs are then in the book.
+#[tactic(auto, using(bm_hash::proofs::HashesLemmas::stops_early))]
+pub(crate) fn draft_given<H: Hash32 + Drop>(
+    alloc: Global,
+    trail: &mut Trail<H>,
+    board: &mut Board,
+    party: &Name,
+    inputs: &[u32],
+    outputs: &[(Name, u64)],
+) -> Result<Drafted, TrailError>
+    requires playable { IsPlayable (setup_of (H.digest_of trail.old.hasher) board.old) board.old trail.old.messages }
+    requires gift { IsGift (setup_of (H.digest_of trail.old.hasher) board.old) party.now inputs.now outputs.now }
+    ensures hasher { trail.new.hasher ≡ trail.old.hasher }
+    ensures board { Signs board.old board.new }
+    ensures ok { let s = setup_of (H.digest_of trail.old.hasher) board.old in let w = world_of board.old trail.old.messages in
+        IfOk result (Drafts s.hash (world_of board.new trail.old.messages) trail.old.messages trail.new.messages (run.draft s w (events.Give party.now inputs.now outputs.now))) }
+    ensures err { let s = setup_of (H.digest_of trail.old.hasher) board.old in let w = world_of board.old trail.old.messages in
+        IfErr result (StopsAlong H.digest_of trail.old trail.new ((run.draft s w (events.Give party.now inputs.now outputs.now)).hashes)) }
+{
+    let drafted = draft_give(alloc, trail, board, party, inputs, outputs)?;
+    Ok(drafted)
+}
+
+/// The draft of the initial transaction of a contract.
+#[tactic(auto, using(bm_hash::proofs::HashesLemmas::stops_early))]
+pub(crate) fn draft_initial<H: Hash32 + Drop>(
+    alloc: Global,
+    trail: &mut Trail<H>,
+    board: &Board,
+    contract: u32,
+) -> Result<Drafted, TrailError>
+    requires playable { IsPlayable (setup_of (H.digest_of trail.old.hasher) board.now) board.now trail.old.messages }
+    ensures hasher { trail.new.hasher ≡ trail.old.hasher }
+    ensures ok { let s = setup_of (H.digest_of trail.old.hasher) board.now in let w = world_of board.now trail.old.messages in
+        IfOk result (Drafts s.hash w trail.old.messages trail.new.messages (run.draft s w (events.FireInit contract))) }
+    ensures err { let s = setup_of (H.digest_of trail.old.hasher) board.now in let w = world_of board.now trail.old.messages in
+        IfErr result (StopsAlong H.digest_of trail.old trail.new ((run.draft s w (events.FireInit contract)).hashes)) }
+{
+    let drafted = draft_fire_init(alloc, trail, board, contract)?;
+    Ok(drafted)
+}
+
+/// The draft of the transaction of a branch.
+#[tactic(auto, using(bm_hash::proofs::HashesLemmas::stops_early))]
+pub(crate) fn draft_taken<H: Hash32 + Drop>(
+    alloc: Global,
+    trail: &mut Trail<H>,
+    board: &Board,
+    output: u32,
+    branch: u32,
+) -> Result<Drafted, TrailError>
+    requires playable { IsPlayable (setup_of (H.digest_of trail.old.hasher) board.now) board.now trail.old.messages }
+    ensures hasher { trail.new.hasher ≡ trail.old.hasher }
+    ensures ok { let s = setup_of (H.digest_of trail.old.hasher) board.now in let w = world_of board.now trail.old.messages in
+        IfOk result (Drafts s.hash w trail.old.messages trail.new.messages (run.draft s w (events.Fire output branch))) }
+    ensures err { let s = setup_of (H.digest_of trail.old.hasher) board.now in let w = world_of board.now trail.old.messages in
+        IfErr result (StopsAlong H.digest_of trail.old trail.new ((run.draft s w (events.Fire output branch)).hashes)) }
+{
+    let drafted = draft_fire(alloc, trail, board, output, branch)?;
+    Ok(drafted)
+}

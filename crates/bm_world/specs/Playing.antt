@@ -31,12 +31,9 @@ use Rattle.bm_board.specs.declared.board.Board.{Board}
 use Rattle.bm_board.specs.Compiling.{placed}
 use Rattle.bm_board.specs.declared.drafted.Drafted.{Drafted}
 use Rattle.bm_board.specs.Drafts.{world_of, Drafts}
-<<<<<<< HEAD
 use Rattle.bm_world.specs.Reached.{IsReached, AreFound}
-=======
 use Rattle.bm_fire.specs.Shown.{ArePostsHashed}
 use Rattle.bm_world.specs.Reached.{IsReached}
->>>>>>> 8cb46edb6060bb8460658d6c07769ccd6f7ef55d
 use Rattle.bm_board.specs.Accounts.{account_of}
 
 -- what a world stands for

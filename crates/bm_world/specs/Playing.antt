@@ -33,7 +33,6 @@ use Rattle.bm_board.specs.declared.drafted.Drafted.{Drafted}
 use Rattle.bm_board.specs.Drafts.{world_of, Drafts}
 use Rattle.bm_world.specs.Reached.{IsReached, AreFound}
 use Rattle.bm_fire.specs.Shown.{ArePostsHashed}
-use Rattle.bm_world.specs.Reached.{IsReached}
 use Rattle.bm_board.specs.Accounts.{account_of}
 
 -- what a world stands for

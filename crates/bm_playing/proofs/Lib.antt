@@ -1,0 +1,3 @@
+pub mod Again
+pub mod Courses
+pub mod OneByOne

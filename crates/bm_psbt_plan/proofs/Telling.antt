@@ -20,7 +20,8 @@ use Rattle.spec_run.specs.World.{World}
 use Rattle.spec_run.specs.Compiled.{is_complete, instance_of, instance_if_complete, compiled_instance}
 use Rattle.spec_tool.specs.declared.which.Which.{Which}
 use Rattle.spec_tool.specs.declared.which.Which.TheVariants as names
-use Rattle.spec_tool.specs.Listed.{path_listed, path_signers, branch_signers}
+use Rattle.spec_tool.specs.Listed.{path_listed, path_signers, branch_signers, listed_at}
+use Rattle.spec_tool.specs.Psbt.{Psbt}
 use Rattle.spec_tool.specs.Weights.{position_of}
 use Rattle.spec_tool.specs.PsbtText.{psbt_line, listed_psbt, signed_inputs, setting_psbt, has_transaction, no_path_line, which_psbt}
 use Rattle.theory_script.specs.Listed.{at_path}
@@ -28,19 +29,21 @@ use Rattle.theory_script.proofs.Listing.Stands.{IfAgrees, agrees_at, end_from-st
 use Rattle.theory_script.proofs.Listing.Transactions.{paths_are_listed}
 use Rattle.theory_script.proofs.Listing.OutputScripts.{scripts_are_listed}
 use Rattle.bm_compile.specs.Numbered.{Numbered, numbered}
-use Rattle.bm_psbt_plan.specs.Parts.{output_at, found_psbt, set_told, compiled_told, psbt_told}
+use Rattle.bm_psbt_plan.specs.Parts.{output_at, found_psbt, path_psbt, set_told, compiled_told, psbt_told}
 use Rattle.bm_psbt_plan.proofs.FoundOutputs.{paid, position_of-further, output_found, stands}
 use Rattle.bm_psbt_plan.proofs.Signers.{init_is, path_is}
 
-module _ (hash : List ℕ → List ℕ) (book : List Pair) (s : Instance) (path : List PathStep) where
-  abbrev told_of : Option Prepared → Option TxOut → Option (List ℕ) → Option term.Guarded → List ℕ
-  told_of p output script b =
-      option_map_or psbt_line (found_psbt hash book s.contract s.advert path p output script b) (no_path_line (names.At path))
+told_mapped : {A B C : Type 0} (f : B → C) (g : A → B) (o : Option A) (c : C)
+    → option_map_or f (option_map g o) c ≡ option_map_or (λ a. f (g a)) o c
+told_mapped f g None c = refl
+told_mapped f g (Some a) c = refl
 
-  abbrev listed_of : Option PathEnd → List ℕ
-  listed_of o =
-      option_map_or (λ l. psbt_line (listed_psbt hash book l)) (option_map (path_listed s path) (option_and_then (as_unsigned hash s) o))
-      (no_path_line (names.At path))
+module _ (hash : List ℕ → List ℕ) (book : List Pair) (s : Instance) (path : List PathStep) where
+  abbrev found_of : Option Prepared → Option TxOut → Option (List ℕ) → Option term.Guarded → Option Psbt
+  found_of p output script b = found_psbt hash book s.contract s.advert path p output script b
+
+  abbrev listed_of : Option PathEnd → Option Psbt
+  listed_of o = option_map (listed_psbt hash book) (option_map (path_listed s path) (option_and_then (as_unsigned hash s) o))
 
   abbrev the_output : Option TxOut
   the_output = output_at (position_of path) (numbered hash s)
@@ -50,18 +53,18 @@ module _ (hash : List ℕ → List ℕ) (book : List Pair) (s : Instance) (path 
 
   -- where no branch ends the path
   no_branch : (o : Option PathEnd) → end_at hash s path ≡ o → option_and_then (as_unsigned hash s) o ≡ None
-      → told_of (at_path path (compilation hash s).paths) the_output the_script (at s.advert.root path) ≡ listed_of (end_at hash s path)
+      → found_of (at_path path (compilation hash s).paths) the_output the_script (at s.advert.root path) ≡ listed_of (end_at hash s path)
   no_branch o e f =
       let g : at_path path (compilation hash s).paths ≡ None =
       paths_are_listed hash s path ∙ ap (option_map (prepared hash)) (ap (option_and_then (as_unsigned hash s)) e ∙ f) in
       let h : option_and_then (as_unsigned hash s) (end_at hash s path) ≡ None = ap (option_and_then (as_unsigned hash s)) e ∙ f in
-      ap (λ (p : Option Prepared). told_of p the_output the_script (at s.advert.root path)) g
-      ∙ sym (ap (λ u. option_map_or (λ l. psbt_line (listed_psbt hash book l)) (option_map (path_listed s path) u) (no_path_line (names.At path))) h)
+      ap (λ (p : Option Prepared). found_of p the_output the_script (at s.advert.root path)) g
+      ∙ sym (ap (λ u. option_map (listed_psbt hash book) (option_map (path_listed s path) u)) h)
 
   -- where this branch of this position does
   one_branch : (here : Standing) (i : ℕ) (d b : term.Guarded) → end_at hash s path ≡ Some (at_branch here i d)
       → branch_path here.position i ≡ path → d ≡ b → at s.advert.root path ≡ Some b
-      → told_of (at_path path (compilation hash s).paths) the_output the_script (at s.advert.root path) ≡ listed_of (end_at hash s path)
+      → found_of (at_path path (compilation hash s).paths) the_output the_script (at s.advert.root path) ≡ listed_of (end_at hash s path)
   one_branch here i d b e lies same there =
       let draft = branch_unsigned hash s here i d in
       let start = at_position (root_standing hash s) s.advert.root in
@@ -82,13 +85,13 @@ module _ (hash : List ℕ → List ℕ) (book : List Pair) (s : Instance) (path 
       ≡ record { tx = tx_of draft; inputs = signed_inputs hash book draft draft.spends (branch_signers s.contract s.advert path d) } =
       (λ j. record { tx = tx_of draft; inputs = signed_inputs hash book draft draft.spends (signers j) }) in
       let inputs = path_is hash book s path here i d in
-      (λ j. told_of (p j) (o j) (q j) (b' j))
-      ∙ ((λ j. psbt_line (record { tx = tx_of draft; inputs = sym inputs j }))
-      ∙ (ap psbt_line (sym listed) ∙ sym (ap listed_of e)))
+      (λ j. found_of (p j) (o j) (q j) (b' j))
+      ∙ ((λ j. Some (record { tx = tx_of draft; inputs = sym inputs j }))
+      ∙ (ap Some (sym listed) ∙ sym (ap listed_of e)))
 
   by_ends : (o : Option PathEnd) (q : Option Subterm) → end_at hash s path ≡ o → subterm_from (paths.position s.advert.root) path ≡ q
       → IfAgrees hash s path o q
-      → told_of (at_path path (compilation hash s).paths) the_output the_script (at s.advert.root path) ≡ listed_of (end_at hash s path)
+      → found_of (at_path path (compilation hash s).paths) the_output the_script (at s.advert.root path) ≡ listed_of (end_at hash s path)
   by_ends None q e f agrees = no_branch None e refl
   by_ends (Some (at_position here choice)) q e f agrees = no_branch (Some (at_position here choice)) e refl
   by_ends (Some (at_branch here i d)) None e f agrees = absurd agrees
@@ -96,8 +99,14 @@ module _ (hash : List ℕ → List ℕ) (book : List Pair) (s : Instance) (path 
   by_ends (Some (at_branch here i d)) (Some (paths.at_branch b)) e f agrees =
       one_branch here i d b e agrees.0 agrees.1 (ap (option_and_then as_branch) f)
 
+  pub path_found : path_psbt hash book s.contract s.advert path (numbered hash s)
+      ≡ option_map (listed_psbt hash book) (listed_at hash s (names.At path))
+  path_found = by_ends (end_at hash s path) (subterm_from (paths.position s.advert.root) path) refl refl (agrees_at hash s path)
+
   path_told : set_told hash book s.contract s.advert (numbered hash s) (names.At path) ≡ setting_psbt hash book (names.At path) (Some s)
-  path_told = by_ends (end_at hash s path) (subterm_from (paths.position s.advert.root) path) refl refl (agrees_at hash s path)
+  path_told =
+      ap (λ o. option_map_or psbt_line o (no_path_line (names.At path))) path_found
+      ∙ told_mapped psbt_line (listed_psbt hash book) (listed_at hash s (names.At path)) (no_path_line (names.At path))
 
 -- of a compiled contract
 set_is : (hash : List ℕ → List ℕ) (book : List Pair) (s : Instance) (which : Which)

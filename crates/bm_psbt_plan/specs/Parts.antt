@@ -1,5 +1,6 @@
 -- A contract's transactions as partially signed ones, by what the contract is compiled to.
-use Rattle.std.specs.Prelude.{ℕ, suc, ◌-◌, List, [], ◌∷◌, length, map, true, if◌then◌else◌, Option, Some, None, slice_get}
+use Rattle.std.specs.Prelude.{◌≡◌, ℕ, suc, ◌-◌, List, [], ◌∷◌, length, map, true, if◌then◌else◌}
+use Rattle.std.specs.Prelude.{Option, Some, None, IfSome, slice_get}
 use Rattle.std.specs.Option.{option_map_or}
 use Rattle.spec_terms.specs.Term as term
 use Rattle.spec_terms.specs.Advert.{Advert}
@@ -17,7 +18,7 @@ use Rattle.spec_compiler.specs.declared.prepared.Prepared.{Prepared}
 use Rattle.spec_compiler.specs.Instance.{deposit_key, branch_label}
 use Rattle.spec_compiler.specs.Transactions.{pays, party_script, holding_or_none}
 use Rattle.spec_tool.specs.declared.psbt.PsbtInput.{PsbtInput}
-use Rattle.spec_tool.specs.Psbt.{Psbt, Pairing, is_before, insert_signature}
+use Rattle.spec_tool.specs.Psbt.{Psbt, Pairing, is_before, insert_signature, is_psbt}
 use Rattle.spec_tool.specs.PsbtText.{psbt_line, has_transaction, no_path_line, not_compiled_line}
 use Rattle.spec_tool.specs.declared.which.Which.{Which}
 use Rattle.spec_tool.specs.declared.which.Which.TheVariants as names
@@ -119,6 +120,15 @@ abbrev pub path_psbt : (List ℕ → List ℕ) → List Pair → ℕ → Advert 
 path_psbt hash book contract advert path c =
     found_psbt hash book contract advert path (at_path path c.paths) (output_at (position_of path) c) (at_path (position_of path) c.scripts)
     (at advert.root path)
+
+-- the one of this name, if there is one
+abbrev pub named_psbt : (List ℕ → List ℕ) → List Pair → ℕ → Advert → Numbered → Which → Option Psbt
+named_psbt hash book contract advert c names.Init = Some (init_psbt hash book advert c)
+named_psbt hash book contract advert c (names.At path) = path_psbt hash book contract advert path c
+
+-- what is there is a partially signed transaction
+abbrev pub IsOne : Option Psbt → Type 0
+IsOne o = IfSome o (λ p. is_psbt p ≡ true)
 
 -- ---- what is printed
 

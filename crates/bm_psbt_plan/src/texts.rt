@@ -1,16 +1,18 @@
 //! What `psbt RUN CONTRACT WHICH` prints of a run that isn't halted.
 
-ghost use Rattle.std.specs.Prelude.{◌≡◌, ◌++◌, Some, option_map, OnOk, IfOk};
+ghost use Rattle.std.specs.Prelude.{◌≡◌, ◌++◌, true, Some, option_map, OnOk, IfOk};
 ghost use Rattle.spec_tool.specs.declared.which.Which.TheVariants as names;
 ghost use Rattle.spec_terms.specs.Core.{core as core_of, puts_of};
 ghost use Rattle.spec_run.specs.Setup.{Setup, contract_at};
 ghost use Rattle.spec_run.specs.World.{World};
 ghost use Rattle.spec_run.specs.Compiled.{compiled_instance};
 ghost use Rattle.spec_tool.specs.Listed.{which_text};
+ghost use Rattle.spec_tool.specs.Psbt.{is_psbt};
 ghost use Rattle.spec_tool.specs.PsbtText as spec;
 ghost use Rattle.bm_syntax.specs.View.{guarded};
-ghost use Rattle.bm_compile.specs.Numbered.{numbered};
+ghost use Rattle.bm_compile.specs.Numbered.{Numbered, numbered};
 ghost use Rattle.bm_psbt_plan.specs.Parts as parts;
+ghost use Rattle.bm_psbt_plan.specs.OfRun.{IsOfRun};
 
 use crate::inputs::{path_inputs, persistent_inputs};
 use crate::outputs::{front_of, output_at};
@@ -28,7 +30,7 @@ use spec_bitcoin::Tx;
 use spec_data::{Name, OutOfMemory};
 use spec_terms::Path;
 use spec_tool::{PsbtInput, Which};
-use std::alloc::{AllocError, Global};
+use std::alloc::Global;
 
 // Whether the contract has the transaction.
 fn has_transaction(checked: &Checked, which: &Which) -> bool
@@ -73,14 +75,14 @@ fn not_compiled(alloc: Global) -> Result<Vec<u8>, OutOfMemory>
     Vec::from_slice(alloc, b"contract 0 not compiled\n")
 }
 
-// A transaction with what is known of its inputs. One that is none, as with two signatures by one
-// key, is taken for want of memory.
+// A transaction with what is known of its inputs.
 fn psbt_with(alloc: Global, tx: &Tx, inputs: Vec<PsbtInput>) -> Result<Psbt, OutOfMemory>
+    requires { is_psbt (record { tx = tx.now; inputs = inputs.items }) ≡ true }
     ensures { IfOk result (λ psbt. psbt ≡ record { tx = tx.now; inputs = inputs.items }) }
 {
     match Psbt::of(tx.copy(alloc)?, inputs) {
         Some(psbt) => Ok(psbt),
-        None => Err(AllocError),
+        None => unreachable!(),
     }
 }
 
@@ -100,6 +102,7 @@ fn init_psbt<H: Hash32>(
     checked: &Checked,
     compiled: &Compiled,
 ) -> Result<Psbt, OutOfMemory>
+    requires { is_psbt (parts.init_psbt (H.digest_of hasher.now) book.now checked.now compiled.now) ≡ true }
     ensures { IfOk result (λ psbt. psbt ≡ parts.init_psbt (H.digest_of hasher.now) book.now checked.now compiled.now) }
 {
     let init = compiled.init();
@@ -126,6 +129,7 @@ fn path_psbt<H: Hash32>(
     compiled: &Compiled,
     path: &Path,
 ) -> Result<Option<Psbt>, OutOfMemory>
+    requires { parts.IsOne (parts.path_psbt (H.digest_of hasher.now) book.now 0 checked.now path.now compiled.now) }
     ensures { IfOk result (λ psbt. psbt ≡ parts.path_psbt (H.digest_of hasher.now) book.now 0 checked.now path.now compiled.now) }
 {
     let position = front_of(alloc, path)?;
@@ -166,7 +170,8 @@ fn path_text<H: Hash32>(
     path: &Path,
     which: &Which,
 ) -> Result<Vec<u8>, OutOfMemory>
-    requires { which.now ≡ names.At path.now }
+    requires which { which.now ≡ names.At path.now }
+    requires one { parts.IsOne (parts.path_psbt (H.digest_of hasher.now) book.now 0 checked.now path.now compiled.now) }
     ensures { IfOk result (λ text. text.items ≡ parts.set_told (H.digest_of hasher.now) book.now 0 checked.now compiled.now which.now) }
 {
     match path_psbt(alloc, hasher, book, checked, compiled, path)? {
@@ -184,6 +189,7 @@ fn set_text<H: Hash32>(
     compiled: &Compiled,
     which: &Which,
 ) -> Result<Vec<u8>, OutOfMemory>
+    requires { parts.IsOne (parts.named_psbt (H.digest_of hasher.now) book.now 0 checked.now compiled.now which.now) }
     ensures { IfOk result (λ text. text.items ≡ parts.set_told (H.digest_of hasher.now) book.now 0 checked.now compiled.now which.now) }
 {
     match which {
@@ -203,6 +209,8 @@ fn told<H: Hash32>(
     compiled: Option<&Compiled>,
     which: &Which,
 ) -> Result<Vec<u8>, OutOfMemory>
+    requires { (c : Numbered) → option_map (λ c. c.now) compiled ≡ Some c
+        → parts.IsOne (parts.named_psbt (H.digest_of hasher.now) book.now 0 checked.now c which.now) }
     ensures { IfOk result (λ text. text.items
         ≡ parts.psbt_told (H.digest_of hasher.now) book.now checked.now (option_map (λ c. c.now) compiled.entry) which.now) }
 {
@@ -216,9 +224,8 @@ fn told<H: Hash32>(
 }
 
 /// One of the transactions of a run's contract, contract 0, with the signatures that the book has
-/// for it, in Base64 as one line; or that the contract has no such path, or isn't compiled. A
-/// transaction with two signatures by one key, which only a collision of hashes makes, is taken
-/// for want of memory.
+/// for it, in Base64 as one line; or that the contract has no such path, or isn't compiled. What it
+/// is compiled to is what a run leaves: there the keys that sign an input are all different.
 pub fn psbt_text<H: Hash32>(
     alloc: Global,
     hasher: &H,
@@ -227,6 +234,7 @@ pub fn psbt_text<H: Hash32>(
     compiled: Option<&Compiled>,
     which: &Which,
 ) -> Result<Vec<u8>, OutOfMemory>
+    requires { IsOfRun (H.digest_of hasher.now) checked.now (option_map (λ c. c.now) compiled) }
     ensures told { IfOk result (λ text. text.items
         ≡ parts.psbt_told (H.digest_of hasher.now) book.now checked.now (option_map (λ c. c.now) compiled.entry) which.now) }
     ensures run { (s : Setup) (w : World) → s.hash ≡ H.digest_of hasher.now → contract_at s 0 ≡ Some checked.now → w.book ≡ book.now

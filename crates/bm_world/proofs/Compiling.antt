@@ -29,7 +29,8 @@ use Rattle.bm_compile.specs.Numbered.{numbered}
 use Rattle.bm_match.specs.Matches.{compiled_from, all_compiled}
 use Rattle.bm_world.specs.Kinds.{IsNoCommit}
 
-pub no_commit : (e : Event) → ((contract : ℕ) (party : List ℕ) (digests : List (List ℕ × List ℕ)) → e ≡ events.Commit contract party digests → ⊥) → IsNoCommit e
+pub no_commit : (e : Event) → ((contract : ℕ) (party : List ℕ) (digests : List (List ℕ × List ℕ))
+    → e ≡ events.Commit contract party digests → ⊥) → IsNoCommit e
 no_commit (events.Commit contract party digests) h = h contract party digests refl
 no_commit (events.Advertise contract bindings) h = tt
 no_commit (events.Endorse contract party) h = tt
@@ -60,12 +61,15 @@ module _ (s : Setup) (w : World) where
       record { new = []; advertised = t.advertised ∙ sym (append-nil w.advertised); promises = t.promises }
 
   advert_told : (contract : ℕ) (bindings : List (List ℕ × ℕ)) (r : Option Reason)
-      → MoreTold w (unless r w [] (done (record w { advertised = w.advertised ++ record { contract = contract; bindings = bindings } ∷ [] }) [])).world
-  advert_told contract bindings None = record { new = record { contract = contract; bindings = bindings } ∷ []; advertised = refl; promises = refl }
+      → MoreTold w (unless r w [] (done
+      (record w { advertised = w.advertised ++ record { contract = contract; bindings = bindings } ∷ [] }) [])).world
+  advert_told contract bindings None = record
+      { new = record { contract = contract; bindings = bindings } ∷ []; advertised = refl; promises = refl }
   advert_told contract bindings (Some reason) = nothing_told
 
   more_told : (e : Event) → IsNoCommit e → MoreTold w (draft s w e).world
-  more_told (events.Advertise contract bindings) q = advert_told contract (arranged 0 (deposit_names s contract) bindings) (first_reason (advertise_row s w contract bindings))
+  more_told (events.Advertise contract bindings) q = advert_told contract (arranged 0 (deposit_names s contract) bindings)
+      (first_reason (advertise_row s w contract bindings))
   more_told (events.Commit contract party digests) q = absurd q
   more_told (events.Endorse contract party) q = quiet_told (events.Endorse contract party) tt
   more_told (events.Init contract party) q = quiet_told (events.Init contract party) tt
@@ -81,12 +85,14 @@ module _ (s : Setup) (w : World) where
 
 -- ---- one contract
 
-module _ (s : Setup) (w next : World) (stays : (k : ℕ) (st : Instance) → compiled_instance s w k ≡ Some st → compiled_instance s next k ≡ Some st)
+module _ (s : Setup) (w next : World)
+    (stays : (k : ℕ) (st : Instance) → compiled_instance s w k ≡ Some st → compiled_instance s next k ≡ Some st)
     (back : (k : ℕ) (a : Advert) → contract_at s k ≡ Some a → is_complete next k a ≡ true → is_complete w k a ≡ true) where
   same_instance : (k : ℕ) → compiled_instance s next k ≡ compiled_instance s w k
   same_instance k = by_contract (contract_at s k) refl
     where
-      by_test : (a : Advert) → contract_at s k ≡ Some a → (b : Bool) → is_complete w k a ≡ b → compiled_instance s next k ≡ compiled_instance s w k
+      by_test : (a : Advert) → contract_at s k ≡ Some a → (b : Bool) → is_complete w k a ≡ b
+          → compiled_instance s next k ≡ compiled_instance s w k
       by_test a e true t =
           let h : compiled_instance s w k ≡ Some (instance_of w k a) = ap (instance_if_complete w k) e ∙ rw t refl in
           stays k (instance_of w k a) h ∙ sym h
@@ -108,17 +114,20 @@ module _ (s : Setup) (w next : World) (stays : (k : ℕ) (st : Instance) → com
 
 module _ (s : Setup) (setup : IsSetup s) (g : Configuration) (w : World) (keeps : KeptBooks s g w) where
   -- who has committed had the contract advertised before
-  told_back : (next : World) → MoreTold w next → (k : ℕ) (a : Advert) → contract_at s k ≡ Some a → is_complete next k a ≡ true → is_complete w k a ≡ true
+  told_back : (next : World) → MoreTold w next → (k : ℕ) (a : Advert) → contract_at s k ≡ Some a → is_complete next k a ≡ true
+      → is_complete w k a ≡ true
   told_back next told k a e h =
       let p = and_parts (is_advertised next k) (have_promised next k (participants a)) h in
       let same : have_promised w k (participants a) ≡ have_promised next k (participants a) =
       λ i. list_all (λ party. list_any (is_promise_of k party) (sym told.promises i)) (participants a) in
       let promised : have_promised w k (participants a) ≡ true = same ∙ p.1 in
       let one = a_person a (contract_checked s setup k a e) in
-      and_from (is_advertised w k) (have_promised w k (participants a)) (keeps.promises.told k one.0 (all_among (has_promised w k) (participants a) one.0 promised one.1)) promised
+      and_from (is_advertised w k) (have_promised w k (participants a))
+      (keeps.promises.told k one.0 (all_among (has_promised w k) (participants a) one.0 promised one.1)) promised
 
   pub still_compiled : (e : Event) → IsNoCommit e → all_compiled s (draft s w e).world ≡ all_compiled s w
   still_compiled e q =
       let told = more_told s w e q in
       same_from s w (settled w (draft s w e)) (λ k st h. (grows s g w keeps.book e).compiled k st h)
-      (told_back (settled w (draft s w e)) (record { new = told.new; advertised = told.advertised; promises = told.promises })) 0 s.contracts
+      (told_back (settled w (draft s w e)) (record { new = told.new; advertised = told.advertised; promises = told.promises })) 0
+      s.contracts

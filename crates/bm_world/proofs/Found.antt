@@ -59,12 +59,14 @@ all_found : (hash : List ℕ → List ℕ) (xs ms : List (List ℕ)) (d t : List
 all_found hash [] ms d t h = h
 all_found hash (x ∷ xs) ms d t h = all_found hash xs (noted hash ms x) d t (noted_found hash ms x d t h)
 
-pub found_more : (hash : List ℕ → List ℕ) (ms xs strings : List (List ℕ)) → AreFound hash ms strings → AreFound hash (noted_all hash ms xs) strings
+pub found_more : (hash : List ℕ → List ℕ) (ms xs strings : List (List ℕ)) → AreFound hash ms strings
+    → AreFound hash (noted_all hash ms xs) strings
 found_more hash ms xs strings found t h = all_found hash xs ms (hash t) t (found t h)
 
 -- ---- what a run posts
 
-pub posted_heard : (s : Setup) (w : World) (trace : List Record) → IsSetup s → IsReached s w trace → (t : List ℕ) → is_among t w.posted ≡ true
+pub posted_heard : (s : Setup) (w : World) (trace : List Record) → IsSetup s → IsReached s w trace → (t : List ℕ)
+    → is_among t w.posted ≡ true
     → is_among t w.hashed ≡ true
 posted_heard s w trace setup is t h =
     let es = events_of trace in

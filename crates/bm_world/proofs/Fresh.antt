@@ -26,16 +26,21 @@ module _ (s : Setup) (setup : IsSetup s) (g : Configuration) (w : World) (keeps 
   pub fresh_tx : IsFresh s w tx
   fresh_tx passed calm = λ k. by_entry k (at_place (live_from 0 w.outputs) (record { txid = txid s.hash tx; vout = k })) refl
     where
-      by_entry : (k : ℕ) (r : Option (ℕ × TxOut)) → at_place (live_from 0 w.outputs) (record { txid = txid s.hash tx; vout = k }) ≡ r → r ≡ None
+      by_entry : (k : ℕ) (r : Option (ℕ × TxOut)) → at_place (live_from 0 w.outputs) (record { txid = txid s.hash tx; vout = k }) ≡ r
+          → r ≡ None
       by_entry k None e = refl
       by_entry k (Some q) e =
           let f = found w.outputs (record { txid = txid s.hash tx; vout = k }) 0 q e in
           let same = place-true (record { txid = txid s.hash tx; vout = k }) f.output.outpoint f.here in
-          let accepted = accepted_by s w tx (map (spent_number (live_from 0 w.outputs)) tx.inputs) (numbers_from (length w.outputs) tx.outputs) (ap (verdict_for (chain_of w) tx) passed) in
+          let accepted = accepted_by s w tx (map (spent_number (live_from 0 w.outputs)) tx.inputs)
+          (numbers_from (length w.outputs) tx.outputs) (ap (verdict_for (chain_of w) tx) passed) in
           let new = noted_all w.hashed (strings_of s w tx ++ items_of tx) in
           absurd (fresh s setup.hash g w keeps.book (fits s setup g w keeps) (checks s setup g w keeps) new
           (no_clash s.hash w.hashed (strings_of s w tx ++ items_of tx) keeps.clear calm)
           (λ t h. all_more w.hashed (strings_of s w tx ++ items_of tx) t h)
           tx fine (map (spent_number (live_from 0 w.outputs)) tx.inputs) (accepting s w tx _ accepted)
-          (record { heard = λ t h. all_new w.hashed (strings_of s w tx ++ items_of tx) t (among_left t (strings_of s w tx) (items_of tx) h) })
+          (record {
+            heard = λ t h. all_new w.hashed (strings_of s w tx ++ items_of tx) t
+                (among_left t (strings_of s w tx) (items_of tx) h);
+          })
           f.number f.output f.there (sym (ap (λ (p : OutPoint). p.txid) same)))

@@ -153,7 +153,10 @@ module _ (s : Setup) (w : World) (hs : List (List ℕ)) where
   pub draft_same : (e : Event) → draft s more e ≡ carried hs (draft s w e)
   draft_same (events.Advertise contract bindings) =
       unless_same (first_reason (advertise_row s w contract bindings)) []
-      (done (record w { advertised = w.advertised ++ record { contract = contract; bindings = arranged 0 (deposit_names s contract) bindings } ∷ [] }) [])
+      (done (record w {
+        advertised = w.advertised ++ record
+            { contract = contract; bindings = arranged 0 (deposit_names s contract) bindings } ∷ [];
+      }) [])
   draft_same (events.Commit contract party digests) = commit_same contract party digests
   draft_same (events.Endorse contract party) = endorse_same contract party
   draft_same (events.Init contract party) = init_same contract party
@@ -161,7 +164,8 @@ module _ (s : Setup) (w : World) (hs : List (List ℕ)) where
   draft_same (events.Reveal contract party secret) = reveal_same contract party secret
   draft_same (events.Post bytes) = refl
   draft_same (events.Sign party label digest) =
-      unless_same (first_reason (sign_row s party label)) [] (done (with_pairs w ((key_of s.hash label, digest) ∷ [])) (label_text label ∷ []))
+      unless_same (first_reason (sign_row s party label)) []
+      (done (with_pairs w ((key_of s.hash label, digest) ∷ [])) (label_text label ∷ []))
   draft_same (events.Give party inputs outputs) = give_same party inputs outputs
   draft_same (events.Append bytes) = read_same (transaction_of bytes)
   draft_same (events.FireInit contract) = begin_same contract

@@ -5,6 +5,7 @@ mod Fresh
 mod Hashless
 mod Heard
 mod Opened
+mod Placed
 mod Played
 mod Posts
 mod Reaching

@@ -36,8 +36,10 @@ use Rattle.bm_world.proofs.Reaching.{reached_at_start}
 nothing_posted : (t : List ℕ) → is_among t [] ≡ true → ⊥
 nothing_posted t h = cc
 
-module _ {H : Type 0} (digest : H → List ℕ → List ℕ) (hash here : H) (header : Header) (contracts : List Advert) (b : Board) (messages : List (List ℕ)) (same : here ≡ hash)
-    (opened : IsOpened (setup_with (digest hash) header contracts) b) (hashed : Hashed (digest hash) [] messages (opening_strings (setup_with (digest hash) header contracts))) where
+module _ {H : Type 0} (digest : H → List ℕ → List ℕ) (hash here : H) (header : Header) (contracts : List Advert) (b : Board)
+    (messages : List (List ℕ)) (same : here ≡ hash)
+    (opened : IsOpened (setup_with (digest hash) header contracts) b)
+    (hashed : Hashed (digest hash) [] messages (opening_strings (setup_with (digest hash) header contracts))) where
   abbrev s : Setup
   s = setup_with (digest hash) header contracts
 
@@ -57,9 +59,16 @@ module _ {H : Type 0} (digest : H → List ℕ → List ℕ) (hash here : H) (he
       let there : length b.coins.outputs ≡ length (opening_world s).outputs = ap (λ (w : World). length w.outputs) world in
       omega (arith, made, count, there, fine.few_deposits)
 
-  pub opened_world : (trace : List Record) → trace ≡ [] → HashesBytes (digest hash) → IsHeader header → length contracts ≤ 16 → IsWorld (setup_of (digest here) b) b messages trace None
+  pub opened_world : (trace : List Record) → trace ≡ [] → HashesBytes (digest hash) → IsHeader header → length contracts ≤ 16
+      → IsWorld (setup_of (digest here) b) b messages trace None
   opened_world trace none bytes fine few =
-      let setup : IsSetup s = record { hash = bytes; header = fine; few_contracts = few; contracts = subst (AllByRecursion IsWellFormed) (ap (λ (x : Setup). x.contracts) opened.setup) opened.well_formed } in
+      let setup : IsSetup s = record {
+        hash = bytes;
+        header = fine;
+        few_contracts = few;
+        contracts = subst (AllByRecursion IsWellFormed)
+            (ap (λ (x : Setup). x.contracts) opened.setup) opened.well_formed;
+      } in
       let base : IsWorld s b messages [] None = record {
         setup = setup;
         accounts = opened.accounts;
@@ -67,23 +76,37 @@ module _ {H : Type 0} (digest : H → List ℕ → List ℕ) (hash here : H) (he
         few = few_at_start fine;
         found = λ t h. absurd (nothing_posted t (subst (λ ts. is_among t ts ≡ true) (ap (λ (w : World). w.posted) world) h));
         reached = subst (λ v. IsReached s v []) (sym world) (reached_at_start s adds.1);
-        kept = λ h. record { config = opening_configuration s; books = subst (KeptBooks s (opening_configuration s)) (sym world) (opening_keeps s setup adds.1) };
+        kept = λ h. record {
+          config = opening_configuration s;
+          books = subst (KeptBooks s (opening_configuration s)) (sym world)
+              (opening_keeps s setup adds.1);
+        };
         clear = λ h. hashed.clear;
       } in
       subst (λ t. IsWorld (setup_of (digest here) b) b messages t None) (sym none) (subst (λ x. IsWorld x b messages [] None) (sym at) base)
 
   pub opened_is : (trace : List Record) → trace ≡ []
-      → Opens digest hash header contracts (record { hasher = here; header = b.header; contracts = b.contracts; world = world_of b messages; trace = trace; halt = None })
+      → Opens digest hash header contracts
+      (record { hasher = here; header = b.header; contracts = b.contracts; world = world_of b messages; trace = trace; halt = None })
   opened_is trace none = record {
     apart = adds.1;
-    is = λ i. record { hasher = same i; header = (opened.setup i).header; contracts = (opened.setup i).contracts; world = world i; trace = none i; halt = None };
+    is = λ i. record {
+      hasher = same i;
+      header = (opened.setup i).header;
+      contracts = (opened.setup i).contracts;
+      world = world i;
+      trace = none i;
+      halt = None;
+    };
   }
 
 -- the collision that is shown is that of the opening strings
-pub collided_is : {H : Type 0} (digest : H → List ℕ → List ℕ) (hash here : H) (messages xs : List (List ℕ)) (error : TrailError) (result : StartError) → here ≡ hash
+pub collided_is : {H : Type 0} (digest : H → List ℕ → List ℕ) (hash here : H) (messages xs : List (List ℕ)) (error : TrailError)
+    (result : StartError) → here ≡ hash
     → Stops (digest hash) [] messages xs error → (error ≡ errors.Memory → result ≡ Memory)
     → ((first second : List ℕ) → result ≡ Collided first second → evidence_of (digest here) messages ≡ Some (first, second))
     → (first second : List ℕ) → result ≡ Collided first second → collision (digest hash) [] xs ≡ Some (first, second)
 collided_is digest hash here messages xs errors.Memory result same stops memory shown first second e = let m = memory refl in cc
 collided_is digest hash here messages xs errors.Collided result same stops memory shown first second e =
-    sym ((stopped_shows (digest hash) [] messages xs refl stops).0) ∙ ap (λ h. evidence_of (digest h) messages) (sym same) ∙ shown first second e
+    sym ((stopped_shows (digest hash) [] messages xs refl stops).0) ∙ ap (λ h. evidence_of (digest h) messages) (sym same)
+    ∙ shown first second e

@@ -55,19 +55,22 @@ use Rattle.bm_world.proofs.Posts.{posts_reached}
 
 -- ---- a ready change can be made
 
-makeable : (hash : List ℕ → List ℕ) (b : Board) (messages : List (List ℕ)) (change : Change) → IsReady hash (world_of b messages) change → IsMakeable b change
+makeable : (hash : List ℕ → List ℕ) (b : Board) (messages : List (List ℕ)) (change : Change) → IsReady hash (world_of b messages) change
+    → IsMakeable b change
 makeable hash b messages Nothing h = tt
 makeable hash b messages (Blocks blocks) h = h
 makeable hash b messages (Advertise told) h = tt
 makeable hash b messages (Commit p) h = tt
 makeable hash b messages (Append a) h = record {
   room = h.room;
-  passed = (or_else-none (first_reason (whole_row b.coins.tip (live_from 0 b.coins.outputs) a.tx)) (inputs_refusal hash b.book (live_from 0 b.coins.outputs) a.tx 0 a.tx.inputs) h.passed).0;
+  passed = (or_else-none (first_reason (whole_row b.coins.tip (live_from 0 b.coins.outputs) a.tx))
+      (inputs_refusal hash b.book (live_from 0 b.coins.outputs) a.tx 0 a.tx.inputs) h.passed).0;
   numbers = h.numbers;
   new = h.new;
 }
 
-pub makeable_of : (hash : List ℕ → List ℕ) (b : Board) (old new : List (List ℕ)) (d : Draft) (x : Drafted) → Drafts hash (world_of b old) old new d x → IsMakeable b x.change
+pub makeable_of : (hash : List ℕ → List ℕ) (b : Board) (old new : List (List ℕ)) (d : Draft) (x : Drafted)
+    → Drafts hash (world_of b old) old new d x → IsMakeable b x.change
 makeable_of hash b old new d x h = makeable hash b old x.change h.ready
 
 -- ---- halts
@@ -87,17 +90,25 @@ within_all hash ms (x ∷ xs) m h = within_all hash (noted hash ms x) xs m (note
 pub front_within : (hash : List ℕ → List ℕ) (old new xs : List (List ℕ)) → HashedFront hash old new xs → Within old new
 front_within hash old new xs h m i = subst (λ l. is_among m l ≡ true) (sym h.messages) (within_all hash old h.front m i)
 
-shown_some : (o p : Option (List ℕ × List ℕ)) (s : Setup) (w : World) (d : Draft) (g : Option HeldSecret) → o ≡ p → IsSome p → option_map collided_by o ≡ Some (settle w d p g)
+shown_some : (o p : Option (List ℕ × List ℕ)) (s : Setup) (w : World) (d : Draft) (g : Option HeldSecret) → o ≡ p → IsSome p
+    → option_map collided_by o ≡ Some (settle w d p g)
 shown_some o None s w d g e h = cc
 shown_some o (Some p) s w d g e h = ap (option_map collided_by) e
 
 -- the drafting stopped
-pub drafting_halts : (s : Setup) (w : World) (new : List (List ℕ)) (e : Event) (error : TrailError) → evidence_of s.hash w.hashed ≡ None → Stops s.hash w.hashed new ((draft s w e).hashes) error → Halts s w new e (halt_of error)
+pub drafting_halts : (s : Setup) (w : World) (new : List (List ℕ)) (e : Event) (error : TrailError) → evidence_of s.hash w.hashed ≡ None
+    → Stops s.hash w.hashed new ((draft s w e).hashes) error → Halts s w new e (halt_of error)
 drafting_halts s w new e trail.Collided clear h =
     let i = stopped_shows s.hash w.hashed new ((draft s w e).hashes) clear h in
     record {
-      hashed = record { front = (draft s w e).hashes; back = []; strings = sym (append-nil (draft s w e).hashes); messages = (h.collided refl).0 };
-      collided = λ x. shown_some (evidence_of s.hash new) (collision s.hash w.hashed ((draft s w e).hashes)) s w (draft s w e) (guess s w.posted ((draft s w e).posts) ((draft s w e).allowed)) i.0 i.1;
+      hashed = record {
+        front = (draft s w e).hashes;
+        back = [];
+        strings = sym (append-nil (draft s w e).hashes);
+        messages = (h.collided refl).0;
+      };
+      collided = λ x. shown_some (evidence_of s.hash new) (collision s.hash w.hashed ((draft s w e).hashes)) s w (draft s w e)
+          (guess s w.posted ((draft s w e).posts) ((draft s w e).allowed)) i.0 i.1;
       guessed = λ party secret x. cc;
     }
 drafting_halts s w new e trail.Memory clear h =
@@ -112,11 +123,13 @@ drafting_halts s w new e trail.Memory clear h =
 all_hashed : (hash : List ℕ → List ℕ) (old new xs : List (List ℕ)) → Hashed hash old new xs → HashedFront hash old new xs
 all_hashed hash old new xs h = record { front = xs; back = []; strings = sym (append-nil xs); messages = h.all }
 
-module _ (s : Setup) (w v : World) (new : List (List ℕ)) (e : Event) (x : Drafted) (clear : evidence_of s.hash w.hashed ≡ None) (drafts : Drafts s.hash v w.hashed new (draft s w e) x) where
+module _ (s : Setup) (w v : World) (new : List (List ℕ)) (e : Event) (x : Drafted) (clear : evidence_of s.hash w.hashed ≡ None)
+    (drafts : Drafts s.hash v w.hashed new (draft s w e) x) where
   heard : (new ≡ run_messages.noted_all w.hashed (draft s w e).hashes) × (collision s.hash w.hashed (draft s w e).hashes ≡ None)
   heard = hashed_adds s.hash w.hashed new ((draft s w e).hashes) clear drafts.hashed
 
-  same_guess : find (is_guessed w.posted x.posts x.allowed) s.header.secrets ≡ guess s w.posted ((draft s w e).posts) ((draft s w e).allowed)
+  same_guess : find (is_guessed w.posted x.posts x.allowed) s.header.secrets
+      ≡ guess s w.posted ((draft s w e).posts) ((draft s w e).allowed)
   same_guess = ap (λ (d : Draft). guess s w.posted d.posts d.allowed) drafts.same
 
   -- memory is short
@@ -128,7 +141,8 @@ module _ (s : Setup) (w v : World) (new : List (List ℕ)) (e : Event) (x : Draf
   }
 
   -- a secret is guessed
-  pub guess_halts : (held : HeldSecret) → find (is_guessed w.posted x.posts x.allowed) s.header.secrets ≡ Some held → Halts s w new e (Guessed held.party held.name)
+  pub guess_halts : (held : HeldSecret) → find (is_guessed w.posted x.posts x.allowed) s.header.secrets ≡ Some held
+      → Halts s w new e (Guessed held.party held.name)
   guess_halts held found = record {
     hashed = all_hashed s.hash w.hashed new (draft s w e).hashes drafts.hashed;
     collided = λ y. cc;
@@ -139,7 +153,8 @@ module _ (s : Setup) (w v : World) (new : List (List ℕ)) (e : Event) (x : Draf
   }
 
   -- nothing collides, and no secret is guessed
-  pub passes_by : (compiled : List (Option Numbered)) (entry : Option (ℕ × Numbered)) → find (is_guessed w.posted x.posts x.allowed) s.header.secrets ≡ None → IsCompiledAfter s w compiled e entry
+  pub passes_by : (compiled : List (Option Numbered)) (entry : Option (ℕ × Numbered))
+      → find (is_guessed w.posted x.posts x.allowed) s.header.secrets ≡ None → IsCompiledAfter s w compiled e entry
       → Passes s w v new compiled e x entry
   passes_by compiled entry unguessed placed = record {
     went = λ i. settle w (draft s w e) (heard.1 i) ((sym same_guess ∙ unguessed) i);
@@ -149,7 +164,8 @@ module _ (s : Setup) (w v : World) (new : List (List ℕ)) (e : Event) (x : Draf
 
 -- ---- an event that goes on
 
-module _ (s : Setup) (w v : World) (new : List (List ℕ)) (compiled : List (Option Numbered)) (e : Event) (x : Drafted) (entry : Option (ℕ × Numbered)) (clear : evidence_of s.hash w.hashed ≡ None)
+module _ (s : Setup) (w v : World) (new : List (List ℕ)) (compiled : List (Option Numbered)) (e : Event) (x : Drafted)
+    (entry : Option (ℕ × Numbered)) (clear : evidence_of s.hash w.hashed ≡ None)
     (passes : Passes s w v new compiled e x entry) where
   abbrev d : Draft
   d = draft s w e
@@ -166,11 +182,13 @@ module _ (s : Setup) (w v : World) (new : List (List ℕ)) (compiled : List (Opt
   }
 
   -- what was drafted is made, and the contract is placed
-  pub goes_by : (mid made last : Board) (trace later : List Record) → v ≡ world_of mid w.hashed → mid.exchange.posted ≡ w.posted → mid.compiled ≡ compiled
+  pub goes_by : (mid made last : Board) (trace later : List Record) → v ≡ world_of mid w.hashed → mid.exchange.posted ≡ w.posted
+      → mid.compiled ≡ compiled
       → Makes mid made x → last ≡ record made { compiled = last.compiled } → last.compiled ≡ placed entry made.compiled
       → later ≡ trace ++ record { event = e; outcome = x.outcome; tx = tx_in x.change } ∷ [] → GoesOn s w last new trace later e x.outcome
   goes_by mid made last trace later at posted before makes rest put t =
-      let world : changed (world_of mid w.hashed) x.change ≡ (draft s w e).world = ap (λ y. changed y x.change) (sym at) ∙ ap (λ (y : Draft). y.world) passes.drafts.same in
+      let world : changed (world_of mid w.hashed) x.change ≡ (draft s w e).world =
+      ap (λ y. changed y x.change) (sym at) ∙ ap (λ (y : Draft). y.world) passes.drafts.same in
       let posts : x.posts ≡ (draft s w e).posts = ap (λ (y : Draft). y.posts) passes.drafts.same in
       let next : world_of last new ≡ settled w (draft s w e) =
       ap (λ b. world_of b new) rest
@@ -192,12 +210,15 @@ module _ (s : Setup) (w v : World) (new : List (List ℕ)) (compiled : List (Opt
 pub kept_after : (s : Setup) (w next : World) (e : Event) → IsSetup s → IsEvent s e → Kept s w → IsCalm s w next (draft s w e) → Kept s next
 kept_after s w next e setup is kept calm = record {
   config = after_steps kept.config (steps_of s [] kept.config w (settled w (draft s w e)) e (draft s w e));
-  books = subst (λ v. KeptBooks s (after_steps kept.config (steps_of s [] kept.config w (settled w (draft s w e)) e (draft s w e))) v) calm.left (keeps_after s setup [] kept.config w kept.books e is calm.calm);
+  books = subst (λ v. KeptBooks s (after_steps kept.config (steps_of s [] kept.config w (settled w (draft s w e)) e (draft s w e))) v)
+      calm.left (keeps_after s setup [] kept.config w kept.books e is calm.calm);
 }
 
 -- there are few outputs after one more event
-few_after : (s : Setup) → IsSetup s → (w next : World) (before trace : List Record) (e : Event) → IsEvent s e → IsCalm s w next (draft s w e) → trace ≡ before ++ record_of e (draft s w e) ∷ []
-    → length w.outputs ≤ most_header_deposits + most_gift_outputs * length before → length next.outputs ≤ most_header_deposits + most_gift_outputs * length trace
+few_after : (s : Setup) → IsSetup s → (w next : World) (before trace : List Record) (e : Event) → IsEvent s e
+    → IsCalm s w next (draft s w e) → trace ≡ before ++ record_of e (draft s w e) ∷ []
+    → length w.outputs ≤ most_header_deposits + most_gift_outputs * length before
+    → length next.outputs ≤ most_header_deposits + most_gift_outputs * length trace
 few_after s setup w next before trace e is calm at few =
     let grows = event_grows s setup w e is in
     let same : length (draft s w e).world.outputs ≡ length next.outputs = ap (λ (v : World). length v.outputs) calm.left in
@@ -205,12 +226,14 @@ few_after s setup w next before trace e is calm at few =
     omega (arith, grows, same, count, few)
 
 -- the world after an event that went on
-pub world_after : (s t : Setup) (old new : Board) (messages later : List (List ℕ)) (before trace : List Record) (e : Event) (outcome : Outcome) (halt : Option Halt) → IsWorld s old messages before None → IsEvent s e
+pub world_after : (s t : Setup) (old new : Board) (messages later : List (List ℕ)) (before trace : List Record) (e : Event)
+    (outcome : Outcome) (halt : Option Halt) → IsWorld s old messages before None → IsEvent s e
     → GoesOn s (world_of old messages) new later before trace e outcome → SameBoard old new → t ≡ s → IsWorld t new later trace halt
 world_after s t old new messages later before trace e outcome halt was is goes same at =
     let calm = calm_of s (world_of old messages) (world_of new later) (draft s (world_of old messages) e) goes.goes.went in
     let reached_there : IsReached s (world_of new later) trace =
-    subst (IsReached s (world_of new later)) (sym goes.goes.trace) (reached_more s (world_of old messages) (world_of new later) before e was.reached is calm) in
+    subst (IsReached s (world_of new later)) (sym goes.goes.trace)
+    (reached_more s (world_of old messages) (world_of new later) before e was.reached is calm) in
     subst (λ x. IsWorld x new later trace halt) (sym at) (record {
       setup = was.setup;
       accounts = same.accounts ∙ was.accounts;
@@ -223,20 +246,23 @@ world_after s t old new messages later before trace e outcome halt was is goes s
     })
 
 -- the world after a halt
-pub world_halted : (s t : Setup) (b : Board) (old later xs : List (List ℕ)) (trace : List Record) (halt : Halt) → IsWorld s b old trace None → HashedFront s.hash old later xs → t ≡ s → IsWorld t b later trace (Some halt)
+pub world_halted : (s t : Setup) (b : Board) (old later xs : List (List ℕ)) (trace : List Record) (halt : Halt)
+    → IsWorld s b old trace None → HashedFront s.hash old later xs → t ≡ s → IsWorld t b later trace (Some halt)
 world_halted s t b old later xs trace halt was front at = subst (λ x. IsWorld x b later trace (Some halt)) (sym at) (record {
   setup = was.setup;
   accounts = was.accounts;
   compiled = was.compiled;
   few = was.few;
   reached = reached_later s (world_of b old) later trace (front_within s.hash old later xs front) was.reached;
-  found = subst (λ ms. AreFound s.hash ms b.exchange.posted) (sym front.messages) (found_more s.hash old front.front b.exchange.posted was.found);
+  found = subst (λ ms. AreFound s.hash ms b.exchange.posted) (sym front.messages)
+      (found_more s.hash old front.front b.exchange.posted was.found);
   kept = λ h. cc;
   clear = λ h. cc;
 })
 
 -- before an event nothing has halted, and there is room
-pub playable_of : (s : Setup) (b : Board) (messages : List (List ℕ)) (trace : List Record) (halt : Option Halt) → IsWorld s b messages trace halt → halt ≡ None → length trace < most_records → IsPlayable s b messages
+pub playable_of : (s : Setup) (b : Board) (messages : List (List ℕ)) (trace : List Record) (halt : Option Halt)
+    → IsWorld s b messages trace halt → halt ≡ None → length trace < most_records → IsPlayable s b messages
 playable_of s b messages trace halt is none few =
     let outputs = is.few in
     record {
@@ -250,15 +276,20 @@ playable_of s b messages trace halt is none few =
     }
 
 -- the world where only more was hashed
-pub world_hears : (s t : Setup) (b : Board) (old later xs : List (List ℕ)) (trace : List Record) (halt : Option Halt) → IsWorld s b old trace None → t ≡ s
-    → later ≡ run_messages.noted_all old xs → evidence_of s.hash later ≡ None → collision s.hash old xs ≡ None → IsWorld t b later trace halt
+pub world_hears : (s t : Setup) (b : Board) (old later xs : List (List ℕ)) (trace : List Record) (halt : Option Halt)
+    → IsWorld s b old trace None → t ≡ s
+    → later ≡ run_messages.noted_all old xs → evidence_of s.hash later ≡ None → collision s.hash old xs ≡ None
+    → IsWorld t b later trace halt
 world_hears s t b old later xs trace halt was at hashed clear calm = subst (λ x. IsWorld x b later trace halt) (sym at) (record {
   setup = was.setup;
   accounts = was.accounts;
   compiled = was.compiled;
   few = was.few;
-  reached = reached_later s (world_of b old) later trace (λ m i. subst (λ l. is_among m l ≡ true) (sym hashed) (all_more old xs m i)) was.reached;
-  found = found_there s (world_of b later) trace was.setup (reached_later s (world_of b old) later trace (λ m i. subst (λ l. is_among m l ≡ true) (sym hashed) (all_more old xs m i)) was.reached) clear;
+  reached = reached_later s (world_of b old) later trace (λ m i. subst (λ l. is_among m l ≡ true) (sym hashed) (all_more old xs m i))
+      was.reached;
+  found = found_there s (world_of b later) trace was.setup
+      (reached_later s (world_of b old) later trace (λ m i. subst (λ l. is_among m l ≡ true) (sym hashed) (all_more old xs m i))
+      was.reached) clear;
   kept = λ h. subst (λ l. Kept s (world_of b l)) (sym hashed) (kept_heard s (world_of b old) xs was.setup (was.kept refl) calm);
   clear = λ h. clear;
 })
@@ -266,7 +297,8 @@ world_hears s t b old later xs trace halt was at hashed clear calm = subst (λ x
 -- ---- a transaction that is judged
 
 -- the call stopped
-pub judged_halts : (hash : List ℕ → List ℕ) (old new xs : List (List ℕ)) (error : TrailError) (halt : Halt) → evidence_of hash old ≡ None → Stops hash old new xs error → halt ≡ halt_of error → JudgedHalts hash old new xs halt
+pub judged_halts : (hash : List ℕ → List ℕ) (old new xs : List (List ℕ)) (error : TrailError) (halt : Halt) → evidence_of hash old ≡ None
+    → Stops hash old new xs error → halt ≡ halt_of error → JudgedHalts hash old new xs halt
 judged_halts hash old new xs trail.Collided halt clear h is = record {
   hashed = record { front = xs; back = []; strings = sym (append-nil xs); messages = (h.collided refl).0 };
   collided = λ x. stopped_shows hash old new xs clear h;

@@ -39,13 +39,15 @@ pub record IsCalm (s : Setup) (w next : World) (d : Draft) : Type 0 where
   pub unguessed : guess s w.posted d.posts d.allowed ≡ None
   pub left : settled w d ≡ next
 
-calm_by : (s : Setup) (w next : World) (d : Draft) (c : Option (List ℕ × List ℕ)) (g : Option HeldSecret) → collision s.hash w.hashed d.hashes ≡ c → guess s w.posted d.posts d.allowed ≡ g
+calm_by : (s : Setup) (w next : World) (d : Draft) (c : Option (List ℕ × List ℕ)) (g : Option HeldSecret)
+    → collision s.hash w.hashed d.hashes ≡ c → guess s w.posted d.posts d.allowed ≡ g
     → settle w d c g ≡ Went d next → IsCalm s w next d
 calm_by s w next d (Some p) g a b h = cc
 calm_by s w next d None (Some held) a b h = cc
 calm_by s w next d None None a b h = record { calm = a; unguessed = b; left = cc }
 
-pub calm_of : (s : Setup) (w next : World) (d : Draft) → settle w d (collision s.hash w.hashed d.hashes) (guess s w.posted d.posts d.allowed) ≡ Went d next → IsCalm s w next d
+pub calm_of : (s : Setup) (w next : World) (d : Draft)
+    → settle w d (collision s.hash w.hashed d.hashes) (guess s w.posted d.posts d.allowed) ≡ Went d next → IsCalm s w next d
 calm_of s w next d h = calm_by s w next d (collision s.hash w.hashed d.hashes) (guess s w.posted d.posts d.allowed) refl refl h
 
 -- ---- one more event
@@ -54,7 +56,8 @@ all_and_one : {X : Type 0} (P : X → Type 0) (xs : List X) (x : X) → AllByRec
 all_and_one P [] x h k = (k, tt)
 all_and_one P (y ∷ xs) x h k = (h.0, all_and_one P xs x h.1 k)
 
-module _ (s : Setup) (w next : World) (trace : List Record) (e : Event) (is : IsReached s w trace) (fine : IsEvent s e) (calm : IsCalm s w next (draft s w e)) where
+module _ (s : Setup) (w next : World) (trace : List Record) (e : Event) (is : IsReached s w trace) (fine : IsEvent s e)
+    (calm : IsCalm s w next (draft s w e)) where
   abbrev last : World
   last = world_after (opening_world s) is.passed
 
@@ -69,7 +72,8 @@ module _ (s : Setup) (w next : World) (trace : List Record) (e : Event) (is : Is
   record_same = ap (record_of e) same_draft
 
   calm_there : collision s.hash last.hashed (draft s last e).hashes ≡ None
-  calm_there = ap (λ (d : Draft). collision s.hash last.hashed d.hashes) same_draft ∙ collision_within s.hash last.hashed w.hashed (draft s w e).hashes is.left.heard calm.calm
+  calm_there = ap (λ (d : Draft). collision s.hash last.hashed d.hashes) same_draft
+      ∙ collision_within s.hash last.hashed w.hashed (draft s w e).hashes is.left.heard calm.calm
 
   unguessed_there : guess s last.posted (draft s last e).posts (draft s last e).allowed ≡ None
   unguessed_there =
@@ -80,21 +84,25 @@ module _ (s : Setup) (w next : World) (trace : List Record) (e : Event) (is : Is
   events_more : events_of (trace ++ record_of e (draft s w e) ∷ []) ≡ events_of trace ++ e ∷ []
   events_more = map-append (λ (r : Record). r.event) trace (record_of e (draft s w e) ∷ [])
 
-  plays_more : played s (events_of (trace ++ record_of e (draft s w e) ∷ [])) ≡ record { passed = is.passed ++ passing s last e ∷ []; halt = None }
+  plays_more : played s (events_of (trace ++ record_of e (draft s w e) ∷ []))
+      ≡ record { passed = is.passed ++ passing s last e ∷ []; halt = None }
   plays_more =
       ap (played s) events_more
-      ∙ played_more s (events_of trace) e (opening_world s) last (ap (λ (x : Progress). x.halt) is.plays) (ap (λ (x : Progress). world_after (opening_world s) x.passed) is.plays) calm_there unguessed_there
+      ∙ played_more s (events_of trace) e (opening_world s) last (ap (λ (x : Progress). x.halt) is.plays)
+      (ap (λ (x : Progress). world_after (opening_world s) x.passed) is.plays) calm_there unguessed_there
       ∙ ap {B = Progress} (λ (x : Progress). record { passed = x.passed ++ passing s last e ∷ []; halt = None }) is.plays
 
   left_there : IsLeft (settled last (draft s last e)) next
   left_there =
       let posted : last.posted ≡ w.posted = ap (λ (x : World). x.posted) (sym is.left.same) in
       let there : settled last (draft s last e) ≡ record (settled w (draft s w e)) { hashed = noted_all last.hashed (draft s w e).hashes } =
-      ap (settled last) same_draft ∙ (λ i. record (draft s w e).world { hashed = noted_all last.hashed (draft s w e).hashes; posted = posted i ++ (draft s w e).posts }) in
+      ap (settled last) same_draft ∙ (λ i. record (draft s w e).world
+      { hashed = noted_all last.hashed (draft s w e).hashes; posted = posted i ++ (draft s w e).posts }) in
       record {
         same = (λ i. record (sym calm.left i) { hashed = (there i).hashed }) ∙ sym there;
         heard = λ message h. subst (λ (x : World). is_among message x.hashed ≡ true) calm.left
-            (all_within last.hashed w.hashed (draft s w e).hashes is.left.heard message (subst (λ (x : World). is_among message x.hashed ≡ true) there h));
+            (all_within last.hashed w.hashed (draft s w e).hashes is.left.heard message
+            (subst (λ (x : World). is_among message x.hashed ≡ true) there h));
       }
 
   pub reached_more : IsReached s next (trace ++ record_of e (draft s w e) ∷ [])
@@ -110,7 +118,8 @@ module _ (s : Setup) (w next : World) (trace : List Record) (e : Event) (is : Is
 -- ---- what else may have been hashed
 
 -- where only more was hashed, the same events led there
-pub reached_later : (s : Setup) (w : World) (hashed : List (List ℕ)) (trace : List Record) → Within w.hashed hashed → IsReached s w trace → IsReached s (record w { hashed = hashed }) trace
+pub reached_later : (s : Setup) (w : World) (hashed : List (List ℕ)) (trace : List Record) → Within w.hashed hashed → IsReached s w trace
+    → IsReached s (record w { hashed = hashed }) trace
 reached_later s w hashed trace more is = record {
   opens = is.opens;
   events = is.events;

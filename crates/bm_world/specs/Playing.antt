@@ -115,7 +115,8 @@ abbrev pub IsCompiledAfter : Setup → World → List (Option Numbered) → Even
 IsCompiledAfter s w compiled e entry = placed entry compiled ≡ all_compiled s (draft s w e).world
 
 -- the event goes on, these are its messages, and this was drafted in the second world, with the contract that is compiled then
-pub record Passes (s : Setup) (w v : World) (messages : List (List ℕ)) (compiled : List (Option Numbered)) (e : Event) (x : Drafted) (entry : Option (ℕ × Numbered)) : Type 0 where
+pub record Passes (s : Setup) (w v : World) (messages : List (List ℕ)) (compiled : List (Option Numbered)) (e : Event) (x : Drafted)
+    (entry : Option (ℕ × Numbered)) : Type 0 where
   pub went : event s w e ≡ run.Went (draft s w e) (settled w (draft s w e))
   pub drafts : Drafts s.hash v w.hashed messages (draft s w e) x
   pub placed : IsCompiledAfter s w compiled e entry
@@ -134,7 +135,8 @@ pub record SameBoard (old new : Board) : Type 0 where
   pub accounts : new.accounts ≡ old.accounts
 
 -- the event went on, and left this board with these messages
-pub record GoesOn (s : Setup) (w : World) (b : Board) (messages : List (List ℕ)) (before later : List Record) (e : Event) (result : Outcome) : Type 0 where
+pub record GoesOn (s : Setup) (w : World) (b : Board) (messages : List (List ℕ)) (before later : List Record) (e : Event)
+    (result : Outcome) : Type 0 where
   pub goes : Goes s w (world_of b messages) before later e result
   pub compiled : b.compiled ≡ all_compiled s (world_of b messages)
   pub clear : evidence_of s.hash messages ≡ None
@@ -191,7 +193,8 @@ pub record JudgedHalts (hash : List ℕ → List ℕ) (old new strings : List (L
 -- an event would go on, and come to this
 pub record Tested {H : Type 0} (digest : H → List ℕ → List ℕ) (old new : Played H) (e : Event) (result : Bool) : Type 0 where
   pub hears : OnlyHears old new (heard_all old.world.hashed (draft (setup_in digest old) old.world e).hashes)
-  pub goes : event (setup_in digest old) old.world e ≡ run.Went (draft (setup_in digest old) old.world e) (settled old.world (draft (setup_in digest old) old.world e))
+  pub goes : event (setup_in digest old) old.world e
+      ≡ run.Went (draft (setup_in digest old) old.world e) (settled old.world (draft (setup_in digest old) old.world e))
   pub passes : result ≡ not (is_refused (draft (setup_in digest old) old.world e).outcome)
 
 abbrev pub StoppedJudging : {H : Type 0} → (H → List ℕ → List ℕ) → Played H → Played H → Tx → Halt → Type 0

@@ -7,6 +7,14 @@ use Rattle.bm_opening.specs.Opening.{setup_with}
 use Rattle.bm_world.specs.Playing.{Played}
 
 -- a run that opened: no two different opening strings have one digest, and this is the world before any event
-pub record Opens {H : Type 0} (digest : H → List ℕ → List ℕ) (hash : H) (header : Header) (contracts : List Advert) (p : Played H) : Type 0 where
+pub record Opens {H : Type 0} (digest : H → List ℕ → List ℕ) (hash : H) (header : Header) (contracts : List Advert)
+    (p : Played H) : Type 0 where
   pub apart : opening_collision (setup_with (digest hash) header contracts) ≡ None
-  pub is : p ≡ record { hasher = hash; header = header; contracts = contracts; world = opening_world (setup_with (digest hash) header contracts); trace = []; halt = None }
+  pub is : p ≡ record {
+    hasher = hash;
+    header = header;
+    contracts = contracts;
+    world = opening_world (setup_with (digest hash) header contracts);
+    trace = [];
+    halt = None;
+  }

@@ -8,13 +8,13 @@ ghost use Rattle.bm_board.specs.Drafts.{setup_of, world_of, Drafts, Signs};
 ghost use Rattle.bm_world.specs.Kinds.{IsNoCommit};
 ghost use Rattle.bm_world.specs.Playing.{IsPlayable, IsCompiledAfter};
 
-use crate::handing::{draft_appended, draft_given, draft_initial, draft_taken};
+use crate::handing::draft_handing;
+use crate::signing::draft_signing;
+use crate::telling::draft_telling;
 use bm_board::{Board, Drafted};
 use bm_commit::draft_commit;
 use bm_compile::Compiled;
-use bm_drafts::{draft_advertise, draft_mine, draft_post, draft_reveal, draft_sign};
 use bm_hash::{Hash32, Trail, TrailError};
-use bm_signing::{draft_authorise, draft_endorse, draft_init};
 use spec_run::Event;
 use std::alloc::Global;
 
@@ -31,79 +31,20 @@ fn draft_other<H: Hash32 + Drop>(
     requires kind { IsNoCommit event.now }
     ensures hasher { trail.new.hasher ≡ trail.old.hasher }
     ensures board { Signs board.old board.new }
-    ensures ok { IfOk result (Drafts (H.digest_of trail.old.hasher) (world_of board.new trail.old.messages) trail.old.messages trail.new.messages (run.draft (setup_of (H.digest_of trail.old.hasher) board.old) (world_of board.old trail.old.messages) event.now)) }
-    ensures err { IfErr result (StopsAlong H.digest_of trail.old trail.new ((run.draft (setup_of (H.digest_of trail.old.hasher) board.old) (world_of board.old trail.old.messages) event.now).hashes)) }
+    ensures ok { IfOk result (Drafts (H.digest_of trail.old.hasher) (world_of board.new trail.old.messages) trail.old.messages
+        trail.new.messages
+        (run.draft (setup_of (H.digest_of trail.old.hasher) board.old) (world_of board.old trail.old.messages) event.now)) }
+    ensures err { IfErr result (StopsAlong H.digest_of trail.old trail.new
+        ((run.draft (setup_of (H.digest_of trail.old.hasher) board.old) (world_of board.old trail.old.messages) event.now).hashes)) }
 {
     match event {
-        Event::Advertise { contract, bindings } => {
-            let drafted = draft_advertise(alloc, board, *contract, bindings.as_slice())?;
-            Ok(drafted)
-        }
         Event::Commit { .. } => unreachable!(),
-        Event::Endorse { contract, party } => {
-            let drafted = draft_endorse(alloc, trail, board, *contract, party)?;
-            Ok(drafted)
-        }
-        Event::Init { contract, party } => {
-            let drafted = draft_init(alloc, trail, board, *contract, party)?;
-            Ok(drafted)
-        }
-        Event::Authorise {
-            party,
-            output,
-            branch,
-        } => {
-            let drafted = draft_authorise(alloc, trail, board, party, *output, *branch)?;
-            Ok(drafted)
-        }
-        Event::Give {
-            party,
-            inputs,
-            outputs,
-        } => {
-            let drafted = draft_given(
-                alloc,
-                trail,
-                board,
-                party,
-                inputs.as_slice(),
-                outputs.as_slice(),
-            )?;
-            Ok(drafted)
-        }
-        Event::Append { bytes } => {
-            let drafted = draft_appended(alloc, trail, board, bytes.as_slice())?;
-            Ok(drafted)
-        }
-        Event::Post { bytes } => {
-            let drafted = draft_post(alloc, trail, bytes.as_slice())?;
-            Ok(drafted)
-        }
-        Event::Sign {
-            party,
-            label,
-            digest,
-        } => {
-            let drafted = draft_sign(alloc, trail, board, party, label, digest)?;
-            Ok(drafted)
-        }
-        Event::Reveal {
-            contract,
-            party,
-            secret,
-        } => {
-            let drafted = draft_reveal(alloc, trail, board, *contract, party, secret)?;
-            Ok(drafted)
-        }
-        Event::FireInit { contract } => {
-            let drafted = draft_initial(alloc, trail, board, *contract)?;
-            Ok(drafted)
-        }
-        Event::Fire { output, branch } => {
-            let drafted = draft_taken(alloc, trail, board, *output, *branch)?;
-            Ok(drafted)
-        }
-        Event::Mine { blocks } => Ok(draft_mine(alloc, board, *blocks)),
+        Event::Endorse { .. } | Event::Init { .. } | Event::Authorise { .. } | Event::Sign { .. } =>
+            draft_signing(alloc, trail, board, event),
+        Event::Give { .. } | Event::Append { .. } | Event::FireInit { .. } | Event::Fire { .. } =>
+            draft_handing(alloc, trail, board, event),
+        Event::Advertise { .. } | Event::Reveal { .. } | Event::Post { .. } | Event::Mine { .. } =>
+            draft_telling(alloc, trail, board, event),
     }
 }
 
@@ -120,9 +61,13 @@ pub(crate) fn draft<H: Hash32 + Drop>(
     requires is { IsEvent (setup_of (H.digest_of trail.old.hasher) board.old) event.now }
     ensures hasher { trail.new.hasher ≡ trail.old.hasher }
     ensures board { Signs board.old board.new }
-    ensures ok { IfOk result (λ p. Drafts (H.digest_of trail.old.hasher) (world_of board.new trail.old.messages) trail.old.messages trail.new.messages (run.draft (setup_of (H.digest_of trail.old.hasher) board.old) (world_of board.old trail.old.messages) event.now) p.0) }
-    ensures compiled { IfOk result (λ p. IsCompiledAfter (setup_of (H.digest_of trail.old.hasher) board.old) (world_of board.old trail.old.messages) board.old.compiled event.now p.1) }
-    ensures err { IfErr result (StopsAlong H.digest_of trail.old trail.new ((run.draft (setup_of (H.digest_of trail.old.hasher) board.old) (world_of board.old trail.old.messages) event.now).hashes)) }
+    ensures ok { IfOk result (λ p. Drafts (H.digest_of trail.old.hasher) (world_of board.new trail.old.messages) trail.old.messages
+        trail.new.messages (run.draft (setup_of (H.digest_of trail.old.hasher) board.old) (world_of board.old trail.old.messages) event.now)
+        p.0) }
+    ensures compiled { IfOk result (λ p. IsCompiledAfter (setup_of (H.digest_of trail.old.hasher) board.old)
+        (world_of board.old trail.old.messages) board.old.compiled event.now p.1) }
+    ensures err { IfErr result (StopsAlong H.digest_of trail.old trail.new
+        ((run.draft (setup_of (H.digest_of trail.old.hasher) board.old) (world_of board.old trail.old.messages) event.now).hashes)) }
 {
     match event {
         Event::Commit {

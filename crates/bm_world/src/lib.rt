@@ -6,7 +6,10 @@ mod halt;
 mod handing;
 mod placing;
 mod playing;
+mod signing;
+mod standing;
 mod starting;
+mod telling;
 mod world;
 
 pub use halt::{Halt, StartError};

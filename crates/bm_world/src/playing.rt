@@ -29,8 +29,10 @@ fn draft_passing<H: Hash32 + Drop>(
     requires is { IsEvent (setup_of (H.digest_of trail.old.hasher) board.old) event.now }
     ensures hasher { trail.new.hasher ≡ trail.old.hasher }
     ensures signs { Signs board.old board.new }
-    ensures passes { IfOk result (λ p. Passes (setup_of (H.digest_of trail.old.hasher) board.old) (world_of board.old trail.old.messages) (world_of board.new trail.old.messages) trail.new.messages board.old.compiled event.now p.0 p.1) }
-    ensures halts { IfErr result (Halts (setup_of (H.digest_of trail.old.hasher) board.old) (world_of board.old trail.old.messages) trail.new.messages event.now) }
+    ensures passes { IfOk result (λ p. Passes (setup_of (H.digest_of trail.old.hasher) board.old) (world_of board.old trail.old.messages)
+        (world_of board.new trail.old.messages) trail.new.messages board.old.compiled event.now p.0 p.1) }
+    ensures halts { IfErr result (Halts (setup_of (H.digest_of trail.old.hasher) board.old) (world_of board.old trail.old.messages)
+        trail.new.messages event.now) }
 {
     let answer = draft(alloc, trail, board, event)?;
     let guessed = first_guessed(
@@ -61,8 +63,10 @@ fn attempt<H: Hash32 + Drop>(
     requires is { IsEvent (setup_of (H.digest_of trail.old.hasher) board.old) event.now }
     ensures hasher { trail.new.hasher ≡ trail.old.hasher }
     ensures same { SameBoard board.old board.new }
-    ensures goes { IfOk result (GoesOn (setup_of (H.digest_of trail.old.hasher) board.old) (world_of board.old trail.old.messages) board.new trail.new.messages trace.old trace.new event.now) }
-    ensures halts { IfErr result (Halts (setup_of (H.digest_of trail.old.hasher) board.old) (world_of board.old trail.old.messages) trail.new.messages event.now) }
+    ensures goes { IfOk result (GoesOn (setup_of (H.digest_of trail.old.hasher) board.old) (world_of board.old trail.old.messages)
+        board.new trail.new.messages trace.old trace.new event.now) }
+    ensures halts { IfErr result (Halts (setup_of (H.digest_of trail.old.hasher) board.old) (world_of board.old trail.old.messages)
+        trail.new.messages event.now) }
     ensures signs { OnErr result (Signs board.old board.new) }
     ensures records { OnErr result (trace.new ≡ trace.old) }
 {
@@ -85,8 +89,10 @@ pub(crate) fn play<H: Hash32 + Drop>(
     requires is { IsEvent (setup_of (H.digest_of trail.old.hasher) board.old) event.now }
     ensures hasher { trail.new.hasher ≡ trail.old.hasher }
     ensures same { SameBoard board.old board.new }
-    ensures goes { IfOk result (GoesOn (setup_of (H.digest_of trail.old.hasher) board.old) (world_of board.old trail.old.messages) board.new trail.new.messages trace.old trace.new event.now) }
-    ensures halts { IfErr result (Halts (setup_of (H.digest_of trail.old.hasher) board.old) (world_of board.old trail.old.messages) trail.new.messages event.now) }
+    ensures goes { IfOk result (GoesOn (setup_of (H.digest_of trail.old.hasher) board.old) (world_of board.old trail.old.messages)
+        board.new trail.new.messages trace.old trace.new event.now) }
+    ensures halts { IfErr result (Halts (setup_of (H.digest_of trail.old.hasher) board.old) (world_of board.old trail.old.messages)
+        trail.new.messages event.now) }
     ensures board { OnErr result (board.new ≡ board.old) }
     ensures records { OnErr result (trace.new ≡ trace.old) }
 {
@@ -122,8 +128,10 @@ fn try_event<H: Hash32 + Drop>(
     requires is { IsEvent (setup_of (H.digest_of trail.old.hasher) board.old) event.now }
     ensures hasher { trail.new.hasher ≡ trail.old.hasher }
     ensures signs { Signs board.old board.new }
-    ensures tests { IfOk result (Tests (setup_of (H.digest_of trail.old.hasher) board.old) (world_of board.old trail.old.messages) trail.new.messages event.now) }
-    ensures halts { IfErr result (Halts (setup_of (H.digest_of trail.old.hasher) board.old) (world_of board.old trail.old.messages) trail.new.messages event.now) }
+    ensures tests { IfOk result (Tests (setup_of (H.digest_of trail.old.hasher) board.old) (world_of board.old trail.old.messages)
+        trail.new.messages event.now) }
+    ensures halts { IfErr result (Halts (setup_of (H.digest_of trail.old.hasher) board.old) (world_of board.old trail.old.messages)
+        trail.new.messages event.now) }
 {
     let answer = draft_passing(alloc, trail, board, event)?;
     Ok(!is_refused(&answer.0.outcome))
@@ -140,8 +148,10 @@ pub(crate) fn test<H: Hash32 + Drop>(
     requires is { IsEvent (setup_of (H.digest_of trail.old.hasher) board.old) event.now }
     ensures hasher { trail.new.hasher ≡ trail.old.hasher }
     ensures board { board.new ≡ board.old }
-    ensures tests { IfOk result (Tests (setup_of (H.digest_of trail.old.hasher) board.old) (world_of board.old trail.old.messages) trail.new.messages event.now) }
-    ensures halts { IfErr result (Halts (setup_of (H.digest_of trail.old.hasher) board.old) (world_of board.old trail.old.messages) trail.new.messages event.now) }
+    ensures tests { IfOk result (Tests (setup_of (H.digest_of trail.old.hasher) board.old) (world_of board.old trail.old.messages)
+        trail.new.messages event.now) }
+    ensures halts { IfErr result (Halts (setup_of (H.digest_of trail.old.hasher) board.old) (world_of board.old trail.old.messages)
+        trail.new.messages event.now) }
 {
     let signed = board.book.count();
     let answer = try_event(alloc, trail, board, event);

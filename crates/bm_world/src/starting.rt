@@ -34,7 +34,8 @@ pub(crate) fn start_error<H: Hash32 + Drop>(
     error: TrailError,
 ) -> StartError
     ensures memory { error ≡ errors.Memory → result ≡ Memory }
-    ensures collided { (first second : List ℕ) → result ≡ Collided first second → evidence_of (H.digest_of trail.now.hasher) trail.now.messages ≡ Some (first, second) }
+    ensures collided { (first second : List ℕ) → result ≡ Collided first second
+        → evidence_of (H.digest_of trail.now.hasher) trail.now.messages ≡ Some (first, second) }
 {
     match error {
         TrailError::Memory => StartError::Memory,

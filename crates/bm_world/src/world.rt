@@ -6,16 +6,19 @@ ghost use Rattle.spec_run.specs.Conditions.{IsHeader, IsEvent};
 ghost use Rattle.spec_run.specs.Event.{opening_collision};
 ghost use Rattle.spec_run.specs.Compiled.{compiled_instance};
 ghost use Rattle.spec_run.specs.Ledger.{chain_of};
+ghost use Rattle.spec_run.specs.World.{live_position_at};
 ghost use Rattle.bm_compile.specs.Numbered.{numbered};
 ghost use Rattle.bm_world.specs.declared.halt.StartError.TheVariants.{Collided};
 ghost use Rattle.bm_world.specs.Playing.{most_records, setup_in, IsWorld, Went, Stopped, Tested, Judged, StoppedJudging};
 ghost use Rattle.bm_world.specs.Reached.{IsReached};
+ghost use Rattle.bm_world.specs.Standing.{node_in};
 ghost use Rattle.bm_board.specs.Drafts.{setup_of, world_of};
 ghost use Rattle.bm_opening.specs.Opening.{setup_with};
 ghost use Rattle.bm_world.specs.Starting.{Opens};
 
 use crate::halt::{Halt, StartError};
 use crate::playing::{play, test};
+use crate::standing::node_at;
 use crate::starting::start_error;
 use bm_board::Board;
 use bm_book::Book;
@@ -30,6 +33,7 @@ use spec_data::Seq;
 use spec_run::{Event, Header, Outcome, Record};
 use std::alloc::Global;
 use std::marker::Model;
+use theory_nodes::choices_are_found;
 
 /// The world of a run: the ledger with its contract outputs, what is signed, what the parties have told each other, and the records so far.
 #[derive(Drop)]
@@ -52,7 +56,14 @@ impl<H: Hash32> Model for World<H> {
 
     ghost use Rattle.bm_board.specs.Drafts.{setup_of, world_of};
 
-    ghost view = { λ w. record { hasher = w.trail.hasher; header = w.board.header; contracts = w.board.contracts; world = world_of w.board w.trail.messages; trace = w.trace; halt = w.halt } };
+    ghost view = { λ w. record {
+      hasher = w.trail.hasher;
+      header = w.board.header;
+      contracts = w.board.contracts;
+      world = world_of w.board w.trail.messages;
+      trace = w.trace;
+      halt = w.halt;
+    } };
 
     ghost invariant = { λ w. IsWorld (setup_of (H.digest_of w.trail.hasher) w.board) w.board w.trail.messages w.trace w.halt };
 }
@@ -78,7 +89,8 @@ impl<H: Hash32 + Drop> World<H> {
         requires header { IsHeader header.now }
         requires few { length contracts.items ≤ most_contracts }
         ensures opens { IfOk result (Opens H.digest_of hash header.now contracts.items) }
-        ensures collided { IfErr result (λ error. (first second : List ℕ) → error ≡ Collided first second → opening_collision (setup_with (H.digest_of hash) header.now contracts.items) ≡ Some (first, second)) }
+        ensures collided { IfErr result (λ error. (first second : List ℕ) → error ≡ Collided first second
+            → opening_collision (setup_with (H.digest_of hash) header.now contracts.items) ≡ Some (first, second)) }
     {
         let mut trail = Trail::new(alloc, hash);
         match open_board(alloc, &mut trail, header, contracts) {
@@ -106,7 +118,8 @@ impl<H: Hash32 + Drop> World<H> {
         ensures same { world_of result.now self.now.world.hashed ≡ self.now.world }
         ensures header { result.now.header ≡ self.now.header }
         ensures contracts { result.now.contracts ≡ self.now.contracts }
-        ensures is { IsWorld (setup_of (H.digest_of self.now.hasher) result.now) result.now self.now.world.hashed self.now.trace self.now.halt }
+        ensures is { IsWorld (setup_of (H.digest_of self.now.hasher) result.now) result.now
+            self.now.world.hashed self.now.trace self.now.halt }
     {
         &self.board
     }
@@ -127,7 +140,8 @@ impl<H: Hash32 + Drop> World<H> {
 
     /// What the parties have told each other.
     pub fn exchange(&self) -> &Exchange
-        ensures { result.now ≡ record { posted = self.now.world.posted; advertised = self.now.world.advertised; promises = self.now.world.promises } }
+        ensures { result.now
+            ≡ record { posted = self.now.world.posted; advertised = self.now.world.advertised; promises = self.now.world.promises } }
     {
         &self.board.exchange
     }
@@ -155,9 +169,20 @@ impl<H: Hash32 + Drop> World<H> {
 
     /// What the contract of this number is compiled to: there from the event on with which all its participants have committed.
     pub fn compiled(&self, contract: u32) -> Option<&Compiled>
-        ensures { option_map (λ c. c.now) result ≡ option_map (numbered (setup_in H.digest_of self.now).hash) (compiled_instance (setup_in H.digest_of self.now) self.now.world contract) }
+        ensures { option_map (λ c. c.now) result ≡ option_map (numbered (setup_in H.digest_of self.now).hash)
+            (compiled_instance (setup_in H.digest_of self.now) self.now.world contract) }
     {
         self.board.compiled(contract)
+    }
+
+    /// The contract of the live contract output of this number, and the number of its position's choice among the contract's nodes:
+    /// both are found by number, without a search of the outputs. `None` comes exactly where there is no such output.
+    pub fn node(&self, output: u32) -> Option<(u32, u32)>
+        ensures node { result ≡ node_in (setup_in H.digest_of self.now) (live_position_at self.now.world output) }
+        ensures none { result ≡ None → live_position_at self.now.world output ≡ None }
+    {
+        choices_are_found();
+        node_at(&self.board, output)
     }
 
     /// One event: what came of it, which is then recorded, or what halted the run. After a halt nothing but the trail has changed,

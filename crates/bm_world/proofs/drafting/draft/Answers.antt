@@ -5,7 +5,9 @@ use Rattle.bm_world.proofs.drafting.draft.Goals as goal
 
 pub returns-in_ok-drafted-in_default-clause-compiled : goal.returns-in_ok-drafted-in_default-clause-compiled
 returns-in_ok-drafted-in_default-clause-compiled g c =
-    c.requires.playable.compiled ∙ sym (still_compiled _ c.requires.playable.setup c.requires.playable.kept.config _ c.requires.playable.kept.books c.args.event.now (no_commit c.args.event.now c.in_default.not-Commit))
+    c.requires.playable.compiled ∙ sym
+    (still_compiled _ c.requires.playable.setup c.requires.playable.kept.config _ c.requires.playable.kept.books c.args.event.now
+    (no_commit c.args.event.now c.in_default.not-Commit))
 
 pub draft_other-requires-clause-kind : goal.draft_other-requires-clause-kind
 draft_other-requires-clause-kind g c = no_commit c.args.event.now c.in_default.not-Commit

@@ -10,7 +10,8 @@ draft_give-requires-clause-apart g c = apart_kept _ c.requires.playable.kept.con
 
 pub draft_give-requires-clause-fresh : goal.draft_give-requires-clause-fresh
 draft_give-requires-clause-fresh g c =
-    fresh_gift _ c.requires.playable.setup c.requires.playable.kept.config _ c.requires.playable.kept.books c.args.party.now c.args.inputs.now c.args.outputs.now c.requires.gift
+    fresh_gift _ c.requires.playable.setup c.requires.playable.kept.config _ c.requires.playable.kept.books c.args.party.now
+    c.args.inputs.now c.args.outputs.now c.requires.gift
 
 pub draft_give-requires-clause-room : goal.draft_give-requires-clause-room
 draft_give-requires-clause-room g c = omega (arith, c.requires.playable.room, c.requires.gift.few_outputs)

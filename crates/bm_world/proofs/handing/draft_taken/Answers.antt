@@ -10,4 +10,5 @@ pub draft_fire-requires-clause-small : goal.draft_fire-requires-clause-small
 draft_fire-requires-clause-small g c = small_of _ c.requires.playable.setup c.requires.playable.kept.config _ c.requires.playable.kept.books
 
 pub draft_fire-requires-clause-fresh : goal.draft_fire-requires-clause-fresh
-draft_fire-requires-clause-fresh g c = λ tx fine. fresh_tx _ c.requires.playable.setup c.requires.playable.kept.config _ c.requires.playable.kept.books tx fine
+draft_fire-requires-clause-fresh g c = λ tx fine. fresh_tx _ c.requires.playable.setup c.requires.playable.kept.config _
+    c.requires.playable.kept.books tx fine

@@ -12,18 +12,34 @@ pub invariant_of-self : goal.invariant_of-self
 invariant_of-self g c =
     let hash = g.H.Hash32.digest_of c.self.inside.trail.hasher in
     let s = setup_of hash c.self.inside.board in
-    let is : IsEvent (setup_of (g.H.Hash32.digest_of c.self.inside.trail.hasher) c.self.inside.board) c.args.event.now = rw (← c.self.view_is) at c.requires.is in
-    let same : setup_of (g.H.Hash32.digest_of c.play.new.trail.hasher) c.play.new.board ≡ setup_of (g.H.Hash32.digest_of c.self.inside.trail.hasher) c.self.inside.board =
-    λ i. record { hash = g.H.Hash32.digest_of (c.play.ensures.hasher i); header = c.play.ensures.same.header i; contracts = c.play.ensures.same.contracts i } in
-    let was : IsWorld (setup_of (g.H.Hash32.digest_of c.self.inside.trail.hasher) c.self.inside.board) c.self.inside.board c.self.inside.trail.messages c.self.inside.trace None =
-    subst (IsWorld (setup_of (g.H.Hash32.digest_of c.self.inside.trail.hasher) c.self.inside.board) c.self.inside.board c.self.inside.trail.messages c.self.inside.trace) c.in_default.is c.self.invariant in
-    world_after s _ c.self.inside.board c.play.new.board c.self.inside.trail.messages c.play.new.trail.messages _ _ c.args.event.now c.in-Ok.outcome c.self.inside.halt was is c.in-Ok.ensures.goes c.play.ensures.same same
+    let is : IsEvent (setup_of (g.H.Hash32.digest_of c.self.inside.trail.hasher) c.self.inside.board) c.args.event.now =
+    rw (← c.self.view_is) at c.requires.is in
+    let same : setup_of (g.H.Hash32.digest_of c.play.new.trail.hasher) c.play.new.board
+    ≡ setup_of (g.H.Hash32.digest_of c.self.inside.trail.hasher) c.self.inside.board =
+    λ i. record {
+      hash = g.H.Hash32.digest_of (c.play.ensures.hasher i);
+      header = c.play.ensures.same.header i;
+      contracts = c.play.ensures.same.contracts i;
+    } in
+    let was : IsWorld (setup_of (g.H.Hash32.digest_of c.self.inside.trail.hasher) c.self.inside.board) c.self.inside.board
+    c.self.inside.trail.messages c.self.inside.trace None =
+    subst (IsWorld (setup_of (g.H.Hash32.digest_of c.self.inside.trail.hasher) c.self.inside.board) c.self.inside.board
+    c.self.inside.trail.messages c.self.inside.trace) c.in_default.is c.self.invariant in
+    world_after s _ c.self.inside.board c.play.new.board c.self.inside.trail.messages c.play.new.trail.messages _ _ c.args.event.now
+    c.in-Ok.outcome c.self.inside.halt was is c.in-Ok.ensures.goes c.play.ensures.same same
 
 pub invariant_of-self-in-Err : goal.invariant_of-self-in-Err
 invariant_of-self-in-Err g c =
     let s = setup_of (g.H.Hash32.digest_of c.self.inside.trail.hasher) c.self.inside.board in
-    let was : IsWorld (setup_of (g.H.Hash32.digest_of c.self.inside.trail.hasher) c.self.inside.board) c.self.inside.board c.self.inside.trail.messages c.self.inside.trace None =
-    subst (IsWorld (setup_of (g.H.Hash32.digest_of c.self.inside.trail.hasher) c.self.inside.board) c.self.inside.board c.self.inside.trail.messages c.self.inside.trace) c.in_default.is c.self.invariant in
+    let was : IsWorld (setup_of (g.H.Hash32.digest_of c.self.inside.trail.hasher) c.self.inside.board) c.self.inside.board
+    c.self.inside.trail.messages c.self.inside.trace None =
+    subst (IsWorld (setup_of (g.H.Hash32.digest_of c.self.inside.trail.hasher) c.self.inside.board) c.self.inside.board
+    c.self.inside.trail.messages c.self.inside.trace) c.in_default.is c.self.invariant in
     rw (c.halted.ensures.kept, c.in-Err.ensures.board, c.in-Err.ensures.records)
-    (world_halted s (setup_of (g.H.Hash32.digest_of c.play.new.trail.hasher) c.self.inside.board) c.self.inside.board c.self.inside.trail.messages c.play.new.trail.messages _ c.self.inside.trace c.in-Err.halt was c.in-Err.ensures.halts.hashed
-    (λ i. record { hash = g.H.Hash32.digest_of (c.play.ensures.hasher i); header = c.self.inside.board.header; contracts = c.self.inside.board.contracts }))
+    (world_halted s (setup_of (g.H.Hash32.digest_of c.play.new.trail.hasher) c.self.inside.board) c.self.inside.board
+    c.self.inside.trail.messages c.play.new.trail.messages _ c.self.inside.trace c.in-Err.halt was c.in-Err.ensures.halts.hashed
+    (λ i. record {
+      hash = g.H.Hash32.digest_of (c.play.ensures.hasher i);
+      header = c.self.inside.board.header;
+      contracts = c.self.inside.board.contracts;
+    }))

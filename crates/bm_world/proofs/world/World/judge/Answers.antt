@@ -10,27 +10,45 @@ pub invariant_of-self : goal.invariant_of-self
 invariant_of-self g c =
     let s = setup_of (g.H.Hash32.digest_of c.self.inside.trail.hasher) c.self.inside.board in
     let w = world_of c.self.inside.board c.self.inside.trail.messages in
-    let was : IsWorld (setup_of (g.H.Hash32.digest_of c.self.inside.trail.hasher) c.self.inside.board) c.self.inside.board c.self.inside.trail.messages c.self.inside.trace None =
-    subst (IsWorld (setup_of (g.H.Hash32.digest_of c.self.inside.trail.hasher) c.self.inside.board) c.self.inside.board c.self.inside.trail.messages c.self.inside.trace) c.in_default.is c.self.invariant in
-    let adds = hashed_adds s.hash c.self.inside.trail.messages c.examine.new.trail.messages (strings_of s w c.args.tx.now) (was.clear refl) c.in-Ok.ensures.trail.1 in
-    world_hears s (setup_of (g.H.Hash32.digest_of c.examine.new.trail.hasher) c.self.inside.board) c.self.inside.board c.self.inside.trail.messages c.examine.new.trail.messages (strings_of s w c.args.tx.now) c.self.inside.trace c.self.inside.halt was
-    (λ i. record { hash = g.H.Hash32.digest_of (c.in-Ok.ensures.trail.0 i); header = c.self.inside.board.header; contracts = c.self.inside.board.contracts }) adds.0 c.in-Ok.ensures.trail.1.clear adds.1
+    let was : IsWorld (setup_of (g.H.Hash32.digest_of c.self.inside.trail.hasher) c.self.inside.board) c.self.inside.board
+    c.self.inside.trail.messages c.self.inside.trace None =
+    subst (IsWorld (setup_of (g.H.Hash32.digest_of c.self.inside.trail.hasher) c.self.inside.board) c.self.inside.board
+    c.self.inside.trail.messages c.self.inside.trace) c.in_default.is c.self.invariant in
+    let adds = hashed_adds s.hash c.self.inside.trail.messages c.examine.new.trail.messages (strings_of s w c.args.tx.now)
+    (was.clear refl) c.in-Ok.ensures.trail.1 in
+    world_hears s (setup_of (g.H.Hash32.digest_of c.examine.new.trail.hasher) c.self.inside.board) c.self.inside.board
+    c.self.inside.trail.messages c.examine.new.trail.messages (strings_of s w c.args.tx.now) c.self.inside.trace c.self.inside.halt was
+    (λ i. record {
+      hash = g.H.Hash32.digest_of (c.in-Ok.ensures.trail.0 i);
+      header = c.self.inside.board.header;
+      contracts = c.self.inside.board.contracts;
+    }) adds.0 c.in-Ok.ensures.trail.1.clear adds.1
 
 pub invariant_of-self-in-Err : goal.invariant_of-self-in-Err
 invariant_of-self-in-Err g c =
     let s = setup_of (g.H.Hash32.digest_of c.self.inside.trail.hasher) c.self.inside.board in
     let w = world_of c.self.inside.board c.self.inside.trail.messages in
-    let was : IsWorld (setup_of (g.H.Hash32.digest_of c.self.inside.trail.hasher) c.self.inside.board) c.self.inside.board c.self.inside.trail.messages c.self.inside.trace None =
-    subst (IsWorld (setup_of (g.H.Hash32.digest_of c.self.inside.trail.hasher) c.self.inside.board) c.self.inside.board c.self.inside.trail.messages c.self.inside.trace) c.in_default.is c.self.invariant in
-    let halts = judged_halts s.hash c.self.inside.trail.messages c.examine.new.trail.messages (strings_of s w c.args.tx.now) c.in-Err.error _ (was.clear refl) c.in-Err.ensures.trail.2 refl in
-    rw (c.halted.ensures.kept, c.from.ensures) (world_halted s (setup_of (g.H.Hash32.digest_of c.examine.new.trail.hasher) c.self.inside.board) c.self.inside.board c.self.inside.trail.messages c.examine.new.trail.messages (strings_of s w c.args.tx.now) c.self.inside.trace _ was halts.hashed
-    (λ i. record { hash = g.H.Hash32.digest_of (c.in-Err.ensures.trail.0 i); header = c.self.inside.board.header; contracts = c.self.inside.board.contracts }))
+    let was : IsWorld (setup_of (g.H.Hash32.digest_of c.self.inside.trail.hasher) c.self.inside.board) c.self.inside.board
+    c.self.inside.trail.messages c.self.inside.trace None =
+    subst (IsWorld (setup_of (g.H.Hash32.digest_of c.self.inside.trail.hasher) c.self.inside.board) c.self.inside.board
+    c.self.inside.trail.messages c.self.inside.trace) c.in_default.is c.self.invariant in
+    let halts = judged_halts s.hash c.self.inside.trail.messages c.examine.new.trail.messages (strings_of s w c.args.tx.now)
+    c.in-Err.error _ (was.clear refl) c.in-Err.ensures.trail.2 refl in
+    rw (c.halted.ensures.kept, c.from.ensures)
+    (world_halted s (setup_of (g.H.Hash32.digest_of c.examine.new.trail.hasher) c.self.inside.board) c.self.inside.board
+    c.self.inside.trail.messages c.examine.new.trail.messages (strings_of s w c.args.tx.now) c.self.inside.trace _ was halts.hashed
+    (λ i. record {
+      hash = g.H.Hash32.digest_of (c.in-Err.ensures.trail.0 i);
+      header = c.self.inside.board.header;
+      contracts = c.self.inside.board.contracts;
+    }))
 
 pub returns-in-Ok-clause-judged : goal.returns-in-Ok-clause-judged
 returns-in-Ok-clause-judged g c =
     let s = setup_of (g.H.Hash32.digest_of c.self.inside.trail.hasher) c.self.inside.board in
     let w = world_of c.self.inside.board c.self.inside.trail.messages in
-    let adds = hashed_adds s.hash c.self.inside.trail.messages c.examine.new.trail.messages (strings_of s w c.args.tx.now) (c.self.invariant.clear c.in_default.is) c.in-Ok.ensures.trail.1 in
+    let adds = hashed_adds s.hash c.self.inside.trail.messages c.examine.new.trail.messages (strings_of s w c.args.tx.now)
+    (c.self.invariant.clear c.in_default.is) c.in-Ok.ensures.trail.1 in
     rw (← c.self.view_is) (record {
       hears = record {
         setup = record { hasher = c.in-Ok.ensures.trail.0; header = refl; contracts = refl };
@@ -52,6 +70,7 @@ returns-in-Err-clause-stopped g c =
       trace = refl;
       halted = c.halted.ensures.kept ∙ ap Some (sym c.halted.ensures.same);
       again = λ earlier h. let none = c.in_default.is in cc;
-      cause = λ h. judged_halts s.hash c.self.inside.trail.messages c.examine.new.trail.messages (strings_of s w c.args.tx.now) c.in-Err.error c.halted.result
+      cause = λ h. judged_halts s.hash c.self.inside.trail.messages c.examine.new.trail.messages (strings_of s w c.args.tx.now)
+          c.in-Err.error c.halted.result
           (c.self.invariant.clear c.in_default.is) c.in-Err.ensures.trail.2 (c.halted.ensures.same ∙ c.from.ensures);
     })

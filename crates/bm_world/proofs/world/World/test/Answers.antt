@@ -15,17 +15,31 @@ invariant_of-self g c =
     let s = setup_of (g.H.Hash32.digest_of c.self.inside.trail.hasher) c.self.inside.board in
     let w = world_of c.self.inside.board c.self.inside.trail.messages in
     let d = draft s w c.args.event.now in
-    let was : IsWorld (setup_of (g.H.Hash32.digest_of c.self.inside.trail.hasher) c.self.inside.board) c.self.inside.board c.self.inside.trail.messages c.self.inside.trace None =
-    subst (IsWorld (setup_of (g.H.Hash32.digest_of c.self.inside.trail.hasher) c.self.inside.board) c.self.inside.board c.self.inside.trail.messages c.self.inside.trace) c.in_default.is c.self.invariant in
+    let was : IsWorld (setup_of (g.H.Hash32.digest_of c.self.inside.trail.hasher) c.self.inside.board) c.self.inside.board
+    c.self.inside.trail.messages c.self.inside.trace None =
+    subst (IsWorld (setup_of (g.H.Hash32.digest_of c.self.inside.trail.hasher) c.self.inside.board) c.self.inside.board
+    c.self.inside.trail.messages c.self.inside.trace) c.in_default.is c.self.invariant in
     let calm = calm_of s w (settled w d) d c.in-Ok.ensures.tests.went in
-    rw c.test.ensures.board (world_hears s (setup_of (g.H.Hash32.digest_of c.test.new.trail.hasher) c.self.inside.board) c.self.inside.board c.self.inside.trail.messages c.test.new.trail.messages d.hashes c.self.inside.trace c.self.inside.halt was
-    (λ i. record { hash = g.H.Hash32.digest_of (c.test.ensures.hasher i); header = c.self.inside.board.header; contracts = c.self.inside.board.contracts }) c.in-Ok.ensures.tests.hashed c.in-Ok.ensures.tests.clear calm.calm)
+    rw c.test.ensures.board (world_hears s (setup_of (g.H.Hash32.digest_of c.test.new.trail.hasher) c.self.inside.board)
+    c.self.inside.board c.self.inside.trail.messages c.test.new.trail.messages d.hashes c.self.inside.trace c.self.inside.halt was
+    (λ i. record {
+      hash = g.H.Hash32.digest_of (c.test.ensures.hasher i);
+      header = c.self.inside.board.header;
+      contracts = c.self.inside.board.contracts;
+    }) c.in-Ok.ensures.tests.hashed c.in-Ok.ensures.tests.clear calm.calm)
 
 pub invariant_of-self-in-Err : goal.invariant_of-self-in-Err
 invariant_of-self-in-Err g c =
     let s = setup_of (g.H.Hash32.digest_of c.self.inside.trail.hasher) c.self.inside.board in
-    let was : IsWorld (setup_of (g.H.Hash32.digest_of c.self.inside.trail.hasher) c.self.inside.board) c.self.inside.board c.self.inside.trail.messages c.self.inside.trace None =
-    subst (IsWorld (setup_of (g.H.Hash32.digest_of c.self.inside.trail.hasher) c.self.inside.board) c.self.inside.board c.self.inside.trail.messages c.self.inside.trace) c.in_default.is c.self.invariant in
+    let was : IsWorld (setup_of (g.H.Hash32.digest_of c.self.inside.trail.hasher) c.self.inside.board) c.self.inside.board
+    c.self.inside.trail.messages c.self.inside.trace None =
+    subst (IsWorld (setup_of (g.H.Hash32.digest_of c.self.inside.trail.hasher) c.self.inside.board) c.self.inside.board
+    c.self.inside.trail.messages c.self.inside.trace) c.in_default.is c.self.invariant in
     rw (c.halted.ensures.kept, c.test.ensures.board)
-    (world_halted s (setup_of (g.H.Hash32.digest_of c.test.new.trail.hasher) c.self.inside.board) c.self.inside.board c.self.inside.trail.messages c.test.new.trail.messages _ c.self.inside.trace c.in-Err.halt was c.in-Err.ensures.halts.hashed
-    (λ i. record { hash = g.H.Hash32.digest_of (c.test.ensures.hasher i); header = c.self.inside.board.header; contracts = c.self.inside.board.contracts }))
+    (world_halted s (setup_of (g.H.Hash32.digest_of c.test.new.trail.hasher) c.self.inside.board) c.self.inside.board
+    c.self.inside.trail.messages c.test.new.trail.messages _ c.self.inside.trace c.in-Err.halt was c.in-Err.ensures.halts.hashed
+    (λ i. record {
+      hash = g.H.Hash32.digest_of (c.test.ensures.hasher i);
+      header = c.self.inside.board.header;
+      contracts = c.self.inside.board.contracts;
+    }))

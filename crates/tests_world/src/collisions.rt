@@ -1,0 +1,116 @@
+//! Runs that are halted by two messages with one digest, or by a secret that somebody gives away.
+
+use crate::worlds::played;
+use bm_hash::{Hash32, Toy, Twin};
+use bm_playing::{Played, Stop};
+use spec_data::{Bytes, OutOfMemory};
+use std::alloc::Global;
+
+// Whether these two messages collided, the earlier one first.
+fn are_these(earlier: &Bytes, later: &Bytes, first: &[u8], second: &[u8]) -> bool {
+    earlier.as_slice() == first && later.as_slice() == second
+}
+
+// Whether a run didn't open, for these messages.
+fn is_unopened<H: Hash32 + Drop>(played: &Played<H>, first: &[u8], second: &[u8]) -> bool {
+    match played {
+        Played::Unopened(earlier, later) => are_these(earlier, later, first, second),
+        Played::Opened(_, _) => false,
+    }
+}
+
+// Whether a run by the sum of bytes doesn't open, for these messages.
+fn collides_at_first(alloc: Global, run: &[u8], first: &[u8], second: &[u8]) -> bool {
+    match played(alloc, Toy, run, &[]) {
+        Some(played) => is_unopened(&played, first, second),
+        None => false,
+    }
+}
+
+// The transaction of no outputs that opens a run without deposits.
+const NOTHING: [u8; 10] = [2, 0, 0, 0, 0, 0, 0, 0, 0, 0];
+
+// The sum of its bytes.
+const SUM: [u8; 32] = [
+    2, 0, 0, 0, 0, 0, 0, 0, 0, 0, 0, 0, 0, 0, 0, 0, 0, 0, 0, 0, 0, 0, 0, 0, 0, 0, 0, 0, 0, 0, 0, 0,
+];
+
+#[test]
+fn strings_of_an_opening_collide(rt: HostRuntime) {
+    let alloc = rt.alloc();
+    assert!(rt; collides_at_first(alloc, b"party AB\nparty BA\n--\n", b"D:AB", b"D:BA"));
+    assert!(rt; collides_at_first(alloc, b"party A\n--\n", &NOTHING, &SUM));
+}
+
+// Whether it is a collision of the byte 01 with this message, where there is to be one, and else a guess.
+fn is_stop(stop: &Stop, message: &[u8], collides: bool) -> bool {
+    match stop {
+        Stop::Collided(earlier, later) => collides && are_these(earlier, later, &[1], message),
+        Stop::Guessed(_, _) => !collides,
+    }
+}
+
+// Whether the event of the wanted number is stopped so, or none.
+fn is_stopped(stop: &Option<(usize, Stop)>, message: &[u8], wanted: Option<(usize, bool)>) -> bool {
+    match (stop, wanted) {
+        (None, None) => true,
+        (Some((number, stop)), Some((place, collides))) => {
+            *number == place && is_stop(stop, message, collides)
+        }
+        _ => false,
+    }
+}
+
+// The same of a run.
+fn is_stopped_run<H: Hash32 + Drop>(
+    played: &Played<H>,
+    message: &[u8],
+    wanted: Option<(usize, bool)>,
+) -> bool {
+    match played {
+        Played::Unopened(_, _) => false,
+        Played::Opened(_, stop) => is_stopped(stop, message, wanted),
+    }
+}
+
+// A hash by which the byte 01 and this message have one digest.
+fn twin(alloc: Global, message: &[u8]) -> Result<Twin, OutOfMemory> {
+    Ok(Twin {
+        first: Bytes::from_slice(alloc, &[1])?,
+        second: Bytes::from_slice(alloc, message)?,
+    })
+}
+
+// Whether a run by that hash is stopped so.
+fn stops(alloc: Global, message: &[u8], run: &[u8], wanted: Option<(usize, bool)>) -> bool {
+    let Ok(hash) = twin(alloc, message) else {
+        return false;
+    };
+    match played(alloc, hash, run, &[]) {
+        Some(played) => is_stopped_run(&played, message, wanted),
+        None => false,
+    }
+}
+
+// A secret of sixteen bytes 03.
+const SECRET: [u8; 16] = [3; 16];
+
+// Both twins are posted; the second alone; both, and the second one is A's secret; that alone.
+const BOTH: &[u8] = b"party A\n--\npost 01\npost 02\n";
+
+const ALONE: &[u8] = b"party A\n--\npost 02\n";
+
+const SECRET_LAST: &[u8] =
+    b"party A\nhonest A\nsecret A a 03030303030303030303030303030303\n--\npost 01\npost 03030303030303030303030303030303\n";
+
+const SECRET_ALONE: &[u8] =
+    b"party A\nhonest A\nsecret A a 03030303030303030303030303030303\n--\npost 03030303030303030303030303030303\n";
+
+#[test]
+fn a_collision_comes_before_a_guess(rt: HostRuntime) {
+    let alloc = rt.alloc();
+    assert!(rt; stops(alloc, &[2], BOTH, Some((1, true))));
+    assert!(rt; stops(alloc, &[2], ALONE, None));
+    assert!(rt; stops(alloc, &SECRET, SECRET_LAST, Some((1, true))));
+    assert!(rt; stops(alloc, &SECRET, SECRET_ALONE, Some((0, false))));
+}

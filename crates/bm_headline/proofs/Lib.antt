@@ -1,3 +1,4 @@
 pub mod Caused
 pub mod Headlines
 pub mod Shown
+pub mod Worth

@@ -4,7 +4,7 @@ use Rattle.spec_terms.specs.Advert.{Advert}
 use Rattle.spec_run.specs.declared.event.Run.{Run}
 use Rattle.spec_text.specs.Refusals.{run_of}
 use Rattle.spec_tool.specs.Reads.{Asked, Read, Text, texts_read}
-use Rattle.spec_tool.specs.Commands.{Command, play, files_of, contracts_from, Printed}
+use Rattle.spec_tool.specs.Commands.{Command, play, files_of, contracts_from, setup_of, Printed}
 use Rattle.spec_tool.specs.Answers.{tool_answer, tool_reads, ended}
 use Rattle.spec_tool.specs.Causes.{is_run_refused, is_contract_refused, is_psbt_refused}
 use Rattle.spec_tool.specs.Headline as shown
@@ -12,6 +12,8 @@ use Rattle.theory_tool.specs.Statuses.{Plays, Guess, Collision, AuditRefused, St
 use Rattle.bm_io.specs.Counts.{RoseBy}
 use Rattle.bm_io.specs.Files.{Told}
 use Rattle.spec_run.specs.Conditions.{HashesBytes}
+use Rattle.spec_run.specs.Statements.{Claim, HoldsThroughout}
+use Rattle.spec_run.specs.Values.{KeepsValue}
 use Rattle.bm_command.specs.Files.{Tells, AsksFront}
 use Rattle.bm_command.specs.Seen.{HasFew}
 
@@ -114,13 +116,17 @@ Caused hash (Some command) reads printed = CausedByTexts hash command (texts_rea
 abbrev pub texts_of : List (List ℕ) → List Text
 texts_of texts = map Some texts
 
+-- what all live outputs are worth doesn't grow by the event, and stays where no transaction was accepted
+abbrev pub value_kept : Claim
+value_kept before g w t = KeepsValue w t.outcome t.world
+
 -- where `play` takes a run and its contracts, its answer shows the ledger's run of all events with a legal run of the calculus beside
--- it, or a collision or guessed secret at its end
+-- it, or a collision or guessed secret at its end; and no event makes the live outputs worth more
 abbrev pub ShowsRun : (List ℕ → List ℕ) → List Text → Printed → Type 0
 ShowsRun hash texts printed =
     (run_text : List ℕ) (contract_texts : List (List ℕ)) (run : Run) (contracts : List Advert)
     → texts ≡ Some run_text ∷ texts_of contract_texts → run_of run_text ≡ Ok run → contracts_from 0 contract_texts ≡ Ok contracts
-    → shown.Headline hash run_text contract_texts printed
+    → shown.Headline hash run_text contract_texts printed × HoldsThroughout (setup_of hash run contracts) value_kept run.events
 
 abbrev pub ShowsTexts : (List ℕ → List ℕ) → Option (List Text) → Printed → Type 0
 ShowsTexts hash None printed = Unit {0}

@@ -109,6 +109,7 @@ module _ (valid : ValidRunTheorem) (hash : List ℕ → List ℕ) (fine : Hashes
   with_run (Err why) spells e = absurd (omega (arith, status_of _ _ e))
   with_run (Ok run) spells e = with_contracts run spells (contracts_from 0 (contract ∷ [])) refl e
 
-pub printed_is_longer : PrintedIsLonger
+-- valid files make runs of which the theorems on runs speak
+pub printed_is_longer : ValidRunTheorem → PrintedIsLonger
 printed_is_longer valid hash fine run_name contract_name strategy_name text contract strategy printed e =
     with_run valid hash fine text contract strategy printed (run_of text) refl e

@@ -6,7 +6,6 @@ use Rattle.spec_run.specs.Conditions.{HashesBytes}
 use Rattle.spec_text.specs.Refusals.{run_of}
 use Rattle.spec_tool.specs.Answers.{text_answer}
 use Rattle.spec_tool.specs.Commands.{auto, prints}
-use Rattle.spec_tool.specs.Statements.{ValidRunTheorem}
 
 -- the printed text spells a run with the header of the run file and its events, and more behind these
 pub record IsLonger (text printed : List ℕ) : Type 0 where
@@ -18,10 +17,9 @@ pub record IsLonger (text printed : List ℕ) : Type 0 where
   pub more : List Event
   pub events : longer.events ≡ run.events ++ more
 
--- What `auto` prints of three files with the status 0 is such a text. The premise, that valid files make runs of which the
--- theorems on runs speak, is a theorem of its own.
+-- what `auto` prints of three files with the status 0 is such a text
 abbrev pub PrintedIsLonger : Type 0
-PrintedIsLonger = ValidRunTheorem → (hash : List ℕ → List ℕ) → HashesBytes hash
+PrintedIsLonger = (hash : List ℕ → List ℕ) → HashesBytes hash
     → (run_name contract_name strategy_name text contract strategy printed : List ℕ)
     → text_answer hash (auto run_name contract_name strategy_name) (Some text ∷ Some contract ∷ Some strategy ∷ []) ≡ prints 0 printed
     → IsLonger text printed

@@ -6,6 +6,8 @@ ghost use Rattle.theory_auto.specs.OwnRules.{StrategiesAreHonest, StrategiesKeep
 ghost use Rattle.theory_auto.specs.Printed.{PrintedIsLonger};
 ghost use Rattle.theory_auto.specs.Spelled.{LongerRunsAreSpelled};
 
+use theory_headline::valid_runs;
+
 /// The rules of a strategy go on with a run by events that the longer run does or accepts, each a
 /// rule's and no rule twice, until no rule that is left is enabled; or the first event that is tried
 /// and halts ends them.
@@ -35,4 +37,6 @@ pub fn longer_runs_are_spelled()
 /// with its events.
 pub fn printed_is_longer()
     ensures { PrintedIsLonger }
-{}
+{
+    valid_runs();
+}

@@ -1,0 +1,5 @@
+pub mod Contracts
+pub mod Ended
+pub mod Endings
+pub mod Left
+pub mod Reports

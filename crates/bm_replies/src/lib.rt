@@ -1,0 +1,16 @@
+//! What the commands that play a run reply.
+#![tactic(auto)]
+
+mod last;
+mod made;
+mod plan;
+mod play;
+mod psbt;
+mod weigh;
+
+pub use last::Last;
+pub use made::made_reply;
+pub use plan::plan_reply;
+pub use play::play_reply;
+pub use psbt::psbt_reply;
+pub use weigh::weigh_reply;

@@ -1,5 +1,4 @@
-pub mod Live
-pub mod LineLemmas
-pub mod ReadLemmas
-pub mod Events
-mod Worked
+pub mod Commands
+pub mod Ending
+pub mod Judged
+pub mod Texts

@@ -1,10 +1,2 @@
-pub mod Agreement
-pub mod Headline
-pub mod Judging
-pub mod Lines
-pub mod Reading
-pub mod Run
-pub mod Steps
-pub mod Text
-pub mod Tool
-pub mod World
+pub mod Built
+pub mod Replied

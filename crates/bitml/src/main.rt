@@ -1,16 +1,10 @@
-//! Reads, judges and prints contracts, and plays runs on a ledger and in the calculus at once.
+//! Reads, judges and prints contracts, compiles them, and plays runs on a ledger and in the calculus at once.
 #![tactic(auto)]
 
-mod check;
-mod event;
-mod ledger;
-mod lines;
-mod play;
-mod print;
-mod read;
-mod read_run;
-mod refusal;
-mod reply;
+mod answering;
+mod making;
+mod partial;
+mod running;
 mod tool;
 
 use bm_hash::Sha;

@@ -1,169 +1,129 @@
 //! The whole program, over files and a sink that are handed in.
 
-ghost use Rattle.std.specs.Prelude.{◌≡◌, ◌≢◌, map, string_bytes, IfOk, OnOk, Ok};
-ghost use Rattle.bm_io.specs.Counts.{RoseBy};
-ghost use Rattle.bm_io.specs.Files.{shown};
-ghost use Rattle.bitml.specs.Tool.{verb_of, command_of, most_bytes, refused_reply, long_reply, read_reply, seen};
-ghost use Rattle.bitml.specs.Headline.{Shows, Ends, around, Serves, Headline};
-ghost use Rattle.bitml.specs.declared.tool.Verb.TheVariants.{Play};
+ghost use Rattle.std.specs.Prelude.{◌≡◌, true, Some, is_some, map, string_bytes, option_map, IfOk, OnErr};
+ghost use Rattle.spec_tool.specs.Commands as spec;
+ghost use Rattle.spec_tool.specs.Answers.{answer};
+ghost use Rattle.bm_command.specs.Seen.{command, printed};
+ghost use Rattle.bm_command.specs.Files.{reads_of, AsksFront, CountsAll};
+ghost use Rattle.bm_headline.specs.Headline.{around, AnswersOrGivesUp, Headline};
+ghost use Rattle.bitml.specs.Built.{is_unbuilt, begins_unbuilt, built_of, IsServed};
+ghost use Rattle.bitml.specs.Replied.{between, Replied};
 
-use crate::check::{check_reply, long_reply as long_contract_reply};
-use crate::play::play;
-use crate::read_run::{RunError, read_run};
-use crate::refusal::MAX_TEXT;
-use crate::reply::Reply;
+use crate::answering::text_reply;
+use bm_command::{Command, Reading, Reply, command_of, files_of, read_all};
 use bm_hash::Hash32;
-use bm_io::{Files, ReadError, Sink};
-use spec_data::Bytes;
-use std::alloc::{AllocError, Global};
+use bm_headline::{answers_are_headlines, finish};
+use bm_io::{Files, Sink};
+use spec_data::{Bytes, OutOfMemory};
+use std::alloc::Global;
+use theory_hashed::hashes_bytes;
 
-/// The most bytes of a run file.
-pub const MAX_SIZE: usize = 8_388_608;
-
-/// What is done with a file.
-#[derive(Clone, Copy, PartialEq, Eq)]
-pub enum Verb {
-    /// The run in it is played.
-    Play,
-    /// The contract in it is judged and printed.
-    Check,
-}
-
-fn verb_of(word: &str) -> Option<Verb>
-    ensures { result ≡ verb_of word.now }
+fn is_unbuilt(word: &str) -> bool
+    ensures { result ≡ is_unbuilt word.now }
 {
-    match word {
-        "play" => Some(Verb::Play),
-        "check" => Some(Verb::Check),
-        _ => None,
+    if word == "audit" {
+        return true;
     }
+    word == "auto"
 }
 
-/// The command that the words are: what is done, and the name of the file.
-fn command_of(words: &[String]) -> Option<(Verb, &str)>
-    ensures { seen result ≡ command_of (map string_bytes words.now) }
+/// Whether words begin as a command that isn't built.
+fn begins_unbuilt(words: &[String]) -> bool
+    ensures { result ≡ begins_unbuilt (map string_bytes words.now) }
 {
-    let [word, name] = words else {
-        return None;
+    let [word, ..] = words else {
+        return false;
     };
-    match verb_of(word.as_str()) {
-        Some(verb) => Some((verb, name.as_str())),
-        None => None,
-    }
+    is_unbuilt(word.as_str())
 }
 
-/// The most bytes that the command's file may have.
-fn most_bytes(verb: Verb) -> usize
-    ensures { result ≡ most_bytes verb }
+/// The command that words are, if they are one that is built. Of words that are none no memory is asked.
+fn built_of(alloc: Global, words: &[String]) -> Result<Option<Command<'_>>, OutOfMemory>
+    ensures command { IfOk result (λ c. option_map command c ≡ built_of (map string_bytes words.now)) }
+    ensures memory { OnErr result (is_some (built_of (map string_bytes words.now)) ≡ true) }
 {
-    match verb {
-        Verb::Play => MAX_SIZE,
-        Verb::Check => MAX_TEXT,
+    if begins_unbuilt(words) {
+        return Ok(None);
     }
+    command_of(alloc, words)
 }
 
-#[tactic(auto, using(std::proofs::Common::append_assoc))]
-fn refused_reply(alloc: Global, line: u64) -> Result<Reply, AllocError>
-    ensures { IfOk result (λ reply. reply ≡ refused_reply line) }
-{
-    let mut text = Vec::new(alloc);
-    text.extend_from_slice(b"run refused notbuilt line ")?;
-    let digits = line.to_string(alloc)?;
-    text.extend_from_slice(digits.as_bytes())?;
-    text.extend_from_slice(b"\n")?;
-    Ok(Reply {
-        status: 6,
-        text: Bytes::of(text),
-    })
-}
-
-/// The reply to the bytes of a run file.
-fn run_reply(alloc: Global, bytes: &[u8]) -> Result<Reply, AllocError>
-    ensures reply { IfOk result (λ reply. reply ≡ read_reply Play (Ok bytes.now)) }
-    ensures shows { OnOk result (Shows Play (Ok bytes.now)) }
-{
-    match read_run(alloc, bytes) {
-        Ok(run) => Ok(Reply {
-            status: 0,
-            text: Bytes::of(play(alloc, &run)?),
-        }),
-        Err(RunError::Line(line)) => refused_reply(alloc, line),
-        Err(RunError::Memory) => Err(AllocError),
-    }
-}
-
-/// The reply to the bytes of a file.
-fn bytes_reply(alloc: Global, verb: Verb, bytes: &[u8]) -> Result<Reply, AllocError>
-    ensures reply { IfOk result (λ reply. reply ≡ read_reply verb (Ok bytes.now)) }
-    ensures shows { OnOk result (Shows verb (Ok bytes.now)) }
-{
-    match verb {
-        Verb::Play => run_reply(alloc, bytes),
-        Verb::Check => check_reply(alloc, bytes),
-    }
-}
-
-/// The reply to a file that is too long.
-fn long_reply(alloc: Global, verb: Verb) -> Result<Reply, AllocError>
-    ensures { IfOk result (λ reply. reply ≡ long_reply verb) }
-{
-    match verb {
-        Verb::Play => refused_reply(alloc, 0),
-        Verb::Check => long_contract_reply(alloc),
-    }
-}
-
-/// The reply to what the read of a file answered.
-fn read_reply(
+/// The reply to what the reads of a command's files gave.
+fn reply_to<H: Hash32 + Drop>(
     alloc: Global,
-    verb: Verb,
-    read: Result<Vec<u8>, ReadError>,
-) -> Result<Reply, AllocError>
-    ensures reply { IfOk result (λ reply. reply ≡ read_reply verb (shown (λ v. v.items) read)) }
-    ensures shows { OnOk result (Shows verb (shown (λ v. v.items) read)) }
+    hash: H,
+    call: &Command,
+    reading: &Reading,
+) -> Result<Reply, OutOfMemory>
+    requires served { IsServed (Some (command call.now)) }
+    requires count { CountsAll reading.now (spec.files_of (command call.now)) }
+    ensures { IfOk result (λ reply. printed reply ≡ answer (H.digest_of hash) (command call.now) (reads_of reading.now)) }
 {
-    match read {
-        Ok(bytes) => bytes_reply(alloc, verb, bytes.as_slice()),
-        Err(ReadError::Failed) => Ok(Reply {
+    if reading.failed {
+        return Ok(Reply {
             status: 3,
             text: Bytes::of(Vec::new(alloc)),
-        }),
-        Err(ReadError::TooLong) => long_reply(alloc, verb),
-        Err(ReadError::Memory) => Err(AllocError),
+        });
     }
+    text_reply(alloc, hash, call, reading.texts.as_slice())
 }
 
-/// Writes a text, and answers its status, or 4 where the write failed.
-fn finish<S: Sink>(out: &mut S, status: u8, text: &[u8]) -> u8
-    requires { status ≢ 4 }
-    ensures ends { Ends (record { status = status; text = text.now }) (S.written out.old) (S.written out.new) result }
-    ensures fault { result ≡ 4 → RoseBy 1 (S.faults out.old) (S.faults out.new) }
+/// Reads the files of a command, and replies to them.
+fn reply<H: Hash32 + Drop, F: Files>(
+    alloc: Global,
+    hash: H,
+    call: &Command,
+    files: &mut F,
+) -> Result<Reply, OutOfMemory>
+    requires { IsServed (Some (command call.now)) }
+    ensures reply { IfOk result (λ reply. Replied (H.digest_of hash) (command call.now)
+        (between (F.told files.old) (F.told files.new) (F.faults files.old) (F.faults files.new)) (printed reply)) }
+    ensures memory { OnErr result (AsksFront (F.told files.old) (F.told files.new) (spec.files_of (command call.now))) }
 {
-    if text.is_empty() {
-        return status;
-    }
-    match out.write_all(text) {
-        Ok(()) => status,
-        Err(_) => 4,
-    }
+    let list = files_of(alloc, call)?;
+    let reading = read_all(alloc, files, list.as_slice())?;
+    reply_to(alloc, hash, call, &reading)
 }
 
-/// Does what the command says with the file of this name.
-fn serve<F: Files, S: Sink>(alloc: Global, verb: Verb, name: &str, files: &mut F, out: &mut S) -> u8
-    ensures serves { Serves verb name.now (around (F.told files.old) (F.faults files.old) (S.written out.old) (S.faults out.old)) (around (F.told files.new) (F.faults files.new) (S.written out.new) (S.faults out.new)) result }
-    ensures command { result ≢ 2 }
-    ensures unread { result ≡ 3 → RoseBy 1 (F.faults files.old) (F.faults files.new) }
-    ensures unwritten { result ≡ 4 → RoseBy 1 (S.faults out.old) (S.faults out.new) }
+/// Does what a command says.
+fn serve<H: Hash32 + Drop, F: Files, S: Sink>(
+    alloc: Global,
+    hash: H,
+    call: &Command,
+    files: &mut F,
+    out: &mut S,
+) -> u8
+    requires { IsServed (Some (command call.now)) }
+    ensures { AnswersOrGivesUp (H.digest_of hash) (Some (command call.now))
+        (around (F.told files.old) (F.faults files.old) (S.written out.old) (S.faults out.old))
+        (around (F.told files.new) (F.faults files.new) (S.written out.new) (S.faults out.new)) result }
 {
-    let read = files.read(alloc, name, most_bytes(verb));
-    match read_reply(alloc, verb, read) {
+    match reply(alloc, hash, call, files) {
         Ok(reply) => finish(out, reply.status, reply.text.as_slice()),
         Err(_) => 5,
     }
 }
 
-/// Runs the command that the words are: writes its text, and answers its status. Nothing is hashed
-/// by the commands that there are.
+/// Does what words say. Nothing is read, and no memory asked, of words that are no command.
+fn answer_words<H: Hash32 + Drop, F: Files, S: Sink>(
+    alloc: Global,
+    words: &[String],
+    hash: H,
+    files: &mut F,
+    out: &mut S,
+) -> u8
+    ensures { AnswersOrGivesUp (H.digest_of hash) (built_of (map string_bytes words.now))
+        (around (F.told files.old) (F.faults files.old) (S.written out.old) (S.faults out.old))
+        (around (F.told files.new) (F.faults files.new) (S.written out.new) (S.faults out.new)) result }
+{
+    match built_of(alloc, words) {
+        Ok(None) => finish(out, 2, b"usage\n"),
+        Ok(Some(call)) => serve(alloc, hash, &call, files, out),
+        Err(_) => 5,
+    }
+}
+
+/// Runs the command that words are: reads its files, writes its text, and answers its status.
 pub fn run_tool<H: Hash32 + Drop, F: Files, S: Sink>(
     alloc: Global,
     words: &[String],
@@ -171,10 +131,11 @@ pub fn run_tool<H: Hash32 + Drop, F: Files, S: Sink>(
     files: &mut F,
     out: &mut S,
 ) -> u8
-    ensures { Headline (map string_bytes words.now) (around (F.told files.old) (F.faults files.old) (S.written out.old) (S.faults out.old)) (around (F.told files.new) (F.faults files.new) (S.written out.new) (S.faults out.new)) result }
+    ensures { Headline (H.digest_of hash) (built_of (map string_bytes words.now))
+        (around (F.told files.old) (F.faults files.old) (S.written out.old) (S.faults out.old))
+        (around (F.told files.new) (F.faults files.new) (S.written out.new) (S.faults out.new)) result }
 {
-    match command_of(words) {
-        None => finish(out, 2, b"usage\n"),
-        Some((verb, name)) => serve(alloc, verb, name, files, out),
-    }
+    hashes_bytes(&hash);
+    answers_are_headlines();
+    answer_words(alloc, words, hash, files, out)
 }

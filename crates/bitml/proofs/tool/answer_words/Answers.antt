@@ -1,0 +1,17 @@
+use Rattle.std.proofs.Common.{map, string_bytes, Global}
+use Rattle.bitml.proofs.Commands.{served_call, no_call}
+use Rattle.bitml.proofs.Ending.{tells_usage}
+use Rattle.bitml.proofs.tool.answer_words.Goals as goal
+
+pub serve-requires : goal.serve-requires
+serve-requires g c =
+    served_call (map (string_bytes {Z = Global}) c.args.words.now) c.in-Ok-Some.field-0 c.in-Ok-Some.call
+    c.in-Ok-Some.ensures.command c.in-Ok-Some.field-0-is
+
+pub returns-in-Ok-None : goal.returns-in-Ok-None
+returns-in-Ok-None g c =
+    tells_usage (g.H.Hash32.digest_of c.args.hash) _ (g.F.Files.told c.args.files.now) (g.F.Files.faults c.args.files.now)
+    (g.S.Sink.written c.args.out.now) (g.S.Sink.written c.finish.new.out) (g.S.Sink.faults c.args.out.now) (g.S.Sink.faults c.finish.new.out)
+    c.finish.result
+    (no_call (map (string_bytes {Z = Global}) c.args.words.now) c.in-Ok-None.field-0 c.in-Ok-None.ensures.command c.in-Ok-None.field-0-is)
+    c.finish.ensures

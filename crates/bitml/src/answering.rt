@@ -1,0 +1,48 @@
+//! What each command replies to the texts of its files.
+
+ghost use Rattle.std.specs.Prelude.{◌≡◌, true, length, Some, IfOk};
+ghost use Rattle.spec_tool.specs.Reads.{text_at};
+ghost use Rattle.spec_tool.specs.Commands.{files_of, check_judged};
+ghost use Rattle.spec_tool.specs.Answers.{contract_in, text_answer};
+ghost use Rattle.bm_command.specs.Seen.{command, printed};
+ghost use Rattle.bitml.specs.Built.{IsServed};
+
+use crate::making::make_reply;
+use crate::partial::{joined_texts, shown_texts};
+use crate::running::{plan_texts, play_texts, psbt_texts, weigh_texts};
+use bm_command::{Command, Reply};
+use bm_hash::Hash32;
+use bm_judge::check_reply;
+use spec_data::{Bytes, OutOfMemory};
+use std::alloc::Global;
+
+fn check_texts(alloc: Global, texts: &[Option<Bytes>]) -> Result<Reply, OutOfMemory>
+    requires { length texts.now ≡ 1 }
+    ensures { IfOk result (λ reply. printed reply ≡ check_judged (contract_in (text_at texts.now 0))) }
+{
+    check_reply(alloc, &texts[0])
+}
+
+/// What a command replies to the texts of its files.
+pub(crate) fn text_reply<H: Hash32 + Drop>(
+    alloc: Global,
+    hash: H,
+    call: &Command,
+    texts: &[Option<Bytes>],
+) -> Result<Reply, OutOfMemory>
+    requires served { IsServed (Some (command call.now)) }
+    requires count { length texts.now ≡ length (files_of (command call.now)) }
+    ensures { IfOk result (λ reply. printed reply ≡ text_answer (H.digest_of hash) (command call.now) texts.now) }
+{
+    match call {
+        Command::Check(_) => check_texts(alloc, texts),
+        Command::Play(_, _) => play_texts(alloc, hash, texts),
+        Command::Plan(_, _) => plan_texts(alloc, hash, texts),
+        Command::Make(number, size) => make_reply(alloc, hash, *number, *size),
+        Command::PsbtOf(_, _, which) => psbt_texts(alloc, hash, texts, which),
+        Command::PsbtShown(_) => shown_texts(alloc, texts),
+        Command::PsbtJoined(_, _) => joined_texts(alloc, texts),
+        Command::Weigh(_, _) => weigh_texts(alloc, hash, texts),
+        Command::Audit(..) | Command::Auto(..) => unreachable!(),
+    }
+}

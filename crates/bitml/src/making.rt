@@ -1,0 +1,49 @@
+//! What `make` replies.
+
+ghost use Rattle.std.specs.Prelude.{◌≡◌, ◌≤◌, length, IfOk};
+ghost use Rattle.spec_data.specs.Ranges.{most_contracts};
+ghost use Rattle.spec_text.specs.PlanText.{make_text};
+ghost use Rattle.spec_tool.specs.Commands.{most_size, run_answer, both_judged, make_answer};
+ghost use Rattle.spec_tool.specs.Answers.{run_in, contracts_in};
+ghost use Rattle.bm_command.specs.Seen.{printed};
+
+use bm_command::Reply;
+use bm_hash::Hash32;
+use bm_judge::{Judgement, judge_both};
+use bm_make::make;
+use bm_replies::made_reply;
+use spec_data::{Bytes, OutOfMemory};
+use std::alloc::Global;
+
+// What is replied to the texts of a made run and its contract, which are judged as if they had been read.
+fn made_texts<H: Hash32 + Drop>(
+    alloc: Global,
+    hash: H,
+    run: &Option<Bytes>,
+    contracts: &[Option<Bytes>],
+) -> Result<Reply, OutOfMemory>
+    requires { length contracts.now ≤ most_contracts }
+    ensures { IfOk result (λ reply. printed reply ≡ both_judged (run_answer make_text) (H.digest_of hash)
+        (run_in run.now) (contracts_in 0 contracts.now)) }
+{
+    match judge_both(alloc, run, contracts)? {
+        Judgement::Refused(reply) => Ok(reply),
+        Judgement::Taken(run, contracts) => made_reply(alloc, hash, &run, contracts),
+    }
+}
+
+/// What `make` replies to a number and a size.
+pub(crate) fn make_reply<H: Hash32 + Drop>(
+    alloc: Global,
+    hash: H,
+    number: u64,
+    size: u32,
+) -> Result<Reply, OutOfMemory>
+    requires { size ≤ most_size }
+    ensures { IfOk result (λ reply. printed reply ≡ make_answer (H.digest_of hash) number size) }
+{
+    let (contract, run) = make(alloc, number, size)?;
+    let run = Some(Bytes::of(run));
+    let contracts = [Some(Bytes::of(contract))];
+    made_texts(alloc, hash, &run, &contracts)
+}

@@ -1,0 +1,5 @@
+pub mod Extending
+pub mod Ruled
+pub mod Taking
+pub mod Trying
+pub mod Turning

@@ -1,0 +1,10 @@
+//! The rules of a strategy go on with a run, by rounds.
+#![tactic(auto)]
+
+mod extending;
+mod ruling;
+mod standing;
+mod trying;
+mod turning;
+
+pub use extending::extend;

@@ -1,0 +1,95 @@
+//! Where the outputs of the first contract's positions are.
+
+ghost use Rattle.std.specs.Prelude.{◌≡◌, ℕ, List, Some, slice_get};
+ghost use Rattle.std.specs.Option.{option_copied};
+ghost use Rattle.spec_run.specs.World.{live_position};
+ghost use Rattle.spec_tool.specs.Turns as spec;
+ghost use Rattle.spec_tool.specs.Weights.{last_branch, position_of};
+ghost use Rattle.bm_plan.specs.Listed.{step_branch};
+ghost use Rattle.bm_board.specs.Drafts.{setup_of, world_of};
+
+use bm_board::Board;
+use bm_coins::{Coins, HeldPosition};
+use bm_syntax::walk::at;
+use spec_terms::{Path, PathStep};
+
+// The steps to the position whose branch the path is.
+#[tactic(auto, using(bm_plan::proofs::LastStep::position_is_front))]
+fn front_of(path: &Path) -> &[PathStep]
+    ensures { result.now ≡ position_of path.now }
+{
+    let steps = path.steps();
+    &steps[..steps.len().saturating_sub(1)]
+}
+
+fn step_branch(step: PathStep) -> u32
+    ensures { result ≡ step_branch step }
+{
+    match step {
+        PathStep::Branch(i) => i,
+        PathStep::Part(_) => 0,
+    }
+}
+
+// The number of the branch that a path ends with.
+#[tactic(auto, using(bm_plan::proofs::LastStep::last_branch_is))]
+fn last_branch(path: &Path) -> u32
+    ensures { result ≡ last_branch path.now }
+{
+    match path.steps().last() {
+        Some(step) => step_branch(*step),
+        None => 0,
+    }
+}
+
+// Whether this is the position of the first contract.
+fn is_at(held: &HeldPosition, position: &[PathStep]) -> bool
+    ensures { result ≡ spec.stands_at 0 position.now (Some held.now) }
+{
+    held.contract() == 0 && held.position().steps() == position
+}
+
+// What the output of this number stands for, where it is live and a contract's.
+fn held_at(coins: &Coins, number: u32) -> Option<&HeldPosition>
+    ensures { option_copied result ≡ live_position (slice_get coins.now.outputs number) }
+{
+    match coins.output(number) {
+        Some(output) => output.live_position(),
+        None => None,
+    }
+}
+
+// Whether the output of this number stands, live, for the position of the first contract.
+fn stands(coins: &Coins, number: u32, position: &[PathStep]) -> bool
+    ensures { result ≡ spec.stands_at 0 position.now (live_position (slice_get coins.now.outputs number)) }
+{
+    match held_at(coins, number) {
+        Some(held) => is_at(held, position),
+        None => false,
+    }
+}
+
+// The number of the first output that does.
+fn standing_at(coins: &Coins, position: &[PathStep]) -> Option<u32>
+    ensures { result ≡ spec.standing_from 0 0 position.now coins.now.outputs }
+{
+    let births = coins.ledger().births();
+    for number in 0..births {
+        if stands(coins, number, position) {
+            return Some(number);
+        }
+    }
+    None
+}
+
+/// The live output of the first contract at whose position the path is a branch, and the branch's number. None where the contract
+/// doesn't have the path, or nothing stands there.
+pub(crate) fn taken_at(board: &Board, path: &Path) -> Option<(u32, u32)>
+    ensures { (hash : List ℕ → List ℕ) (messages : List (List ℕ))
+        → result ≡ spec.taken_at (setup_of hash board.now) (world_of board.now messages) path.now }
+{
+    let checked = board.contract(0)?;
+    let _branch = at(&checked.advert().root, path)?;
+    let number = standing_at(&board.coins, front_of(path))?;
+    Some((number, last_branch(path)))
+}

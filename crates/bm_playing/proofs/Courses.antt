@@ -49,6 +49,7 @@ module _ {H : Type 0} (digest : H → List ℕ → List ℕ) (hash : H) (header 
       record {
         setup = setup_same digest (record { hasher = hash; header = header; contracts = contracts; world = opening_world s; trace = []; halt = None }) new p.setup;
         run = record { setup = setup; opens = o.apart; events = events };
+        going = p.going;
         stops = p.stops;
         trace = p.trace ∙ sym (trace_is s es);
         world = p.left ∙ ap (λ (w : World). record w { hashed = new.world.hashed }) (sym (last_is s es));

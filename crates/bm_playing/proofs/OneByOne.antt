@@ -116,6 +116,7 @@ module _ {H : Type 0} (digest : H → List ℕ → List ℕ) (old mid new : worl
       ap (λ (p : Progress). p.passed) whole ∙ passed-behind m.front last ∙ append-nil m.front in
       record {
         setup = same_again old mid new m.setup g.setup;
+        going = λ e. absurd (cc);
         stops = (e, at, ap (λ (p : Progress). p.halt) whole ∙ halt-behind m.front last);
         trace = g.trace ∙ m.trace ∙ ap (λ (ps : List Passed). old.trace ++ map record_passed ps) (sym passed);
         left = g.left ∙ ap (λ (w : World). record w { hashed = new.world.hashed }) (sym m.left ∙ ap (world_after old.world) (sym passed));
@@ -143,6 +144,7 @@ ends digest old new es m =
     let left : new.world ≡ world_after old.world (played_from s old.world es).passed = sym m.left ∙ ap (world_after old.world) (sym passed) in
     record {
       setup = m.setup;
+      going = λ _. m.going;
       stops = ap (λ (p : Progress). p.halt) m.joined ∙ halt-behind m.front last;
       trace = m.trace ∙ ap (λ (ps : List Passed). old.trace ++ map record_passed ps) (sym passed);
       left = ap (λ (w : World). record w { hashed = new.world.hashed }) left;

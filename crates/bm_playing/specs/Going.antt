@@ -75,6 +75,8 @@ StopIs es (Some stop) halt = (e : Event) × (slice_get es (stop.0) ≡ Some e) �
 -- how a run of events left a world that they were played from: stopped as is said, and everything recorded
 pub record Plays {H : Type 0} (digest : H → List ℕ → List ℕ) (old new : world.Played H) (es : List Event) (stop : Option (ℕ × Stop)) : Type 0 where
   pub setup : SameSetup old new
+  -- the world isn't halted where none of these events was
+  pub going : stop ≡ None → new.halt ≡ None
   pub stops : StopIs es stop (played_from (setup_in digest old) old.world es).halt
   pub trace : new.trace ≡ old.trace ++ map record_passed (played_from (setup_in digest old) old.world es).passed
   pub left : new.world ≡ record (world_after old.world (played_from (setup_in digest old) old.world es).passed) { hashed = new.world.hashed }

@@ -16,6 +16,7 @@ use Rattle.bm_playing.specs.Going.{StopIs}
 pub record IsLeft {H : Type 0} (digest : H → List ℕ → List ℕ) (s : Setup) (es : List Event) (left : world.Played H) (stop : Option (ℕ × Stop)) : Type 0 where
   pub setup : setup_in digest left ≡ s
   pub run : IsRun s es
+  pub going : stop ≡ None → left.halt ≡ None
   pub stops : StopIs es stop (first_halt s es)
   pub trace : left.trace ≡ trace s es
   -- the last world; where the last event was halted, but for the messages that were hashed

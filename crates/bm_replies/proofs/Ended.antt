@@ -1,5 +1,5 @@
 -- What the commands on a run answer, by how the run ends.
-use Rattle.std.proofs.Common.{◌≡◌, ℕ, ◌==◌, Bool, true, false, cond, List, [], ◌∷◌, Option, Some, None, refl, sym, ap, subst, ◌∙◌}
+use Rattle.std.proofs.Common.{◌≡◌, ℕ, ◌==◌, Bool, true, false, cond, List, [], Option, Some, None, refl, sym, ap, subst, ◌∙◌}
 use Rattle.std.specs.Prelude.{IfSome}
 use Rattle.std.proofs.lemmas.Bool.{ne_eqb}
 use Rattle.spec_terms.specs.Advert.{Advert}
@@ -53,7 +53,7 @@ module _ {H : Type 0} (digest : H → List ℕ → List ℕ) (s : Setup) (es : L
   unfolding make_text
   whole_make text e = ap (prints 0) e ∙ whole_run (run_counts s es)
 
-  whole_if : (answer : Setup → List Event → Printed) → answer s es ≡ if_whole answer s es
+  pub whole_if : (answer : Setup → List Event → Printed) → answer s es ≡ if_whole answer s es
   whole_if answer = sym (ap (λ n. cond (n == 0) (answer s es) (prints n (unless_halted (ending s es) []))) w.unhalted)
 
   pub whole_weigh : (text : List ℕ) → text ≡ weigh_line s left.world → prints 0 text ≡ if_whole (printed_of weigh_text) s es

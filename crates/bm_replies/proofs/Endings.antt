@@ -1,5 +1,5 @@
 -- How runs end, by what halts them.
-use Rattle.std.proofs.Common.{◌≡◌, ℕ, List, Option, Some, None, refl, sym, ap, subst, ◌∙◌}
+use Rattle.std.proofs.Common.{◌≡◌, ℕ, List, Some, None, sym, ap, subst, ◌∙◌}
 use Rattle.spec_run.specs.declared.event.Event.{Event}
 use Rattle.spec_run.specs.Setup.{Setup}
 use Rattle.spec_run.specs.Draft.{Halt, Collided, Guessed}
@@ -15,7 +15,6 @@ use Rattle.bm_command.specs.declared.reply.Reply.{Reply}
 use Rattle.bm_world.specs.Playing as world
 use Rattle.bm_playing.specs.declared.stop.Stop.{Stop}
 use Rattle.bm_playing.specs.declared.stop.Stop.TheVariants as stops
-use Rattle.bm_playing.specs.Going.{halt_of}
 use Rattle.bm_playing.specs.Whole.{IsLeft}
 use Rattle.bm_replies.specs.Last.{stop_printed, IsHalted, IsWhole}
 

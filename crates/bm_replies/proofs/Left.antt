@@ -6,7 +6,6 @@ use Rattle.spec_calculus.specs.declared.step.Step.{Step}
 use Rattle.spec_calculus.specs.Configuration.{Configuration}
 use Rattle.spec_run.specs.declared.event.Event.{Event}
 use Rattle.spec_run.specs.Setup.{Setup}
-use Rattle.spec_run.specs.Draft.{Halt}
 use Rattle.spec_run.specs.Offers.{Offer, offers}
 use Rattle.spec_run.specs.Ledger.{chain_of}
 use Rattle.spec_run.specs.Translation.{translated, last_world, last_configuration}

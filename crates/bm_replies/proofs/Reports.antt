@@ -1,5 +1,5 @@
 -- What `play` answers, by the end of a run and its entries.
-use Rattle.std.proofs.Common.{◌≡◌, ℕ, ◌<◌, List, [], ◌∷◌, length, map, Option, Some, None, refl, sym, ap, ◌∙◌}
+use Rattle.std.proofs.Common.{◌≡◌, ℕ, List, length, map, Some, sym, ap, ◌∙◌}
 use Rattle.std.proofs.lemmas.List.{length-map}
 use Rattle.spec_calculus.specs.declared.step.Step.{Step}
 use Rattle.spec_calculus.specs.Configuration.{Configuration}
@@ -13,17 +13,16 @@ use Rattle.spec_run.specs.Ledger.{chain_of}
 use Rattle.spec_run.specs.Translation.{Turn, course, trace, translated, record_in, last_world, last_configuration}
 use Rattle.spec_text.specs.declared.entry.Entry.{Entry}
 use Rattle.spec_text.specs.PlayText.{Ending, whole, collided_line, report_text}
-use Rattle.spec_text.specs.Played.{entries, ending, end_of, live_outputs, play_text}
-use Rattle.spec_tool.specs.Commands.{Printed, prints, ending_status, run_answer}
+use Rattle.spec_text.specs.Played.{entries, ending, end_of, play_text}
+use Rattle.spec_tool.specs.Commands.{prints, ending_status, run_answer}
 use Rattle.bm_world.specs.Playing as world
-use Rattle.bm_playing.specs.Whole.{IsLeft}
 use Rattle.bm_playing.specs.Going.{record_passed}
 use Rattle.bm_playing.proofs.Again.{same_steps, same_configuration}
 use Rattle.bm_playing.proofs.Courses.{trace_is}
 use Rattle.bm_shows.specs.Entries.{entries_by}
 use Rattle.bm_shows.specs.Live.{number_and_value}
 use Rattle.bm_shows.proofs.Shown.{entries_of_turns, live_of_chain}
-use Rattle.bm_replies.proofs.Endings.{unopened_is, whole_is}
+use Rattle.bm_replies.proofs.Endings.{unopened_is}
 
 -- ---- the whole text
 

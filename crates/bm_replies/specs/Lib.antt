@@ -1,3 +1,4 @@
 pub mod Counted
+pub mod Halting
 pub mod Last
 pub mod Weighed

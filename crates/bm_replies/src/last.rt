@@ -42,8 +42,8 @@ fn stop_reply(alloc: Global, stop: &Stop) -> Result<Reply, OutOfMemory>
     }
 }
 
-/// Lets a world go. Nothing else in this crate does, since a world is long to take apart.
-pub(crate) fn let_go<H: Hash32 + Drop>(_world: World<H>) {}
+/// Lets a world go. Nothing else does here or in the crates of further replies, since a world is long to take apart.
+pub fn let_go<H: Hash32 + Drop>(_world: World<H>) {}
 
 // The end of a run that left this world.
 fn last_of<H: Hash32 + Drop>(
@@ -64,7 +64,7 @@ fn last_of<H: Hash32 + Drop>(
 }
 
 /// Plays a run with contracts to its end.
-pub(crate) fn play_to_end<H: Hash32 + Drop>(
+pub fn play_to_end<H: Hash32 + Drop>(
     alloc: Global,
     hash: H,
     run: &Run,

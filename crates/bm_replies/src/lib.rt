@@ -1,6 +1,7 @@
 //! What the commands that play a run reply.
 #![tactic(auto)]
 
+mod halting;
 mod last;
 mod made;
 mod plan;
@@ -8,7 +9,8 @@ mod play;
 mod psbt;
 mod weigh;
 
-pub use last::Last;
+pub use halting::halt_reply;
+pub use last::{Last, let_go, play_to_end};
 pub use made::made_reply;
 pub use plan::plan_reply;
 pub use play::play_reply;

@@ -1,4 +1,4 @@
-use Rattle.std.proofs.Common.{◌≡◌, subst, ◌∙◌}
+use Rattle.std.proofs.Common.{subst, ◌∙◌}
 use Rattle.spec_run.specs.Setup.{Setup}
 use Rattle.spec_text.specs.PlayText.{collided_line}
 use Rattle.spec_tool.specs.Commands.{prints, setup_of}

@@ -1,5 +1,5 @@
--- Words of a command that is built.
-use Rattle.std.proofs.Common.{◌≡◌, ◌≤◌, ℕ, List, [], ◌∷◌, length, Bool, true, false, ◌&&◌, ◌||◌, cond, nat_le, Option, Some, None, refl, sym, ap, subst, ◌∙◌, option_map, arith}
+-- Words that are a command.
+use Rattle.std.proofs.Common.{◌≡◌, ◌≤◌, ℕ, List, [], ◌∷◌, length, Bool, true, false, ◌&&◌, nat_le, Option, Some, None, refl, sym, ap, subst, ◌∙◌, option_map, arith}
 use Rattle.std.specs.Prelude.{codes, if◌then◌else◌}
 use Rattle.std.specs.Str.{bytes_eq}
 use Rattle.spec_data.specs.Digits.{read_decimal}
@@ -10,7 +10,7 @@ use Rattle.spec_tool.specs.Commands.{Command, check, play, plan, make, psbt_of, 
 use Rattle.spec_tool.specs.Commands.{check_words, play_words, plan_words, make_words, psbt_words, weigh_words, audit_words, auto_words}
 use Rattle.bm_command.specs.Seen.{command, HasFew}
 use Rattle.bm_command.specs.declared.command.Command.{Command as Call}
-use Rattle.bitml.specs.Built.{begins_unbuilt, built_of, IsServed}
+use Rattle.bitml.specs.Served.{IsServed}
 
 if_served : (b : Bool) (x y : Option Command) → IsServed x → IsServed y → IsServed (if b then x else y)
 if_served true x y hx hy = hx
@@ -67,10 +67,23 @@ psbt_served (a ∷ b ∷ []) = tt
 psbt_served (a ∷ b ∷ c ∷ []) = bind_served (which_of c) _ (λ which. tt)
 psbt_served (a ∷ b ∷ c ∷ d ∷ words) = tt
 
-module _ (checks plays plans makes psbts weighs : Bool) (words : List (List ℕ)) where
+audit_served : (words : List (List ℕ)) → IsServed (audit_words words)
+audit_served [] = tt
+audit_served (a ∷ []) = tt
+audit_served (a ∷ b ∷ []) = tt
+audit_served (a ∷ b ∷ c ∷ []) = tt
+audit_served (a ∷ b ∷ c ∷ d ∷ words) = tt
+
+auto_served : (words : List (List ℕ)) → IsServed (auto_words words)
+auto_served [] = tt
+auto_served (a ∷ []) = tt
+auto_served (a ∷ b ∷ []) = tt
+auto_served (a ∷ b ∷ c ∷ []) = tt
+auto_served (a ∷ b ∷ c ∷ d ∷ words) = tt
+
+module _ (checks plays plans makes psbts weighs audits autos : Bool) (words : List (List ℕ)) where
   -- by the first word: which of the commands' it is
-  abbrev chosen : Bool → Bool → Option Command
-  chosen audits autos =
+  chosen_served : IsServed (
       if checks then check_words words
       else if plays then play_words words
       else if plans then plan_words words
@@ -79,24 +92,22 @@ module _ (checks plays plans makes psbts weighs : Bool) (words : List (List ℕ)
       else if weighs then weigh_words words
       else if audits then audit_words words
       else if autos then auto_words words
-      else None
-
-  chosen_served : (audits autos : Bool) → IsServed (if audits || autos then None else chosen audits autos)
-  chosen_served true autos = tt
-  chosen_served false true = tt
-  chosen_served false false =
+      else None)
+  chosen_served =
       if_served checks _ _ (check_served words)
       (if_served plays _ _ (play_served words)
       (if_served plans _ _ (plan_served words)
       (if_served makes _ _ (make_served words)
       (if_served psbts _ _ (psbt_served words)
-      (if_served weighs _ _ (weigh_served words) tt)))))
+      (if_served weighs _ _ (weigh_served words)
+      (if_served audits _ _ (audit_served words)
+      (if_served autos _ _ (auto_served words) tt)))))))
 
-pub served : (words : List (List ℕ)) → IsServed (built_of words)
+pub served : (words : List (List ℕ)) → IsServed (command_of words)
 served [] = tt
 served (word ∷ words) =
     chosen_served (bytes_eq word (codes "check")) (bytes_eq word (codes "play")) (bytes_eq word (codes "plan")) (bytes_eq word (codes "make"))
-    (bytes_eq word (codes "psbt")) (bytes_eq word (codes "weigh")) words (bytes_eq word (codes "audit")) (bytes_eq word (codes "auto"))
+    (bytes_eq word (codes "psbt")) (bytes_eq word (codes "weigh")) (bytes_eq word (codes "audit")) (bytes_eq word (codes "auto")) words
 
 -- few contracts are given
 pub few_of : (o : Option Command) → IsServed o → HasFew o
@@ -113,9 +124,9 @@ few_of (Some (audit run contract file)) h = tt
 few_of (Some (auto run contract strategy)) h = tt
 
 -- what the code has of the words
-pub served_call : (words : List (List ℕ)) (o : Option Call) (call : Call) → option_map command o ≡ built_of words → o ≡ Some call
+pub served_call : (words : List (List ℕ)) (o : Option Call) (call : Call) → option_map command o ≡ command_of words → o ≡ Some call
     → IsServed (Some (command call))
 served_call words o call h e = subst IsServed (sym h ∙ ap (option_map command) e) (served words)
 
-pub no_call : (words : List (List ℕ)) (o : Option Call) → option_map command o ≡ built_of words → o ≡ None → built_of words ≡ None
+pub no_call : (words : List (List ℕ)) (o : Option Call) → option_map command o ≡ command_of words → o ≡ None → command_of words ≡ None
 no_call words o h e = sym h ∙ ap (option_map command) e

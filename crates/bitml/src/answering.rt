@@ -5,8 +5,9 @@ ghost use Rattle.spec_tool.specs.Reads.{text_at};
 ghost use Rattle.spec_tool.specs.Commands.{files_of, check_judged};
 ghost use Rattle.spec_tool.specs.Answers.{contract_in, text_answer};
 ghost use Rattle.bm_command.specs.Seen.{command, printed};
-ghost use Rattle.bitml.specs.Built.{IsServed};
+ghost use Rattle.bitml.specs.Served.{IsServed};
 
+use crate::further::{audit_texts, auto_texts};
 use crate::making::make_reply;
 use crate::partial::{joined_texts, shown_texts};
 use crate::running::{plan_texts, play_texts, psbt_texts, weigh_texts};
@@ -43,6 +44,7 @@ pub(crate) fn text_reply<H: Hash32 + Drop>(
         Command::PsbtShown(_) => shown_texts(alloc, texts),
         Command::PsbtJoined(_, _) => joined_texts(alloc, texts),
         Command::Weigh(_, _) => weigh_texts(alloc, hash, texts),
-        Command::Audit(..) | Command::Auto(..) => unreachable!(),
+        Command::Audit(_, _, _) => audit_texts(alloc, hash, texts),
+        Command::Auto(_, _, _) => auto_texts(alloc, hash, texts),
     }
 }

@@ -2,6 +2,7 @@
 #![tactic(auto)]
 
 mod answering;
+mod further;
 mod making;
 mod partial;
 mod running;

@@ -1,13 +1,13 @@
 //! The whole program, over files and a sink that are handed in.
 
-ghost use Rattle.std.specs.Prelude.{◌≡◌, true, Some, is_some, map, string_bytes, option_map, IfOk, OnErr};
+ghost use Rattle.std.specs.Prelude.{◌≡◌, Some, map, string_bytes, IfOk, OnErr};
 ghost use Rattle.spec_tool.specs.Commands as spec;
 ghost use Rattle.spec_tool.specs.Answers.{answer};
 ghost use Rattle.bm_command.specs.Seen.{command, printed};
 ghost use Rattle.bm_command.specs.Files.{reads_of, AsksFront, CountsAll};
 ghost use Rattle.bm_headline.specs.Headline.{around, AnswersOrGivesUp, Headline};
-ghost use Rattle.bitml.specs.Built.{is_unbuilt, begins_unbuilt, built_of, IsServed};
 ghost use Rattle.bitml.specs.Replied.{between, Replied};
+ghost use Rattle.bitml.specs.Served.{IsServed};
 
 use crate::answering::text_reply;
 use bm_command::{Command, Reading, Reply, command_of, files_of, read_all};
@@ -17,36 +17,6 @@ use bm_io::{Files, Sink};
 use spec_data::{Bytes, OutOfMemory};
 use std::alloc::Global;
 use theory_hashed::hashes_bytes;
-
-fn is_unbuilt(word: &str) -> bool
-    ensures { result ≡ is_unbuilt word.now }
-{
-    if word == "audit" {
-        return true;
-    }
-    word == "auto"
-}
-
-/// Whether words begin as a command that isn't built.
-fn begins_unbuilt(words: &[String]) -> bool
-    ensures { result ≡ begins_unbuilt (map string_bytes words.now) }
-{
-    let [word, ..] = words else {
-        return false;
-    };
-    is_unbuilt(word.as_str())
-}
-
-/// The command that words are, if they are one that is built. Of words that are none no memory is asked.
-fn built_of(alloc: Global, words: &[String]) -> Result<Option<Command<'_>>, OutOfMemory>
-    ensures command { IfOk result (λ c. option_map command c ≡ built_of (map string_bytes words.now)) }
-    ensures memory { OnErr result (is_some (built_of (map string_bytes words.now)) ≡ true) }
-{
-    if begins_unbuilt(words) {
-        return Ok(None);
-    }
-    command_of(alloc, words)
-}
 
 /// The reply to what the reads of a command's files gave.
 fn reply_to<H: Hash32 + Drop>(
@@ -112,11 +82,11 @@ fn answer_words<H: Hash32 + Drop, F: Files, S: Sink>(
     files: &mut F,
     out: &mut S,
 ) -> u8
-    ensures { AnswersOrGivesUp (H.digest_of hash) (built_of (map string_bytes words.now))
+    ensures { AnswersOrGivesUp (H.digest_of hash) (spec.command_of (map string_bytes words.now))
         (around (F.told files.old) (F.faults files.old) (S.written out.old) (S.faults out.old))
         (around (F.told files.new) (F.faults files.new) (S.written out.new) (S.faults out.new)) result }
 {
-    match built_of(alloc, words) {
+    match command_of(alloc, words) {
         Ok(None) => finish(out, 2, b"usage\n"),
         Ok(Some(call)) => serve(alloc, hash, &call, files, out),
         Err(_) => 5,
@@ -131,7 +101,7 @@ pub fn run_tool<H: Hash32 + Drop, F: Files, S: Sink>(
     files: &mut F,
     out: &mut S,
 ) -> u8
-    ensures { Headline (H.digest_of hash) (built_of (map string_bytes words.now))
+    ensures { Headline (H.digest_of hash) (spec.command_of (map string_bytes words.now))
         (around (F.told files.old) (F.faults files.old) (S.written out.old) (S.faults out.old))
         (around (F.told files.new) (F.faults files.new) (S.written out.new) (S.faults out.new)) result }
 {

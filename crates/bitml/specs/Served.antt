@@ -1,0 +1,10 @@
+-- What is known of the commands that words are.
+use Rattle.std.specs.Prelude.{◌≤◌, length, Option, Some}
+use Rattle.spec_data.specs.Ranges.{most_contracts}
+use Rattle.spec_tool.specs.Commands.{Command, play, make, most_size}
+
+-- a run is played with no more contracts than it may have, and made of no more stages
+abbrev pub IsServed : Option Command → Type 0
+IsServed (Some (play run contracts)) = length contracts ≤ most_contracts
+IsServed (Some (make number size)) = size ≤ most_size
+IsServed _ = Unit {0}

@@ -153,6 +153,13 @@ impl<H: Hash32 + Drop> World<H> {
         &self.board.book
     }
 
+    /// What the run halted with, if it did: every later call answers it.
+    pub fn halt(&self) -> Option<&Halt>
+        ensures { option_map (λ h. h.now) result ≡ self.now.halt }
+    {
+        self.halt.as_ref()
+    }
+
     /// The header of the run.
     pub fn header(&self) -> &Header
         ensures { result.now ≡ self.now.header }

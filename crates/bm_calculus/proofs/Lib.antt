@@ -1,5 +1,6 @@
 pub mod Allowing
 pub mod Bools
+pub mod Gone
 pub mod Parts
 pub mod Reached
 pub mod Rows

@@ -1,13 +1,15 @@
 //! Active contracts, which are found by number.
 
-ghost use Rattle.std.specs.Prelude.{◌≡◌, ◌++◌, ◌∷◌, [], nat_lt, map, true, option_map, slice_get, IfOk, IfErr, OnOk, OnErr, None};
+ghost use Rattle.std.specs.Prelude.{◌≡◌, ◌++◌, ◌∷◌, [], nat_lt, map, true, option_map, IfOk, OnOk, OnErr};
 ghost use Rattle.std.specs.List.{list_all};
 ghost use Rattle.spec_calculus.specs.Branches as spec;
 ghost use Rattle.theory_calculus.specs.InOrder.{are_ascending};
 ghost use Rattle.bm_calculus.specs.Answers.{root_of};
 
+mod edits;
 mod listed;
 
+use crate::contracts::edits::{place, remove, replace};
 use spec_calculus::ActiveContract;
 use spec_data::OutOfMemory;
 use spec_terms::Path;
@@ -50,19 +52,11 @@ impl ActiveContracts {
         Ok(ActiveContracts { items })
     }
 
-    // The place of the active contract of this number.
-    fn place(&self, number: u32) -> Result<usize, usize>
-        ensures found { IfOk result (λ i. slice_get self.now i ≡ spec.active_at self.now number) }
-        ensures absent { IfErr result (λ _. spec.active_at self.now number ≡ None) }
-    {
-        self.items.binary_search_by_key(&number, |a| a.number)
-    }
-
     /// The active contract of this number.
     pub fn get(&self, number: u32) -> Option<&ActiveContract>
         ensures { option_map (λ a. a.now) result ≡ spec.active_at self.now number }
     {
-        match self.place(number) {
+        match place(&self.items, number) {
             Ok(place) => self.items.get(place),
             Err(_) => None,
         }
@@ -116,26 +110,4 @@ fn copies(alloc: Global, active: &[ActiveContract]) -> Result<Vec<ActiveContract
         held.push(entry.copy(alloc)?)?;
     }
     Ok(held)
-}
-
-fn remove(active: &mut Vec<ActiveContract>, number: u32)
-    ensures { active.new.items ≡ spec.others active.old.items number }
-{
-    active.retain(|a| a.number != number);
-}
-
-fn replace(
-    active: &mut Vec<ActiveContract>,
-    number: u32,
-    mut others: Vec<ActiveContract>,
-) -> Result<(), OutOfMemory>
-    ensures ok { OnOk result (active.new.items ≡ spec.others active.old.items number ++ others.items) }
-    ensures err { OnErr result (active.new.items ≡ active.old.items) }
-{
-    active.reserve(others.len())?;
-    active.retain(|a| a.number != number);
-    match active.append(&mut others) {
-        Ok(()) => Ok(()),
-        Err(_) => unreachable!(),
-    }
 }

@@ -1,7 +1,7 @@
 //! Live deposits, which are found by number.
 
-ghost use Rattle.std.specs.Prelude.{◌≡◌, ◌≤◌, ◌++◌, ◌∷◌, [], nat_lt, map, true, option_map, slice_get};
-ghost use Rattle.std.specs.Prelude.{IfOk, IfErr, OnOk, OnErr, None};
+ghost use Rattle.std.specs.Prelude.{◌≡◌, ◌≤◌, ◌++◌, ◌∷◌, [], ◌+◌, nat_lt, map, true, option_map};
+ghost use Rattle.std.specs.Prelude.{IfOk, OnOk, OnErr};
 ghost use Rattle.std.specs.List.{list_all};
 ghost use Rattle.spec_data.specs.Lists as lists;
 ghost use Rattle.spec_data.specs.Ranges.{max_money};
@@ -10,8 +10,10 @@ ghost use Rattle.spec_calculus.specs.Branches.{gone, total_value};
 ghost use Rattle.spec_calculus.specs.Same as same;
 ghost use Rattle.theory_calculus.specs.InOrder.{are_ascending};
 
+mod edits;
 mod listed;
 
+use crate::deposits::edits::{place, remove, replace};
 use crate::same::owner_eq;
 use spec_calculus::{Deposit, Owner};
 use spec_data::{Name, OutOfMemory};
@@ -53,19 +55,11 @@ impl Deposits {
         Ok(Deposits { items })
     }
 
-    // The place of the deposit of this number.
-    fn place(&self, number: u32) -> Result<usize, usize>
-        ensures found { IfOk result (λ i. slice_get self.now i ≡ spec.deposit_at self.now number) }
-        ensures absent { IfErr result (λ _. spec.deposit_at self.now number ≡ None) }
-    {
-        self.items.binary_search_by_key(&number, |d| d.number)
-    }
-
     /// The deposit of this number.
     pub fn get(&self, number: u32) -> Option<&Deposit>
         ensures { option_map (λ d. d.now) result ≡ spec.deposit_at self.now number }
     {
-        match self.place(number) {
+        match place(&self.items, number) {
             Ok(place) => self.items.get(place),
             Err(_) => None,
         }
@@ -110,14 +104,26 @@ impl Deposits {
         requires within { total_value self.now ≤ max_money }
         ensures { result ≡ total_value (gone self.now numbers.now) }
     {
-        value_of(&self.items, numbers)
+        let mut total = 0;
+        let mut rest = numbers;
+        while let [first, others @ ..] = rest {
+            total += self.further_value(*first, others);
+            rest = others;
+        }
+        total
     }
 
-    /// The deposits that aren't among these.
-    pub fn kept(&self, alloc: Global, numbers: &[u32]) -> Result<Vec<Deposit>, OutOfMemory>
-        ensures { IfOk result (λ v. v.items ≡ spec.kept self.now numbers.now) }
+    // What the deposit of this number adds to those of the others: nothing where it is one of them.
+    #[tactic(auto, using(crate::proofs::Gone::gone_again, crate::proofs::Gone::gone_more))]
+    fn further_value(&self, number: u32, others: &[u32]) -> u64
+        ensures { result + total_value (gone self.now others.now) ≡ total_value (gone self.now (number ∷ others.now)) }
     {
-        kept(alloc, &self.items, numbers)
+        if has_number(number, others) {
+            return 0;
+        }
+        // the proof asks that numbers ascend, which is known where a field is read
+        let _ = &self.items;
+        self.value_at(number)
     }
 
     /// Removes the deposits of these numbers.
@@ -126,6 +132,15 @@ impl Deposits {
         ensures { self.new ≡ spec.kept self.old numbers.now }
     {
         remove(&mut self.items, numbers);
+    }
+
+    /// Puts deposits with later numbers in the place of those of these numbers.
+    pub fn replace(&mut self, numbers: &[u32], others: Vec<Deposit>) -> Result<(), OutOfMemory>
+        requires ascending { are_ascending (map (λ d. d.number) (spec.kept self.old numbers.now ++ others.items)) ≡ true }
+        ensures ok { OnOk result (self.new ≡ spec.kept self.old numbers.now ++ others.items) }
+        ensures err { OnErr result (self.new ≡ self.old) }
+    {
+        replace(&mut self.items, numbers, others)
     }
 
     /// Adds a deposit of the party, which is named by a later number than all others.
@@ -149,33 +164,4 @@ fn has_number(number: u32, numbers: &[u32]) -> bool
     ensures { result ≡ lists.has_number number numbers.now }
 {
     numbers.contains(&number)
-}
-
-fn value_of(deposits: &[Deposit], numbers: &[u32]) -> u64
-    requires within { total_value deposits.now ≤ max_money }
-    ensures { result ≡ total_value (gone deposits.now numbers.now) }
-{
-    let mut total = 0;
-    for deposit in deposits {
-        if has_number(deposit.number, numbers) {
-            total += deposit.value;
-        }
-    }
-    total
-}
-
-fn kept(alloc: Global, deposits: &[Deposit], numbers: &[u32]) -> Result<Vec<Deposit>, OutOfMemory>
-    ensures { IfOk result (λ v. v.items ≡ spec.kept deposits.now numbers.now) }
-{
-    deposits
-        .iter()
-        .copied()
-        .filter(|d| !numbers.contains(&d.number))
-        .collect(alloc)
-}
-
-fn remove(deposits: &mut Vec<Deposit>, numbers: &[u32])
-    ensures { deposits.new.items ≡ spec.kept deposits.old.items numbers.now }
-{
-    deposits.retain(|d| !numbers.contains(&d.number));
 }

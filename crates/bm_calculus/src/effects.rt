@@ -7,7 +7,6 @@ ghost use Rattle.theory_calculus.specs.Money.{IsWithinAllMoney};
 
 use crate::beginning::{bindings_of, is_init_authorised, persistent_numbers};
 use crate::branches::{has_branch_authorised, left};
-use crate::deposits::Deposits;
 use crate::moves::{agree, forget, push_made};
 use crate::state::{State, contract_at};
 use spec_calculus::{
@@ -34,9 +33,9 @@ impl State {
         ensures err { OnErr result (self.new ≡ self.old) }
     {
         let outputs = action.outputs.as_slice();
-        let mut held = self.deposits.kept(self.alloc, action.inputs.as_slice())?;
-        push_made(&mut held, self.next, outputs)?;
-        self.deposits = Deposits::of(held);
+        let mut made = Vec::new(self.alloc);
+        push_made(&mut made, self.next, outputs)?;
+        self.deposits.replace(action.inputs.as_slice(), made)?;
         self.next += outputs.len() as u32;
         forget(&mut self.move_authorised, action);
         Ok(())

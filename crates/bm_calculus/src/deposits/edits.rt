@@ -1,0 +1,64 @@
+//! What is found and changed in a list of deposits by ascending numbers. Nothing here walks all of them.
+
+ghost use Rattle.std.specs.Prelude.{◌≡◌, ◌≤◌, ◌<◌, ◌++◌, ◌∷◌, [], map, true, length, slice_get, IfOk, IfErr, OnOk, OnErr, None};
+ghost use Rattle.std.specs.Prelude.{vec_len, vec_capacity};
+ghost use Rattle.std.specs.List as lists;
+ghost use Rattle.spec_calculus.specs.Moves as spec;
+ghost use Rattle.theory_calculus.specs.InOrder.{are_ascending};
+
+use spec_calculus::Deposit;
+use spec_data::OutOfMemory;
+
+/// The place of the deposit of this number.
+pub fn place(deposits: &[Deposit], number: u32) -> Result<usize, usize>
+    requires ascending { are_ascending (map (λ d. d.number) deposits.now) ≡ true }
+    ensures found { IfOk result (λ i. slice_get deposits.now i ≡ spec.deposit_at deposits.now number) }
+    ensures absent { IfErr result (λ _. spec.deposit_at deposits.now number ≡ None) }
+    ensures within { IfOk result (λ i. i < length deposits.now) }
+    ensures taken { IfOk result (λ i. lists.remove deposits.now i ≡ spec.kept deposits.now (number ∷ [])) }
+    ensures kept { IfErr result (λ _. deposits.now ≡ spec.kept deposits.now (number ∷ [])) }
+{
+    deposits.binary_search_by_key(&number, |d| d.number)
+}
+
+fn remove_one(deposits: &mut Vec<Deposit>, number: u32)
+    requires ascending { are_ascending (map (λ d. d.number) deposits.old.items) ≡ true }
+    ensures items { deposits.new.items ≡ spec.kept deposits.old.items (number ∷ []) }
+    ensures len { vec_len deposits.new ≤ vec_len deposits.old }
+    ensures capacity { vec_capacity deposits.new ≡ vec_capacity deposits.old }
+{
+    if let Ok(place) = place(deposits, number) {
+        deposits.remove(place);
+    }
+}
+
+/// Removes the deposits of these numbers, which takes no memory.
+#[tactic(auto, using(crate::proofs::Gone::kept_all, crate::proofs::Gone::kept_next, theory_calculus::proofs::Numbered::filtered_ascends))]
+pub fn remove(deposits: &mut Vec<Deposit>, numbers: &[u32])
+    requires ascending { are_ascending (map (λ d. d.number) deposits.old.items) ≡ true }
+    ensures items { deposits.new.items ≡ spec.kept deposits.old.items numbers.now }
+    ensures len { vec_len deposits.new ≤ vec_len deposits.old }
+    ensures capacity { vec_capacity deposits.new ≡ vec_capacity deposits.old }
+{
+    for number in numbers {
+        remove_one(deposits, *number);
+    }
+}
+
+/// Puts others in the place of the deposits of these numbers. The memory is taken before anything goes.
+pub fn replace(
+    deposits: &mut Vec<Deposit>,
+    numbers: &[u32],
+    mut others: Vec<Deposit>,
+) -> Result<(), OutOfMemory>
+    requires ascending { are_ascending (map (λ d. d.number) deposits.old.items) ≡ true }
+    ensures ok { OnOk result (deposits.new.items ≡ spec.kept deposits.old.items numbers.now ++ others.items) }
+    ensures err { OnErr result (deposits.new.items ≡ deposits.old.items) }
+{
+    deposits.reserve(others.len())?;
+    remove(deposits, numbers);
+    match deposits.append(&mut others) {
+        Ok(()) => Ok(()),
+        Err(_) => unreachable!(),
+    }
+}

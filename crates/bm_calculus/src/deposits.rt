@@ -18,12 +18,14 @@ use crate::same::owner_eq;
 use spec_calculus::{Deposit, Owner};
 use spec_data::{Name, OutOfMemory};
 use std::alloc::Global;
+use std::collections::VecDeque;
 use std::marker::Model;
 
 /// Live deposits by ascending numbers, and so each is found by halving. Clauses see the list.
+/// The oldest mostly go first, and in a deque what follows them stays where it is.
 #[derive(Drop)]
 pub struct Deposits {
-    items: Vec<Deposit>,
+    items: VecDeque<Deposit>,
 }
 
 impl Model for Deposits {
@@ -44,15 +46,20 @@ impl Deposits {
         requires ascending { are_ascending (map (λ d. d.number) items.items) ≡ true }
         ensures { result ≡ items.items }
     {
-        Deposits { items }
+        Deposits {
+            items: VecDeque::from_vec(items),
+        }
     }
 
     /// The same deposits.
     pub fn copy(&self, alloc: Global) -> Result<Deposits, OutOfMemory>
         ensures { IfOk result (λ deposits. deposits ≡ self.now) }
     {
-        let items = Vec::from_slice(alloc, &self.items)?;
-        Ok(Deposits { items })
+        let (first, second) = self.items.as_slices();
+        let mut items = Vec::with_capacity(alloc, self.items.len())?;
+        items.extend_from_slice(first)?;
+        items.extend_from_slice(second)?;
+        Ok(Deposits::of(items))
     }
 
     /// The deposit of this number.
@@ -151,7 +158,7 @@ impl Deposits {
         ensures err { OnErr result (self.new ≡ self.old) }
     {
         let owner = Owner::Party(*party);
-        self.items.push(Deposit {
+        self.items.push_back(Deposit {
             number,
             owner,
             value,

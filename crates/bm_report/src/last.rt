@@ -13,6 +13,7 @@ use bm_text::{put, put_decimal, put_hex};
 use spec_calculus::{ActiveContract, Deposit};
 use spec_data::{Name, OutOfMemory};
 use std::alloc::Global;
+use std::collections::VecDeque;
 
 #[tactic(auto, using(std::proofs::Common::append_assoc))]
 fn put_live(alloc: Global, out: &mut Vec<u8>, number: u32, value: u64) -> Result<(), OutOfMemory>
@@ -45,8 +46,12 @@ fn put_deposit(alloc: Global, out: &mut Vec<u8>, deposit: &Deposit) -> Result<()
     put(out, b"\n")
 }
 
-fn put_deposits(alloc: Global, out: &mut Vec<u8>, deposits: &[Deposit]) -> Result<(), OutOfMemory>
-    ensures { OnOk result (out.new.items ≡ out.old.items ++ flat_map spec.deposit_line deposits.now) }
+fn put_deposits(
+    alloc: Global,
+    out: &mut Vec<u8>,
+    deposits: &VecDeque<Deposit>,
+) -> Result<(), OutOfMemory>
+    ensures { OnOk result (out.new.items ≡ out.old.items ++ flat_map spec.deposit_line deposits.now.items) }
 {
     for deposit in deposits {
         put_deposit(alloc, out, deposit)?;
@@ -159,11 +164,11 @@ pub(crate) fn put_moment(
     alloc: Global,
     out: &mut Vec<u8>,
     time: u32,
-    deposits: &[Deposit],
+    deposits: &VecDeque<Deposit>,
     active: &[ActiveContract],
 ) -> Result<(), OutOfMemory>
     ensures { OnOk result (out.new.items ≡ out.old.items ++ (codes "time " ++ (decimal time ++ (newline
-        ++ (flat_map spec.deposit_line deposits.now ++ flat_map spec.contract_line active.now))))) }
+        ++ (flat_map spec.deposit_line deposits.now.items ++ flat_map spec.contract_line active.now))))) }
 {
     put_number_line(alloc, out, b"time ", time)?;
     put_deposits(alloc, out, deposits)?;

@@ -5,13 +5,14 @@ ghost use Rattle.std.specs.Prelude.{◌≡◌};
 use crate::config::Config;
 use bm_wellformed::Checked;
 use spec_calculus::{ActiveContract, Deposit};
+use std::collections::VecDeque;
 
 impl Config {
     /// The live deposits by ascending numbers.
-    pub fn deposits(&self) -> &[Deposit]
-        ensures { result.now ≡ self.now.deposits }
+    pub fn deposits(&self) -> &VecDeque<Deposit>
+        ensures { result.now.items ≡ self.now.deposits }
     {
-        self.state.deposits.as_slice()
+        self.state.deposits.as_deque()
     }
 
     /// The active contracts by ascending numbers.

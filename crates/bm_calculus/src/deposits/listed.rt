@@ -4,12 +4,13 @@ ghost use Rattle.std.specs.Prelude.{◌≡◌};
 
 use crate::deposits::Deposits;
 use spec_calculus::Deposit;
+use std::collections::VecDeque;
 
 impl Deposits {
     /// The deposits by ascending numbers.
-    pub fn as_slice(&self) -> &[Deposit]
-        ensures { result.now ≡ self.now }
+    pub fn as_deque(&self) -> &VecDeque<Deposit>
+        ensures { result.now.items ≡ self.now }
     {
-        self.items.as_slice()
+        &self.items
     }
 }

@@ -1,5 +1,5 @@
-use Rattle.std.proofs.Common.{◌≡◌, ◌≤◌, drop, map, true, vec_len}
-use Rattle.std.specs.Prelude.{vec_capacity}
+use Rattle.std.proofs.Common.{◌≡◌, ◌≤◌, drop, map, true}
+use Rattle.std.specs.VecDeque.{deque_len, deque_capacity}
 use Rattle.spec_calculus.specs.Moves.{kept}
 use Rattle.theory_calculus.specs.InOrder.{are_ascending}
 use Rattle.bm_calculus.proofs.deposits.edits.remove.Given as goal
@@ -8,6 +8,6 @@ abbrev pub invariant-loop-number : goal.invariant-loop-number
 invariant-loop-number l = record {
   ascending : are_ascending (map (λ d. d.number) l.deposits.items) ≡ true;
   told : kept l.deposits.items (drop l.number-index l.numbers) ≡ kept l.initial.deposits.items l.numbers;
-  len : vec_len l.deposits ≤ vec_len l.initial.deposits;
-  capacity : vec_capacity l.deposits ≡ vec_capacity l.initial.deposits;
+  len : deque_len l.deposits ≤ deque_len l.initial.deposits;
+  capacity : deque_capacity l.deposits ≡ deque_capacity l.initial.deposits;
 }

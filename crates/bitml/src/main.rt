@@ -6,6 +6,8 @@ mod further;
 mod making;
 mod partial;
 mod running;
+#[cfg(test)]
+mod tests;
 mod tool;
 
 use bm_hash::Sha;

@@ -2,7 +2,7 @@
 use Rattle.std.proofs.Common.{◌≡◌, ℕ, suc, ◌+◌, ◌<◌, ◌≤◌, List, [], ◌∷◌, ◌++◌, length, take, Bool, true, false, ◌&&◌, cond, Some, None, refl, sym, ap, ◌∙◌, arith, get_or, append_assoc}
 use Rattle.std.specs.Prelude.{◌==◌, ◌||◌, not, IsTrue, ◌↔◌}
 use Rattle.std.specs.List.{list_any}
-use Rattle.std.specs.Map.{keys_of}
+use Rattle.std.specs.Map.{keys_of, lookup}
 use Rattle.std.specs.Str.{bytes_eq}
 use Rattle.std.proofs.lemmas.List.{take_more, length-take, length-take-le}
 use Rattle.spec_bitcoin.specs.declared.tx.OutPoint.{OutPoint}
@@ -60,22 +60,24 @@ is_of txid place = bytes_eq txid place.txid
 same_numbers : (n : ℕ) → n == n ≡ true
 same_numbers n = grind arith
 
-none_new : (es : List Entry) (txid : List ℕ) → list_any (is_of txid) (keys_of es) ≡ false → IsNewTxid es txid
-none_new [] txid h k = refl
-none_new (e ∷ es) txid h k =
-    elim (bytes_eq txid e.0.txid) as (λ b. b || list_any (is_of txid) (keys_of es) ≡ false → cond (b && k == e.0.vout) (Some e.1) (at_place es (record { txid = txid; vout = k })) ≡ None) [
-      | true ↦ λ s. cc
-      | false ↦ λ s. none_new es txid s k
-    ] h
+module _ {X : Type 0} where
+  none_new : (es : List (OutPoint × X)) (txid : List ℕ) → list_any (is_of txid) (keys_of es) ≡ false → (k : ℕ) → lookup (same_outpoint (record { txid = txid; vout = k })) es ≡ None
+  none_new [] txid h k = refl
+  none_new (e ∷ es) txid h k =
+      elim (bytes_eq txid e.0.txid) as (λ b. b || list_any (is_of txid) (keys_of es) ≡ false → cond (b && k == e.0.vout) (Some e.1) (lookup (same_outpoint (record { txid = txid; vout = k })) es) ≡ None) [
+        | true ↦ λ s. cc
+        | false ↦ λ s. none_new es txid s k
+      ] h
 
-new_none : (es : List Entry) (txid : List ℕ) → IsNewTxid es txid → list_any (is_of txid) (keys_of es) ≡ false
-new_none [] txid h = refl
-new_none (e ∷ es) txid h =
-    elim (bytes_eq txid e.0.txid) as (λ b. ((k : ℕ) → cond (b && k == e.0.vout) (Some e.1) (at_place es (record { txid = txid; vout = k })) ≡ None) → b || list_any (is_of txid) (keys_of es) ≡ false) [
-      | true ↦ λ s. let here = s e.0.vout in let same = same_numbers e.0.vout in (let none : cond true (Some e.1) (at_place es (record { txid = txid; vout = e.0.vout })) ≡ None = rw same at here in cc)
-      | false ↦ λ s. new_none es txid s
-    ] h
+  new_none : (es : List (OutPoint × X)) (txid : List ℕ) → ((k : ℕ) → lookup (same_outpoint (record { txid = txid; vout = k })) es ≡ None) → list_any (is_of txid) (keys_of es) ≡ false
+  new_none [] txid h = refl
+  new_none (e ∷ es) txid h =
+      elim (bytes_eq txid e.0.txid) as (λ b. ((k : ℕ) → cond (b && k == e.0.vout) (Some e.1) (lookup (same_outpoint (record { txid = txid; vout = k })) es) ≡ None) → b || list_any (is_of txid) (keys_of es) ≡ false) [
+        | true ↦ λ s. let here = s e.0.vout in let same = same_numbers e.0.vout in (let none : cond true (Some e.1) (lookup (same_outpoint (record { txid = txid; vout = e.0.vout })) es) ≡ None = rw same at here in cc)
+        | false ↦ λ s. new_none es txid s
+      ] h
 
-pub is_new_txid : (es : List Entry) (txid : List ℕ) (b : Bool) → b ≡ list_any (is_of txid) (keys_of es) → IsTrue (not b) ↔ IsNewTxid es txid
-is_new_txid es txid true is = ((λ t. cc), (λ new. let none = new_none es txid new in cc))
-is_new_txid es txid false is = ((λ t. none_new es txid (sym is)), (λ new. refl))
+  -- no key of a map is a place of this txid
+  pub is_new_txid : (es : List (OutPoint × X)) (txid : List ℕ) (b : Bool) → b ≡ list_any (is_of txid) (keys_of es) → IsTrue (not b) ↔ ((k : ℕ) → lookup (same_outpoint (record { txid = txid; vout = k })) es ≡ None)
+  is_new_txid es txid true is = ((λ t. cc), (λ new. let none = new_none es txid new in cc))
+  is_new_txid es txid false is = ((λ t. none_new es txid (sym is)), (λ new. refl))

@@ -1,5 +1,6 @@
 mod Births
 mod Chained
+mod Indexing
 mod Numbering
 mod Rows
 mod Spending

@@ -1,7 +1,8 @@
 -- Birth numbers that increase along the list of live outputs.
-use Rattle.std.proofs.Common.{◌≡◌, ℕ, zero, suc, ◌+◌, ◌<◌, ◌≤◌, List, [], ◌∷◌, ◌++◌, length, Bool, true, false, cond, Some, None, refl, subst, arith, slice_get}
+use Rattle.std.proofs.Common.{◌≡◌, ℕ, zero, suc, ◌+◌, ◌<◌, ◌≤◌, List, [], ◌∷◌, ◌++◌, length, take, Bool, true, false, cond, Some, None, refl, sym, subst, arith, slice_get}
 use Rattle.std.specs.Prelude.{◌≢◌, ◌==◌, nat_lt, slice_index_or, if◌then◌else◌}
 use Rattle.std.proofs.lemmas.Bool.Decides.{nat_tests}
+use Rattle.std.proofs.lemmas.List.{length-take-le}
 use Rattle.std.specs.Map.{remove_entry}
 use Rattle.std.specs.Option.{option_and_then}
 use Rattle.std.specs.List.Sorted.{IsPartitionedBy, IsPartitionPoint}
@@ -20,7 +21,7 @@ pub below_higher : (low high end : ℕ) (es : List Entry) → high ≤ end → A
 below_higher low high end [] le h = tt
 below_higher low high end (e ∷ es) le h = (h.0, (let a = h.1 in omega arith), below_higher (e.1.0 + 1) high end es le h.2)
 
-in_order-append : (low middle high : ℕ) (xs ys : List Entry) → low ≤ middle → middle ≤ high → AreInOrder low middle xs → AreInOrder middle high ys → AreInOrder low high (xs ++ ys)
+pub in_order-append : (low middle high : ℕ) (xs ys : List Entry) → low ≤ middle → middle ≤ high → AreInOrder low middle xs → AreInOrder middle high ys → AreInOrder low high (xs ++ ys)
 in_order-append low middle high [] ys le le' a b = from_lower low middle high ys le b
 in_order-append low middle high (x ∷ xs) ys le le' a b =
     let lt = a.1 in
@@ -38,11 +39,17 @@ in_order-more births txid es os h =
     let e : births + 0 ≡ births = omega arith in
     in_order-append 0 births (births + length os) es (born births txid 0 os) (omega arith) (omega arith) h (subst (λ (low : ℕ). AreInOrder low (births + length os) (born births txid 0 os)) e (in_order-born births txid 0 (births + length os) os (omega arith)))
 
+-- the first outputs of a transaction after the others
+pub in_order-so_far : (births : ℕ) (txid : List ℕ) (es now : List Entry) (os : List TxOut) (i : ℕ) → AreInOrder 0 births es → now ≡ es ++ born births txid 0 (take i os) → i < length os → AreInOrder 0 (births + i) now
+in_order-so_far births txid es now os i h is lt =
+    let count : length (take i os) ≡ i = length-take-le i os (omega arith) in
+    subst (AreInOrder 0 (births + i)) (sym is) (subst (λ (n : ℕ). AreInOrder 0 (births + n) (es ++ born births txid 0 (take i os))) count (in_order-more births txid es (take i os) h))
+
 -- the outputs of the first transaction
 pub in_order-first : (txid : List ℕ) (os : List TxOut) → AreInOrder 0 (length os) (born 0 txid 0 os)
 in_order-first txid os = in_order-born 0 txid 0 (length os) os (omega arith)
 
-in_order-remove_entry : (low high : ℕ) (place : OutPoint) (es : List Entry) → AreInOrder low high es → AreInOrder low high (remove_entry (same_outpoint place) es)
+pub in_order-remove_entry : (low high : ℕ) (place : OutPoint) (es : List Entry) → AreInOrder low high es → AreInOrder low high (remove_entry (same_outpoint place) es)
 in_order-remove_entry low high place [] h = tt
 in_order-remove_entry low high place (e ∷ es) h =
     elim (same_outpoint place e.0) as (λ b. AreInOrder low high (cond b es (e ∷ remove_entry (same_outpoint place) es))) [
@@ -86,7 +93,7 @@ partitioned low high number (e ∷ es) h zero (suc j) d le lt t =
     below-true e.1.0 number (omega arith)
 partitioned low high number (e ∷ es) h (suc i) (suc j) d le lt t = partitioned (e.1.0 + 1) high number es h.2 i j d (omega arith) (omega arith) t
 
-other_number : (n m : ℕ) → n ≢ m → n == m ≡ false
+pub other_number : (n m : ℕ) → n ≢ m → n == m ≡ false
 other_number n m h = grind (arith, nat_tests)
 
 all_above : (low high number : ℕ) (es : List Entry) → number < low → AreInOrder low high es → numbered es number ≡ None

@@ -9,7 +9,7 @@ ghost use Rattle.spec_bitcoin.specs.Verdict.{input_strings};
 ghost use Rattle.bm_ledger.specs.Judging.{input_hashes};
 
 use crate::inputs::script_of;
-use crate::outputs::{Live, find};
+use crate::outputs::Live;
 use bm_hash::{Hash32, Trail, TrailError};
 use bm_sighash::{ListHashes, digest_of_input};
 use spec_bitcoin::{Tx, TxIn};
@@ -59,14 +59,14 @@ pub(crate) fn hash_input<H: Hash32 + Drop>(
 ) -> Result<Option<InputHashes>, TrailError>
     requires lists { lists.now ≡ hashes_of (H.digest_of trail.old.hasher) tx.now }
     requires clear { evidence_of (H.digest_of trail.old.hasher) trail.old.messages ≡ None }
-    ensures hashes { IfOk result (λ hashes. hashes ≡ input_hashes (H.digest_of trail.old.hasher) live.now.entries tx.now input.now) }
+    ensures hashes { IfOk result (λ hashes. hashes ≡ input_hashes (H.digest_of trail.old.hasher) live.now tx.now input.now) }
     ensures trail { Hashes H.digest_of trail.old trail.new
-        (input_strings (H.digest_of trail.old.hasher) live.now.entries tx.now input.now) result }
+        (input_strings (H.digest_of trail.old.hasher) live.now tx.now input.now) result }
 {
     if input.witness.is_empty() {
         return Ok(None);
     }
-    let Some(spent) = find(live, &input.prev) else {
+    let Some(spent) = live.find(&input.prev) else {
         return Ok(None);
     };
     let script = script_of(input.witness.as_slice());

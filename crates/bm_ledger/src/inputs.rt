@@ -9,7 +9,7 @@ ghost use Rattle.spec_bitcoin.specs.Verdict as spec;
 ghost use Rattle.bm_ledger.specs.Judging.{program_in, unfilled_refusal, row_with, spending_refusal};
 
 use crate::hashes::InputHashes;
-use crate::outputs::{Live, find};
+use crate::outputs::Live;
 use crate::signatures::BookCheck;
 use bm_book::Book;
 use bm_hash::Hash32;
@@ -112,9 +112,9 @@ pub(crate) fn refused_input<H: Hash32>(
     hashes: &Option<InputHashes>,
 ) -> Result<Option<Refusal>, OutOfMemory>
     ensures { IfOk result (λ r. r ≡ option_and_then (λ p. spending_refusal (H.digest_of hasher.now) book.now k input.now hashes.now p.1)
-        (at_place live.now.entries input.now.prev)) }
+        (at_place live.now input.now.prev)) }
 {
-    let Some(spent) = find(live, &input.prev) else {
+    let Some(spent) = live.find(&input.prev) else {
         return Ok(None);
     };
     match hashes {

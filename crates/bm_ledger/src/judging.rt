@@ -44,7 +44,7 @@ fn or_refused<H: Hash32>(
 ) -> Result<Option<Refusal>, OutOfMemory>
     ensures { IfOk result (λ r. r ≡ or_else first
         (option_and_then (λ p. spending_refusal (H.digest_of hasher.now) book.now k input.now hashes.now p.1)
-        (at_place live.now.entries input.now.prev))) }
+        (at_place live.now input.now.prev))) }
 {
     if let Some(refusal) = first {
         return Ok(Some(refusal));
@@ -66,9 +66,9 @@ fn judge_inputs<H: Hash32 + Drop>(
     requires lists { lists.now ≡ hashes_of (H.digest_of trail.old.hasher) tx.now }
     requires clear { evidence_of (H.digest_of trail.old.hasher) trail.old.messages ≡ None }
     ensures first { IfOk result (λ r. r
-        ≡ or_else whole (inputs_refusal (H.digest_of trail.old.hasher) book.now live.now.entries tx.now 0 tx.now.inputs)) }
+        ≡ or_else whole (inputs_refusal (H.digest_of trail.old.hasher) book.now live.now tx.now 0 tx.now.inputs)) }
     ensures trail { Hashes H.digest_of trail.old trail.new
-        (flat_map (input_strings (H.digest_of trail.old.hasher) live.now.entries tx.now) tx.now.inputs) result }
+        (flat_map (input_strings (H.digest_of trail.old.hasher) live.now tx.now) tx.now.inputs) result }
 {
     let inputs = tx.inputs.as_slice();
     let mut first = whole;
@@ -101,9 +101,9 @@ pub(crate) fn examine<H: Hash32 + Drop>(
     requires few { length tx.now.inputs < 2 ^ 32 }
     ensures id { IfOk result (λ judged. judged.txid ≡ digests.txid (H.digest_of trail.old.hasher) tx.now) }
     ensures refusal { IfOk result (λ judged. judged.refusal
-        ≡ refusal_of (H.digest_of trail.old.hasher) book.now tip live.now.entries tx.now) }
+        ≡ refusal_of (H.digest_of trail.old.hasher) book.now tip live.now tx.now) }
     ensures trail { Hashes H.digest_of trail.old trail.new
-        (transaction_strings (H.digest_of trail.old.hasher) live.now.entries tx.now) result }
+        (transaction_strings (H.digest_of trail.old.hasher) live.now tx.now) result }
 {
     let id = txid(alloc, trail, tx)?;
     let lists = shared(alloc, trail, tx)?;

@@ -8,7 +8,6 @@ ghost use Rattle.spec_bitcoin.specs.Live.{born};
 use crate::outputs::{Live, add_outputs};
 use bm_hash::{Hash32, Trail, TrailError};
 use bm_tx::txid;
-use indexmap::IndexMap;
 use spec_bitcoin::tx::copy_outputs;
 use spec_bitcoin::{Tx, TxOut};
 use spec_data::{OutOfMemory, Seq};
@@ -52,9 +51,9 @@ pub(crate) fn first_outputs(
     outputs: &[TxOut],
 ) -> Result<Live, OutOfMemory>
     requires { length outputs.now < 2 ^ 32 }
-    ensures { IfOk result (λ live. live.entries ≡ born 0 txid.now 0 outputs.now) }
+    ensures { IfOk result (λ live. live ≡ born 0 txid.now 0 outputs.now) }
 {
-    let mut live = IndexMap::new(alloc);
+    let mut live = Live::new(alloc);
     add_outputs(alloc, &mut live, 0, txid, outputs)?;
     Ok(live)
 }

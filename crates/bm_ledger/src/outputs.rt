@@ -1,35 +1,25 @@
-//! The live outputs as a map in order of birth.
+//! The live outputs, and what a transaction does to them.
 
-ghost use Rattle.std.specs.Prelude.{◌≡◌, ◌++◌, ◌∷◌, [], None, IfOk, OnOk, OnErr, map, length, nat_lt, slice_get, ◌+◌, ◌<◌, ◌^◌};
-ghost use Rattle.std.specs.List.{list_any};
-ghost use Rattle.std.specs.Str.{bytes_eq};
+ghost use Rattle.std.specs.Prelude.{◌≡◌, ◌++◌, ◌∷◌, [], None, IfOk, OnOk, OnErr, map, length, ◌+◌, ◌<◌, ◌^◌};
 ghost use Rattle.spec_bitcoin.specs.Verdict as spec;
-ghost use Rattle.std.specs.Option.{option_and_then, option_map, option_map_or, option_copied};
+ghost use Rattle.std.specs.Option.{option_map_or};
 ghost use Rattle.spec_bitcoin.specs.Live.{at_place, born, without, IsNewTxid};
-ghost use Rattle.bm_ledger.specs.Ordered.{numbered, if_numbered, AreInOrder};
-ghost use Rattle.std.specs.Map.{keys_of};
-ghost use Rattle.std.specs.Map.Iter.{deref_pair};
+ghost use Rattle.bm_ledger.specs.Ordered.{AreInOrder};
 
-use indexmap::IndexMap;
+mod indexed;
+mod numbers;
+
+pub(crate) use indexed::Live;
+pub(crate) use numbers::Entry;
 use spec_bitcoin::{OutPoint, Tx, TxIn, TxOut};
 use spec_data::{OutOfMemory, Seq};
 use std::alloc::Global;
 
-/// The live outputs with their birth numbers, by place and in order of birth.
-pub(crate) type Live = IndexMap<OutPoint, (u32, TxOut)>;
-
-/// The output at a place, with its birth number.
-pub(crate) fn find<'a>(live: &'a Live, place: &OutPoint) -> Option<&'a (u32, TxOut)>
-    ensures { option_copied result ≡ at_place live.now.entries place.now }
-{
-    live.get(place)
-}
-
 /// The value of the output at a place, 0 where there is none.
 pub(crate) fn value_of(live: &Live, place: &OutPoint) -> u64
-    ensures { result ≡ option_map_or (λ p. p.1.value) (at_place live.now.entries place.now) 0 }
+    ensures { result ≡ option_map_or (λ p. p.1.value) (at_place live.now place.now) 0 }
 {
-    match find(live, place) {
+    match live.find(place) {
         Some(entry) => entry.1.value,
         None => 0,
     }
@@ -37,9 +27,9 @@ pub(crate) fn value_of(live: &Live, place: &OutPoint) -> u64
 
 // The birth number of the output that an input spends, 0 where it isn't live.
 fn spent_number(live: &Live, input: &TxIn) -> u32
-    ensures { result ≡ spec.spent_number live.now.entries input.now }
+    ensures { result ≡ spec.spent_number live.now input.now }
 {
-    match find(live, &input.prev) {
+    match live.find(&input.prev) {
         Some(entry) => entry.0,
         None => 0,
     }
@@ -51,7 +41,7 @@ pub(crate) fn spent_numbers(
     live: &Live,
     inputs: &[TxIn],
 ) -> Result<Seq<u32>, OutOfMemory>
-    ensures { IfOk result (λ numbers. numbers ≡ map (spec.spent_number live.now.entries) inputs.now) }
+    ensures { IfOk result (λ numbers. numbers ≡ map (spec.spent_number live.now) inputs.now) }
 {
     let mut numbers = Seq::new(alloc);
     for input in inputs {
@@ -87,13 +77,15 @@ fn add_output(
     output: &TxOut,
 ) -> Result<(), OutOfMemory>
     requires room { births + vout < 2 ^ 32 }
-    requires new { at_place live.old.entries (record { txid = txid.now; vout = vout }) ≡ None }
-    ensures ok { OnOk result (live.new.entries ≡ live.old.entries
+    requires order { AreInOrder 0 (births + vout) live.old }
+    requires new { at_place live.old (record { txid = txid.now; vout = vout }) ≡ None }
+    ensures ok { OnOk result (live.new ≡ live.old
         ++ (record { txid = txid.now; vout = vout }, (births + vout, output.now)) ∷ []) }
-    ensures err { OnErr result (live.new.entries ≡ live.old.entries) }
+    ensures err { OnErr result (live.new ≡ live.old) }
 {
     let place = OutPoint { txid: *txid, vout };
-    live.insert(place, (births + vout, output.copy(alloc)?))?;
+    let copied = output.copy(alloc)?;
+    live.add(place, births + vout, copied)?;
     Ok(())
 }
 
@@ -107,9 +99,10 @@ pub(crate) fn add_outputs(
     outputs: &[TxOut],
 ) -> Result<(), OutOfMemory>
     requires room { births + length outputs.now < 2 ^ 32 }
-    requires new { IsNewTxid live.old.entries txid.now }
-    ensures ok { OnOk result (live.new.entries ≡ live.old.entries ++ born births txid.now 0 outputs.now) }
-    ensures err { OnErr result (live.new.entries ≡ live.old.entries) }
+    requires order { AreInOrder 0 births live.old }
+    requires new { IsNewTxid live.old txid.now }
+    ensures ok { OnOk result (live.new ≡ live.old ++ born births txid.now 0 outputs.now) }
+    ensures err { OnErr result (live.new ≡ live.old) }
 {
     let len = live.len();
     for (k, output) in outputs.iter().enumerate() {
@@ -123,10 +116,10 @@ pub(crate) fn add_outputs(
 
 // Removes the outputs that are spent; the others keep their order.
 fn remove_spent(live: &mut Live, inputs: &[TxIn])
-    ensures { live.new.entries ≡ without live.old.entries (map (λ i. i.prev) inputs.now) }
+    ensures { live.new ≡ without live.old (map (λ i. i.prev) inputs.now) }
 {
     for input in inputs {
-        let _ = live.shift_remove(&input.prev);
+        live.remove(&input.prev);
     }
 }
 
@@ -139,51 +132,13 @@ pub(crate) fn replace_spent(
     tx: &Tx,
 ) -> Result<(), OutOfMemory>
     requires room { births + length tx.now.outputs < 2 ^ 32 }
-    requires new { IsNewTxid live.old.entries txid.now }
-    ensures ok { OnOk result (live.new.entries
-        ≡ without (live.old.entries ++ born births txid.now 0 tx.now.outputs) (map (λ i. i.prev) tx.now.inputs)) }
-    ensures err { OnErr result (live.new.entries ≡ live.old.entries) }
+    requires order { AreInOrder 0 births live.old }
+    requires new { IsNewTxid live.old txid.now }
+    ensures ok { OnOk result (live.new
+        ≡ without (live.old ++ born births txid.now 0 tx.now.outputs) (map (λ i. i.prev) tx.now.inputs)) }
+    ensures err { OnErr result (live.new ≡ live.old) }
 {
     add_outputs(alloc, live, births, txid, tx.outputs.as_slice())?;
     remove_spent(live, tx.inputs.as_slice());
     Ok(())
-}
-
-// Whether one of the outputs at these places was made by a transaction of this txid.
-fn is_made(places: &[OutPoint], txid: &[u8; 32]) -> bool
-    ensures { result ≡ list_any (λ p. bytes_eq txid.now p.txid) places.now }
-{
-    places.iter().any(|place| *txid == place.txid)
-}
-
-/// Whether a live output was made by a transaction of this txid.
-pub(crate) fn has_txid(live: &Live, txid: &[u8; 32]) -> bool
-    ensures { result ≡ list_any (λ p. bytes_eq txid.now p.txid) (keys_of live.now.entries) }
-{
-    is_made(live.keys().as_slice(), txid)
-}
-
-// Where the live output of this birth number stands, if there is one: after those of lower numbers.
-fn place_of_number(live: &Live, number: u32) -> usize
-    requires order { AreInOrder 0 (2 ^ 32) live.now.entries }
-    ensures { numbered live.now.entries number ≡ option_and_then (if_numbered number) (slice_get live.now.entries result) }
-{
-    live.partition_point(
-        |_place: &OutPoint, entry: &(u32, TxOut)| -> bool
-            ensures { result ≡ nat_lt entry.now.0 number }
-        { entry.0 < number },
-    )
-}
-
-/// The live output of this birth number.
-pub(crate) fn find_number(live: &Live, number: u32) -> Option<(&OutPoint, &(u32, TxOut))>
-    requires order { AreInOrder 0 (2 ^ 32) live.now.entries }
-    ensures { option_map deref_pair result ≡ numbered live.now.entries number }
-{
-    let (place, entry) = live.get_index(place_of_number(live, number))?;
-    if entry.0 == number {
-        Some((place, entry))
-    } else {
-        None
-    }
 }

@@ -1,7 +1,6 @@
 //! The ledger's state, and what it is asked.
 
 ghost use Rattle.std.specs.Prelude.{◌≡◌, ◌+◌, ◌<◌, ◌≤◌, ◌^◌, ◌↔◌, length, None, slice_get, IsTrue, IfOk, OnOk, OnErr};
-ghost use Rattle.std.specs.Map.Iter.{deref_pair};
 ghost use Rattle.std.specs.Option.{option_map, option_copied};
 ghost use Rattle.spec_data.specs.Lists.{first_reason};
 ghost use Rattle.spec_data.specs.Ranges.{last_height};
@@ -14,9 +13,7 @@ ghost use Rattle.bm_ledger.specs.Ordered.{numbered};
 
 use crate::judging::{Judged, examine};
 use crate::opening::{first_outputs, opening_txid};
-use crate::outputs::{
-    Live, find, find_number, has_txid, made_numbers, replace_spent, spent_numbers,
-};
+use crate::outputs::{Entry, Live, made_numbers, replace_spent, spent_numbers};
 use bm_book::Book;
 use bm_hash::{Hash32, Trail, TrailError};
 use spec_bitcoin::{OutPoint, Refusal, Tx, TxOut, Verdict};
@@ -40,9 +37,9 @@ impl Model for Ledger {
 
     ghost Value = { Chain };
 
-    ghost view = { λ l. record { tip = l.tip; births = l.births; live = l.outputs.entries } };
+    ghost view = { λ l. record { tip = l.tip; births = l.births; live = l.outputs } };
 
-    ghost invariant = { λ l. AreInOrder 0 l.births l.outputs.entries × (l.births < 2 ^ 32) };
+    ghost invariant = { λ l. AreInOrder 0 l.births l.outputs × (l.births < 2 ^ 32) };
 }
 
 impl Ledger {
@@ -85,10 +82,10 @@ impl Ledger {
     }
 
     // The live output of a birth number, with its place.
-    fn entry(&self, number: u32) -> Option<(&OutPoint, &(u32, TxOut))>
-        ensures { option_map deref_pair result ≡ numbered self.now.live number }
+    fn entry(&self, number: u32) -> Option<&Entry>
+        ensures { option_copied result ≡ numbered self.now.live number }
     {
-        find_number(&self.outputs, number)
+        self.outputs.find_number(number)
     }
 
     /// The live output of this birth number.
@@ -96,7 +93,7 @@ impl Ledger {
         ensures { option_copied result ≡ option_map (λ e. e.1.1) (numbered self.now.live number) }
     {
         match self.entry(number) {
-            Some((_, entry)) => Some(&entry.1),
+            Some(entry) => Some(&entry.1.1),
             None => None,
         }
     }
@@ -106,7 +103,7 @@ impl Ledger {
         ensures { result ≡ option_map (λ e. e.0) (numbered self.now.live number) }
     {
         match self.entry(number) {
-            Some((place, _)) => Some(*place),
+            Some(entry) => Some(entry.0),
             None => None,
         }
     }
@@ -115,7 +112,7 @@ impl Ledger {
     pub fn number(&self, place: &OutPoint) -> Option<u32>
         ensures { result ≡ option_map (λ p. p.0) (at_place self.now.live place.now) }
     {
-        match find(&self.outputs, place) {
+        match self.outputs.find(place) {
             Some(entry) => Some(entry.0),
             None => None,
         }
@@ -125,8 +122,8 @@ impl Ledger {
     pub fn live_at(&self, index: usize) -> Option<(u32, &TxOut)>
         ensures { option_map (λ p. (p.0, p.1.now)) result ≡ option_map (λ e. e.1) (slice_get self.now.live index) }
     {
-        match self.outputs.get_index(index) {
-            Some((_, entry)) => Some((entry.0, &entry.1)),
+        match self.outputs.get(index) {
+            Some(entry) => Some((entry.1.0, &entry.1.1)),
             None => None,
         }
     }
@@ -135,7 +132,7 @@ impl Ledger {
     pub fn is_new(&self, txid: &[u8; 32]) -> bool
         ensures { IsTrue result ↔ IsNewTxid self.now.live txid.now }
     {
-        !has_txid(&self.outputs, txid)
+        self.outputs.is_new(txid)
     }
 
     /// So many blocks come; it takes no memory.

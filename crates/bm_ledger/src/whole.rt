@@ -7,7 +7,7 @@ ghost use Rattle.spec_data.specs.Ranges.{max_money};
 ghost use Rattle.spec_bitcoin.specs.Live.{same_outpoint};
 ghost use Rattle.spec_bitcoin.specs.Verdict as spec;
 
-use crate::outputs::{Live, find, value_of};
+use crate::outputs::{Live, value_of};
 use spec_bitcoin::{OutPoint, Refusal, Tx, TxIn, TxOut};
 use spec_data::{LAST_HEIGHT, MAX_MONEY};
 
@@ -33,18 +33,16 @@ fn repeats(inputs: &[TxIn]) -> bool
 }
 
 fn missing_at(live: &Live, inputs: &[TxIn]) -> Option<usize>
-    ensures value { result ≡ spec.first_missing live.now.entries inputs.now }
+    ensures value { result ≡ spec.first_missing live.now inputs.now }
     ensures within { IfSome result (λ k. k < length inputs.now) }
 {
-    inputs
-        .iter()
-        .position(|input| !live.contains_key(&input.prev))
+    inputs.iter().position(|input| !live.contains(&input.prev))
 }
 
 // The first input whose output isn't live.
 fn missing(live: &Live, inputs: &[TxIn]) -> Option<u32>
     requires { length inputs.now < 2 ^ 32 }
-    ensures { result ≡ spec.first_missing live.now.entries inputs.now }
+    ensures { result ≡ spec.first_missing live.now inputs.now }
 {
     match missing_at(live, inputs) {
         Some(k) => Some(k as u32),
@@ -69,7 +67,7 @@ fn sum_of(outputs: &[TxOut]) -> Option<u64>
 
 // The inputs sum to less than this. What is needed is lowered input by input, so that no sum can overflow.
 fn is_short(live: &Live, inputs: &[TxIn], total: u64) -> bool
-    ensures { result ≡ nat_lt (spec.spent_total live.now.entries inputs.now) total }
+    ensures { result ≡ nat_lt (spec.spent_total live.now inputs.now) total }
 {
     let mut need = total;
     for input in inputs {
@@ -104,7 +102,7 @@ fn is_early(tip: u32, tx: &Tx) -> bool
 /// What is wrong with a transaction as a whole, if anything is.
 pub(crate) fn whole_refusal(tip: u32, live: &Live, tx: &Tx) -> Option<Refusal>
     requires { length tx.now.inputs < 2 ^ 32 }
-    ensures { result ≡ first_reason (spec.whole_row tip live.now.entries tx.now) }
+    ensures { result ≡ first_reason (spec.whole_row tip live.now tx.now) }
 {
     if tx.inputs.is_empty() {
         return Some(Refusal::NoInput);

@@ -3,4 +3,4 @@ use Rattle.spec_bitcoin.specs.Live.{without}
 use Rattle.bm_ledger.proofs.outputs.remove_spent.Given as goal
 
 abbrev pub invariant-loop-input : goal.invariant-loop-input
-invariant-loop-input l = without l.live.entries (map (λ i. i.prev) (drop l.input-index l.inputs)) ≡ without l.fn.live.entries (map (λ i. i.prev) l.inputs)
+invariant-loop-input l = without l.live (map (λ i. i.prev) (drop l.input-index l.inputs)) ≡ without l.fn.live (map (λ i. i.prev) l.inputs)

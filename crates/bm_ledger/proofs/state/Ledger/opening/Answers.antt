@@ -5,5 +5,5 @@ use Rattle.bm_ledger.proofs.state.Ledger.opening.Goals as goal
 
 pub invariant_of-result : goal.invariant_of-result
 invariant_of-result g c =
-    let order : AreInOrder 0 (length c.args.outputs.now) c.in_ok-live.live.entries = rw c.in_ok-live.ensures (in_order-first c.in_ok-txid.txid c.args.outputs.now) in
+    let order : AreInOrder 0 (length c.args.outputs.now) c.in_ok-live.live = rw c.in_ok-live.ensures (in_order-first c.in_ok-txid.txid c.args.outputs.now) in
     (order, c.requires)

@@ -8,9 +8,9 @@ use Rattle.bm_ledger.proofs.state.Ledger.spend.Goals as goal
 
 pub invariant_of-self-2 : goal.invariant_of-self-2
 invariant_of-self-2 c =
-    let more = in_order-more c.self.inside.births c.args.txid.now c.self.inside.outputs.entries c.args.tx.now.outputs c.self.invariant.0 in
+    let more = in_order-more c.self.inside.births c.args.txid.now c.self.inside.outputs c.args.tx.now.outputs c.self.invariant.0 in
     let left = in_order-without 0 (c.self.inside.births + length c.args.tx.now.outputs) (map (λ i. i.prev) c.args.tx.now.inputs) _ more in
-    let order : AreInOrder 0 (c.self.inside.births + c.len.result) c.replace_spent.new.live.entries = rw (c.in_ok-replace_spent.ensures.ok, c.len.ensures) left in
+    let order : AreInOrder 0 (c.self.inside.births + c.len.result) c.replace_spent.new.live = rw (c.in_ok-replace_spent.ensures.ok, c.len.ensures) left in
     let room = c.requires.room in
     let same = ap (λ (s : Chain). s.births) c.self.view_is in
     let count = c.len.ensures in
@@ -20,7 +20,7 @@ invariant_of-self-2 c =
 pub returns-clause-ok : goal.returns-clause-ok
 returns-clause-ok c =
     let passed = rw (← c.self.view_is) at c.requires.passed in
-    rw (← c.self.view_is) (appended _ c.args.tx.now c.args.txid.now _ c.replace_spent.new.live.entries
+    rw (← c.self.view_is) (appended _ c.args.tx.now c.args.txid.now _ c.replace_spent.new.live
     (none_missing _ _ c.args.tx.now passed)
     (none_repeats _ _ c.args.tx.now passed)
     c.in_ok-replace_spent.ensures.ok

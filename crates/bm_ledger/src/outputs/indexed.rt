@@ -1,0 +1,157 @@
+//! The live outputs in order of birth, with the birth number at each place.
+
+ghost use Rattle.std.specs.Prelude.{◌≡◌, ◌↔◌, ◌++◌, ◌-◌, ◌∷◌, [], None, IsTrue, OnOk, OnErr, is_some, length, not, slice_get, take};
+ghost use Rattle.std.specs.List.{list_any};
+ghost use Rattle.std.specs.Map.{remove_entry};
+ghost use Rattle.std.specs.Option.{option_copied};
+ghost use Rattle.std.specs.Str.{bytes_eq};
+ghost use Rattle.indexmap.specs.IndexMap.{get};
+ghost use Rattle.spec_bitcoin.specs.Live.{at_place, same_outpoint, IsNewTxid};
+ghost use Rattle.bm_ledger.specs.Ordered.{numbered, AreInOrder, AreIndexed};
+
+use super::numbers::{Entry, find_number, place_of_number};
+use indexmap::IndexMap;
+use spec_bitcoin::{OutPoint, TxOut};
+use spec_data::OutOfMemory;
+use std::alloc::Global;
+use std::collections::VecDeque;
+use std::marker::Model;
+
+/// The live outputs with their birth numbers, in order of birth. A place is found through its number, and so the entries stand in a
+/// row from which the oldest goes fast: a map in order of birth would have to move all that follow it.
+#[derive(Drop)]
+pub(crate) struct Live {
+    entries: VecDeque<Entry>,
+    numbers: IndexMap<OutPoint, u32>,
+}
+
+impl Model for Live {
+    ghost use Rattle.std.specs.Prelude.{List};
+    ghost use Rattle.indexmap.specs.IndexMap.{get};
+    ghost use Rattle.spec_bitcoin.specs.Live.{Entry, same_outpoint};
+    ghost use Rattle.bm_ledger.specs.Ordered.{AreIndexed};
+
+    ghost Value = { List Entry };
+
+    ghost view = { λ l. l.entries.items };
+
+    ghost invariant = { λ l. AreIndexed (get same_outpoint l.numbers) l.entries.items };
+}
+
+// Takes out the entry at a place, if there is one.
+fn take_out(entries: &mut VecDeque<Entry>, numbers: &mut IndexMap<OutPoint, u32>, place: &OutPoint)
+    requires indexed { AreIndexed (get same_outpoint numbers.old) entries.old.items }
+    ensures removed { entries.new.items ≡ remove_entry (same_outpoint place.now) entries.old.items }
+    ensures indexed { AreIndexed (get same_outpoint numbers.new) entries.new.items }
+{
+    if let Some(number) = numbers.swap_remove(place) {
+        let index = place_of_number(entries, number);
+        let _ = entries.remove(index);
+    }
+}
+
+// Whether one of the outputs at these places was made by a transaction of this txid.
+fn is_made(places: &[OutPoint], txid: &[u8; 32]) -> bool
+    ensures { result ≡ list_any (λ p. bytes_eq txid.now p.txid) places.now }
+{
+    places.iter().any(|place| *txid == place.txid)
+}
+
+impl Live {
+    /// No outputs.
+    pub(crate) fn new(alloc: Global) -> Live
+        ensures { result ≡ [] }
+    {
+        Live {
+            entries: VecDeque::new(alloc),
+            numbers: IndexMap::new(alloc),
+        }
+    }
+
+    /// How many there are.
+    pub(crate) fn len(&self) -> usize
+        ensures { result ≡ length self.now }
+    {
+        self.entries.len()
+    }
+
+    /// The entry at this index of the list.
+    pub(crate) fn get(&self, index: usize) -> Option<&Entry>
+        ensures { option_copied result ≡ slice_get self.now index }
+    {
+        self.entries.get(index)
+    }
+
+    /// Whether there is an output at a place.
+    pub(crate) fn contains(&self, place: &OutPoint) -> bool
+        ensures { result ≡ is_some (at_place self.now place.now) }
+    {
+        self.numbers.contains_key(place)
+    }
+
+    /// The output at a place, with its birth number.
+    pub(crate) fn find(&self, place: &OutPoint) -> Option<&(u32, TxOut)>
+        ensures { option_copied result ≡ at_place self.now place.now }
+    {
+        let number = self.numbers.get(place)?;
+        let entry = find_number(&self.entries, *number)?;
+        Some(&entry.1)
+    }
+
+    /// The entry of this birth number.
+    pub(crate) fn find_number(&self, number: u32) -> Option<&Entry>
+        ensures { option_copied result ≡ numbered self.now number }
+    {
+        find_number(&self.entries, number)
+    }
+
+    /// Whether no output was made by a transaction of this txid. It looks at the places alone, which lie closer together.
+    pub(crate) fn is_new(&self, txid: &[u8; 32]) -> bool
+        ensures { IsTrue result ↔ IsNewTxid self.now txid.now }
+    {
+        !is_made(self.numbers.keys().as_slice(), txid)
+    }
+
+    /// Adds an output at the end.
+    pub(crate) fn add(
+        &mut self,
+        place: OutPoint,
+        number: u32,
+        output: TxOut,
+    ) -> Result<(), OutOfMemory>
+        requires order { AreInOrder 0 number self.old }
+        requires new { at_place self.old place ≡ None }
+        ensures ok { OnOk result (self.new ≡ self.old ++ (place, (number, output)) ∷ []) }
+        ensures err { OnErr result (self.new ≡ self.old) }
+    {
+        self.entries.reserve(1)?;
+        self.numbers.insert(place, number)?;
+        self.entries.push_back_reserved((place, (number, output)));
+        Ok(())
+    }
+
+    /// Removes the output at a place, if there is one. The others keep their order.
+    pub(crate) fn remove(&mut self, place: &OutPoint)
+        ensures { self.new ≡ remove_entry (same_outpoint place.now) self.old }
+    {
+        take_out(&mut self.entries, &mut self.numbers, place);
+    }
+
+    // Removes the last output.
+    fn remove_last(&mut self)
+        ensures { self.new ≡ take (length self.old - 1) self.old }
+    {
+        if let Some((place, _)) = self.entries.pop_back() {
+            let _ = self.numbers.swap_remove(&place);
+        }
+    }
+
+    /// Keeps the first outputs, this many, and cuts off the others.
+    pub(crate) fn truncate(&mut self, len: usize)
+        ensures { self.new ≡ take len self.old }
+    {
+        while self.len() > len {
+            self.remove_last();
+        }
+    }
+}

@@ -93,6 +93,24 @@ module _ {H : Type 0} (digest : H → List ℕ → List ℕ) where
     cause = λ none. let why = h.cause none in record { collided = why.collided; unguessed = why.unguessed };
   }
 
+  -- ---- a run that has halted
+
+  pub halted_before : (old : Played H) (strings : List (List ℕ)) (halt : Halt) → old.halt ≡ Some halt → Stopped digest old old strings halt
+  halted_before old strings halt h = record {
+    setup = record { hasher = refl; header = refl; contracts = refl };
+    kept = refl;
+    trace = refl;
+    halted = λ _. h;
+    again = λ earlier e. inl (same earlier (sym h ∙ e));
+    cause = λ none. absurd (apart (sym none ∙ h));
+  }
+    where
+      same : (earlier : Halt) → Some halt ≡ Some earlier → halt ≡ earlier
+      same earlier q = cc
+
+      apart : None ≡ Some halt → ⊥
+      apart q = cc
+
   -- ---- want of memory
 
   pub wanting : (old new : Played H) (hashed strings : List (List ℕ)) (halt : Halt) → Hears old new hashed → halt ≡ Memory

@@ -140,10 +140,11 @@ missing_some s w k advert n r e h f = by_instance (compiled_instance s w k) refl
 
 pub audited_by : {H : Type 0} (digest : H → List ℕ → List ℕ) (old new : Played H) (cs : List Candidate) (text : List ℕ) (k : ℕ)
     (findings : List Finding) (absent : List Which) (missing : List Missing)
-    → cs ≡ map as_candidate (listed_in (setup_in digest old) old.world k) → Finds digest old new cs text findings
+    → old.halt ≡ None → cs ≡ map as_candidate (listed_in (setup_in digest old) old.world k) → Finds digest old new cs text findings
     → absent ≡ absent_among cs findings → missing ≡ missing_of (digest old.hasher) old.world.book (listed_in (setup_in digest old) old.world k)
     → Audited digest old new k text (record { findings = findings; absent = absent; missing = missing })
-audited_by digest old new cs text k findings absent missing c f a m = record {
+audited_by digest old new cs text k findings absent missing g c f a m = record {
+  going = g;
   hears = f.calm.hears;
   calm = f.calm.calm;
   found = report_is (setup_in digest old) old.world k text cs findings absent missing c f.found a m;

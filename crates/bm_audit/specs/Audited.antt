@@ -16,9 +16,10 @@ use Rattle.theory_audit.specs.Nothing.{IsGiven}
 use Rattle.bm_world.specs.Playing.{Played, setup_in}
 use Rattle.bm_audit.specs.Heard.{Hears}
 
--- exactly this was found, the strings of the judged transactions were hashed and no others, and nothing collided
+-- in a run that goes on exactly this was found, the strings of the judged transactions were hashed and no others, and nothing collided
 pub record Audited {H : Type 0} (digest : H → List ℕ → List ℕ) (old new : Played H) (k : ℕ) (text : List ℕ)
     (report : AuditReport) : Type 0 where
+  pub going : old.halt ≡ None
   pub hears : Hears old new (noted_all old.world.hashed (audit_strings (setup_in digest old) old.world text))
   pub calm : audit_collision (setup_in digest old) old.world text ≡ None
   pub found : report ≡ audit_report (setup_in digest old) old.world k text

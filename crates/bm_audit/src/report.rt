@@ -72,8 +72,8 @@ fn missing_in<H: Hash32 + Drop>(
 
 /// What an audit of a text finds in this world for the contract of this number: of each line, and the compiled transactions that no
 /// line names, and the signatures that are missing. The ledger, the book and the posted strings stay, and the records too; only the
-/// strings of the text's transactions are hashed, of which one may collide with another or with a message of the run. After a halt of
-/// the run a text with transactions is answered by that halt.
+/// strings of the text's transactions are hashed, of which one may collide with another or with a message of the run. A run that has
+/// halted is answered by its halt.
 pub fn audit<H: Hash32 + Drop>(
     alloc: Global,
     world: &mut World<H>,
@@ -87,6 +87,9 @@ pub fn audit<H: Hash32 + Drop>(
 {
     audits_find_all();
     nothing_lacks();
+    if let Some(halt) = world.halt() {
+        return Err(halt.copy());
+    }
     let catalog = catalog_of(alloc, world, contract)?;
     let missing = missing_in(alloc, world, contract)?;
     let findings = findings_of(alloc, world, &catalog, text)?;

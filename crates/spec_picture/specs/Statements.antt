@@ -1,0 +1,45 @@
+-- What is claimed of pictures.
+use Rattle.std.specs.Prelude.{◌≡◌, ℕ, ◌+◌, List, [], ◌∷◌, ◌++◌, map, true}
+use Rattle.spec_data.specs.Lists.{are_different}
+use Rattle.spec_terms.specs.Advert.{Advert}
+use Rattle.spec_terms.specs.Order.{branch_paths}
+use Rattle.spec_run.specs.declared.event.Event.{Event}
+use Rattle.spec_text.specs.declared.entry.Entry.{Entry}
+use Rattle.spec_tool.specs.declared.which.Which.{Which}
+use Rattle.spec_tool.specs.declared.which.Which.TheVariants.{Init, At}
+use Rattle.spec_picture.specs.declared.last.Last.{Last}
+use Rattle.spec_picture.specs.declared.last.Last.TheVariants.{Whole, Guessed, Collided}
+use Rattle.spec_picture.specs.Xml.{IsWellFormedXml, is_named, element_text, ids}
+use Rattle.spec_picture.specs.Words.{node_id, event_id}
+use Rattle.spec_picture.specs.Rows.{halt_id}
+use Rattle.spec_picture.specs.Picture.{picture}
+
+-- the ids of a contract's transactions: of the initial one, and of each branch in the order of the text
+abbrev pub transaction_ids : Advert → List (List ℕ)
+transaction_ids advert = map node_id (Init ∷ map At (branch_paths advert.root))
+
+-- the ids of events, from number n on
+abbrev pub event_ids : ℕ → List Entry → List (List ℕ)
+event_ids n [] = []
+event_ids n (e ∷ es) = event_id n ∷ event_ids (n + 1) es
+
+abbrev pub last_ids : Last → List (List ℕ)
+last_ids Whole = []
+last_ids (Guessed event party secret) = halt_id ∷ []
+last_ids (Collided event) = halt_id ∷ []
+
+-- what is drawn under an id: each transaction of the contract, each event, and the halt
+abbrev pub drawn : Advert → List Entry → Last → List (List ℕ)
+drawn advert entries last = transaction_ids advert ++ (event_ids 1 entries ++ last_ids last)
+
+-- every picture has exactly these ids
+abbrev pub DrawsEach : Type 0
+DrawsEach = (advert : Advert) (entries : List Entry) (last : Last) → ids (picture advert entries last) ≡ drawn advert entries last
+
+-- and none of them twice
+abbrev pub DrawsOnce : Type 0
+DrawsOnce = (advert : Advert) (entries : List Entry) (last : Last) → are_different (ids (picture advert entries last)) ≡ true
+
+-- every picture is well-formed XML
+abbrev pub PicturesAreXml : Type 0
+PicturesAreXml = (advert : Advert) (entries : List Entry) (last : Last) → IsWellFormedXml (element_text (picture advert entries last))

@@ -1,0 +1,104 @@
+-- The words of the rows of a picture.
+use Rattle.std.specs.Prelude.{ℕ, ◌-◌, List, [], ◌∷◌, ◌++◌, take, length, map, nat_le, if◌then◌else◌, Option, Some, None, codes}
+use Rattle.std.specs.Fmt.{decimal}
+use Rattle.spec_calculus.specs.declared.step.Step.{Step}
+use Rattle.spec_calculus.specs.declared.step.Step.TheVariants as steps
+use Rattle.spec_run.specs.declared.outcome.Outcome.{Outcome}
+use Rattle.spec_run.specs.declared.outcome.Outcome.TheVariants.{Done, Accepted, Refused}
+use Rattle.spec_run.specs.declared.outcome.Reason.{Reason}
+use Rattle.spec_run.specs.declared.outcome.Reason.TheVariants as reason
+use Rattle.spec_text.specs.Canonical.{joined}
+use Rattle.spec_tool.specs.declared.which.Which.{Which}
+use Rattle.spec_tool.specs.Listed.{which_text}
+
+-- a text of at most so many bytes, two of which are dots where some are left out
+abbrev pub cut : ℕ → List ℕ → List ℕ
+cut most text = if nat_le (length text) most then text else take (most - 2) text ++ codes ".."
+
+-- ---- events
+
+abbrev pub step_name : Step → List ℕ
+step_name (steps.Delay n) = codes "delay"
+step_name (steps.AuthMove a action) = codes "authmove"
+step_name (steps.Move action) = codes "move"
+step_name (steps.Advertise k bs) = codes "advertise"
+step_name (steps.Commit k a ls) = codes "commit"
+step_name (steps.AuthInit k a x) = codes "authinit"
+step_name (steps.Init k) = codes "init"
+step_name (steps.Reveal k a s) = codes "reveal"
+step_name (steps.AuthBranch a n i) = codes "authbranch"
+step_name (steps.PutReveal n i) = codes "putreveal"
+step_name (steps.Withdraw n i) = codes "withdraw"
+step_name (steps.Split n i) = codes "split"
+
+-- the names of the steps of an event, with commas between them
+abbrev pub steps_text : List Step → List ℕ
+steps_text ss = joined (codes ", ") (map step_name ss)
+
+abbrev pub reason_name : Reason → List ℕ
+reason_name reason.NoContract = codes "NoContract"
+reason_name reason.AdvertFull = codes "AdvertFull"
+reason_name reason.WrongNames = codes "WrongNames"
+reason_name (reason.DepositRepeated x) = codes "DepositRepeated"
+reason_name (reason.NotLive x) = codes "NotLive"
+reason_name (reason.WrongDeposit x) = codes "WrongDeposit"
+reason_name reason.NoHonest = codes "NoHonest"
+reason_name reason.NotAdvertised = codes "NotAdvertised"
+reason_name reason.NotParticipant = codes "NotParticipant"
+reason_name reason.AlreadyCommitted = codes "AlreadyCommitted"
+reason_name (reason.NoSecret a) = codes "NoSecret"
+reason_name (reason.BadSecretLength a) = codes "BadSecretLength"
+reason_name (reason.HashRepeated a) = codes "HashRepeated"
+reason_name reason.NotAllCommitted = codes "NotAllCommitted"
+reason_name (reason.NotEndorsed path party) = codes "NotEndorsed"
+reason_name reason.NotActive = codes "NotActive"
+reason_name reason.NoBranch = codes "NoBranch"
+reason_name reason.NotAsked = codes "NotAsked"
+reason_name reason.NotHonest = codes "NotHonest"
+reason_name reason.NotCommitted = codes "NotCommitted"
+reason_name reason.NotBegun = codes "NotBegun"
+reason_name reason.AlreadyRevealed = codes "AlreadyRevealed"
+reason_name reason.Honest = codes "Honest"
+reason_name reason.NotOwner = codes "NotOwner"
+reason_name (reason.NotLiveOutput n) = codes "NotLive"
+reason_name (reason.NotOwnerOutput n) = codes "NotOwner"
+reason_name (reason.BadTx place) = codes "BadTx"
+reason_name reason.NotCompiled = codes "NotCompiled"
+reason_name (reason.SecretUnknown a) = codes "SecretUnknown"
+reason_name reason.TimeLimit = codes "TimeLimit"
+reason_name reason.NoInput = codes "NoInput"
+reason_name reason.NoOutput = codes "NoOutput"
+reason_name reason.InputRepeated = codes "InputRepeated"
+reason_name (reason.MissingInput k) = codes "MissingInput"
+reason_name reason.ValueLimit = codes "ValueLimit"
+reason_name reason.InsufficientIn = codes "InsufficientIn"
+reason_name reason.NotFinal = codes "NotFinal"
+reason_name (reason.ScriptSigNotEmpty k) = codes "ScriptSigNotEmpty"
+reason_name (reason.NotWitnessScript k) = codes "NotWitnessScript"
+reason_name (reason.ScriptMismatch k) = codes "ScriptMismatch"
+reason_name (reason.ItemTooLong k) = codes "ItemTooLong"
+reason_name (reason.ScriptFalse k) = codes "ScriptFalse"
+
+-- that a transaction was accepted, and its name where it is one of the contract's
+abbrev pub accepted_text : Option Which → List ℕ
+accepted_text None = codes "accepted"
+accepted_text (Some which) = codes "accepted " ++ which_text which
+
+-- what an event came to
+abbrev pub outcome_words : Option Which → Outcome → List ℕ
+outcome_words which Done = codes "done"
+outcome_words which (Accepted spent made lock) = accepted_text which
+outcome_words which (Refused r) = reason_name r
+
+-- ---- ids and marks
+
+abbrev pub node_id : Which → List ℕ
+node_id which = codes "node-" ++ which_text which
+
+abbrev pub event_id : ℕ → List ℕ
+event_id n = codes "event-" ++ decimal n
+
+-- by which event a transaction was reached
+abbrev pub mark_text : Option ℕ → List ℕ
+mark_text None = codes "not reached"
+mark_text (Some n) = codes "event " ++ decimal n

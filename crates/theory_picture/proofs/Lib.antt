@@ -1,0 +1,4 @@
+pub mod Lines
+mod Order
+mod Drawn
+mod Named

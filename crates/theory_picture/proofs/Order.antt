@@ -1,0 +1,62 @@
+-- The transactions that are drawn are the initial one and those of the contract's branches, in the order of the text.
+use Rattle.std.proofs.Common.{◌≡◌, ℕ, ◌+◌, List, [], ◌∷◌, ◌++◌, map, refl, sym, ap, ◌∙◌}
+use Rattle.std.proofs.lemmas.List.{map-append}
+use Rattle.spec_terms.specs.Term.{Guarded, Contract, no_branch, branch, Parts, no_part, part, auth, after, put_reveal, withdraw, split}
+use Rattle.spec_terms.specs.Advert.{Advert}
+use Rattle.spec_terms.specs.Paths.{Subterm, position, at_branch}
+use Rattle.spec_terms.specs.Order.{Located, branches_from, under, parts_from, if_branch, branch_paths_of, branch_paths}
+use Rattle.spec_terms.specs.declared.path.PathStep.{PathStep}
+use Rattle.spec_terms.specs.declared.path.PathStep.TheVariants.{Branch as To, Part as Into}
+use Rattle.spec_tool.specs.declared.which.Which.{Which}
+use Rattle.spec_tool.specs.declared.which.Which.TheVariants.{Init, At}
+use Rattle.spec_picture.specs.declared.tree_row.TreeRow.{TreeRow}
+use Rattle.spec_picture.specs.Tree.{guard_text, value_after, first_value, branches_rows, branch_rows, parts_rows, rows_of}
+
+abbrev names : List TreeRow → List Which
+names rows = map (λ r. r.which) rows
+
+abbrev at_all : List (List PathStep) → List Which
+at_all paths = map At paths
+
+-- the branches among these
+abbrev found : List Located → List Which
+found xs = at_all (branch_paths_of xs)
+
+found-append : (xs ys : List Located) → found (xs ++ ys) ≡ found xs ++ found ys
+found-append [] ys = refl
+found-append (x ∷ xs) ys = by_subterm x.subterm (found-append xs ys)
+  where
+    by_subterm : (subterm : Subterm) → found (xs ++ ys) ≡ found xs ++ found ys
+        → at_all (if_branch subterm x.path (branch_paths_of (xs ++ ys)))
+        ≡ at_all (if_branch subterm x.path (branch_paths_of xs)) ++ found ys
+    by_subterm (position c) h = h
+    by_subterm (at_branch b) h = ap (λ (ws : List Which). At x.path ∷ ws) h
+
+module _ (a : Advert) where
+  mutual
+    branches_are : (q : List PathStep) (value i : ℕ) (c : Contract) → names (branches_rows a q value i c) ≡ found (branches_from q i c)
+    branches_are q value i no_branch = refl
+    branches_are q value i (branch b bs) =
+        let p = q ++ To i ∷ [] in
+        map-append (λ (r : TreeRow). r.which) (branch_rows a p value (guard_text b) b) (branches_rows a q value (i + 1) bs)
+        ∙ (λ j. branch_is p value (guard_text b) b j ++ branches_are q value (i + 1) bs j)
+        ∙ ap (λ (ws : List Which). At p ∷ ws) (sym (found-append (under p b) (branches_from q (i + 1) bs)))
+
+    branch_is : (p : List PathStep) (value : ℕ) (guard : List ℕ) (b : Guarded) → names (branch_rows a p value guard b) ≡ At p ∷ found (under p b)
+    branch_is p value guard (auth party body) = branch_is p value guard body
+    branch_is p value guard (after height body) = branch_is p value guard body
+    branch_is p value guard (put_reveal puts reveals test next) =
+        ap (λ (ws : List Which). At p ∷ ws) (branches_are p (value_after a value puts) 0 next)
+    branch_is p value guard (withdraw party) = refl
+    branch_is p value guard (split parts) = ap (λ (ws : List Which). At p ∷ ws) (parts_are p 0 parts)
+
+    parts_are : (p : List PathStep) (k : ℕ) (ps : Parts) → names (parts_rows a p k ps) ≡ found (parts_from p k ps)
+    parts_are p k no_part = refl
+    parts_are p k (part v c ps) =
+        let q = p ++ Into k ∷ [] in
+        map-append (λ (r : TreeRow). r.which) (branches_rows a q v 0 c) (parts_rows a p (k + 1) ps)
+        ∙ (λ j. branches_are q v 0 c j ++ parts_are p (k + 1) ps j)
+        ∙ sym (found-append (branches_from q 0 c) (parts_from p (k + 1) ps))
+
+  pub rows_in_order : names (rows_of a) ≡ Init ∷ at_all (branch_paths a.root)
+  rows_in_order = ap (λ (ws : List Which). Init ∷ ws) (branches_are [] (first_value a) 0 a.root)

@@ -9,7 +9,7 @@ use Rattle.spec_text.specs.Canonical.{joined}
 use Rattle.spec_tool.specs.declared.which.Which.{Which}
 use Rattle.spec_picture.specs.declared.last.Last.{Last}
 use Rattle.spec_picture.specs.declared.tree_row.TreeRow.{TreeRow}
-use Rattle.spec_picture.specs.Xml.{Element, element, nothing, words, lines, element_text}
+use Rattle.spec_picture.specs.Xml.{Element, element, nothing, words, lines, document_text}
 use Rattle.spec_picture.specs.Tree.{rows_of}
 use Rattle.spec_picture.specs.Taken.{taken}
 use Rattle.spec_picture.specs.Words.{cut}
@@ -72,4 +72,4 @@ picture advert entries last = picture_of (participants advert) (rows_of advert) 
 
 -- its text
 abbrev pub picture_text : Advert → List Entry → Last → List ℕ
-picture_text advert entries last = element_text (picture advert entries last) ++ 10 ∷ []
+picture_text advert entries last = document_text (picture advert entries last)

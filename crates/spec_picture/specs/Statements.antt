@@ -1,7 +1,8 @@
 -- What is claimed of pictures.
-use Rattle.std.specs.Prelude.{◌≡◌, ℕ, ◌+◌, List, [], ◌∷◌, ◌++◌, map, true}
+use Rattle.std.specs.Prelude.{◌≡◌, ℕ, ◌+◌, ◌<◌, ◌^◌, List, [], ◌∷◌, ◌++◌, length, map, true}
 use Rattle.spec_data.specs.Lists.{are_different}
 use Rattle.spec_terms.specs.Advert.{Advert}
+use Rattle.spec_terms.specs.Faults.{IsWellFormed}
 use Rattle.spec_terms.specs.Order.{branch_paths}
 use Rattle.spec_run.specs.declared.event.Event.{Event}
 use Rattle.spec_text.specs.declared.entry.Entry.{Entry}
@@ -9,10 +10,10 @@ use Rattle.spec_tool.specs.declared.which.Which.{Which}
 use Rattle.spec_tool.specs.declared.which.Which.TheVariants.{Init, At}
 use Rattle.spec_picture.specs.declared.last.Last.{Last}
 use Rattle.spec_picture.specs.declared.last.Last.TheVariants.{Whole, Guessed, Collided}
-use Rattle.spec_picture.specs.Xml.{IsWellFormedXml, is_named, element_text, ids}
+use Rattle.spec_picture.specs.Xml.{IsWellFormedXml, ids}
 use Rattle.spec_picture.specs.Words.{node_id, event_id}
 use Rattle.spec_picture.specs.Rows.{halt_id}
-use Rattle.spec_picture.specs.Picture.{picture}
+use Rattle.spec_picture.specs.Picture.{picture_text}
 
 -- the ids of a contract's transactions: of the initial one, and of each branch in the order of the text
 abbrev pub transaction_ids : Advert → List (List ℕ)
@@ -32,14 +33,18 @@ last_ids (Collided event) = halt_id ∷ []
 abbrev pub drawn : Advert → List Entry → Last → List (List ℕ)
 drawn advert entries last = transaction_ids advert ++ (event_ids 1 entries ++ last_ids last)
 
--- every picture has exactly these ids
-abbrev pub DrawsEach : Type 0
-DrawsEach = (advert : Advert) (entries : List Entry) (last : Last) → ids (picture advert entries last) ≡ drawn advert entries last
+-- a text is a picture of a contract and a run: it is well-formed XML, and has exactly these ids, in this order
+pub record IsPictureOf (advert : Advert) (entries : List Entry) (last : Last) (text : List ℕ) : Type 0 where
+  pub xml : IsWellFormedXml text
+  pub each : ids xml.tree ≡ drawn advert entries last
 
--- and none of them twice
+-- every text that is drawn is a picture of its contract and its run
+abbrev pub PicturesShowEach : Type 0
+PicturesShowEach =
+    (advert : Advert) (entries : List Entry) (last : Last) → IsPictureOf advert entries last (picture_text advert entries last)
+
+-- Of a checked contract, and a run of as many events as can be numbered, nothing is drawn twice.
 abbrev pub DrawsOnce : Type 0
-DrawsOnce = (advert : Advert) (entries : List Entry) (last : Last) → are_different (ids (picture advert entries last)) ≡ true
-
--- every picture is well-formed XML
-abbrev pub PicturesAreXml : Type 0
-PicturesAreXml = (advert : Advert) (entries : List Entry) (last : Last) → IsWellFormedXml (element_text (picture advert entries last))
+DrawsOnce =
+    (advert : Advert) (entries : List Entry) (last : Last) → IsWellFormed advert → length entries < 2 ^ 31
+    → are_different (drawn advert entries last) ≡ true

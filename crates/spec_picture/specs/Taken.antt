@@ -48,12 +48,12 @@ steps_take places (s ∷ ss) = or_else (step_takes places s) (steps_take places 
 -- the first of these outputs stands for a position
 abbrev pub with_first : List PathStep → List ℕ → Places → Places
 with_first q [] places = places
-with_first q (n ∷ ns) places = (n, q) ∷ places
+with_first q (n ∷ ns) places = places ++ (n, q) ∷ []
 
 -- these outputs stand for the parts from number k on of the split at a path
 abbrev pub with_parts : List PathStep → ℕ → List ℕ → Places → Places
 with_parts p k [] places = places
-with_parts p k (n ∷ ns) places = with_parts p (k + 1) ns ((n, p ++ Into k ∷ []) ∷ places)
+with_parts p k (n ∷ ns) places = with_parts p (k + 1) ns (places ++ (n, p ++ Into k ∷ []) ∷ [])
 
 abbrev pub with_next : List ℕ → Option (List PathStep) → Places → Places
 with_next made None places = places

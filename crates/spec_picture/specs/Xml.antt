@@ -93,11 +93,15 @@ abbrev mutual
   are_named (words text others) = are_named others
   are_named (inner first others) = is_named first && are_named others
 
--- a text is well-formed XML if it is the text of an element in which all names are names
+-- the text of a document: an element, and a line feed
+abbrev pub document_text : Element → List ℕ
+document_text e = element_text e ++ 10 ∷ []
+
+-- a text is well-formed XML if it is that of a document in whose element all names are names
 pub record IsWellFormedXml (text : List ℕ) : Type 0 where
   pub tree : Element
   pub named : is_named tree ≡ true
-  pub spelled : text ≡ element_text tree
+  pub spelled : text ≡ document_text tree
 
 -- ---- what is named in an element
 

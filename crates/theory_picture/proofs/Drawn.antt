@@ -1,5 +1,5 @@
 -- A picture has the ids of the contract's transactions, of the events and of a halt, each where it is drawn.
-use Rattle.std.proofs.Common.{◌≡◌, ℕ, ◌+◌, List, [], ◌∷◌, ◌++◌, length, map, Option, refl, sym, ap, ◌∙◌}
+use Rattle.std.proofs.Common.{◌≡◌, ℕ, ◌+◌, List, [], ◌∷◌, ◌++◌, length, map, Option, refl, ap, ◌∙◌}
 use Rattle.std.specs.List.{flat_map}
 use Rattle.std.proofs.lemmas.List.Concat.{flat_map-append}
 use Rattle.spec_terms.specs.Advert.{Advert}
@@ -13,18 +13,16 @@ use Rattle.spec_text.specs.StepText.{made_by}
 use Rattle.spec_picture.specs.declared.last.Last.{Last}
 use Rattle.spec_picture.specs.declared.last.Last.TheVariants.{Whole, Guessed, Collided}
 use Rattle.spec_picture.specs.declared.tree_row.TreeRow.{TreeRow}
-use Rattle.spec_picture.specs.Xml.{Element, ids}
+use Rattle.spec_picture.specs.Xml.{ids}
 use Rattle.spec_picture.specs.Tree.{rows_of}
 use Rattle.spec_picture.specs.Taken.{Places, taken_from, taken, after_steps}
 use Rattle.spec_picture.specs.Words.{node_id, event_id}
 use Rattle.spec_picture.specs.Rows.{tree_groups, run_groups, last_groups}
-use Rattle.spec_picture.specs.Picture.{groups, tree_head, run_head}
-use Rattle.spec_picture.specs.Statements.{DrawsEach, event_ids, last_ids, drawn, transaction_ids}
+use Rattle.spec_picture.specs.Picture.{groups, run_head, picture}
+use Rattle.spec_picture.specs.Statements.{PicturesShowEach, event_ids, last_ids, drawn, transaction_ids}
 use Rattle.theory_picture.proofs.Lines.{ids_of_lines}
+use Rattle.theory_picture.proofs.Named.{pictures_are_named}
 use Rattle.theory_picture.proofs.Order.{rows_in_order}
-
-ids_of : List Element → List (List ℕ)
-ids_of es = flat_map ids es
 
 -- of the transactions
 tree_ids : (row : ℕ) (takes : List (Option Which)) (rs : List TreeRow)
@@ -45,7 +43,7 @@ halt_ids row Whole = refl
 halt_ids row (Guessed event party secret) = refl
 halt_ids row (Collided event) = refl
 
-pub draws_each : DrawsEach
+draws_each : (advert : Advert) (entries : List Entry) (last : Last) → ids (picture advert entries last) ≡ drawn advert entries last
 draws_each advert entries last =
     let rows = rows_of advert in
     let n = length rows in
@@ -57,3 +55,9 @@ draws_each advert entries last =
     ∙ ap (λ (xs : List (List ℕ)). flat_map ids tree ++ xs) (flat_map-append ids run end)
     ∙ (λ i. (tree_ids 2 (taken entries) rows ∙ ap (λ (ws : List Which). map node_id ws) (rows_in_order advert)) i
         ++ (run_ids (n + 4) 1 [] entries i ++ halt_ids (n + 4 + length entries) last i))
+
+pub pictures_show_each : PicturesShowEach
+pictures_show_each advert entries last = record {
+  xml = record { tree = picture advert entries last; named = pictures_are_named advert entries last; spelled = refl };
+  each = draws_each advert entries last;
+}

@@ -1,4 +1,4 @@
 pub mod Lines
+mod Named
 mod Order
 mod Drawn
-mod Named

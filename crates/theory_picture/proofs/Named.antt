@@ -2,6 +2,7 @@
 use Rattle.std.proofs.Common.{◌≡◌, ℕ, ◌+◌, List, [], ◌∷◌, ◌++◌, length, Bool, true, false, Option, Some, None, refl, sym, ap, ◌∙◌, IsTrue}
 use Rattle.std.specs.Prelude.{◌&&◌}
 use Rattle.std.specs.List.{list_all}
+use Rattle.spec_terms.specs.Advert.{Advert}
 use Rattle.spec_terms.specs.Parties.{participants}
 use Rattle.spec_text.specs.declared.entry.Entry.{Entry}
 use Rattle.spec_tool.specs.declared.which.Which.{Which}
@@ -13,7 +14,6 @@ use Rattle.spec_picture.specs.Tree.{rows_of}
 use Rattle.spec_picture.specs.Taken.{taken}
 use Rattle.spec_picture.specs.Rows.{tree_groups, run_groups, last_groups}
 use Rattle.spec_picture.specs.Picture.{groups, picture, run_head}
-use Rattle.spec_picture.specs.Statements.{PicturesAreXml}
 use Rattle.theory_picture.proofs.Lines.{named_lines}
 
 all-append : (xs ys : List Element) → list_all is_named xs ≡ true → list_all is_named ys ≡ true → list_all is_named (xs ++ ys) ≡ true
@@ -40,18 +40,14 @@ halt_named row Whole = refl
 halt_named row (Guessed event party secret) = refl
 halt_named row (Collided event) = refl
 
-pub pictures_are_xml : PicturesAreXml
-pictures_are_xml advert entries last =
+pub pictures_are_named : (advert : Advert) (entries : List Entry) (last : Last) → is_named (picture advert entries last) ≡ true
+pictures_are_named advert entries last =
     let rows = rows_of advert in
     let n = length rows in
     let takes = taken entries in
     let tree = tree_groups 2 takes rows in
     let run = run_groups (n + 4) 1 takes entries in
     let end = last_groups (n + 4 + length entries) last in
-    record {
-      tree = picture advert entries last;
-      named = named_lines (groups (participants advert) rows takes entries last)
-          ∙ all-append tree (run_head (n + 3) ++ (run ++ end)) (tree_named 2 takes rows)
-          (all-append run end (run_named (n + 4) 1 takes entries) (halt_named (n + 4 + length entries) last));
-      spelled = refl;
-    }
+    named_lines (groups (participants advert) rows takes entries last)
+    ∙ all-append tree (run_head (n + 3) ++ (run ++ end)) (tree_named 2 takes rows)
+    (all-append run end (run_named (n + 4) 1 takes entries) (halt_named (n + 4 + length entries) last))

@@ -1,10 +1,11 @@
 //! The whole picture.
 
-ghost use Rattle.std.specs.Prelude.{◌≡◌, ◌++◌, IfOk, OnOk};
+ghost use Rattle.std.specs.Prelude.{◌≡◌, ◌++◌, ◌<◌, ◌^◌, length, true, IfOk, OnOk};
+ghost use Rattle.spec_data.specs.Lists.{are_different};
 ghost use Rattle.std.specs.List.{flat_map};
 ghost use Rattle.spec_picture.specs.Xml.{line_text, document_text};
 ghost use Rattle.spec_picture.specs.Picture as spec;
-ghost use Rattle.spec_picture.specs.Statements.{IsPictureOf};
+ghost use Rattle.spec_picture.specs.Statements.{IsPictureOf, drawn};
 
 use crate::columns::furthest;
 use crate::counting::{narrow, plus};
@@ -15,12 +16,13 @@ use crate::tree_rows::put_tree_groups;
 use crate::walking::rows_of;
 use bm_syntax::{Advert, participants};
 use bm_text::put;
+use bm_wellformed::Checked;
 use spec_data::{Name, OutOfMemory};
 use spec_picture::{Last, TreeRow};
 use spec_text::Entry;
 use spec_tool::Which;
 use std::alloc::Global;
-use theory_picture::pictures_show_each;
+use theory_picture::{nothing_is_drawn_twice, pictures_show_each};
 
 fn width(rows: &[TreeRow]) -> Result<u32, OutOfMemory>
     ensures { IfOk result (λ wide. wide ≡ spec.width rows.now) }
@@ -63,7 +65,7 @@ fn put_rows(
 
 // The picture of these transactions and events.
 #[tactic(auto, using(std::proofs::Common::append_assoc, crate::proofs::Whole::whole))]
-fn drawn(
+fn all_drawn(
     alloc: Global,
     parties: &[Name],
     rows: &[TreeRow],
@@ -93,7 +95,7 @@ fn picture(
     let parties = participants(alloc, advert)?;
     let rows = rows_of(alloc, advert)?;
     let takes = takes_of(alloc, entries)?;
-    drawn(alloc, &parties, &rows, &takes, entries, last)
+    all_drawn(alloc, &parties, &rows, &takes, entries, last)
 }
 
 /// The picture of a contract and of the events of a run with it, as SVG: the contract's transactions as a tree, with what the run has
@@ -101,13 +103,15 @@ fn picture(
 /// picture of more than 2^32 rows, and a contract that holds more than 2^64 satoshi, are taken for want of memory.
 pub fn draw(
     alloc: Global,
-    advert: &Advert,
+    contract: &Checked,
     entries: &[Entry],
     last: &Last,
 ) -> Result<Vec<u8>, OutOfMemory>
-    ensures text { IfOk result (λ text. text.items ≡ spec.picture_text advert.now entries.now last.now) }
-    ensures shows { IfOk result (λ text. IsPictureOf advert.now entries.now last.now text.items) }
+    ensures text { IfOk result (λ text. text.items ≡ spec.picture_text contract.now entries.now last.now) }
+    ensures shows { IfOk result (λ text. IsPictureOf contract.now entries.now last.now text.items) }
+    ensures once { length entries.now < 2 ^ 31 → are_different (drawn contract.now entries.now last.now) ≡ true }
 {
     pictures_show_each();
-    picture(alloc, advert, entries, last)
+    nothing_is_drawn_twice();
+    picture(alloc, contract.advert(), entries, last)
 }

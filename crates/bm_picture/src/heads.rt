@@ -10,7 +10,7 @@ ghost use Rattle.spec_picture.specs.Picture as spec;
 use crate::marks::cut;
 use crate::phrases::put_names;
 use crate::shapes::put_words;
-use crate::xml::put_number;
+use crate::xml::{put_attribute, put_number};
 use bm_text::put;
 use spec_data::{Name, OutOfMemory};
 use std::alloc::Global;
@@ -25,22 +25,33 @@ pub(crate) fn put_first_tag(
 ) -> Result<(), OutOfMemory>
     ensures { OnOk result (out.new.items ≡ out.old.items ++ (codes "<svg" ++ attributes_then (spec.picture_attributes wide high) (codes ">"))) }
 {
-    put(out, b"<svg xmlns=\"http://www.w3.org/2000/svg\"")?;
+    put(out, b"<svg")?;
+    put_attribute(out, b"xmlns", b"http://www.w3.org/2000/svg")?;
     put_number(alloc, out, b"width", wide)?;
     put_number(alloc, out, b"height", high)?;
-    put(out, b" font-family=\"monospace\" font-size=\"12\">")
+    put_attribute(out, b"font-family", b"monospace")?;
+    put_attribute(out, b"font-size", b"12")?;
+    put(out, b">")
 }
 
-// The title, and what lies under all rows.
-#[tactic(auto, using(std::proofs::Common::append_assoc))]
-fn put_ground(out: &mut Vec<u8>) -> Result<(), OutOfMemory>
-    ensures { OnOk result (out.new.items ≡ out.old.items ++ (line_text spec.title ++ line_text spec.ground)) }
+// The title as a line.
+#[tactic(auto, unfolding(spec_picture::specs::Picture::title))]
+fn put_title(out: &mut Vec<u8>) -> Result<(), OutOfMemory>
+    ensures { OnOk result (out.new.items ≡ out.old.items ++ line_text spec.title) }
 {
-    put(out, b"<title>a contract and a run</title>\n")?;
-    put(
-        out,
-        b"<rect width=\"100%\" height=\"100%\" fill=\"#fff\"/>\n",
-    )
+    put(out, b"<title>a contract and a run</title>\n")
+}
+
+// What lies under all rows, as a line.
+#[tactic(auto, using(std::proofs::Common::append_assoc), unfolding(spec_picture::specs::Picture::ground))]
+fn put_ground(out: &mut Vec<u8>) -> Result<(), OutOfMemory>
+    ensures { OnOk result (out.new.items ≡ out.old.items ++ line_text spec.ground) }
+{
+    put(out, b"<rect")?;
+    put_attribute(out, b"width", b"100%")?;
+    put_attribute(out, b"height", b"100%")?;
+    put_attribute(out, b"fill", b"#fff")?;
+    put(out, b"/>\n")
 }
 
 // Words as a line.
@@ -81,6 +92,7 @@ pub(crate) fn put_tree_head(
     ensures { OnOk result (out.new.items ≡ out.old.items ++ flat_map line_text (spec.tree_head parties.now)) }
 {
     let signers = signers_text(alloc, parties)?;
+    put_title(out)?;
     put_ground(out)?;
     put_words_line(
         alloc,

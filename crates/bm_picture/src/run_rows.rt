@@ -108,7 +108,7 @@ fn put_step_words(
 }
 
 // The row of an event, which takes this transaction or none.
-#[tactic(auto, using(std::proofs::Common::append_assoc))]
+#[tactic(auto, using(std::proofs::Common::append_assoc), unfolding(spec_picture::specs::Rows::run_group))]
 fn put_run_group(
     alloc: Global,
     out: &mut Vec<u8>,
@@ -192,7 +192,7 @@ fn put_halt_group(
 }
 
 // The same as a line.
-#[tactic(auto, using(std::proofs::Common::append_assoc))]
+#[tactic(auto, using(std::proofs::Common::append_assoc), unfolding(spec_picture::specs::Rows::halt_group))]
 fn put_halt(
     alloc: Global,
     out: &mut Vec<u8>,

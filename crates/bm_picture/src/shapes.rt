@@ -15,7 +15,7 @@ use spec_tool::Which;
 use std::alloc::Global;
 
 /// Words that begin here.
-#[tactic(auto, using(std::proofs::Common::append_assoc))]
+#[tactic(auto, using(std::proofs::Common::append_assoc), unfolding(spec_picture::specs::Layout::words_at))]
 pub(crate) fn put_words(
     alloc: Global,
     out: &mut Vec<u8>,
@@ -43,7 +43,8 @@ fn put_box_place(alloc: Global, out: &mut Vec<u8>, x: u32, row: u32) -> Result<(
     put(out, b"<rect")?;
     put_number(alloc, out, b"x", x as u64)?;
     put_number(alloc, out, b"y", top(row) + 5)?;
-    put(out, b" width=\"10\" height=\"10\"")
+    put_attribute(out, b"width", b"10")?;
+    put_attribute(out, b"height", b"10")
 }
 
 // How it is filled, and its edge.
@@ -54,13 +55,13 @@ fn put_box_look(out: &mut Vec<u8>, fill: &[u8], pattern: &[u8]) -> Result<(), Ou
         ++ (attribute_text (codes "stroke-dasharray", pattern.now) ++ codes "/>")))) }
 {
     put_attribute(out, b"fill", fill)?;
-    put(out, b" stroke=\"#333\"")?;
+    put_attribute(out, b"stroke", b"#333")?;
     put_attribute(out, b"stroke-dasharray", pattern)?;
     put(out, b"/>")
 }
 
 /// A box that is so filled, with this pattern of its edge.
-#[tactic(auto, using(std::proofs::Common::append_assoc))]
+#[tactic(auto, using(std::proofs::Common::append_assoc), unfolding(spec_picture::specs::Layout::box_at))]
 pub(crate) fn put_box(
     alloc: Global,
     out: &mut Vec<u8>,
@@ -130,7 +131,7 @@ fn guides_text(alloc: Global, row: u32, which: &Which) -> Result<Vec<u8>, OutOfM
 }
 
 /// The lines of the tree in a transaction's row.
-#[tactic(auto, using(std::proofs::Common::append_assoc))]
+#[tactic(auto, using(std::proofs::Common::append_assoc), unfolding(spec_picture::specs::Layout::guides_at))]
 pub(crate) fn put_guides(
     alloc: Global,
     out: &mut Vec<u8>,
@@ -142,5 +143,7 @@ pub(crate) fn put_guides(
     let text = guides_text(alloc, row, which)?;
     put(out, b"<path")?;
     put_attribute(out, b"d", &text)?;
-    put(out, b" fill=\"none\" stroke=\"#999\"/>")
+    put_attribute(out, b"fill", b"none")?;
+    put_attribute(out, b"stroke", b"#999")?;
+    put(out, b"/>")
 }

@@ -75,7 +75,7 @@ fn put_label(
 }
 
 // The row of a transaction that this event reached, or none.
-#[tactic(auto, using(std::proofs::Common::append_assoc))]
+#[tactic(auto, using(std::proofs::Common::append_assoc), unfolding(spec_picture::specs::Rows::tree_group))]
 fn put_tree_group(
     alloc: Global,
     out: &mut Vec<u8>,

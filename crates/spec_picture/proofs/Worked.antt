@@ -4,7 +4,7 @@ use Rattle.std.proofs.Common.{refl}
 use Rattle.std.specs.Fmt.{digits}
 use Rattle.spec_terms.specs.declared.path.PathStep.TheVariants.{Branch as To, Part as Into}
 use Rattle.spec_tool.specs.declared.which.Which.TheVariants.{Init, At}
-use Rattle.spec_picture.specs.Xml.{element, nothing, words, inner, escaped, element_text, is_named, ids}
+use Rattle.spec_picture.specs.Xml.{element, nothing, words, inner, escaped, attribute_text, element_text, is_named, ids}
 use Rattle.spec_picture.specs.Words.{cut, node_id}
 use Rattle.spec_picture.specs.Layout.{guides_text}
 use Rattle.spec_picture.specs.Taken.{reached_from}
@@ -19,6 +19,7 @@ nested : element_text (element (codes "g") [] (inner (element (codes "p") [] not
 nested = refl
 
 quoted : element_text (element (codes "g") ((codes "id", codes "a") ∷ []) nothing) ≡ codes "<g id=" ++ (34 ∷ 97 ∷ 34 ∷ codes "/>")
+unfolding attribute_text
 quoted = refl
 
 named : is_named (element (codes "g") ((codes "font-size", codes "1 2") ∷ (codes "x1", []) ∷ []) nothing) ≡ true

@@ -60,7 +60,7 @@ furthest x (r ∷ rs) = furthest (max x (column_of r.which)) rs
 
 -- ---- words and boxes
 
-abbrev pub words_at : ℕ → ℕ → List ℕ → Element
+unfoldable pub words_at : ℕ → ℕ → List ℕ → Element
 words_at x row text =
     element (codes "text") ((codes "x", decimal x) ∷ (codes "y", decimal (top row + 15)) ∷ []) (words text nothing)
 
@@ -77,7 +77,7 @@ hollow = (codes "#fff", codes "none")
 abbrev pub dashed : Look
 dashed = (codes "#fff", codes "2 2")
 
-abbrev pub box_at : ℕ → ℕ → Look → Element
+unfoldable pub box_at : ℕ → ℕ → Look → Element
 box_at x row look =
     element (codes "rect")
     ((codes "x", decimal x) ∷ (codes "y", decimal (top row + 5)) ∷ (codes "width", codes "10") ∷ (codes "height", codes "10")
@@ -120,7 +120,7 @@ rises_text x row (Into k ∷ steps) = rises_text x row steps
 abbrev pub guides_text : ℕ → Which → List ℕ
 guides_text row which = tick_text (column_of which) row ++ rises_text tree_column row (steps_to which)
 
-abbrev pub guides_at : ℕ → Which → Element
+unfoldable pub guides_at : ℕ → Which → Element
 guides_at row which =
     element (codes "path")
     ((codes "d", guides_text row which) ∷ (codes "fill", codes "none") ∷ (codes "stroke", codes "#999") ∷ [])

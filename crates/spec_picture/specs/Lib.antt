@@ -6,3 +6,4 @@ pub mod Layout
 pub mod Rows
 pub mod Picture
 pub mod Statements
+pub mod Drawing

@@ -18,10 +18,10 @@ use Rattle.spec_picture.specs.Rows.{tree_groups, run_groups, last_groups}
 
 -- ---- headings
 
-abbrev pub title : Element
+unfoldable pub title : Element
 title = element (codes "title") [] (words (codes "a contract and a run") nothing)
 
-abbrev pub ground : Element
+unfoldable pub ground : Element
 ground = element (codes "rect") ((codes "width", codes "100%") ∷ (codes "height", codes "100%") ∷ (codes "fill", codes "#fff") ∷ []) nothing
 
 -- who signs the branches

@@ -22,7 +22,7 @@ abbrev pub label_text : TreeRow → List ℕ
 label_text r = cut 96 (which_text r.which ++ (codes ": " ++ r.words))
 
 -- the row of a transaction that this event reached, or none
-abbrev pub tree_group : ℕ → Option ℕ → TreeRow → Element
+unfoldable pub tree_group : ℕ → Option ℕ → TreeRow → Element
 tree_group row reached r =
     element (codes "g") ((codes "id", node_id r.which) ∷ [])
     (inner (guides_at row r.which)
@@ -38,7 +38,7 @@ tree_groups row taken (r ∷ rs) = tree_group row (reached_from r.which 1 taken)
 -- ---- the run
 
 -- the row of event n, which takes this transaction or none
-abbrev pub run_group : ℕ → ℕ → Option Which → Entry → Element
+unfoldable pub run_group : ℕ → ℕ → Option Which → Entry → Element
 run_group row n which e =
     element (codes "g") ((codes "id", event_id n) ∷ [])
     (inner (box_at first_column row (run_look e.outcome))
@@ -59,7 +59,7 @@ abbrev pub halt_id : List ℕ
 halt_id = codes "halt"
 
 -- the row of what halted the run, and how
-abbrev pub halt_group : ℕ → List ℕ → List ℕ → Element
+unfoldable pub halt_group : ℕ → List ℕ → List ℕ → Element
 halt_group row what how =
     element (codes "g") ((codes "id", halt_id) ∷ [])
     (inner (box_at first_column row dashed)

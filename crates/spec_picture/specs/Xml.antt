@@ -37,7 +37,7 @@ abbrev pub escaped : List ℕ → List ℕ
 escaped bytes = flat_map escape bytes
 
 -- an attribute, with a space before it
-abbrev pub attribute_text : List ℕ × List ℕ → List ℕ
+unfoldable pub attribute_text : List ℕ × List ℕ → List ℕ
 attribute_text a = codes " " ++ (a.0 ++ (codes "=" ++ (quote ++ (escaped a.1 ++ quote))))
 
 -- attributes, and what follows

@@ -17,8 +17,9 @@ use Rattle.spec_picture.specs.Xml.{ids}
 use Rattle.spec_picture.specs.Tree.{rows_of}
 use Rattle.spec_picture.specs.Taken.{Places, taken_from, taken, after_steps}
 use Rattle.spec_picture.specs.Words.{node_id, event_id}
-use Rattle.spec_picture.specs.Rows.{tree_groups, run_groups, last_groups}
-use Rattle.spec_picture.specs.Picture.{groups, run_head, picture}
+use Rattle.spec_picture.specs.Layout.{words_at, box_at, guides_at}
+use Rattle.spec_picture.specs.Rows.{tree_group, run_group, halt_group, tree_groups, run_groups, last_groups}
+use Rattle.spec_picture.specs.Picture.{title, ground, groups, run_head, picture}
 use Rattle.spec_picture.specs.Statements.{PicturesShowEach, event_ids, last_ids, drawn, transaction_ids}
 use Rattle.theory_picture.proofs.Lines.{ids_of_lines}
 use Rattle.theory_picture.proofs.Named.{pictures_are_named}
@@ -27,23 +28,27 @@ use Rattle.theory_picture.proofs.Order.{rows_in_order}
 -- of the transactions
 tree_ids : (row : ℕ) (takes : List (Option Which)) (rs : List TreeRow)
     → flat_map ids (tree_groups row takes rs) ≡ map node_id (map (λ r. r.which) rs)
+unfolding words_at box_at guides_at tree_group
 tree_ids row takes [] = refl
 tree_ids row takes (r ∷ rs) = ap (λ (xs : List (List ℕ)). node_id r.which ∷ xs) (tree_ids (row + 1) takes rs)
 
 -- of the events
 run_ids : (row n : ℕ) (places : Places) (es : List Entry)
     → flat_map ids (run_groups row n (taken_from places es) es) ≡ event_ids n es
+unfolding words_at box_at run_group
 run_ids row n places [] = refl
 run_ids row n places (e ∷ es) =
     ap (λ (xs : List (List ℕ)). event_id n ∷ xs) (run_ids (row + 1) (n + 1) (after_steps (made_by e.outcome) places e.steps) es)
 
 -- of a halt
 halt_ids : (row : ℕ) (last : Last) → flat_map ids (last_groups row last) ≡ last_ids last
+unfolding words_at box_at halt_group
 halt_ids row Whole = refl
 halt_ids row (Guessed event party secret) = refl
 halt_ids row (Collided event) = refl
 
 draws_each : (advert : Advert) (entries : List Entry) (last : Last) → ids (picture advert entries last) ≡ drawn advert entries last
+unfolding words_at title ground
 draws_each advert entries last =
     let rows = rows_of advert in
     let n = length rows in

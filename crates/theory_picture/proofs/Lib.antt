@@ -1,4 +1,8 @@
 pub mod Lines
+pub mod Endings
 mod Named
 mod Order
 mod Drawn
+mod Answered
+mod Small
+mod Once

@@ -12,8 +12,9 @@ use Rattle.spec_picture.specs.declared.tree_row.TreeRow.{TreeRow}
 use Rattle.spec_picture.specs.Xml.{Element, is_named}
 use Rattle.spec_picture.specs.Tree.{rows_of}
 use Rattle.spec_picture.specs.Taken.{taken}
-use Rattle.spec_picture.specs.Rows.{tree_groups, run_groups, last_groups}
-use Rattle.spec_picture.specs.Picture.{groups, picture, run_head}
+use Rattle.spec_picture.specs.Layout.{words_at, box_at, guides_at}
+use Rattle.spec_picture.specs.Rows.{tree_group, run_group, halt_group, tree_groups, run_groups, last_groups}
+use Rattle.spec_picture.specs.Picture.{title, ground, groups, picture, run_head}
 use Rattle.theory_picture.proofs.Lines.{named_lines}
 
 all-append : (xs ys : List Element) → list_all is_named xs ≡ true → list_all is_named ys ≡ true → list_all is_named (xs ++ ys) ≡ true
@@ -27,20 +28,24 @@ all-append (x ∷ xs) ys h k = by_first (is_named x) h (all-append xs ys)
     by_first false h f = h
 
 tree_named : (row : ℕ) (takes : List (Option Which)) (rs : List TreeRow) → list_all is_named (tree_groups row takes rs) ≡ true
+unfolding words_at box_at guides_at tree_group
 tree_named row takes [] = refl
 tree_named row takes (r ∷ rs) = tree_named (row + 1) takes rs
 
 run_named : (row n : ℕ) (takes : List (Option Which)) (es : List Entry) → list_all is_named (run_groups row n takes es) ≡ true
+unfolding words_at box_at run_group
 run_named row n [] es = refl
 run_named row n (t ∷ ts) [] = refl
 run_named row n (t ∷ ts) (e ∷ es) = run_named (row + 1) (n + 1) ts es
 
 halt_named : (row : ℕ) (last : Last) → list_all is_named (last_groups row last) ≡ true
+unfolding words_at box_at halt_group
 halt_named row Whole = refl
 halt_named row (Guessed event party secret) = refl
 halt_named row (Collided event) = refl
 
 pub pictures_are_named : (advert : Advert) (entries : List Entry) (last : Last) → is_named (picture advert entries last) ≡ true
+unfolding words_at title ground
 pictures_are_named advert entries last =
     let rows = rows_of advert in
     let n = length rows in

@@ -22,15 +22,17 @@ at_all paths = map At paths
 abbrev found : List Located → List Which
 found xs = at_all (branch_paths_of xs)
 
-found-append : (xs ys : List Located) → found (xs ++ ys) ≡ found xs ++ found ys
-found-append [] ys = refl
-found-append (x ∷ xs) ys = by_subterm x.subterm (found-append xs ys)
+pub branch_paths_of-append : (xs ys : List Located) → branch_paths_of (xs ++ ys) ≡ branch_paths_of xs ++ branch_paths_of ys
+branch_paths_of-append [] ys = refl
+branch_paths_of-append (x ∷ xs) ys = by_subterm x.subterm (branch_paths_of-append xs ys)
   where
-    by_subterm : (subterm : Subterm) → found (xs ++ ys) ≡ found xs ++ found ys
-        → at_all (if_branch subterm x.path (branch_paths_of (xs ++ ys)))
-        ≡ at_all (if_branch subterm x.path (branch_paths_of xs)) ++ found ys
+    by_subterm : (subterm : Subterm) → branch_paths_of (xs ++ ys) ≡ branch_paths_of xs ++ branch_paths_of ys
+        → if_branch subterm x.path (branch_paths_of (xs ++ ys)) ≡ if_branch subterm x.path (branch_paths_of xs) ++ branch_paths_of ys
     by_subterm (position c) h = h
-    by_subterm (at_branch b) h = ap (λ (ws : List Which). At x.path ∷ ws) h
+    by_subterm (at_branch b) h = ap (λ (ps : List (List PathStep)). x.path ∷ ps) h
+
+found-append : (xs ys : List Located) → found (xs ++ ys) ≡ found xs ++ found ys
+found-append xs ys = ap at_all (branch_paths_of-append xs ys) ∙ map-append At (branch_paths_of xs) (branch_paths_of ys)
 
 module _ (a : Advert) where
   mutual

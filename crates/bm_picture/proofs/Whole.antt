@@ -28,6 +28,7 @@ pub whole : (parties : List (List ℕ)) (rows : List TreeRow) (takes : List (Opt
     → element_text (picture_of parties rows takes entries last)
     ≡ codes "<svg" ++ attributes_then (picture_attributes (width rows) (height rows entries))
     (codes ">" ++ (flat_map line_text (groups parties rows takes entries last) ++ codes "</svg>"))
+unfolding picture_of
 whole parties rows takes entries last =
     ap (λ (t : List ℕ). codes "<svg" ++ attributes_then (picture_attributes (width rows) (height rows entries)) (codes ">" ++ t))
     (lines_then (groups parties rows takes entries last) (codes "</svg>"))

@@ -40,7 +40,7 @@ fn height(rows: &[TreeRow], entries: &[Entry]) -> Result<u64, OutOfMemory>
 }
 
 // All rows and headings.
-#[tactic(auto, using(std::proofs::Common::append_assoc, crate::proofs::Whole::five_parts))]
+#[tactic(auto, using(std::proofs::Common::append_assoc, crate::proofs::Whole::five_parts), unfolding(spec_picture::specs::Picture::groups))]
 fn put_rows(
     alloc: Global,
     out: &mut Vec<u8>,
@@ -84,6 +84,7 @@ fn all_drawn(
 }
 
 // The picture of a contract and a run.
+#[tactic(auto, unfolding(spec_picture::specs::Picture::picture))]
 fn picture(
     alloc: Global,
     advert: &Advert,

@@ -83,7 +83,7 @@ fn signers_text(alloc: Global, parties: &[Name]) -> Result<Vec<u8>, OutOfMemory>
 }
 
 /// The heading of the contract.
-#[tactic(auto, using(std::proofs::Common::append_assoc, crate::proofs::Whole::append_nothing))]
+#[tactic(auto, using(std::proofs::Common::append_assoc, crate::proofs::Whole::append_nothing), unfolding(spec_picture::specs::Picture::tree_head))]
 pub(crate) fn put_tree_head(
     alloc: Global,
     out: &mut Vec<u8>,
@@ -105,7 +105,7 @@ pub(crate) fn put_tree_head(
 }
 
 /// The heading of the run.
-#[tactic(auto, using(std::proofs::Common::append_assoc, crate::proofs::Whole::append_nothing))]
+#[tactic(auto, using(std::proofs::Common::append_assoc, crate::proofs::Whole::append_nothing), unfolding(spec_picture::specs::Picture::run_head))]
 pub(crate) fn put_run_head(alloc: Global, out: &mut Vec<u8>, row: u32) -> Result<(), OutOfMemory>
     ensures { OnOk result (out.new.items ≡ out.old.items ++ flat_map line_text (spec.run_head row)) }
 {

@@ -107,6 +107,45 @@ fn put_step_words(
     put_words(alloc, out, 640, row, &text)
 }
 
+// The row of an event up to its number.
+#[tactic(auto, using(std::proofs::Common::append_assoc))]
+fn put_run_front(
+    alloc: Global,
+    out: &mut Vec<u8>,
+    row: u32,
+    number: u32,
+    outcome: &Outcome,
+) -> Result<(), OutOfMemory>
+    ensures { OnOk result (out.new.items ≡ out.old.items ++ (codes "<g" ++ (attribute_text (codes "id", words.event_id number) ++ (codes ">"
+        ++ (element_text (layout.box_at layout.first_column row (layout.run_look outcome.now))
+        ++ element_text (layout.words_at layout.number_column row (decimal number))))))) }
+{
+    let id = event_id(alloc, number)?;
+    put_group(out, &id)?;
+    put_run_box(alloc, out, row, outcome)?;
+    put_event_number(alloc, out, row, number)
+}
+
+// What stands behind it.
+#[tactic(auto, using(std::proofs::Common::append_assoc))]
+fn put_run_back(
+    alloc: Global,
+    out: &mut Vec<u8>,
+    row: u32,
+    which: &Option<Which>,
+    entry: &Entry,
+) -> Result<(), OutOfMemory>
+    ensures { OnOk result (out.new.items ≡ out.old.items
+        ++ (element_text (layout.words_at layout.event_column row (words.cut 34 (texts.event_text entry.now.event)))
+        ++ (element_text (layout.words_at (layout.outcome_column entry.now.outcome) row (words.cut 20 (words.outcome_words which.now entry.now.outcome)))
+        ++ (element_text (layout.words_at layout.calculus_column row (words.cut 32 (words.steps_text entry.now.steps))) ++ codes "</g>")))) }
+{
+    put_event_words(alloc, out, row, &entry.event)?;
+    put_outcome_words(alloc, out, row, which, &entry.outcome)?;
+    put_step_words(alloc, out, row, entry.steps.as_slice())?;
+    put(out, b"</g>")
+}
+
 // The row of an event, which takes this transaction or none.
 #[tactic(auto, using(std::proofs::Common::append_assoc), unfolding(spec_picture::specs::Rows::run_group))]
 fn put_run_group(
@@ -119,14 +158,8 @@ fn put_run_group(
 ) -> Result<(), OutOfMemory>
     ensures { OnOk result (out.new.items ≡ out.old.items ++ element_text (spec.run_group row number which.now entry.now)) }
 {
-    let id = event_id(alloc, number)?;
-    put_group(out, &id)?;
-    put_run_box(alloc, out, row, &entry.outcome)?;
-    put_event_number(alloc, out, row, number)?;
-    put_event_words(alloc, out, row, &entry.event)?;
-    put_outcome_words(alloc, out, row, which, &entry.outcome)?;
-    put_step_words(alloc, out, row, entry.steps.as_slice())?;
-    put(out, b"</g>")
+    put_run_front(alloc, out, row, number, &entry.outcome)?;
+    put_run_back(alloc, out, row, which, entry)
 }
 
 // The same as a line.
@@ -153,7 +186,7 @@ pub(crate) fn put_run_groups(
     takes: &[Option<Which>],
     entries: &[Entry],
 ) -> Result<(), OutOfMemory>
-    ensures { OnOk result (out.new.items ≡ out.old.items ++ flat_map line_text (spec.run_groups first 1 takes.now entries.now)) }
+    ensures { OnOk result (out.new.items ≡ out.old.items ++ flat_map line_text (spec.run_groups first 1 entries.now takes.now)) }
 {
     let mut row = first;
     let mut number = 1u32;

@@ -114,13 +114,28 @@ fn add_branch(
             put_withdraw(alloc, &mut text, party, paid, advert.fee)?;
             push_row(alloc, rows, path, guard, &text)
         }
-        Guarded::Split { parts } => {
-            let mut text = Vec::new(alloc);
-            put_split(alloc, &mut text, parts, advert.fee)?;
-            push_row(alloc, rows, path, guard, &text)?;
-            add_parts(alloc, advert, rows, path, parts)
-        }
+        Guarded::Split { parts } => add_split(alloc, advert, rows, path, guard, parts),
     }
+}
+
+// The split at a path, before which this guard stands.
+#[cycle(walk)]
+fn add_split(
+    alloc: Global,
+    advert: &Advert,
+    rows: &mut Vec<TreeRow>,
+    path: &Path,
+    guard: Vec<u8>,
+    parts: &[Part],
+) -> Result<(), OutOfMemory>
+    ensures { OnOk result (rows.new.items ≡ rows.old.items
+        ++ (spec.tree_row path.now guard.items (spec.split_text (spec.part_values (parts_view parts.now)) advert.now.fee)
+        ∷ spec.parts_rows advert.now path.now 0 (parts_view parts.now))) }
+{
+    let mut text = Vec::new(alloc);
+    put_split(alloc, &mut text, parts, advert.fee)?;
+    push_row(alloc, rows, path, guard, &text)?;
+    add_parts(alloc, advert, rows, path, parts)
 }
 
 // The parts of the split at a path.

@@ -29,12 +29,12 @@ abbrev pub signers_text : List (List ℕ) → List ℕ
 signers_text parties =
     codes "all branches are signed beforehand by " ++ (joined (codes ", ") parties ++ codes ", except where authorised later")
 
-abbrev pub tree_head : List (List ℕ) → List Element
+unfoldable pub tree_head : List (List ℕ) → List Element
 tree_head parties =
     title ∷ ground ∷ words_at first_column 0 (codes "transactions of the contract: filled if reached, else dashed")
     ∷ words_at first_column 1 (cut 110 (signers_text parties)) ∷ []
 
-abbrev pub run_head : ℕ → List Element
+unfoldable pub run_head : ℕ → List Element
 run_head row =
     words_at event_column row (codes "event") ∷ words_at ledger_column row (codes "ledger")
     ∷ words_at refused_column row (codes "refused") ∷ words_at calculus_column row (codes "calculus") ∷ []
@@ -42,12 +42,12 @@ run_head row =
 -- ---- the picture
 
 -- all that is drawn of these transactions, of which the events take these, and of these events
-abbrev pub groups : List (List ℕ) → List TreeRow → List (Option Which) → List Entry → Last → List Element
+unfoldable pub groups : List (List ℕ) → List TreeRow → List (Option Which) → List Entry → Last → List Element
 groups parties rows takes entries last =
     tree_head parties
     ++ (tree_groups 2 takes rows
     ++ (run_head (length rows + 3)
-    ++ (run_groups (length rows + 4) 1 takes entries ++ last_groups (length rows + 4 + length entries) last)))
+    ++ (run_groups (length rows + 4) 1 entries takes ++ last_groups (length rows + 4 + length entries) last)))
 
 -- as wide as the columns of the events, and as the words of each transaction
 abbrev pub width : List TreeRow → ℕ
@@ -62,12 +62,12 @@ picture_attributes wide high =
     (codes "xmlns", codes "http://www.w3.org/2000/svg") ∷ (codes "width", decimal wide) ∷ (codes "height", decimal high)
     ∷ (codes "font-family", codes "monospace") ∷ (codes "font-size", codes "12") ∷ []
 
-abbrev pub picture_of : List (List ℕ) → List TreeRow → List (Option Which) → List Entry → Last → Element
+unfoldable pub picture_of : List (List ℕ) → List TreeRow → List (Option Which) → List Entry → Last → Element
 picture_of parties rows takes entries last =
     element (codes "svg") (picture_attributes (width rows) (height rows entries)) (lines (groups parties rows takes entries last))
 
 -- the picture of a contract and of the events of a run with it
-abbrev pub picture : Advert → List Entry → Last → Element
+unfoldable pub picture : Advert → List Entry → Last → Element
 picture advert entries last = picture_of (participants advert) (rows_of advert) (taken entries) entries last
 
 -- its text

@@ -48,10 +48,10 @@ run_group row n which e =
     (inner (words_at calculus_column row (cut 32 (steps_text e.steps))) nothing)))))
 
 -- those of the events from number n on, the first in this row, each with what it takes
-abbrev pub run_groups : ℕ → ℕ → List (Option Which) → List Entry → List Element
-run_groups row n [] es = []
-run_groups row n (t ∷ ts) [] = []
-run_groups row n (t ∷ ts) (e ∷ es) = run_group row n t e ∷ run_groups (row + 1) (n + 1) ts es
+abbrev pub run_groups : ℕ → ℕ → List Entry → List (Option Which) → List Element
+run_groups row n [] takes = []
+run_groups row n (e ∷ es) [] = []
+run_groups row n (e ∷ es) (t ∷ ts) = run_group row n t e ∷ run_groups (row + 1) (n + 1) es ts
 
 -- ---- a halt
 

@@ -19,7 +19,7 @@ use Rattle.spec_picture.specs.Taken.{Places, taken_from, taken, after_steps}
 use Rattle.spec_picture.specs.Words.{node_id, event_id}
 use Rattle.spec_picture.specs.Layout.{words_at, box_at, guides_at}
 use Rattle.spec_picture.specs.Rows.{tree_group, run_group, halt_group, tree_groups, run_groups, last_groups}
-use Rattle.spec_picture.specs.Picture.{title, ground, groups, run_head, picture}
+use Rattle.spec_picture.specs.Picture.{title, ground, tree_head, run_head, groups, picture_of, picture}
 use Rattle.spec_picture.specs.Statements.{PicturesShowEach, event_ids, last_ids, drawn, transaction_ids}
 use Rattle.theory_picture.proofs.Lines.{ids_of_lines}
 use Rattle.theory_picture.proofs.Named.{pictures_are_named}
@@ -34,7 +34,7 @@ tree_ids row takes (r ∷ rs) = ap (λ (xs : List (List ℕ)). node_id r.which �
 
 -- of the events
 run_ids : (row n : ℕ) (places : Places) (es : List Entry)
-    → flat_map ids (run_groups row n (taken_from places es) es) ≡ event_ids n es
+    → flat_map ids (run_groups row n es (taken_from places es)) ≡ event_ids n es
 unfolding words_at box_at run_group
 run_ids row n places [] = refl
 run_ids row n places (e ∷ es) =
@@ -48,12 +48,12 @@ halt_ids row (Guessed event party secret) = refl
 halt_ids row (Collided event) = refl
 
 draws_each : (advert : Advert) (entries : List Entry) (last : Last) → ids (picture advert entries last) ≡ drawn advert entries last
-unfolding words_at title ground
+unfolding words_at title ground tree_head run_head groups picture_of picture
 draws_each advert entries last =
     let rows = rows_of advert in
     let n = length rows in
     let tree = tree_groups 2 (taken entries) rows in
-    let run = run_groups (n + 4) 1 (taken entries) entries in
+    let run = run_groups (n + 4) 1 entries (taken entries) in
     let end = last_groups (n + 4 + length entries) last in
     ids_of_lines (groups (participants advert) rows (taken entries) entries last)
     ∙ flat_map-append ids tree (run_head (n + 3) ++ (run ++ end))

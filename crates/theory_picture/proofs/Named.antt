@@ -14,7 +14,7 @@ use Rattle.spec_picture.specs.Tree.{rows_of}
 use Rattle.spec_picture.specs.Taken.{taken}
 use Rattle.spec_picture.specs.Layout.{words_at, box_at, guides_at}
 use Rattle.spec_picture.specs.Rows.{tree_group, run_group, halt_group, tree_groups, run_groups, last_groups}
-use Rattle.spec_picture.specs.Picture.{title, ground, groups, picture, run_head}
+use Rattle.spec_picture.specs.Picture.{title, ground, tree_head, run_head, groups, picture_of, picture}
 use Rattle.theory_picture.proofs.Lines.{named_lines}
 
 all-append : (xs ys : List Element) → list_all is_named xs ≡ true → list_all is_named ys ≡ true → list_all is_named (xs ++ ys) ≡ true
@@ -32,11 +32,11 @@ unfolding words_at box_at guides_at tree_group
 tree_named row takes [] = refl
 tree_named row takes (r ∷ rs) = tree_named (row + 1) takes rs
 
-run_named : (row n : ℕ) (takes : List (Option Which)) (es : List Entry) → list_all is_named (run_groups row n takes es) ≡ true
+run_named : (row n : ℕ) (es : List Entry) (takes : List (Option Which)) → list_all is_named (run_groups row n es takes) ≡ true
 unfolding words_at box_at run_group
-run_named row n [] es = refl
-run_named row n (t ∷ ts) [] = refl
-run_named row n (t ∷ ts) (e ∷ es) = run_named (row + 1) (n + 1) ts es
+run_named row n [] takes = refl
+run_named row n (e ∷ es) [] = refl
+run_named row n (e ∷ es) (t ∷ ts) = run_named (row + 1) (n + 1) es ts
 
 halt_named : (row : ℕ) (last : Last) → list_all is_named (last_groups row last) ≡ true
 unfolding words_at box_at halt_group
@@ -45,14 +45,14 @@ halt_named row (Guessed event party secret) = refl
 halt_named row (Collided event) = refl
 
 pub pictures_are_named : (advert : Advert) (entries : List Entry) (last : Last) → is_named (picture advert entries last) ≡ true
-unfolding words_at title ground
+unfolding words_at title ground tree_head run_head groups picture_of picture
 pictures_are_named advert entries last =
     let rows = rows_of advert in
     let n = length rows in
     let takes = taken entries in
     let tree = tree_groups 2 takes rows in
-    let run = run_groups (n + 4) 1 takes entries in
+    let run = run_groups (n + 4) 1 entries takes in
     let end = last_groups (n + 4 + length entries) last in
     named_lines (groups (participants advert) rows takes entries last)
     ∙ all-append tree (run_head (n + 3) ++ (run ++ end)) (tree_named 2 takes rows)
-    (all-append run end (run_named (n + 4) 1 takes entries) (halt_named (n + 4 + length entries) last))
+    (all-append run end (run_named (n + 4) 1 entries takes) (halt_named (n + 4 + length entries) last))

@@ -6,5 +6,5 @@ use Rattle.bm_picture.proofs.run_rows.put_run_groups.Given as goal
 
 abbrev pub invariant-loop-entry : goal.invariant-loop-entry
 invariant-loop-entry l =
-    l.out.items ++ flat_map line_text (run_groups l.row l.number l.left (drop l.entry-index l.entries))
-    ≡ l.initial.out.items ++ flat_map line_text (run_groups l.first 1 l.takes l.entries)
+    l.out.items ++ flat_map line_text (run_groups l.row l.number (drop l.entry-index l.entries) l.left)
+    ≡ l.initial.out.items ++ flat_map line_text (run_groups l.first 1 l.entries l.takes)

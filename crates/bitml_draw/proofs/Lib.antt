@@ -1,0 +1,4 @@
+mod Texts
+mod Judged
+mod Left
+mod Ending

@@ -8,11 +8,11 @@ use Rattle.spec_tool.specs.declared.which.Which.{Which}
 use Rattle.spec_picture.specs.declared.last.Last.{Last}
 use Rattle.spec_picture.specs.declared.tree_row.TreeRow.{TreeRow}
 use Rattle.spec_picture.specs.Xml.{Element, attributes_then, line_text, element_text}
-use Rattle.spec_picture.specs.Picture.{groups, picture_of, picture_attributes, width, height}
+use Rattle.spec_picture.specs.Picture.{tree_head, groups, picture_of, picture_attributes, width, height}
 use Rattle.theory_picture.proofs.Lines.{lines_then}
 
-pub append_nothing : (xs : List ℕ) → xs ++ [] ≡ xs
-append_nothing xs = append-nil xs
+pub no_rest : (xs : List ℕ) → xs ++ [] ≡ xs
+no_rest xs = append-nil xs
 
 -- the lines of five lists of elements
 pub five_parts : (a b c d e : List Element) → flat_map line_text (a ++ (b ++ (c ++ (d ++ e))))
@@ -28,7 +28,7 @@ pub whole : (parties : List (List ℕ)) (rows : List TreeRow) (takes : List (Opt
     → element_text (picture_of parties rows takes entries last)
     ≡ codes "<svg" ++ attributes_then (picture_attributes (width rows) (height rows entries))
     (codes ">" ++ (flat_map line_text (groups parties rows takes entries last) ++ codes "</svg>"))
-unfolding picture_of
+unfolding tree_head groups picture_of
 whole parties rows takes entries last =
     ap (λ (t : List ℕ). codes "<svg" ++ attributes_then (picture_attributes (width rows) (height rows entries)) (codes ">" ++ t))
     (lines_then (groups parties rows takes entries last) (codes "</svg>"))

@@ -23,7 +23,8 @@ pub(crate) fn put_first_tag(
     wide: u64,
     high: u64,
 ) -> Result<(), OutOfMemory>
-    ensures { OnOk result (out.new.items ≡ out.old.items ++ (codes "<svg" ++ attributes_then (spec.picture_attributes wide high) (codes ">"))) }
+    ensures { OnOk result (out.new.items ≡ out.old.items
+        ++ (codes "<svg" ++ attributes_then (spec.picture_attributes wide high) (codes ">"))) }
 {
     put(out, b"<svg")?;
     put_attribute(out, b"xmlns", b"http://www.w3.org/2000/svg")?;
@@ -83,7 +84,7 @@ fn signers_text(alloc: Global, parties: &[Name]) -> Result<Vec<u8>, OutOfMemory>
 }
 
 /// The heading of the contract.
-#[tactic(auto, using(std::proofs::Common::append_assoc, crate::proofs::Whole::append_nothing), unfolding(spec_picture::specs::Picture::tree_head))]
+#[tactic(auto, using(std::proofs::Common::append_assoc, crate::proofs::Whole::no_rest), unfolding(spec_picture::specs::Picture::tree_head))]
 pub(crate) fn put_tree_head(
     alloc: Global,
     out: &mut Vec<u8>,
@@ -105,7 +106,7 @@ pub(crate) fn put_tree_head(
 }
 
 /// The heading of the run.
-#[tactic(auto, using(std::proofs::Common::append_assoc, crate::proofs::Whole::append_nothing), unfolding(spec_picture::specs::Picture::run_head))]
+#[tactic(auto, using(std::proofs::Common::append_assoc, crate::proofs::Whole::no_rest), unfolding(spec_picture::specs::Picture::run_head))]
 pub(crate) fn put_run_head(alloc: Global, out: &mut Vec<u8>, row: u32) -> Result<(), OutOfMemory>
     ensures { OnOk result (out.new.items ≡ out.old.items ++ flat_map line_text (spec.run_head row)) }
 {

@@ -137,8 +137,10 @@ fn put_run_back(
 ) -> Result<(), OutOfMemory>
     ensures { OnOk result (out.new.items ≡ out.old.items
         ++ (element_text (layout.words_at layout.event_column row (words.cut 34 (texts.event_text entry.now.event)))
-        ++ (element_text (layout.words_at (layout.outcome_column entry.now.outcome) row (words.cut 20 (words.outcome_words which.now entry.now.outcome)))
-        ++ (element_text (layout.words_at layout.calculus_column row (words.cut 32 (words.steps_text entry.now.steps))) ++ codes "</g>")))) }
+        ++ (element_text (layout.words_at (layout.outcome_column entry.now.outcome) row
+        (words.cut 20 (words.outcome_words which.now entry.now.outcome)))
+        ++ (element_text (layout.words_at layout.calculus_column row (words.cut 32 (words.steps_text entry.now.steps)))
+        ++ codes "</g>")))) }
 {
     put_event_words(alloc, out, row, &entry.event)?;
     put_outcome_words(alloc, out, row, which, &entry.outcome)?;
@@ -289,7 +291,7 @@ fn put_collided(
 }
 
 /// The row of a halt, none where all events were played.
-#[tactic(auto, using(std::proofs::Common::append_assoc, crate::proofs::Whole::append_nothing))]
+#[tactic(auto, using(std::proofs::Common::append_assoc, crate::proofs::Whole::no_rest))]
 pub(crate) fn put_last(
     alloc: Global,
     out: &mut Vec<u8>,

@@ -104,7 +104,8 @@ fn put_tree_line(
     takes: &[Option<Which>],
     shown: &TreeRow,
 ) -> Result<(), OutOfMemory>
-    ensures { OnOk result (out.new.items ≡ out.old.items ++ line_text (spec.tree_group row (reached_from shown.now.which 1 takes.now) shown.now)) }
+    ensures { OnOk result (out.new.items ≡ out.old.items
+        ++ line_text (spec.tree_group row (reached_from shown.now.which 1 takes.now) shown.now)) }
 {
     let event = reached(&shown.which, takes)?;
     put_tree_group(alloc, out, row, event, shown)?;

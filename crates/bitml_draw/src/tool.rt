@@ -86,14 +86,7 @@ fn answer_words<H: Hash32 + Drop, F: Files, S: Sink>(
         (around (F.told files.new) (F.faults files.new) (S.written out.new) (S.faults out.new)) result }
 {
     match words {
-        [run, contract] => serve(
-            alloc,
-            hash,
-            run.as_str(),
-            contract.as_str(),
-            files,
-            out,
-        ),
+        [run, contract] => serve(alloc, hash, run.as_str(), contract.as_str(), files, out),
         _ => finish(out, 2, b"usage\n"),
     }
 }

@@ -59,7 +59,7 @@ draws_each advert entries last =
     ∙ flat_map-append ids tree (run_head (n + 3) ++ (run ++ end))
     ∙ ap (λ (xs : List (List ℕ)). flat_map ids tree ++ xs) (flat_map-append ids run end)
     ∙ (λ i. (tree_ids 2 (taken entries) rows ∙ ap (λ (ws : List Which). map node_id ws) (rows_in_order advert)) i
-        ++ (run_ids (n + 4) 1 [] entries i ++ halt_ids (n + 4 + length entries) last i))
+    ++ (run_ids (n + 4) 1 [] entries i ++ halt_ids (n + 4 + length entries) last i))
 
 pub pictures_show_each : PicturesShowEach
 pictures_show_each advert entries last = record {

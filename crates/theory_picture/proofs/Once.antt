@@ -67,7 +67,7 @@ absent : (p : List PathStep) (qs : List (List PathStep)) → IsSmall p → AreSm
 absent p [] h k e = refl
 absent p (q ∷ qs) h k e =
     let differ : bytes_eq (node_id (At q)) (node_id (At p)) ≡ false =
-        not_same _ _ (λ same. no_truth (path_eq p q) ((path_eq-Decides p q).1 (sym (same_path q p k.0 h (behind _ _ same)))) (or_left _ _ e)) in
+    not_same _ _ (λ same. no_truth (path_eq p q) ((path_eq-Decides p q).1 (sym (same_path q p k.0 h (behind _ _ same)))) (or_left _ _ e)) in
     or_no _ _ differ (absent p qs h k.1 (or_right _ _ e))
 
 branches_differ : (ps : List (List PathStep)) → AreSmall ps → are_once ps ≡ true → are_different (map node_id (map At ps)) ≡ true
@@ -89,7 +89,7 @@ later_new : (m n : ℕ) (es : List Entry) → m < n → n + length es ≤ 2 ^ 32
 later_new m n [] less few = refl
 later_new m n (e ∷ es) less few =
     let differ : bytes_eq (event_id n) (event_id m) ≡ false =
-        not_same _ _ (λ same. let k = decimal_injective n m (omega (arith, few)) (omega (arith, few, less)) (tail_of _ _ same) in absurd (omega (arith, k, less))) in
+    not_same _ _ (λ same. let k = decimal_injective n m (omega (arith, few)) (omega (arith, few, less)) (tail_of _ _ same) in absurd (omega (arith, k, less))) in
     or_no _ _ differ (later_new m (n + 1) es (omega (arith, less)) (omega (arith, few)))
 
 events_differ : (n : ℕ) (es : List Entry) → n + length es ≤ 2 ^ 32 → are_different (event_ids n es) ≡ true
@@ -124,10 +124,11 @@ node_no_halt w (Collided event) = refl
 
 nodes_apart : (ws : List Which) (n : ℕ) (es : List Entry) (last : Last) → Apart (map node_id ws) (event_ids n es ++ last_ids last)
 nodes_apart [] n es last = tt
-nodes_apart (w ∷ ws) n es last =
-    (list_any-append (λ (t : List ℕ). bytes_eq t (node_id w)) (event_ids n es) (last_ids last)
-    ∙ or_no _ _ (node_no_event w n es) (node_no_halt w last),
-    nodes_apart ws n es last)
+nodes_apart (w ∷ ws) n es last = (
+  list_any-append (λ (t : List ℕ). bytes_eq t (node_id w)) (event_ids n es) (last_ids last)
+      ∙ or_no _ _ (node_no_event w n es) (node_no_halt w last),
+  nodes_apart ws n es last,
+)
 
 pub draws_once : PathsInOrder → DrawsOnce
 draws_once order advert entries last well few =

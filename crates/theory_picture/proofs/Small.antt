@@ -59,7 +59,7 @@ mutual
   under_small p (put_reveal puts reveals test next) h r =
       let a = and_parts _ (is_readable_test test && (is_readable_count next && are_readable next)) r in
       let e = and_parts (is_readable_count next) (are_readable next)
-          (and_parts (is_readable_test test) (is_readable_count next && are_readable next) a.1).1 in
+      (and_parts (is_readable_test test) (is_readable_count next && are_readable next) a.1).1 in
       branches_small p 0 next h e.1 (few_branches next e.0)
   under_small p (withdraw party) h r = tt
   under_small p (split parts) h r =
@@ -73,7 +73,7 @@ mutual
       let q = p ++ Into k ∷ [] in
       let a = and_parts (nat_le v max_money && (is_readable_count c && are_readable c)) (are_readable_parts ps) r in
       let e = and_parts (is_readable_count c) (are_readable c)
-          (and_parts (nat_le v max_money) (is_readable_count c && are_readable c) a.0).1 in
+      (and_parts (nat_le v max_money) (is_readable_count c && are_readable c) a.0).1 in
       let small = longer p (Into k) h (omega (arith, few)) in
       joined (branches_from q 0 c) (parts_from p (k + 1) ps) (branches_small q 0 c small e.1 (few_branches c e.0))
       (parts_small p (k + 1) ps h a.1 (omega (arith, few)))

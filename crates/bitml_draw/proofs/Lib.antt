@@ -1,4 +1,0 @@
-mod Texts
-mod Judged
-mod Left
-mod Ending

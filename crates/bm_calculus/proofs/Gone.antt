@@ -12,7 +12,7 @@ use Rattle.spec_calculus.specs.declared.parts.Deposit.{Deposit}
 use Rattle.spec_calculus.specs.Moves.{kept, value_at}
 use Rattle.spec_calculus.specs.Branches.{gone, total_value}
 use Rattle.theory_calculus.specs.InOrder.{are_ascending}
-use Rattle.theory_calculus.proofs.Sums.{gone_value, kept_gone}
+use Rattle.theory_calculus.proofs.Sums.{gone_apart, gone_none, gone_value, kept_gone}
 
 abbrev value : Deposit → ℕ
 value d = d.value
@@ -38,22 +38,6 @@ gone_again n ns (d ∷ ds) h = by_test (n == d.number) refl (gone_again n ns ds 
         by_other true = rw (sum_by-cons value d (gone ds ns), sum_by-cons value d (gone ds (n ∷ ns))) (omega (arith, ih))
         by_other false = ih
 
-gone_apart : (n : ℕ) (ns : List ℕ) (ds : List Deposit) → has_number n ns ≡ false
-    → total_value (gone ds (n ∷ ns)) ≡ total_value (gone ds (n ∷ [])) + total_value (gone ds ns)
-gone_apart n ns [] h = refl
-gone_apart n ns (d ∷ ds) h = by_tests (n == d.number) (has_number d.number ns) refl refl (gone_apart n ns ds h)
-  where
-    by_tests : (a b : Bool) → (n == d.number) ≡ a → has_number d.number ns ≡ b
-        → total_value (gone ds (n ∷ ns)) ≡ total_value (gone ds (n ∷ [])) + total_value (gone ds ns)
-        → total_value (if a || b then d ∷ gone ds (n ∷ ns) else gone ds (n ∷ ns))
-        ≡ total_value (if a || false then d ∷ gone ds (n ∷ []) else gone ds (n ∷ [])) + total_value
-        (if b then d ∷ gone ds ns else gone ds ns)
-    by_tests true true ea eb ih =
-        let q = eqb-true n d.number ea in let f : has_number d.number ns ≡ false = subst (λ m. has_number m ns ≡ false) q h in cc
-    by_tests true false ea eb ih = rw (sum_by-cons value d (gone ds (n ∷ ns)), sum_by-cons value d (gone ds (n ∷ []))) (omega (arith, ih))
-    by_tests false true ea eb ih = rw (sum_by-cons value d (gone ds (n ∷ ns)), sum_by-cons value d (gone ds ns)) (omega (arith, ih))
-    by_tests false false ea eb ih = ih
-
 -- a number that doesn't stand again takes the value of its deposit
 pub gone_more : (n : ℕ) (ns : List ℕ) (ds : List Deposit) → are_ascending (map (λ d. d.number) ds) ≡ true → has_number n ns ≡ false
     → value_at ds n + total_value (gone ds ns) ≡ total_value (gone ds (n ∷ ns))
@@ -66,10 +50,6 @@ gone_more n ns ds a h =
 headed : (ns : List ℕ) → 1 ≤ length ns → get_or ns 0 0 ∷ take (length ns - 1) (drop 1 ns) ≡ ns
 headed [] h = absurd (omega (arith, h))
 headed (n ∷ ns) h = ap (λ xs. n ∷ xs) (take_all (length (n ∷ ns) - 1) ns (omega arith))
-
-gone_none : (ds : List Deposit) → total_value (gone ds []) ≡ 0
-gone_none [] = refl
-gone_none (d ∷ ds) = gone_none ds
 
 pub gone_empty : (ds : List Deposit) (ns : List ℕ) → length ns < 1 → total_value (gone ds ns) ≡ 0
 gone_empty ds [] h = gone_none ds

@@ -45,14 +45,15 @@ kept_gone ds ns = sum_split value (λ d. has_number d.number ns) ds
 
 -- ---- the deposits of some numbers
 
-gone_none : (ds : List Deposit) → total_value (gone ds []) ≡ 0
+pub gone_none : (ds : List Deposit) → total_value (gone ds []) ≡ 0
 gone_none [] = refl
 gone_none (d ∷ ds) = gone_none ds
 
-gone_more : (n : ℕ) (ns : List ℕ) (ds : List Deposit) → has_number n ns ≡ false
+-- a number that isn't among the others takes what it takes alone
+pub gone_apart : (n : ℕ) (ns : List ℕ) (ds : List Deposit) → has_number n ns ≡ false
     → total_value (gone ds (n ∷ ns)) ≡ total_value (gone ds (n ∷ [])) + total_value (gone ds ns)
-gone_more n ns [] h = refl
-gone_more n ns (d ∷ ds) h = by_tests (n == d.number) (has_number d.number ns) refl refl (gone_more n ns ds h)
+gone_apart n ns [] h = refl
+gone_apart n ns (d ∷ ds) h = by_tests (n == d.number) (has_number d.number ns) refl refl (gone_apart n ns ds h)
   where
     by_tests : (a b : Bool) → (n == d.number) ≡ a → has_number d.number ns ≡ b
         → total_value (gone ds (n ∷ ns)) ≡ total_value (gone ds (n ∷ [])) + total_value (gone ds ns)
@@ -94,7 +95,7 @@ pub gone_value : (ds : List Deposit) (ns : List ℕ) → are_ascending (names ds
 gone_value ds [] h d = gone_none ds
 gone_value ds (n ∷ ns) h d =
     let p = and_parts (not (has_number n ns)) (are_distinct ns) d in
-    let a = gone_more n ns ds (not-true _ p.0) in
+    let a = gone_apart n ns ds (not-true _ p.0) in
     let one = gone_one n ds h in
     let ih = gone_value ds ns h p.1 in
     a ∙ (λ i. one i + ih i) ∙ sym (sum_by-cons (λ m. value_at ds m) n ns)

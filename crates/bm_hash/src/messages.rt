@@ -3,17 +3,16 @@
 ghost use Rattle.std.specs.Prelude.{◌≡◌, ◌++◌, ◌∷◌, [], IfOk, OnOk, OnErr, length, is_some, IfNone, IfSome, Some, None};
 ghost use Rattle.std.specs.Option.{option_map, option_copied};
 ghost use Rattle.std.specs.Vec.{vec_len};
-ghost use Rattle.std.specs.Ordering.{nat_cmp};
-ghost use Rattle.std.specs.Cmp.Lexicographic.{slice_cmp};
-ghost use Rattle.std.specs.BTreeMap.{Updates, IsUnchanged};
+ghost use Rattle.std.specs.Str.{bytes_eq};
+ghost use Rattle.indexmap.specs.IndexMap.{get, Updates, IsUnchanged};
 ghost use Rattle.bm_hash.specs.declared.messages.TrailError.TheVariants.{Collided, Memory};
 ghost use Rattle.bm_hash.specs.Messages.{evidence_of, message_of};
 ghost use Rattle.bm_hash.specs.Trails.{Hashes, IsClash, HaveApartDigests};
 
 use crate::hashing::Hash32;
+use indexmap::IndexMap;
 use spec_data::{Bytes, OutOfMemory};
 use std::alloc::{AllocError, AllocFailed, Global};
-use std::collections::BTreeMap;
 use std::marker::Model;
 
 /// Why a message was not hashed.
@@ -47,30 +46,32 @@ pub struct Trail<H: Hash32> {
     alloc: Global,
     hasher: H,
     messages: Vec<Bytes>,
-    index: BTreeMap<[u8; 32], usize>,
+    index: IndexMap<[u8; 32], usize>,
     collision: Option<usize>,
 }
 
 impl<H: Hash32> Model for Trail<H> {
+    ghost use Rattle.std.specs.Str.{bytes_eq};
+    ghost use Rattle.indexmap.specs.IndexMap.{get};
     ghost use Rattle.bm_hash.specs.Messages.{Noted, IsTrail};
 
     ghost Value = { Noted H };
 
     ghost view = { λ t. record { hasher = t.hasher; messages = t.messages.items } };
 
-    ghost invariant = { λ t. IsTrail (H.digest_of t.hasher) t.messages.items t.index t.collision };
+    ghost invariant = { λ t. IsTrail (H.digest_of t.hasher) t.messages.items (get bytes_eq t.index) t.collision };
 }
 
 // Adds a message with its digest.
 fn add_message(
     alloc: Global,
     messages: &mut Vec<Bytes>,
-    index: &mut BTreeMap<[u8; 32], usize>,
+    index: &mut IndexMap<[u8; 32], usize>,
     digest: [u8; 32],
     message: &[u8],
 ) -> Result<(), OutOfMemory>
     ensures added { OnOk result (messages.new.items ≡ messages.old.items ++ message.now ∷ []) }
-    ensures indexed { OnOk result (Updates (slice_cmp nat_cmp) index.old index.new digest (Some (length messages.old.items))) }
+    ensures indexed { OnOk result (Updates bytes_eq index.old index.new digest (Some (length messages.old.items))) }
     ensures same { OnErr result (messages.new.items ≡ messages.old.items) }
     ensures unindexed { OnErr result (IsUnchanged index.old index.new) }
 {
@@ -92,7 +93,7 @@ impl<H: Hash32 + Drop> Trail<H> {
             alloc,
             hasher,
             messages: Vec::new(alloc),
-            index: BTreeMap::new(alloc),
+            index: IndexMap::new(alloc),
             collision: None,
         }
     }

@@ -1,13 +1,12 @@
 //! The book of signatures: which key has signed which digest.
 #![tactic(auto)]
 
-ghost use Rattle.std.specs.Prelude.{◌≡◌, ◌<◌, ◌≤◌, ◌-◌, ◌++◌, ◌∷◌, [], OnOk, OnErr, if◌then◌else◌, length, take, true, vec_len};
+ghost use Rattle.std.specs.Prelude.{◌≡◌, ◌≤◌, ◌++◌, ◌∷◌, [], OnOk, OnErr, if◌then◌else◌, length, take, true};
 ghost use Rattle.spec_bitcoin.specs.Keys.{has_signed};
-ghost use Rattle.bm_book.specs.Indexed.{IsIndexed};
 
+use indexmap::IndexSet;
 use spec_data::OutOfMemory;
-use std::alloc::{AllocError, Global};
-use std::collections::BTreeSet;
+use std::alloc::Global;
 use std::marker::Model;
 
 /// A key and a digest that it has signed.
@@ -21,24 +20,22 @@ fn pair_of(key: &[u8; 33], digest: &[u8; 32]) -> Pair
     (*key, *digest)
 }
 
-/// The different pairs of key and digest, in order of signing. A set of the same pairs answers
-/// whether one is there.
+/// The different pairs of key and digest, in order of signing.
 #[derive(Drop)]
 pub struct Book {
-    pairs: Vec<Pair>,
-    index: BTreeSet<Pair>,
+    pairs: IndexSet<Pair>,
 }
 
 impl Model for Book {
-    ghost use Rattle.std.specs.Prelude.{List};
+    ghost use Rattle.std.specs.Prelude.{◌≡◌, List, true};
     ghost use Rattle.spec_bitcoin.specs.Keys.{Pair};
-    ghost use Rattle.bm_book.specs.Indexed.{IsIndexed};
+    ghost use Rattle.bm_book.specs.Sizes.{are_keys};
 
     ghost Value = { List Pair };
 
-    ghost view = { λ b. b.pairs.items };
+    ghost view = { λ b. b.pairs.keys };
 
-    ghost invariant = { λ b. IsIndexed b.pairs.items b.index };
+    ghost invariant = { λ b. are_keys b.pairs.keys ≡ true };
 }
 
 impl Book {
@@ -47,8 +44,7 @@ impl Book {
         ensures { result ≡ [] }
     {
         Book {
-            pairs: Vec::new(alloc),
-            index: BTreeSet::new(alloc),
+            pairs: IndexSet::new(alloc),
         }
     }
 
@@ -63,7 +59,7 @@ impl Book {
     pub fn has(&self, key: &[u8; 33], digest: &[u8; 32]) -> bool
         ensures { result ≡ has_signed self.now key.now digest.now }
     {
-        self.index.contains(&(*key, *digest))
+        self.pairs.contains(&(*key, *digest))
     }
 
     /// Whether these bytes are a key that has signed the digest. Bytes of another length are no key.
@@ -72,7 +68,7 @@ impl Book {
         ensures sized { result ≡ true → length key.now ≡ 33 }
     {
         match <[u8; 33]>::try_from(key) {
-            Ok(key) => self.index.contains(&(key, *digest)),
+            Ok(key) => self.pairs.contains(&(key, *digest)),
             Err(_) => false,
         }
     }
@@ -82,15 +78,7 @@ impl Book {
         ensures ok { OnOk result (self.new ≡ (if has_signed self.old key digest then self.old else self.old ++ (key, digest) ∷ [])) }
         ensures err { OnErr result (self.new ≡ self.old) }
     {
-        if self.has(&key, &digest) {
-            return Ok(());
-        }
-        let pair = pair_of(&key, &digest);
-        self.pairs.push(pair)?;
-        if let Err(error) = self.index.insert(pair) {
-            let _ = self.pairs.pop();
-            return Err(AllocError::from(error));
-        }
+        self.pairs.insert(pair_of(&key, &digest))?;
         Ok(())
     }
 
@@ -99,30 +87,6 @@ impl Book {
         requires { count ≤ length self.old }
         ensures { self.new ≡ take count self.old }
     {
-        cut_pairs(&mut self.pairs, &mut self.index, count);
-    }
-}
-
-/// Leaves the first `count` pairs.
-fn cut_pairs(pairs: &mut Vec<Pair>, index: &mut BTreeSet<Pair>, count: usize)
-    requires within { count ≤ vec_len pairs.old }
-    requires indexed { IsIndexed pairs.old.items index.old }
-    ensures front { pairs.new.items ≡ take count pairs.old.items }
-    ensures indexed { IsIndexed pairs.new.items index.new }
-{
-    while pairs.len() > count {
-        drop_last(pairs, index);
-    }
-}
-
-/// Takes the last pair away.
-fn drop_last(pairs: &mut Vec<Pair>, index: &mut BTreeSet<Pair>)
-    requires some { 0 < vec_len pairs.old }
-    requires indexed { IsIndexed pairs.old.items index.old }
-    ensures front { pairs.new.items ≡ take (vec_len pairs.old - 1) pairs.old.items }
-    ensures indexed { IsIndexed pairs.new.items index.new }
-{
-    if let Some(pair) = pairs.pop() {
-        index.remove(&pair);
+        self.pairs.truncate(count);
     }
 }

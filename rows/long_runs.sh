@@ -12,3 +12,12 @@ shows "$folder/text" 10 audit rows/audit/committed.run rows/either_consents.bitm
 head -c 1048577 /dev/zero >"$folder/further"
 printf 'strategy refused limit Size\n' >"$folder/text"
 shows "$folder/text" 11 auto rows/auto/advertised.run rows/timed_commitment.bitml "$folder/further"
+# A partially signed transaction of as many bytes as it may have, zeros in Base64, and one of four bytes more.
+head -c 8388608 /dev/zero | tr '\0' 'A' >"$folder/further"
+printf 'psbt refused 0 form\n' >"$folder/text"
+shows "$folder/text" 9 psbt "$folder/further"
+printf 'AAAA' >>"$folder/further"
+printf 'psbt refused 0 size\n' >"$folder/text"
+shows "$folder/text" 9 psbt "$folder/further"
+printf 'psbt refused 1 size\n' >"$folder/text"
+shows "$folder/text" 9 psbt rows/psbt/signed.psbt "$folder/further"

@@ -1,0 +1,6 @@
+mod Ending
+mod Judged
+mod Left
+mod Pictures
+mod Taken
+mod Texts

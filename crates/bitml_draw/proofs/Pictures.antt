@@ -1,0 +1,47 @@
+-- What is answered is a picture in which nothing stands twice.
+use Rattle.std.proofs.Common.{◌≡◌, ◌<◌, ◌^◌, ℕ, List, [], ◌∷◌, length, Option, Some, None, Ok, sym, subst, inl, inr, arith}
+use Rattle.spec_terms.specs.Advert.{Advert}
+use Rattle.spec_run.specs.declared.event.Run.{Run}
+use Rattle.spec_run.specs.Setup.{Setup}
+use Rattle.spec_text.specs.Played.{entries, ending}
+use Rattle.spec_text.specs.Refusals.{contract_of, run_of}
+use Rattle.spec_tool.specs.Reads.{Read, Text, texts_read}
+use Rattle.spec_tool.specs.Commands.{Command, setup_of}
+use Rattle.spec_picture.specs.Drawing.{AnswersArePictures, drawn_of, last_of, draw_texts, read_drawn, drawn_answer}
+use Rattle.spec_picture.specs.Statements.{DrawsOnce}
+use Rattle.bm_headline.specs.Headline.{Around}
+use Rattle.bm_judge.proofs.FewEvents.{few_events}
+use Rattle.bitml_draw.specs.Drawn.{AnswersOrGivesUp, DrawsOrGivesUp, ShowsRun, ShowsTaken, ShowsTexts, Shows}
+use Rattle.bitml_draw.proofs.Taken.{well_formed, few_drawn}
+
+module _ (pictures : AnswersArePictures) (once : DrawsOnce) (hash : List ℕ → List ℕ) where
+  shows_run : (run_text contract_text : List ℕ) (run : Run) (advert : Advert) → run_of run_text ≡ Ok run → contract_of contract_text ≡ Ok advert
+      → ShowsRun (setup_of hash run (advert ∷ [])) run.events advert (draw_texts hash (Some run_text ∷ Some contract_text ∷ [])).text
+  shows_run run_text contract_text run advert r c =
+      let s : Setup = setup_of hash run (advert ∷ []) in
+      let rows = drawn_of (ending s run.events) (entries s run.events) in
+      let a = few_events (Some run_text) run r in
+      let b = few_drawn s run.events in
+      let few : length rows < 2 ^ 31 = omega (arith, a, b) in
+      record {
+        picture = pictures hash run_text contract_text run advert r c;
+        once = once advert rows (last_of (ending s run.events)) (well_formed contract_text advert c) few;
+      }
+
+  shows_taken : (texts : List Text) → ShowsTaken hash texts (draw_texts hash texts)
+  shows_taken texts run_text contract_text run advert same r c =
+      subst (λ (ts : List Text). ShowsRun (setup_of hash run (advert ∷ [])) run.events advert (draw_texts hash ts).text) (sym same)
+      (shows_run run_text contract_text run advert r c)
+
+  shows_texts : (o : Option (List Text)) → ShowsTexts hash o (read_drawn hash o)
+  shows_texts None = tt
+  shows_texts (Some texts) = shows_taken texts
+
+  shows : (command : Option Command) (reads : List Read) → Shows hash command reads (drawn_answer hash command reads)
+  shows None reads = tt
+  shows (Some command) reads = shows_texts (texts_read reads)
+
+  pub draws : (command : Option Command) (before now : Around) (status : ℕ) → AnswersOrGivesUp hash command before now status
+      → DrawsOrGivesUp hash command before now status
+  draws command before now status (inl a) = inl (record { answers = a; shows = shows command a.reads })
+  draws command before now status (inr gives_up) = inr gives_up

@@ -1,0 +1,9 @@
+use Rattle.std.proofs.Common.{sym}
+use Rattle.bitml_draw.proofs.Ending.{tells_usage}
+use Rattle.bitml_draw.proofs.tool.answer_words.Goals as goal
+
+pub returns-in-None : goal.returns-in-None
+returns-in-None g c =
+    tells_usage (g.H.Hash32.digest_of c.args.hash) _ (g.F.Files.told c.args.files.now) (g.F.Files.faults c.args.files.now)
+    (g.S.Sink.written c.args.out.now) (g.S.Sink.written c.finish.new.out) (g.S.Sink.faults c.args.out.now) (g.S.Sink.faults c.finish.new.out)
+    c.finish.result (sym c.in-None.ensures) c.finish.ensures

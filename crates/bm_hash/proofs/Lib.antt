@@ -2,3 +2,4 @@ pub mod Collisions
 pub mod Evidence
 pub mod HashSteps
 pub mod HashesLemmas
+pub mod Placed

@@ -2,6 +2,7 @@
 #![tactic(auto)]
 
 mod hashing;
+mod key;
 mod messages;
 mod strings;
 

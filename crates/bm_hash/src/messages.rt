@@ -3,15 +3,17 @@
 ghost use Rattle.std.specs.Prelude.{◌≡◌, ◌++◌, ◌∷◌, [], IfOk, OnOk, OnErr, length, is_some, IfNone, IfSome, Some, None};
 ghost use Rattle.std.specs.Option.{option_map, option_copied};
 ghost use Rattle.std.specs.Vec.{vec_len};
-ghost use Rattle.std.specs.Str.{bytes_eq};
-ghost use Rattle.indexmap.specs.IndexMap.{get, Updates, IsUnchanged};
+ghost use Rattle.indexmap.specs.IndexMap.{IsUnchanged};
+ghost use Rattle.bm_hash.specs.Keys.{place_in, Places};
 ghost use Rattle.bm_hash.specs.declared.messages.TrailError.TheVariants.{Collided, Memory};
 ghost use Rattle.bm_hash.specs.Messages.{evidence_of, message_of};
 ghost use Rattle.bm_hash.specs.Trails.{Hashes, IsClash, HaveApartDigests};
 
 use crate::hashing::Hash32;
+use crate::key::Key;
+use bm_pieces::Pieces;
 use indexmap::IndexMap;
-use spec_data::{Bytes, OutOfMemory};
+use spec_data::OutOfMemory;
 use std::alloc::{AllocError, AllocFailed, Global};
 use std::marker::Model;
 
@@ -43,42 +45,39 @@ impl From<AllocError> for TrailError {
 /// The different messages that were hashed, in order.
 #[derive(Drop)]
 pub struct Trail<H: Hash32> {
-    alloc: Global,
     hasher: H,
-    messages: Vec<Bytes>,
-    index: IndexMap<[u8; 32], usize>,
+    messages: Pieces,
+    index: IndexMap<Key, usize>,
     collision: Option<usize>,
 }
 
 impl<H: Hash32> Model for Trail<H> {
-    ghost use Rattle.std.specs.Str.{bytes_eq};
-    ghost use Rattle.indexmap.specs.IndexMap.{get};
+    ghost use Rattle.bm_hash.specs.Keys.{place_in};
     ghost use Rattle.bm_hash.specs.Messages.{Noted, IsTrail};
 
     ghost Value = { Noted H };
 
-    ghost view = { λ t. record { hasher = t.hasher; messages = t.messages.items } };
+    ghost view = { λ t. record { hasher = t.hasher; messages = t.messages } };
 
-    ghost invariant = { λ t. IsTrail (H.digest_of t.hasher) t.messages.items (get bytes_eq t.index) t.collision };
+    ghost invariant = { λ t. IsTrail (H.digest_of t.hasher) t.messages (place_in t.index) t.collision };
 }
 
 // Adds a message with its digest.
 fn add_message(
-    alloc: Global,
-    messages: &mut Vec<Bytes>,
-    index: &mut IndexMap<[u8; 32], usize>,
+    messages: &mut Pieces,
+    index: &mut IndexMap<Key, usize>,
     digest: [u8; 32],
     message: &[u8],
 ) -> Result<(), OutOfMemory>
-    ensures added { OnOk result (messages.new.items ≡ messages.old.items ++ message.now ∷ []) }
-    ensures indexed { OnOk result (Updates bytes_eq index.old index.new digest (Some (length messages.old.items))) }
-    ensures same { OnErr result (messages.new.items ≡ messages.old.items) }
+    ensures added { OnOk result (messages.new ≡ messages.old ++ message.now ∷ []) }
+    ensures indexed { OnOk result (Places index.old index.new digest (length messages.old)) }
+    ensures same { OnErr result (messages.new ≡ messages.old) }
     ensures unindexed { OnErr result (IsUnchanged index.old index.new) }
 {
     let place = messages.len();
-    messages.push(Bytes::from_slice(alloc, message)?)?;
-    if index.insert(digest, place).is_err() {
-        let _ = messages.pop();
+    messages.push(message)?;
+    if index.insert(Key { digest }, place).is_err() {
+        messages.truncate(place);
         return Err(AllocError);
     }
     Ok(())
@@ -90,9 +89,8 @@ impl<H: Hash32 + Drop> Trail<H> {
         ensures { result ≡ (record { hasher = hasher; messages = [] }) }
     {
         Trail {
-            alloc,
             hasher,
-            messages: Vec::new(alloc),
+            messages: Pieces::new(alloc),
             index: IndexMap::new(alloc),
             collision: None,
         }
@@ -114,23 +112,17 @@ impl<H: Hash32 + Drop> Trail<H> {
             return Err(TrailError::Collided);
         }
         let digest = self.hasher.hash32(message);
-        match self.index.get(&digest).copied() {
+        match self.index.get(&Key { digest }).copied() {
             Some(place) => {
-                if self.messages[place].as_slice() == message {
+                if self.messages.get(place) == message {
                     return Ok(digest);
                 }
-                self.messages.push(Bytes::from_slice(self.alloc, message)?)?;
+                self.messages.push(message)?;
                 self.collision = Some(place);
                 Err(TrailError::Collided)
             }
             None => {
-                add_message(
-                    self.alloc,
-                    &mut self.messages,
-                    &mut self.index,
-                    digest,
-                    message,
-                )?;
+                add_message(&mut self.messages, &mut self.index, digest, message)?;
                 Ok(digest)
             }
         }
@@ -153,10 +145,7 @@ impl<H: Hash32 + Drop> Trail<H> {
     {
         let place = self.collision?;
         let last = self.messages.len() - 1;
-        Some((
-            self.messages[place].as_slice(),
-            self.messages[last].as_slice(),
-        ))
+        Some((self.messages.get(place), self.messages.get(last)))
     }
 
     /// Whether two of the messages have one digest.
@@ -179,7 +168,7 @@ impl<H: Hash32 + Drop> Trail<H> {
     pub fn message(&self, digest: &[u8; 32]) -> Option<&[u8]>
         ensures { option_copied result ≡ message_of (H.digest_of self.now.hasher) self.now.messages digest.now }
     {
-        let place = self.index.get(digest).copied()?;
-        Some(self.messages[place].as_slice())
+        let place = self.index.get(&Key { digest: *digest }).copied()?;
+        Some(self.messages.get(place))
     }
 }

@@ -3,6 +3,7 @@
 ghost use Rattle.std.specs.Prelude.{◌≡◌, IfOk};
 ghost use Rattle.std.specs.List.{find};
 ghost use Rattle.std.specs.Option.{option_copied};
+ghost use Rattle.spec_data.specs.Lists.{is_among};
 ghost use Rattle.spec_run.specs.Draft.{is_allowed, is_guessed};
 
 use crate::settling::post_all;
@@ -61,7 +62,41 @@ fn first_shown<'a>(
     None
 }
 
-/// The first of the secrets that is guessed, with its owner. Each secret is looked up among the strings, not compared with each.
+// Whether a string is one of a few.
+fn is_one_of(posts: &[Bytes], string: &[u8]) -> bool
+    ensures { result ≡ is_among string.now posts.now }
+{
+    posts.iter().any(|post| post.as_slice() == string)
+}
+
+// Whether a few strings have the bytes of a secret that isn't posted and may not be.
+fn is_guessed_by(
+    posts: &[Bytes],
+    exchange: &Exchange,
+    allowed: &Option<(Name, Name)>,
+    held: &HeldSecret,
+) -> bool
+    ensures { result ≡ is_guessed exchange.now.posted posts.now allowed.now held.now }
+{
+    let bytes = held.bytes.as_slice();
+    is_one_of(posts, bytes) && !exchange.posted(bytes) && !may_post(allowed, held)
+}
+
+// The first of the secrets that a few strings guess. Each is compared with each of them.
+fn first_among<'a>(
+    secrets: &'a [HeldSecret],
+    exchange: &Exchange,
+    posts: &[Bytes],
+    allowed: &Option<(Name, Name)>,
+) -> Option<&'a HeldSecret>
+    ensures { option_copied result ≡ find (is_guessed exchange.now.posted posts.now allowed.now) secrets.now }
+{
+    secrets
+        .iter()
+        .find(|held| is_guessed_by(posts, exchange, allowed, held))
+}
+
+/// The first of the secrets that is guessed, with its owner. Where there are many strings, each secret is looked up in an index of them.
 pub fn first_guessed<'a>(
     alloc: Global,
     secrets: &'a [HeldSecret],
@@ -71,6 +106,9 @@ pub fn first_guessed<'a>(
 ) -> Result<Option<&'a HeldSecret>, OutOfMemory>
     ensures { IfOk result (λ found. option_copied found ≡ find (is_guessed exchange.now.posted posts.now allowed.now) secrets.now) }
 {
+    if posts.len() <= 16 {
+        return Ok(first_among(secrets, exchange, posts, allowed));
+    }
     let shown = indexed(alloc, posts)?;
     Ok(first_shown(secrets, exchange, &shown, allowed))
 }

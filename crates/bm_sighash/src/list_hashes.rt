@@ -6,7 +6,7 @@ ghost use Rattle.spec_bitcoin.specs.Digests as spec;
 ghost use Rattle.bm_sighash.specs.Shared.{hashes_of, strings_of};
 
 use bm_hash::{Hash32, Trail, TrailError};
-use bm_tx::{put_output, put_place, put_word};
+use bm_tx::{put_output, put_place, put_word, with_room};
 use spec_bitcoin::Tx;
 use spec_data::OutOfMemory;
 use std::alloc::Global;
@@ -24,7 +24,7 @@ pub struct ListHashes {
 fn places_bytes(alloc: Global, tx: &Tx) -> Result<Vec<u8>, OutOfMemory>
     ensures { IfOk result (λ bytes. bytes.items ≡ spec.places_list tx.now) }
 {
-    let mut out = Vec::new(alloc);
+    let mut out = with_room(alloc)?;
     for input in tx.inputs.as_slice() {
         put_place(&mut out, &input.prev)?;
     }
@@ -35,7 +35,7 @@ fn places_bytes(alloc: Global, tx: &Tx) -> Result<Vec<u8>, OutOfMemory>
 fn sequences_bytes(alloc: Global, tx: &Tx) -> Result<Vec<u8>, OutOfMemory>
     ensures { IfOk result (λ bytes. bytes.items ≡ spec.sequences_list tx.now) }
 {
-    let mut out = Vec::new(alloc);
+    let mut out = with_room(alloc)?;
     for input in tx.inputs.as_slice() {
         put_word(&mut out, input.sequence)?;
     }
@@ -46,7 +46,7 @@ fn sequences_bytes(alloc: Global, tx: &Tx) -> Result<Vec<u8>, OutOfMemory>
 fn outputs_bytes(alloc: Global, tx: &Tx) -> Result<Vec<u8>, OutOfMemory>
     ensures { IfOk result (λ bytes. bytes.items ≡ spec.outputs_list tx.now) }
 {
-    let mut out = Vec::new(alloc);
+    let mut out = with_room(alloc)?;
     for output in tx.outputs.as_slice() {
         put_output(&mut out, output)?;
     }

@@ -7,7 +7,7 @@ ghost use Rattle.bm_sighash.specs.Shared.{hashes_of, preimage_with, strings_at};
 
 use crate::list_hashes::ListHashes;
 use bm_hash::{Hash32, Trail, TrailError};
-use bm_tx::{put_long_word, put_place, put_sized, put_word};
+use bm_tx::{put_long_word, put_place, put_sized, put_word, with_room};
 use spec_bitcoin::{Tx, TxIn};
 use spec_data::OutOfMemory;
 use std::alloc::Global;
@@ -24,7 +24,7 @@ fn preimage_bytes(
 ) -> Result<Vec<u8>, OutOfMemory>
     ensures { IfOk result (λ bytes. bytes.items ≡ preimage_with shared.now tx.now input.now script.now value) }
 {
-    let mut out = Vec::new(alloc);
+    let mut out = with_room(alloc)?;
     put_word(&mut out, tx.version)?;
     out.extend_from_slice(&shared.prevouts)?;
     out.extend_from_slice(&shared.sequences)?;

@@ -12,5 +12,5 @@ pub use identity::txid;
 pub use reading::decode;
 pub use spec_bitcoin::{OutPoint, Tx, TxIn, TxOut};
 pub use writing::{
-    encode, encode_stripped, put_long_word, put_output, put_place, put_sized, put_word,
+    encode, encode_stripped, put_long_word, put_output, put_place, put_sized, put_word, with_room,
 };

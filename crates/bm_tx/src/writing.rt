@@ -8,6 +8,13 @@ use spec_bitcoin::{OutPoint, Tx, TxIn, TxOut};
 use spec_data::{Bytes, OutOfMemory};
 use std::alloc::Global;
 
+/// No bytes, with room for those of an ordinary transaction, so that they need not move as they are written.
+pub fn with_room(alloc: Global) -> Result<Vec<u8>, OutOfMemory>
+    ensures { IfOk result (λ bytes. bytes.items ≡ []) }
+{
+    Vec::with_capacity(alloc, 256)
+}
+
 /// Writes a number of 4 bytes, the lowest first.
 pub fn put_word(out: &mut Vec<u8>, number: u32) -> Result<(), OutOfMemory>
     ensures { OnOk result (out.new.items ≡ out.old.items ++ spec.word number) }
@@ -136,7 +143,7 @@ fn is_marked(inputs: &[TxIn]) -> bool
 pub fn encode_stripped(alloc: Global, tx: &Tx) -> Result<Vec<u8>, OutOfMemory>
     ensures { IfOk result (λ bytes. bytes.items ≡ spec.stripped tx.now) }
 {
-    let mut out = Vec::new(alloc);
+    let mut out = with_room(alloc)?;
     put_word(&mut out, tx.version)?;
     put_inputs(&mut out, tx.inputs.as_slice())?;
     put_outputs(&mut out, tx.outputs.as_slice())?;
@@ -149,7 +156,7 @@ pub fn encode_stripped(alloc: Global, tx: &Tx) -> Result<Vec<u8>, OutOfMemory>
 fn encode_marked(alloc: Global, tx: &Tx) -> Result<Vec<u8>, OutOfMemory>
     ensures { IfOk result (λ bytes. bytes.items ≡ spec.marked tx.now) }
 {
-    let mut out = Vec::new(alloc);
+    let mut out = with_room(alloc)?;
     put_word(&mut out, tx.version)?;
     out.push(0)?;
     out.push(1)?;

@@ -1,1 +1,4 @@
+pub mod Marks
+pub mod Updates
 pub mod Placing
+pub mod Forgetting

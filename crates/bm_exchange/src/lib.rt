@@ -3,6 +3,7 @@
 #![tactic(auto)]
 
 mod exchange;
+mod places;
 mod promised;
 mod strings;
 

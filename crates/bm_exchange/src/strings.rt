@@ -1,10 +1,12 @@
-//! Strings in order, with an index from a string to the first place where it stands.
+//! Strings in order, with an index that tells where each stands first.
 
-ghost use Rattle.std.specs.Prelude.{◌≡◌, ◌++◌, ◌∷◌, [], ◌<◌, ◌≤◌, ◌-◌, true, false, length, take, OnOk, OnErr};
+ghost use Rattle.std.specs.Prelude.{List, ℕ, ◌≡◌, ◌++◌, ◌∷◌, [], ◌<◌, ◌≤◌, ◌-◌, true, false, length, take, is_some, OnOk, OnErr};
 ghost use Rattle.spec_data.specs.Lists.{is_among};
-ghost use Rattle.bm_exchange.specs.Placed.{IsPlaced, found_at, is_place};
+ghost use Rattle.bm_exchange.specs.Placed.{IsPlaced, mark_of, marked_at};
 
-use spec_data::{Bytes, OutOfMemory};
+use crate::places::{Places, is_here, mark_of};
+use bm_pieces::Pieces;
+use spec_data::OutOfMemory;
 use std::alloc::{AllocError, Global};
 use std::collections::BTreeMap;
 use std::marker::Model;
@@ -13,8 +15,8 @@ use std::marker::Model;
 #[derive(Drop)]
 pub struct Strings {
     alloc: Global,
-    strings: Vec<Bytes>,
-    index: BTreeMap<Vec<u8>, usize>,
+    strings: Pieces,
+    places: Places,
 }
 
 impl Model for Strings {
@@ -23,9 +25,9 @@ impl Model for Strings {
 
     ghost Value = { List (List ℕ) };
 
-    ghost view = { λ p. p.strings.items };
+    ghost view = { λ s. s.strings };
 
-    ghost invariant = { λ p. IsPlaced p.strings.items p.index };
+    ghost invariant = { λ s. IsPlaced s.strings s.places };
 }
 
 impl Strings {
@@ -33,10 +35,14 @@ impl Strings {
     pub fn new(alloc: Global) -> Strings
         ensures { result ≡ [] }
     {
+        let places = Places {
+            marked: BTreeMap::new(alloc),
+            others: BTreeMap::new(alloc),
+        };
         Strings {
             alloc,
-            strings: Vec::new(alloc),
-            index: BTreeMap::new(alloc),
+            strings: Pieces::new(alloc),
+            places,
         }
     }
 
@@ -51,7 +57,7 @@ impl Strings {
     pub fn has(&self, string: &[u8]) -> bool
         ensures { result ≡ is_among string.now self.now }
     {
-        self.index.contains_key(string)
+        is_there(&self.strings, &self.places, string)
     }
 
     /// Adds a string at the end.
@@ -59,7 +65,7 @@ impl Strings {
         ensures ok { OnOk result (self.new ≡ self.old ++ string.now ∷ []) }
         ensures err { OnErr result (self.new ≡ self.old) }
     {
-        add_string(self.alloc, &mut self.strings, &mut self.index, string)
+        add_string(self.alloc, &mut self.strings, &mut self.places, string)
     }
 
     /// Leaves the first `count` strings; it takes no memory.
@@ -67,110 +73,134 @@ impl Strings {
         requires { count ≤ length self.old }
         ensures { self.new ≡ take count self.old }
     {
-        cut_strings(&mut self.strings, &mut self.index, count);
+        cut_strings(&mut self.strings, &mut self.places, count);
     }
 }
 
-// Adds a string whose first place this is.
-fn add_first(
-    alloc: Global,
-    strings: &mut Vec<Bytes>,
-    index: &mut BTreeMap<Vec<u8>, usize>,
+// Whether the string is there.
+fn is_there(strings: &Pieces, places: &Places, string: &[u8]) -> bool
+    requires placed { IsPlaced strings.now places.now }
+    ensures { result ≡ is_among string.now strings.now }
+{
+    match places.marked.get(&mark_of(string)) {
+        Some(first) => strings.get(*first) == string || places.others.contains_key(string),
+        None => false,
+    }
+}
+
+// Adds a string of a mark that none has.
+fn add_marked(
+    strings: &mut Pieces,
+    places: &mut Places,
+    mark: u64,
     string: &[u8],
 ) -> Result<(), OutOfMemory>
-    requires indexed { IsPlaced strings.old.items index.old }
-    requires new { is_among string.now strings.old.items ≡ false }
-    ensures ok { OnOk result (strings.new.items ≡ strings.old.items ++ string.now ∷ []) }
-    ensures err { OnErr result (strings.new.items ≡ strings.old.items) }
-    ensures indexed { IsPlaced strings.new.items index.new }
+    requires placed { IsPlaced strings.old places.old }
+    requires of_string { mark ≡ mark_of string.now }
+    requires free { is_some (marked_at places.old.marked mark) ≡ false }
+    ensures ok { OnOk result (strings.new ≡ strings.old ++ string.now ∷ []) }
+    ensures err { OnErr result (strings.new ≡ strings.old) }
+    ensures placed { IsPlaced strings.new places.new }
 {
-    let bytes = Bytes::from_slice(alloc, string)?;
+    let place = strings.len();
+    strings.push(string)?;
+    if places.marked.insert(mark, place).is_err() {
+        strings.truncate(place);
+        return Err(AllocError);
+    }
+    Ok(())
+}
+
+// Adds a string that isn't there, though another of its mark is.
+fn add_other(
+    alloc: Global,
+    strings: &mut Pieces,
+    places: &mut Places,
+    string: &[u8],
+) -> Result<(), OutOfMemory>
+    requires placed { IsPlaced strings.old places.old }
+    requires new { is_among string.now strings.old ≡ false }
+    requires taken { is_some (marked_at places.old.marked (mark_of string.now)) ≡ true }
+    ensures ok { OnOk result (strings.new ≡ strings.old ++ string.now ∷ []) }
+    ensures err { OnErr result (strings.new ≡ strings.old) }
+    ensures placed { IsPlaced strings.new places.new }
+{
     let key = Vec::from_slice(alloc, string)?;
     let place = strings.len();
-    strings.push(bytes)?;
-    if let Err(error) = index.insert(key, place) {
-        let _ = strings.pop();
-        return Err(AllocError::from(error));
+    strings.push(string)?;
+    if places.others.insert(key, place).is_err() {
+        strings.truncate(place);
+        return Err(AllocError);
     }
     Ok(())
 }
 
 // Adds a string that stands earlier.
-fn add_again(
-    alloc: Global,
-    strings: &mut Vec<Bytes>,
-    index: &BTreeMap<Vec<u8>, usize>,
-    string: &[u8],
-) -> Result<(), OutOfMemory>
-    requires indexed { IsPlaced strings.old.items index.now }
-    requires there { is_among string.now strings.old.items ≡ true }
-    ensures ok { OnOk result (strings.new.items ≡ strings.old.items ++ string.now ∷ []) }
-    ensures err { OnErr result (strings.new.items ≡ strings.old.items) }
-    ensures indexed { IsPlaced strings.new.items index.now }
+fn add_again(strings: &mut Pieces, places: &Places, string: &[u8]) -> Result<(), OutOfMemory>
+    requires placed { IsPlaced strings.old places.now }
+    requires there { is_among string.now strings.old ≡ true }
+    ensures ok { OnOk result (strings.new ≡ strings.old ++ string.now ∷ []) }
+    ensures err { OnErr result (strings.new ≡ strings.old) }
+    ensures placed { IsPlaced strings.new places.now }
 {
-    strings.push(Bytes::from_slice(alloc, string)?)?;
+    strings.push(string)?;
     Ok(())
-}
-
-// Whether the string is there.
-fn is_there(index: &BTreeMap<Vec<u8>, usize>, strings: &Vec<Bytes>, string: &[u8]) -> bool
-    requires indexed { IsPlaced strings.now.items index.now }
-    ensures { result ≡ is_among string.now strings.now.items }
-{
-    index.contains_key(string)
 }
 
 // Adds a string at the end.
 fn add_string(
     alloc: Global,
-    strings: &mut Vec<Bytes>,
-    index: &mut BTreeMap<Vec<u8>, usize>,
+    strings: &mut Pieces,
+    places: &mut Places,
     string: &[u8],
 ) -> Result<(), OutOfMemory>
-    requires indexed { IsPlaced strings.old.items index.old }
-    ensures ok { OnOk result (strings.new.items ≡ strings.old.items ++ string.now ∷ []) }
-    ensures err { OnErr result (strings.new.items ≡ strings.old.items) }
-    ensures indexed { IsPlaced strings.new.items index.new }
+    requires placed { IsPlaced strings.old places.old }
+    ensures ok { OnOk result (strings.new ≡ strings.old ++ string.now ∷ []) }
+    ensures err { OnErr result (strings.new ≡ strings.old) }
+    ensures placed { IsPlaced strings.new places.new }
 {
-    if is_there(index, strings, string) {
-        add_again(alloc, strings, index, string)
+    let mark = mark_of(string);
+    if !places.marked.contains_key(&mark) {
+        add_marked(strings, places, mark, string)
+    } else if is_there(strings, places, string) {
+        add_again(strings, places, string)
     } else {
-        add_first(alloc, strings, index, string)
+        add_other(alloc, strings, places, string)
     }
 }
 
-// Whether this is the first place of the string.
-fn is_first(index: &BTreeMap<Vec<u8>, usize>, string: &[u8], place: usize) -> bool
-    ensures { result ≡ is_place (found_at index.now string.now) place }
+// Takes the place of the last string out of the index, if it is the first of this string.
+fn forget_last(places: &mut Places, string: &[u8], place: usize)
+    ensures { (front : List (List ℕ)) → place ≡ length front → IsPlaced (front ++ string.now ∷ []) places.old → IsPlaced front places.new }
 {
-    match index.get(string) {
-        Some(first) => *first == place,
-        None => false,
-    }
-}
-
-// Leaves the first `count` strings.
-fn cut_strings(strings: &mut Vec<Bytes>, index: &mut BTreeMap<Vec<u8>, usize>, count: usize)
-    requires within { count ≤ length strings.old.items }
-    requires indexed { IsPlaced strings.old.items index.old }
-    ensures front { strings.new.items ≡ take count strings.old.items }
-    ensures indexed { IsPlaced strings.new.items index.new }
-{
-    while strings.len() > count {
-        drop_last(strings, index);
+    let mark = mark_of(string);
+    if is_here(places.marked.get(&mark), place) {
+        places.marked.remove(&mark);
+    } else if is_here(places.others.get(string), place) {
+        places.others.remove(string);
     }
 }
 
 // Takes the last string away.
-fn drop_last(strings: &mut Vec<Bytes>, index: &mut BTreeMap<Vec<u8>, usize>)
-    requires some { 0 < length strings.old.items }
-    requires indexed { IsPlaced strings.old.items index.old }
-    ensures front { strings.new.items ≡ take (length strings.old.items - 1) strings.old.items }
-    ensures indexed { IsPlaced strings.new.items index.new }
+fn drop_last(strings: &mut Pieces, places: &mut Places)
+    requires some { 0 < length strings.old }
+    requires placed { IsPlaced strings.old places.old }
+    ensures front { strings.new ≡ take (length strings.old - 1) strings.old }
+    ensures placed { IsPlaced strings.new places.new }
 {
-    if let Some(string) = strings.pop() {
-        if is_first(index, string.as_slice(), strings.len()) {
-            index.remove(string.as_slice());
-        }
+    let place = strings.len() - 1;
+    forget_last(places, strings.get(place), place);
+    strings.truncate(place);
+}
+
+// Leaves the first `count` strings.
+fn cut_strings(strings: &mut Pieces, places: &mut Places, count: usize)
+    requires within { count ≤ length strings.old }
+    requires placed { IsPlaced strings.old places.old }
+    ensures front { strings.new ≡ take count strings.old }
+    ensures placed { IsPlaced strings.new places.new }
+{
+    while strings.len() > count {
+        drop_last(strings, places);
     }
 }

@@ -20,6 +20,7 @@ use bm_world::World;
 use spec_data::OutOfMemory;
 use spec_run::Run;
 use std::alloc::Global;
+use std::mem::forget;
 
 /// A run at its end.
 #[derive(Drop)]
@@ -42,8 +43,11 @@ fn stop_reply(alloc: Global, stop: &Stop) -> Result<Reply, OutOfMemory>
     }
 }
 
-/// Lets a world go. Nothing else does here or in the crates of further replies, since a world is long to take apart.
-pub fn let_go<H: Hash32 + Drop>(_world: World<H>) {}
+/// Lets a world go. Its memory goes back with the process: a program writes its answer next and ends, and to give back piece by piece
+/// what a long run holds would take a sixth of its time. Nothing else lets a world go, here or in the crates of further replies.
+pub fn let_go<H: Hash32 + Drop>(world: World<H>) {
+    forget(world);
+}
 
 // The end of a run that left this world.
 fn last_of<H: Hash32 + Drop>(

@@ -6,11 +6,11 @@ use Rattle.bm_exchange.proofs.strings.cut_strings.Given as goal
 -- a front of the strings is left
 abbrev pub invariant-loop-strings : goal.invariant-loop-strings
 invariant-loop-strings l = record {
-  within : l.count ≤ length l.strings.items;
-  fewer : length l.strings.items ≤ length l.initial.strings.items;
-  front : l.strings.items ≡ take (length l.strings.items) l.initial.strings.items;
-  indexed : IsPlaced l.strings.items l.index;
+  within : l.count ≤ length l.strings;
+  fewer : length l.strings ≤ length l.initial.strings;
+  front : l.strings ≡ take (length l.strings) l.initial.strings;
+  placed : IsPlaced l.strings l.places;
 }
 
 abbrev pub decreases-loop-strings : goal.decreases-loop-strings
-decreases-loop-strings l = length l.strings.items - l.count
+decreases-loop-strings l = length l.strings - l.count

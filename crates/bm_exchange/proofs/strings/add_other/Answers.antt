@@ -1,0 +1,18 @@
+use Rattle.std.proofs.Common.{rules, ◌≡◌, ◌∷◌, [], take, ap, ◌∙◌, arith}
+use Rattle.std.proofs.lemmas.List.{take-append-le, take_all}
+use Rattle.bm_exchange.proofs.Placing.{placed_other, placed_still-others}
+use Rattle.bm_exchange.proofs.strings.add_other.Goals as goal
+
+pub returns-clause-placed : goal.returns-clause-placed
+returns-clause-placed c =
+    placed_other _ c.args.places.now c.requires.placed c.args.string.now _ c.insert.new.self _ c.len-place.result
+    c.requires.new c.requires.taken c.in_ok-key.ensures.items (search rules) (search rules) (search rules)
+
+pub returns-then-is_err-clause-placed : goal.returns-then-is_err-clause-placed
+returns-then-is_err-clause-placed c =
+    let n = c.len-place.ensures in
+    let same : c.truncate.new.self ≡ c.args.strings.now =
+    c.truncate.ensures ∙ ap (take c.len-place.result) c.in_ok-push.ensures.ok
+    ∙ take-append-le c.len-place.result c.args.strings.now (c.args.string.now ∷ []) (omega (arith, n))
+    ∙ take_all c.len-place.result c.args.strings.now (omega (arith, n)) in
+    rw same (placed_still-others _ c.args.places.now c.insert.new.self c.requires.placed (search rules))

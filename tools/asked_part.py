@@ -39,7 +39,7 @@ def asked_imports(text, names):
 def asked_arms(text):
     """Returns the text with the arms of the asked command. The others are never asked, so what stands for them has no end."""
     arms = re.findall(r"^ *Command::.*\n", text, re.M)
-    asked = [arm for arm in arms if arm.lstrip().startswith(f"Command::{word.capitalize()}")]
+    asked = [arm for arm in arms if word and arm.lstrip().startswith(f"Command::{word.capitalize()}")]
     return asked_imports(text.replace("".join(arms), "".join(asked) + "        _ => loop {},\n"), [])
 
 

@@ -1,4 +1,2 @@
 pub mod Commands
-pub mod Ending
 pub mod Judged
-pub mod Texts

@@ -6,7 +6,7 @@ ghost use Rattle.spec_tool.specs.Answers.{answer};
 ghost use Rattle.bm_command.specs.Seen.{command, printed};
 ghost use Rattle.bm_command.specs.Files.{reads_of, AsksFront, CountsAll};
 ghost use Rattle.bm_headline.specs.Headline.{around, AnswersOrGivesUp, Headline};
-ghost use Rattle.bitml.specs.Replied.{between, Replied};
+ghost use Rattle.bm_headline.specs.Replied.{between, Replied};
 ghost use Rattle.bitml.specs.Served.{IsServed};
 
 use crate::answering::text_reply;
@@ -46,7 +46,7 @@ fn reply<H: Hash32 + Drop, F: Files>(
     files: &mut F,
 ) -> Result<Reply, OutOfMemory>
     requires { IsServed (Some (command call.now)) }
-    ensures reply { IfOk result (λ reply. Replied (H.digest_of hash) (command call.now)
+    ensures reply { IfOk result (λ reply. Replied (answer (H.digest_of hash) (command call.now)) (command call.now)
         (between (F.told files.old) (F.told files.new) (F.faults files.old) (F.faults files.new)) (printed reply)) }
     ensures memory { OnErr result (AsksFront (F.told files.old) (F.told files.new) (spec.files_of (command call.now))) }
 {

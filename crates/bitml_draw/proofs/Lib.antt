@@ -1,6 +1,4 @@
-mod Ending
 mod Judged
 mod Left
 mod Pictures
 mod Taken
-mod Texts

@@ -2,12 +2,13 @@
 
 ghost use Rattle.std.specs.Prelude.{◌≡◌, false, Some, map, length, string_bytes, option_map, IfOk, OnErr};
 ghost use Rattle.spec_tool.specs.Commands.{plan, files_of as files_named};
-ghost use Rattle.spec_picture.specs.Drawing.{words_drawn, read_drawn};
+ghost use Rattle.spec_picture.specs.Drawing.{words_drawn, drawn_answer, read_drawn};
 ghost use Rattle.spec_tool.specs.Reads.{texts_read};
 ghost use Rattle.bm_command.specs.Seen.{printed};
 ghost use Rattle.bm_command.specs.Files.{reads_of, AsksFront};
 ghost use Rattle.bm_headline.specs.Headline.{around};
-ghost use Rattle.bitml_draw.specs.Drawn.{between, Replied, AnswersOrGivesUp, DrawsOrGivesUp};
+ghost use Rattle.bm_headline.specs.Replied.{between, Replied};
+ghost use Rattle.bitml_draw.specs.Drawn.{AnswersOrGivesUp, DrawsOrGivesUp};
 
 use crate::replying::draw_texts;
 use bm_command::{Command, Reading, Reply, files_of, read_all};
@@ -44,7 +45,7 @@ fn reply<H: Hash32 + Drop, F: Files>(
     contract: &str,
     files: &mut F,
 ) -> Result<Reply, OutOfMemory>
-    ensures reply { IfOk result (λ reply. Replied (H.digest_of hash) (plan run.now contract.now)
+    ensures reply { IfOk result (λ reply. Replied (drawn_answer (H.digest_of hash) (Some (plan run.now contract.now))) (plan run.now contract.now)
         (between (F.told files.old) (F.told files.new) (F.faults files.old) (F.faults files.new)) (printed reply)) }
     ensures memory { OnErr result (AsksFront (F.told files.old) (F.told files.new) (files_named (plan run.now contract.now))) }
 {

@@ -56,16 +56,16 @@ pub record Ends (printed : Printed) (before now : Option (List ℕ)) (faults fau
   pub status_is : status ≡ ended printed went
   pub unwritten : went ≡ false → RoseBy 1 faults faults_now
 
--- The files that the words name are read in order, up to the first read that fails, and no other. What is answered to these
--- reads is the defined answer.
-pub record Answers (hash : List ℕ → List ℕ) (command : Option Command) (before now : Around) (status : ℕ) : Type 0 where
+-- The files that the words name are read in order, up to the first read that fails, and no other. What is written is what these
+-- answers give to the reads.
+pub record AnswersBy (answers : List Read → Printed) (command : Option Command) (before now : Around) (status : ℕ) : Type 0 where
   pub reads : List Read
   pub made : tool_reads command reads ≡ true
   -- where files tell their content, it fixes the reads, and which names were asked for
   pub told : Tells before.told now.told (asked_by command) reads
   -- a read fails only where the count of faults rose
   pub unread : texts_read reads ≡ None → RoseBy 1 before.read_faults now.read_faults
-  pub ends : Ends (tool_answer hash command reads) before.written now.written before.write_faults now.write_faults status
+  pub ends : Ends (answers reads) before.written now.written before.write_faults now.write_faults status
 
 -- Memory was wanting: nothing is written, the status is 5, and at most a front of the files was asked for. Of words that are no
 -- command no memory is asked.
@@ -75,9 +75,17 @@ pub record GivesUp (command : Option Command) (before now : Around) (status : �
   pub written : now.written ≡ before.written
   pub told : AsksFront before.told now.told (asked_by command)
 
--- an answer, or want of memory
+-- the same, or want of memory
+abbrev pub AnswersByOrGivesUp : (List Read → Printed) → Option Command → Around → Around → ℕ → Type 0
+AnswersByOrGivesUp answers command before now status = AnswersBy answers command before now status ⊎ GivesUp command before now status
+
+-- the answers are the defined ones of a command
+abbrev pub Answers : (List ℕ → List ℕ) → Option Command → Around → Around → ℕ → Type 0
+Answers hash command before now status = AnswersBy (tool_answer hash command) command before now status
+
+-- the same, or want of memory
 abbrev pub AnswersOrGivesUp : (List ℕ → List ℕ) → Option Command → Around → Around → ℕ → Type 0
-AnswersOrGivesUp hash command before now status = Answers hash command before now status ⊎ GivesUp command before now status
+AnswersOrGivesUp hash command before now status = AnswersByOrGivesUp (tool_answer hash command) command before now status
 
 -- ---- causes
 

@@ -1,14 +1,15 @@
-use Rattle.std.proofs.Common.{◌∙◌}
+use Rattle.std.proofs.Common.{refl, ◌∙◌}
+use Rattle.spec_tool.specs.Answers.{read_answer}
 use Rattle.bm_command.specs.Seen.{command}
-use Rattle.bitml.proofs.Texts.{unread_reply, read_reply}
+use Rattle.bm_headline.proofs.Texts.{unread_reply, read_reply}
 use Rattle.bitml.proofs.tool.reply_to.Goals as goal
 
 pub returns-then-reading : goal.returns-then-reading
 returns-then-reading g c =
-    unread_reply (g.H.Hash32.digest_of c.args.hash) (command c.args.call.now) c.args.reading.now c.of.result c.if-reading.true
+    unread_reply (read_answer (g.H.Hash32.digest_of c.args.hash) (command c.args.call.now)) c.args.reading.now c.of.result refl c.if-reading.true
     (c.of.ensures ∙ c.new.ensures.items)
 
 pub returns : goal.returns
 returns g c =
-    read_reply (g.H.Hash32.digest_of c.args.hash) (command c.args.call.now) c.args.reading.now c.as_slice.result.now c.text_reply.result
+    read_reply (read_answer (g.H.Hash32.digest_of c.args.hash) (command c.args.call.now)) c.args.reading.now c.as_slice.result.now c.text_reply.result
     c.if-reading.false c.as_slice.ensures c.text_reply.ensures

@@ -1,9 +1,10 @@
-use Rattle.std.proofs.Common.{sym}
-use Rattle.bitml_draw.proofs.Ending.{tells_usage}
+use Rattle.std.proofs.Common.{refl, sym}
+use Rattle.spec_picture.specs.Drawing.{drawn_answer}
+use Rattle.bm_headline.proofs.Ending.{tells_usage}
 use Rattle.bitml_draw.proofs.tool.answer_words.Goals as goal
 
 pub returns-in-None : goal.returns-in-None
 returns-in-None g c =
-    tells_usage (g.H.Hash32.digest_of c.args.hash) _ (g.F.Files.told c.args.files.now) (g.F.Files.faults c.args.files.now)
+    tells_usage (drawn_answer (g.H.Hash32.digest_of c.args.hash)) (g.F.Files.told c.args.files.now) (g.F.Files.faults c.args.files.now)
     (g.S.Sink.written c.args.out.now) (g.S.Sink.written c.finish.new.out) (g.S.Sink.faults c.args.out.now) (g.S.Sink.faults c.finish.new.out)
-    c.finish.result (sym c.in-None.ensures) c.finish.ensures
+    c.finish.result _ refl (sym c.in-None.ensures) c.finish.ensures

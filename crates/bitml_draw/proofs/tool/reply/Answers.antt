@@ -1,12 +1,13 @@
-use Rattle.std.proofs.Common.{map, ap, ◌∙◌}
+use Rattle.std.proofs.Common.{map, ap, Some, ◌∙◌}
 use Rattle.spec_tool.specs.Commands.{plan}
+use Rattle.spec_picture.specs.Drawing.{drawn_answer}
 use Rattle.bm_command.specs.Seen.{asked}
-use Rattle.bitml_draw.proofs.Ending.{replied}
+use Rattle.bm_headline.proofs.Ending.{replied}
 use Rattle.bitml_draw.proofs.tool.reply.Goals as goal
 
 pub returns-clause-reply : goal.returns-clause-reply
 returns-clause-reply g c =
-    replied (g.H.Hash32.digest_of c.args.hash) (plan c.args.run.now c.args.contract.now) (g.F.Files.told c.args.files.now)
+    replied (drawn_answer (g.H.Hash32.digest_of c.args.hash) (Some (plan c.args.run.now c.args.contract.now))) (plan c.args.run.now c.args.contract.now) (g.F.Files.told c.args.files.now)
     (g.F.Files.told c.read_all.new.files) (g.F.Files.faults c.args.files.now) (g.F.Files.faults c.read_all.new.files)
     (map asked c.as_slice.result.now) c.in_ok-reading.reading c.reply_to.result (ap (map asked) c.as_slice.ensures.value ∙ c.in_ok-list.ensures)
     c.in_ok-reading.ensures.reads c.in_ok-reading.ensures.rose c.reply_to.ensures

@@ -1,8 +1,7 @@
--- What is known of a reply: it is what the command answers to the reads of its files.
+-- What is known of a reply: it is what is answered to the reads of the command's files.
 use Rattle.std.specs.Prelude.{◌≡◌, ℕ, List, true, Option, None}
 use Rattle.spec_tool.specs.Reads.{Read, texts_read, are_made}
 use Rattle.spec_tool.specs.Commands.{Command, Printed, files_of}
-use Rattle.spec_tool.specs.Answers.{answer}
 use Rattle.bm_io.specs.Counts.{RoseBy}
 use Rattle.bm_io.specs.Files.{Told}
 use Rattle.bm_command.specs.Files.{Tells}
@@ -17,9 +16,9 @@ pub record Between : Type 0 where
 abbrev pub between : Option Told → Option Told → ℕ → ℕ → Between
 between before now faults faults_now = record { before = before; now = now; faults = faults; faults_now = faults_now }
 
-pub record Replied (hash : List ℕ → List ℕ) (command : Command) (b : Between) (reply : Printed) : Type 0 where
+pub record Replied (answers : List Read → Printed) (command : Command) (b : Between) (reply : Printed) : Type 0 where
   pub reads : List Read
   pub made : are_made (files_of command) reads ≡ true
   pub told : Tells b.before b.now (files_of command) reads
   pub unread : texts_read reads ≡ None → RoseBy 1 b.faults b.faults_now
-  pub reply_is : reply ≡ answer hash command reads
+  pub reply_is : reply ≡ answers reads

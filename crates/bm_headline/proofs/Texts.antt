@@ -1,10 +1,9 @@
 -- What is replied to what the reads of files gave.
-use Rattle.std.proofs.Common.{◌≡◌, ℕ, Bool, true, false, List, [], ◌∷◌, ◌++◌, Some, None, Result, Ok, Err, refl, sym, ap, ◌∙◌}
+use Rattle.std.proofs.Common.{◌≡◌, ℕ, Bool, true, false, List, [], ◌∷◌, ◌++◌, Option, Some, None, Result, Ok, Err, refl, sym, ap, ◌∙◌}
 use Rattle.std.specs.Prelude.{IfOk}
 use Rattle.spec_data.specs.Digits.{onto}
 use Rattle.spec_tool.specs.Reads.{Text, failed, texts_read}
-use Rattle.spec_tool.specs.Commands.{prints}
-use Rattle.spec_picture.specs.Drawing.{draw_texts, read_drawn}
+use Rattle.spec_tool.specs.Commands.{Printed, prints}
 use Rattle.bm_command.specs.Seen.{printed}
 use Rattle.bm_command.specs.declared.reading.Reading.{Reading}
 use Rattle.bm_command.specs.declared.reply.Reply.{Reply}
@@ -38,14 +37,16 @@ is_failed false texts e = absurd (let k = all_read texts in cc)
 pub failed_if : (reading : Reading) → texts_read (reads_of reading) ≡ None → reading.failed ≡ true
 failed_if reading e = is_failed reading.failed reading.texts e
 
-module _ (hash : List ℕ → List ℕ) (reading : Reading) where
+module _ (answers : Option (List Text) → Printed) (reading : Reading) where
   -- where a read failed
-  pub unread_reply : (text : List ℕ) → reading.failed ≡ true → text ≡ [] → prints 3 text ≡ read_drawn hash (texts_read (reads_of reading))
-  unread_reply text e empty = ap (prints 3) empty ∙ sym (ap (read_drawn hash) (read_none reading.failed reading.texts e))
+  pub unread_reply : (text : List ℕ) → answers None ≡ prints 3 [] → reading.failed ≡ true → text ≡ []
+      → prints 3 text ≡ answers (texts_read (reads_of reading))
+  unread_reply text none e empty = ap (prints 3) empty ∙ sym none ∙ sym (ap answers (read_none reading.failed reading.texts e))
 
   -- where all were read
   pub read_reply : {E : Type 0} (texts : List Text) (r : Result Reply E) → reading.failed ≡ false → texts ≡ reading.texts
-      → IfOk r (λ reply. printed reply ≡ draw_texts hash texts)
-      → IfOk r (λ reply. printed reply ≡ read_drawn hash (texts_read (reads_of reading)))
-  read_reply texts (Ok reply) e same h = h ∙ ap (draw_texts hash) same ∙ sym (ap (read_drawn hash) (read_some reading.failed reading.texts e))
+      → IfOk r (λ reply. printed reply ≡ answers (Some texts))
+      → IfOk r (λ reply. printed reply ≡ answers (texts_read (reads_of reading)))
+  read_reply texts (Ok reply) e same h =
+      h ∙ ap (λ (ts : List Text). answers (Some ts)) same ∙ sym (ap answers (read_some reading.failed reading.texts e))
   read_reply texts (Err error) e same h = tt

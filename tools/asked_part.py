@@ -78,12 +78,12 @@ left = leave("bitml", "main", program)
 below = lines["bitml"].split()
 for crate in below:
     below += [it for it in lines.get(crate, "").split() if it not in below]
-if "bm_replies" in below:
+if "bitml_reply" in below:
     for crate in below:
-        left += texts_of(crate).values() if "bm_replies" in lines.get(crate, "").split() else []
-    replies = texts_of("bm_replies")
-    replies["lib"] = asked_imports(replies["lib"], imported(left, "bm_replies"))
-    leave("bm_replies", "lib", replies)
+        left += texts_of(crate).values() if "bitml_reply" in lines.get(crate, "").split() else []
+    replies = texts_of("bitml_reply")
+    replies["lib"] = asked_imports(replies["lib"], imported(left, "bitml_reply"))
+    leave("bitml_reply", "lib", replies)
 
 text = (folder / "crates.txt").read_text()
 (folder / "crates.txt").write_text(re.sub(r"^(\w+):.*$", lambda found: f"{found[1]}:{lines[found[1]]}", text, flags=re.M))

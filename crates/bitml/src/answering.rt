@@ -4,14 +4,14 @@ ghost use Rattle.std.specs.Prelude.{◌≡◌, true, length, Some, IfOk};
 ghost use Rattle.spec_tool.specs.Reads.{text_at};
 ghost use Rattle.spec_tool.specs.Commands.{files_of, check_judged};
 ghost use Rattle.spec_tool.specs.Answers.{contract_in, text_answer};
-ghost use Rattle.bm_command.specs.Seen.{command, printed};
+ghost use Rattle.bitml_command.specs.Seen.{command, printed};
 ghost use Rattle.bitml.specs.Served.{IsServed};
 
 use crate::further::{audit_texts, auto_texts};
 use crate::making::make_reply;
 use crate::partial::{joined_texts, shown_texts};
 use crate::running::{plan_texts, play_texts, psbt_texts, weigh_texts};
-use bm_command::{Command, Reply};
+use bitml_command::{Command, Reply};
 use bm_hash::Hash32;
 use bm_judge::check_reply;
 use spec_data::{Bytes, OutOfMemory};

@@ -3,12 +3,12 @@
 ghost use Rattle.std.specs.Prelude.{◌≡◌, length, IfOk};
 ghost use Rattle.spec_tool.specs.Reads.{text_at};
 ghost use Rattle.spec_tool.specs.Answers.{with_contract, audited_file, size_of, strategy_file};
-ghost use Rattle.bm_command.specs.Seen.{printed};
+ghost use Rattle.bitml_command.specs.Seen.{printed};
 
 use crate::running::judge_two;
+use bitml_command::Reply;
 use bm_audit_reply::audit_reply;
 use bm_auto_reply::auto_reply;
-use bm_command::Reply;
 use bm_hash::Hash32;
 use bm_judge::Judgement;
 use spec_data::{Bytes, OutOfMemory};

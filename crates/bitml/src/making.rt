@@ -5,13 +5,13 @@ ghost use Rattle.spec_data.specs.Ranges.{most_contracts};
 ghost use Rattle.spec_text.specs.PlanText.{make_text};
 ghost use Rattle.spec_tool.specs.Commands.{most_size, run_answer, both_judged, make_answer};
 ghost use Rattle.spec_tool.specs.Answers.{run_in, contracts_in};
-ghost use Rattle.bm_command.specs.Seen.{printed};
+ghost use Rattle.bitml_command.specs.Seen.{printed};
 
-use bm_command::Reply;
+use bitml_command::Reply;
+use bitml_reply::made_reply;
 use bm_hash::Hash32;
 use bm_judge::{Judgement, judge_both};
 use bm_make::make;
-use bm_replies::made_reply;
 use spec_data::{Bytes, OutOfMemory};
 use std::alloc::Global;
 

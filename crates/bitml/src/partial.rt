@@ -5,9 +5,9 @@ ghost use Rattle.std.specs.Option.{option_copied};
 ghost use Rattle.spec_tool.specs.Reads.{text_at};
 ghost use Rattle.spec_tool.specs.PsbtText.{shown_answer, joined_answer};
 ghost use Rattle.bm_psbt_text.specs.Answers as answers;
-ghost use Rattle.bm_command.specs.Seen.{printed};
+ghost use Rattle.bitml_command.specs.Seen.{printed};
 
-use bm_command::Reply;
+use bitml_command::Reply;
 use bm_psbt_text::{Answer, psbt_joined, psbt_shown};
 use spec_data::{Bytes, OutOfMemory};
 use std::alloc::Global;

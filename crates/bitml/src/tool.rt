@@ -3,16 +3,16 @@
 ghost use Rattle.std.specs.Prelude.{◌≡◌, Some, map, string_bytes, IfOk, OnErr};
 ghost use Rattle.spec_tool.specs.Commands as spec;
 ghost use Rattle.spec_tool.specs.Answers.{answer};
-ghost use Rattle.bm_command.specs.Seen.{command, printed};
-ghost use Rattle.bm_command.specs.Files.{reads_of, AsksFront, CountsAll};
-ghost use Rattle.bm_headline.specs.Headline.{around, AnswersOrGivesUp, Headline};
-ghost use Rattle.bm_headline.specs.Replied.{between, Replied};
+ghost use Rattle.bitml_command.specs.Seen.{command, printed};
+ghost use Rattle.bitml_command.specs.Files.{reads_of, AsksFront, CountsAll};
+ghost use Rattle.bitml_headline.specs.Headline.{around, AnswersOrGivesUp, Headline};
+ghost use Rattle.bitml_headline.specs.Replied.{between, Replied};
 ghost use Rattle.bitml.specs.Served.{IsServed};
 
 use crate::answering::text_reply;
-use bm_command::{Command, Reading, Reply, command_of, files_of, read_all};
+use bitml_command::{Command, Reading, Reply, command_of, files_of, read_all};
+use bitml_headline::{answers_are_headlines, finish};
 use bm_hash::Hash32;
-use bm_headline::{answers_are_headlines, finish};
 use bm_io::{Files, Sink};
 use spec_data::{Bytes, OutOfMemory};
 use std::alloc::Global;

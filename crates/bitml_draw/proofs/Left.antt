@@ -16,11 +16,11 @@ use Rattle.spec_picture.specs.Picture.{picture_text}
 use Rattle.spec_picture.specs.Drawing.{last_of, last_status, draw_text}
 use Rattle.theory_picture.proofs.Endings.{whole_last, left_answer}
 use Rattle.bm_world.specs.Playing as world
-use Rattle.bm_playing.specs.declared.stop.Stop.{Stop}
-use Rattle.bm_playing.specs.Going.{halt_of}
-use Rattle.bm_playing.specs.Whole.{IsLeft}
-use Rattle.bm_shows.specs.Entries.{entries_by}
-use Rattle.bm_replies.proofs.Left.{event_is, shown_are}
+use Rattle.bitml_play.specs.declared.stop.Stop.{Stop}
+use Rattle.bitml_play.specs.Going.{halt_of}
+use Rattle.bitml_play.specs.Whole.{IsLeft}
+use Rattle.bitml_shows.specs.Entries.{entries_by}
+use Rattle.bitml_reply.proofs.Left.{event_is, shown_are}
 
 -- entries by records and steps that are these
 pub entries_same : (shown made : List Entry) (records these : List Record) (steps those : List (List Step)) → shown ≡ made → made ≡ entries_by records steps

@@ -3,12 +3,12 @@
 ghost use Rattle.std.specs.Prelude.{◌≡◌, ◌≤◌, ◌∷◌, [], length, IfOk};
 ghost use Rattle.spec_tool.specs.Reads.{text_at};
 ghost use Rattle.spec_tool.specs.Answers.{run_in};
-ghost use Rattle.bm_command.specs.Seen.{printed};
+ghost use Rattle.bitml_command.specs.Seen.{printed};
 ghost use Rattle.bm_judge.specs.Judges.{JudgesFiles, IsTakenIfAny};
 ghost use Rattle.spec_picture.specs.Drawing as spec;
 
 use crate::playing::draw_reply;
-use bm_command::Reply;
+use bitml_command::Reply;
 use bm_hash::Hash32;
 use bm_judge::{Judgement, judge_both};
 use spec_data::{Bytes, OutOfMemory};

@@ -4,16 +4,16 @@ ghost use Rattle.std.specs.Prelude.{◌≡◌, false, Some, map, length, string_
 ghost use Rattle.spec_tool.specs.Commands.{plan, files_of as files_named};
 ghost use Rattle.spec_picture.specs.Drawing.{words_drawn, drawn_answer, read_drawn};
 ghost use Rattle.spec_tool.specs.Reads.{texts_read};
-ghost use Rattle.bm_command.specs.Seen.{printed};
-ghost use Rattle.bm_command.specs.Files.{reads_of, AsksFront};
-ghost use Rattle.bm_headline.specs.Headline.{around};
-ghost use Rattle.bm_headline.specs.Replied.{between, Replied};
+ghost use Rattle.bitml_command.specs.Seen.{printed};
+ghost use Rattle.bitml_command.specs.Files.{reads_of, AsksFront};
+ghost use Rattle.bitml_headline.specs.Headline.{around};
+ghost use Rattle.bitml_headline.specs.Replied.{between, Replied};
 ghost use Rattle.bitml_draw.specs.Drawn.{AnswersOrGivesUp, DrawsOrGivesUp};
 
 use crate::replying::draw_texts;
-use bm_command::{Command, Reading, Reply, files_of, read_all};
+use bitml_command::{Command, Reading, Reply, files_of, read_all};
+use bitml_headline::finish;
 use bm_hash::Hash32;
-use bm_headline::finish;
 use bm_io::{Files, Sink};
 use spec_data::{Bytes, OutOfMemory};
 use std::alloc::Global;

@@ -15,8 +15,8 @@ use Rattle.spec_tool.specs.declared.finding.Kind.TheVariants as kinds
 use Rattle.spec_tool.specs.declared.finding.Finding.{Finding}
 use Rattle.spec_tool.specs.Audit.{Given, read, given_line, given_transactions, finding}
 use Rattle.bm_hash.specs.Messages.{evidence_of}
-use Rattle.bm_listed.specs.declared.entries.Candidate.{Candidate}
-use Rattle.bm_listed.specs.Parts.{names_of}
+use Rattle.bm_audit_listed.specs.declared.entries.Candidate.{Candidate}
+use Rattle.bm_audit_listed.specs.Parts.{names_of}
 use Rattle.bm_world.specs.declared.halt.Halt.{Halt}
 use Rattle.bm_world.specs.Playing.{Played, setup_in, Judged}
 use Rattle.bm_audit.specs.Heard.{Hears, Stopped}

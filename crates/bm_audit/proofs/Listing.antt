@@ -22,9 +22,9 @@ use Rattle.spec_tool.specs.Audit.{Missing, missing_of, audit_report}
 use Rattle.theory_audit.specs.Audited.{AuditsFindAll}
 use Rattle.theory_audit.specs.Nothing.{NothingLacks}
 use Rattle.bm_compile.specs.Numbered.{Numbered, numbered}
-use Rattle.bm_listed.specs.declared.entries.Candidate.{Candidate}
-use Rattle.bm_listed.specs.Parts.{candidates_by, as_candidate, absent_among}
-use Rattle.bm_listed.proofs.Listing.{candidates_listed, names_listed, absent_listed}
+use Rattle.bm_audit_listed.specs.declared.entries.Candidate.{Candidate}
+use Rattle.bm_audit_listed.specs.Parts.{candidates_by, as_candidate, absent_among}
+use Rattle.bm_audit_listed.proofs.Listing.{candidates_listed, names_listed, absent_listed}
 use Rattle.bm_audit.specs.Found.{kind_said, onto_found, found_from, Finds}
 use Rattle.bm_world.specs.Playing.{Played, setup_in}
 use Rattle.bm_audit.specs.Audited.{Audited, Follows}

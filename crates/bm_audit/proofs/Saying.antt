@@ -14,8 +14,8 @@ use Rattle.spec_tool.specs.declared.finding.Now.{Now}
 use Rattle.spec_tool.specs.declared.finding.Now.TheVariants as nows
 use Rattle.spec_tool.specs.declared.finding.Kind.TheVariants as kinds
 use Rattle.spec_tool.specs.Audit.{Given, empty, not_hex, bad, read, onto_given, now_of, now_for, now_by}
-use Rattle.bm_listed.specs.declared.entries.Candidate.{Candidate}
-use Rattle.bm_listed.specs.Parts.{names_of}
+use Rattle.bm_audit_listed.specs.declared.entries.Candidate.{Candidate}
+use Rattle.bm_audit_listed.specs.Parts.{names_of}
 use Rattle.bm_world.specs.Playing.{Played, setup_in}
 use Rattle.bm_audit.specs.Heard.{Hears}
 use Rattle.bm_audit.specs.Found.{kind_said, given_strings}

@@ -11,8 +11,8 @@ use Rattle.spec_tool.specs.declared.finding.Kind.{Kind}
 use Rattle.spec_tool.specs.declared.finding.Kind.TheVariants as kinds
 use Rattle.spec_tool.specs.declared.finding.Finding.{Finding}
 use Rattle.spec_tool.specs.Audit.{Given, empty, not_hex, bad, read, onto_given, given_line, given_transactions, now_of, finding}
-use Rattle.bm_listed.specs.declared.entries.Candidate.{Candidate}
-use Rattle.bm_listed.specs.Parts.{names_of}
+use Rattle.bm_audit_listed.specs.declared.entries.Candidate.{Candidate}
+use Rattle.bm_audit_listed.specs.Parts.{names_of}
 use Rattle.bm_world.specs.Playing.{Played, setup_in}
 use Rattle.bm_audit.specs.Heard.{Hears}
 

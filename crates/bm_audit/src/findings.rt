@@ -11,8 +11,8 @@ ghost use Rattle.bm_audit.specs.Found.{read_kind, onto_found, Reads, Takes, Adds
 
 use crate::judging::now_of;
 use crate::lines::{Line, read_line};
+use bm_audit_listed::Catalog;
 use bm_hash::Hash32;
-use bm_listed::Catalog;
 use bm_runfile::first_line;
 use bm_world::{Halt, World};
 use spec_bitcoin::{Refusal, Tx};

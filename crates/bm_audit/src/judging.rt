@@ -11,13 +11,13 @@ ghost use Rattle.bm_syntax.specs.View.{contract};
 ghost use Rattle.bm_match.specs.Matches.{all_compiled};
 ghost use Rattle.bm_world.specs.Playing.{setup_in};
 
-use bm_board::{Board, spent_numbers};
-use bm_coins::HeldPosition;
 use bm_hash::Hash32;
 use bm_match::{chosen_by, first_initial, first_witness};
 use bm_syntax::Contract;
 use bm_syntax::walk::choice_at;
 use bm_world::World;
+use bm_world_board::{Board, spent_numbers};
+use bm_world_coins::HeldPosition;
 use spec_bitcoin::{Refusal, Tx};
 use spec_data::OutOfMemory;
 use spec_tool::Now;

@@ -5,16 +5,16 @@ ghost use Rattle.spec_run.specs.Compiled.{compiled_instance};
 ghost use Rattle.spec_tool.specs.Audit.{listed_in, missing_of};
 ghost use Rattle.theory_audit.specs.Audited.{IsAudit};
 ghost use Rattle.bm_compile.specs.Numbered.{numbered};
-ghost use Rattle.bm_listed.specs.Parts.{as_candidate};
+ghost use Rattle.bm_audit_listed.specs.Parts.{as_candidate};
 ghost use Rattle.bm_world.specs.Playing.{setup_in};
 ghost use Rattle.bm_audit.specs.Heard.{Stopped};
 ghost use Rattle.bm_audit.specs.Found.{text_strings};
 ghost use Rattle.bm_audit.specs.Audited.{Audited, Follows};
 
 use crate::findings::findings_of;
+use bm_audit_listed::{Catalog, absent, candidates, missing};
 use bm_compile::Compiled;
 use bm_hash::Hash32;
-use bm_listed::{Catalog, absent, candidates, missing};
 use bm_world::{Halt, World};
 use spec_bitcoin::Label;
 use spec_data::{OutOfMemory, Seq};

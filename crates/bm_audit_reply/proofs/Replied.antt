@@ -15,16 +15,16 @@ use Rattle.spec_tool.specs.Answers.{if_whole}
 use Rattle.spec_tool.specs.Commands.{prints}
 use Rattle.spec_tool.specs.PsbtText.{not_compiled_line}
 use Rattle.spec_tool.specs.AuditText.{report_text, uncompiled_text, audit_text, audited, audit_answer}
-use Rattle.bm_command.specs.Seen.{printed}
-use Rattle.bm_command.specs.declared.reply.Reply.{Reply}
+use Rattle.bitml_command.specs.Seen.{printed}
+use Rattle.bitml_command.specs.declared.reply.Reply.{Reply}
 use Rattle.bm_compile.specs.Numbered.{Numbered, numbered}
 use Rattle.bm_hash.specs.Messages.{evidence_of}
 use Rattle.bm_world.specs.declared.halt.Halt.{Halt}
 use Rattle.bm_world.specs.declared.halt.Halt.TheVariants.{Collided, Guessed, Memory}
 use Rattle.bm_world.specs.Playing.{Played, setup_in}
-use Rattle.bm_replies.specs.Halting.{collided_printed, halt_printed}
-use Rattle.bm_replies.specs.Last.{IsWhole}
-use Rattle.bm_replies.proofs.Ended.{whole_if}
+use Rattle.bitml_reply.specs.Halting.{collided_printed, halt_printed}
+use Rattle.bitml_reply.specs.Last.{IsWhole}
+use Rattle.bitml_reply.proofs.Ended.{whole_if}
 use Rattle.bm_audit.specs.Heard.{Clashes, Stopped}
 
 -- ---- compiled or not

@@ -6,14 +6,14 @@ ghost use Rattle.spec_tool.specs.Audit.{audit_collision};
 ghost use Rattle.spec_tool.specs.Commands.{prints};
 ghost use Rattle.spec_tool.specs.PsbtText.{not_compiled_line};
 ghost use Rattle.spec_tool.specs.AuditText as spec;
-ghost use Rattle.bm_command.specs.Seen.{printed};
+ghost use Rattle.bitml_command.specs.Seen.{printed};
 ghost use Rattle.bm_world.specs.Playing.{setup_in};
 
+use bitml_command::Reply;
+use bitml_reply::halt_reply;
 use bm_audit::{AuditReport, audit};
 use bm_audit_text::report_text;
-use bm_command::Reply;
 use bm_hash::Hash32;
-use bm_replies::halt_reply;
 use bm_world::World;
 use spec_data::{Bytes, OutOfMemory};
 use std::alloc::Global;

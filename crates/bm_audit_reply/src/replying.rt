@@ -7,12 +7,12 @@ ghost use Rattle.theory_text.specs.RunFiles.{IsReadRun};
 ghost use Rattle.spec_tool.specs.Commands.{setup_of};
 ghost use Rattle.spec_tool.specs.Answers.{if_whole, audited_file};
 ghost use Rattle.spec_tool.specs.AuditText as spec;
-ghost use Rattle.bm_command.specs.Seen.{printed};
+ghost use Rattle.bitml_command.specs.Seen.{printed};
 
 use crate::auditing::world_reply;
-use bm_command::Reply;
+use bitml_command::Reply;
+use bitml_reply::{Last, let_go, play_to_end};
 use bm_hash::Hash32;
-use bm_replies::{Last, let_go, play_to_end};
 use bm_wellformed::Checked;
 use spec_data::{Bytes, OutOfMemory};
 use spec_run::Run;

@@ -27,18 +27,18 @@ use Rattle.theory_auto.specs.Continued.{StrategiesGoOn}
 use Rattle.theory_auto.specs.OwnRules.{IsHonest, StrategiesKeepToRules}
 use Rattle.theory_auto.specs.Spelled.{GoesWith, LongerRunsAreSpelled}
 use Rattle.bm_hash.specs.Messages.{evidence_of}
-use Rattle.bm_command.specs.Seen.{printed}
-use Rattle.bm_command.specs.declared.reply.Reply.{Reply}
+use Rattle.bitml_command.specs.Seen.{printed}
+use Rattle.bitml_command.specs.declared.reply.Reply.{Reply}
 use Rattle.bm_world.specs.declared.halt.Halt.{Halt}
 use Rattle.bm_world.specs.declared.halt.Halt.TheVariants as halts
 use Rattle.bm_world.specs.Playing as world
 use Rattle.bm_world.specs.Playing.{setup_in, most_records}
-use Rattle.bm_playing.specs.Going.{record_passed}
-use Rattle.bm_playing.specs.Whole.{IsLeft}
-use Rattle.bm_playing.proofs.Courses.{trace_is}
-use Rattle.bm_replies.specs.Halting.{collided_printed, halt_printed}
-use Rattle.bm_replies.specs.Last.{IsHalted, IsWhole}
-use Rattle.bm_replies.proofs.Ended.{whole_if}
+use Rattle.bitml_play.specs.Going.{record_passed}
+use Rattle.bitml_play.specs.Whole.{IsLeft}
+use Rattle.bitml_play.proofs.Courses.{trace_is}
+use Rattle.bitml_reply.specs.Halting.{collided_printed, halt_printed}
+use Rattle.bitml_reply.specs.Last.{IsHalted, IsWhole}
+use Rattle.bitml_reply.proofs.Ended.{whole_if}
 use Rattle.bm_rounds.specs.Trying.{IsCause}
 use Rattle.bm_rounds.specs.Extending.{Extends, StopsExtending}
 use Rattle.bm_auto_reply.specs.Continued.{Continues, ContinuesIfWhole, GoesOnBeside}

@@ -8,7 +8,7 @@ use crate::contracts::contracts_in;
 use crate::error::{ContractsError, JudgeError};
 use crate::replies::{contract_refused, run_refused};
 use crate::run::run_in;
-use bm_command::Reply;
+use bitml_command::Reply;
 use bm_runfile::Run;
 use bm_wellformed::Checked;
 use spec_data::{Bytes, OutOfMemory};

@@ -3,12 +3,12 @@
 ghost use Rattle.std.specs.Prelude.{◌≡◌, IfOk, Ok};
 ghost use Rattle.spec_tool.specs.Commands as spec;
 ghost use Rattle.spec_tool.specs.Answers.{contract_in};
-ghost use Rattle.bm_command.specs.Seen.{printed};
+ghost use Rattle.bitml_command.specs.Seen.{printed};
 
 use crate::contract::contract_in;
 use crate::error::JudgeError;
 use crate::refusal::put_contract_refused;
-use bm_command::Reply;
+use bitml_command::Reply;
 use bm_print::print_advert;
 use bm_text::put;
 use bm_wellformed::Checked;

@@ -16,12 +16,12 @@ ghost use Rattle.bm_psbt_plan.specs.OfRun.{IsOfRun};
 
 use crate::inputs::{path_inputs, persistent_inputs};
 use crate::outputs::{front_of, output_at};
-use bm_base64::base64_text;
 use bm_book::Book;
 use bm_compile::Compiled;
 use bm_hash::Hash32;
 use bm_keys::put_path;
 use bm_psbt::{Psbt, encode};
+use bm_psbt_base64::base64_text;
 use bm_syntax::walk::at;
 use bm_syntax::{Guarded, core};
 use bm_text::put;

@@ -7,8 +7,8 @@ use Rattle.spec_tool.specs.declared.rule.Rule.{Rule}
 use Rattle.spec_tool.specs.Turns.{rule_event}
 use Rattle.theory_world.proofs.Hashed.{NoClash}
 use Rattle.theory_auto.specs.OwnRules.{IsHonest}
-use Rattle.bm_board.specs.declared.board.Board.{Board}
-use Rattle.bm_board.specs.Drafts.{setup_of, world_of}
+use Rattle.bm_world_board.specs.declared.board.Board.{Board}
+use Rattle.bm_world_board.specs.Drafts.{setup_of, world_of}
 use Rattle.bm_world.specs.Playing as world
 use Rattle.bm_world.specs.Playing.{setup_in, IsWorld}
 use Rattle.bm_rounds.proofs.Tried.{event_is}

@@ -2,11 +2,11 @@
 
 ghost use Rattle.std.specs.Prelude.{◌≡◌, ℕ, List};
 ghost use Rattle.spec_tool.specs.Turns as spec;
-ghost use Rattle.bm_board.specs.Drafts.{setup_of, world_of};
+ghost use Rattle.bm_world_board.specs.Drafts.{setup_of, world_of};
 ghost use Rattle.bm_rounds.specs.Ruled.{authorises, fires};
 
 use crate::standing::taken_at;
-use bm_board::Board;
+use bm_world_board::Board;
 use spec_data::{Name, Seq};
 use spec_run::Event;
 use spec_tool::{Act, Rule};

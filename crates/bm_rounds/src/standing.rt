@@ -6,11 +6,11 @@ ghost use Rattle.spec_run.specs.World.{live_position};
 ghost use Rattle.spec_tool.specs.Turns as spec;
 ghost use Rattle.spec_tool.specs.Weights.{last_branch, position_of};
 ghost use Rattle.bm_plan.specs.Listed.{step_branch};
-ghost use Rattle.bm_board.specs.Drafts.{setup_of, world_of};
+ghost use Rattle.bm_world_board.specs.Drafts.{setup_of, world_of};
 
-use bm_board::Board;
-use bm_coins::{Coins, HeldPosition};
 use bm_syntax::walk::at;
+use bm_world_board::Board;
+use bm_world_coins::{Coins, HeldPosition};
 use spec_terms::{Path, PathStep};
 
 // The steps to the position whose branch the path is.

@@ -3,10 +3,10 @@
 ghost use Rattle.std.specs.Prelude.{◌≡◌, ◌++◌, flat_map, IfOk, OnOk};
 ghost use Rattle.spec_text.specs.RunText.{newline, event_text, run_text};
 ghost use Rattle.spec_tool.specs.Commands.{prints};
-ghost use Rattle.bm_command.specs.Seen.{printed};
+ghost use Rattle.bitml_command.specs.Seen.{printed};
 ghost use Rattle.bm_strategy.specs.Longer.{longer};
 
-use bm_command::Reply;
+use bitml_command::Reply;
 use bm_runfile::{print_header, put_event};
 use bm_text::put;
 use spec_data::{Bytes, OutOfMemory};

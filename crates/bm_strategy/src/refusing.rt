@@ -3,9 +3,9 @@
 ghost use Rattle.std.specs.Prelude.{◌≡◌, ◌++◌, codes, IfOk, OnOk};
 ghost use Rattle.spec_text.specs.RunText.{newline};
 ghost use Rattle.spec_tool.specs.AutoText as spec;
-ghost use Rattle.bm_command.specs.Seen.{printed};
+ghost use Rattle.bitml_command.specs.Seen.{printed};
 
-use bm_command::Reply;
+use bitml_command::Reply;
 use bm_text::put;
 use spec_data::{Bytes, OutOfMemory};
 use std::alloc::Global;

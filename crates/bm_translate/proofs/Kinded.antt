@@ -28,8 +28,8 @@ use Rattle.theory_world.proofs.Ledger.Outputs.{active-at}
 use Rattle.theory_run.proofs.Steps.Beginnings.{committed_same}
 use Rattle.bm_compile.specs.Numbered.{Numbered, numbered}
 use Rattle.bm_match.specs.Matches.{compiled_from, begins, chosen_at}
-use Rattle.bm_board.specs.declared.board.Board.{Board}
-use Rattle.bm_board.specs.Compiling.{compiled_at}
+use Rattle.bm_world_board.specs.declared.board.Board.{Board}
+use Rattle.bm_world_board.specs.Compiling.{compiled_at}
 use Rattle.bm_calculus.specs.Answers.{parts_of}
 use Rattle.bm_translate.specs.declared.running.Running.{Running}
 use Rattle.bm_translate.specs.Kinds.{is_complete_now, begins_now, first_begun_now}

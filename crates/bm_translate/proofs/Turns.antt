@@ -12,7 +12,7 @@ use Rattle.spec_run.specs.Committing.{secrets_at, committed_digests}
 use Rattle.spec_run.specs.Event.{draft}
 use Rattle.spec_run.specs.Steps.{reveals, commit_lengths, done_steps}
 use Rattle.bm_exchange.specs.Exchanged.{digests_by}
-use Rattle.bm_board.specs.declared.board.Board.{Board}
+use Rattle.bm_world_board.specs.declared.board.Board.{Board}
 use Rattle.bm_translate.specs.declared.running.Running.{Running}
 use Rattle.bm_translate.specs.Shown.{posts_by, posts_of, noted, watched_all, revealed_by, revealed_of}
 use Rattle.bm_translate.specs.Lengths.{lengths_by}

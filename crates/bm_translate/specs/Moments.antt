@@ -14,8 +14,8 @@ use Rattle.spec_run.specs.Event.{draft, record_of}
 use Rattle.theory_run.proofs.Simulated.{KeptRun}
 use Rattle.bm_hash.specs.Messages.{message_of}
 use Rattle.bm_match.specs.Matches.{all_compiled}
-use Rattle.bm_board.specs.declared.board.Board.{Board}
-use Rattle.bm_board.specs.Accounts.{account_of}
+use Rattle.bm_world_board.specs.declared.board.Board.{Board}
+use Rattle.bm_world_board.specs.Accounts.{account_of}
 use Rattle.bm_translate.specs.declared.running.Running.{Running}
 use Rattle.bm_translate.specs.Shown.{watched_all}
 

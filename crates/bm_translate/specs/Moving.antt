@@ -10,8 +10,8 @@ use Rattle.spec_calculus.specs.declared.step.Step.TheVariants as steps
 use Rattle.spec_calculus.specs.Moves.{owner_at}
 use Rattle.spec_bitcoin.specs.declared.tx.Tx.{Tx}
 use Rattle.spec_run.specs.Steps.{parties_once, auth_move}
-use Rattle.bm_board.specs.declared.accounts.Account.{Account}
-use Rattle.bm_board.specs.Accounts.{owner_in}
+use Rattle.bm_world_board.specs.declared.accounts.Account.{Account}
+use Rattle.bm_world_board.specs.Accounts.{owner_in}
 
 -- the move of a transaction that spends the outputs of these numbers
 abbrev pub move_by : List Account → Tx → List ℕ → Move

@@ -6,9 +6,9 @@ ghost use Rattle.spec_run.specs.Setup.{held_among};
 ghost use Rattle.spec_run.specs.Committing as committing;
 ghost use Rattle.bm_translate.specs.Lengths as spec;
 
-use bm_board::is_name_among;
 use bm_exchange::Exchange;
 use bm_hash::{Hash32, Trail};
+use bm_world_board::is_name_among;
 use spec_data::{Name, OutOfMemory, Seq};
 use spec_run::{Header, HeldSecret};
 use std::alloc::Global;

@@ -8,11 +8,11 @@ ghost use Rattle.spec_run.specs.Setup.{Setup};
 ghost use Rattle.spec_run.specs.World.{World};
 ghost use Rattle.spec_run.specs.Steps as spec;
 ghost use Rattle.theory_run.proofs.Steps.Moved.{AgreeOnMoney};
-ghost use Rattle.bm_board.specs.Accounts.{account_of, owner_in};
+ghost use Rattle.bm_world_board.specs.Accounts.{account_of, owner_in};
 ghost use Rattle.bm_translate.specs.Moving.{move_by, moved_steps, with_owner, with_owners};
 
-use bm_board::{Account, owner_of_script};
 use bm_calculus::Config;
+use bm_world_board::{Account, owner_of_script};
 use spec_bitcoin::{Tx, TxOut};
 use spec_calculus::{Move, Owner, Step};
 use spec_data::{Name, OutOfMemory, Seq};

@@ -20,7 +20,7 @@ use Rattle.theory_world.proofs.Ledger.Worth.{accepted_by}
 use Rattle.theory_world.proofs.Ledger.Accepting.{accepting}
 use Rattle.theory_run.proofs.Accepted.Accept.{fresh}
 use Rattle.theory_run.proofs.Facts.Bookkeeping.{KeptBooks, fits, checks}
-use Rattle.bm_board.specs.Reaching.{IsFresh}
+use Rattle.bm_world_board.specs.Reaching.{IsFresh}
 
 module _ (s : Setup) (setup : IsSetup s) (g : Configuration) (w : World) (keeps : KeptBooks s g w) (tx : Tx) (fine : IsNumbered tx) where
   pub fresh_tx : IsFresh s w tx

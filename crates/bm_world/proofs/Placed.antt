@@ -13,10 +13,10 @@ use Rattle.theory_run.proofs.Simulated.{KeptRun, kept_run, keeps_simulated, open
 use Rattle.bm_compile.specs.Numbered.{Numbered}
 use Rattle.bm_match.specs.declared.found.Active.{Active}
 use Rattle.bm_match.specs.Matches.{choice_in, all_compiled, IsActive}
-use Rattle.bm_spending.specs.Placed.{IsPlaced}
-use Rattle.bm_spending.specs.Purposes.{active_in}
-use Rattle.bm_spending.proofs.Kept.{placed_kept}
-use Rattle.bm_spending.proofs.Standing.{active_there, placed_unsigned}
+use Rattle.bm_world_spend.specs.Placed.{IsPlaced}
+use Rattle.bm_world_spend.specs.Purposes.{active_in}
+use Rattle.bm_world_spend.proofs.Kept.{placed_kept}
+use Rattle.bm_world_spend.proofs.Standing.{active_there, placed_unsigned}
 use Rattle.bm_world.specs.Reached.{events_of, IsReached}
 use Rattle.bm_world.specs.Standing.{node_in, node_of, node_by}
 use Rattle.bm_world.proofs.Reaching.{run_of, last_is}

@@ -31,20 +31,20 @@ use Rattle.bm_hash.specs.declared.messages.TrailError.TheVariants as trail
 use Rattle.bm_world.specs.Halts.{halt_of}
 use Rattle.bm_hash.specs.Messages.{evidence_of, noted, noted_all}
 use Rattle.bm_hash.specs.Trails.{Hashed, Stops}
-use Rattle.bm_board.specs.declared.board.Board.{Board}
+use Rattle.bm_world_board.specs.declared.board.Board.{Board}
 use Rattle.bm_world.specs.declared.halt.Halt.{Halt}
 use Rattle.bm_world.specs.declared.halt.Halt.TheVariants.{Guessed, Memory}
-use Rattle.bm_board.specs.declared.drafted.Change.{Change}
-use Rattle.bm_board.specs.declared.drafted.Change.TheVariants.{Nothing, Blocks, Advertise, Commit, Append}
-use Rattle.bm_board.specs.declared.drafted.Drafted.{Drafted}
+use Rattle.bm_world_board.specs.declared.drafted.Change.{Change}
+use Rattle.bm_world_board.specs.declared.drafted.Change.TheVariants.{Nothing, Blocks, Advertise, Commit, Append}
+use Rattle.bm_world_board.specs.declared.drafted.Drafted.{Drafted}
 use Rattle.bm_compile.specs.Numbered.{Numbered}
 use Rattle.bm_match.specs.Matches.{all_compiled}
-use Rattle.bm_board.specs.Compiling.{placed}
-use Rattle.bm_board.specs.Drafts.{world_of, tx_in, changed, IsReady, Drafts}
-use Rattle.bm_settle.specs.Settling.{IsMakeable, Makes}
+use Rattle.bm_world_board.specs.Compiling.{placed}
+use Rattle.bm_world_board.specs.Drafts.{world_of, tx_in, changed, IsReady, Drafts}
+use Rattle.bm_world_settle.specs.Settling.{IsMakeable, Makes}
 use Rattle.bm_world.specs.Playing.{most_records, HashedFront, JudgedHalts, Halts, Kept, IsPlayable, IsCompiledAfter, Passes, Tests, SameBoard, GoesOn, IsWorld, collided_by}
 use Rattle.bm_hash.proofs.Collisions.{hashed_adds, stopped_shows}
-use Rattle.bm_settle.proofs.Settled.{changed-hashed}
+use Rattle.bm_world_settle.proofs.Settled.{changed-hashed}
 use Rattle.bm_world.specs.Reached.{IsReached}
 use Rattle.bm_world.proofs.Heard.{kept_heard}
 use Rattle.bm_world.proofs.Found.{found_there, found_more}

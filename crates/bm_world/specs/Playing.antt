@@ -27,13 +27,13 @@ use Rattle.bm_world.specs.declared.halt.Halt.{Halt}
 use Rattle.bm_world.specs.declared.halt.Halt.TheVariants.{Collided, Guessed}
 use Rattle.bm_compile.specs.Numbered.{Numbered}
 use Rattle.bm_match.specs.Matches.{all_compiled}
-use Rattle.bm_board.specs.declared.board.Board.{Board}
-use Rattle.bm_board.specs.Compiling.{placed}
-use Rattle.bm_board.specs.declared.drafted.Drafted.{Drafted}
-use Rattle.bm_board.specs.Drafts.{world_of, Drafts}
+use Rattle.bm_world_board.specs.declared.board.Board.{Board}
+use Rattle.bm_world_board.specs.Compiling.{placed}
+use Rattle.bm_world_board.specs.declared.drafted.Drafted.{Drafted}
+use Rattle.bm_world_board.specs.Drafts.{world_of, Drafts}
 use Rattle.bm_world.specs.Reached.{IsReached, AreFound}
-use Rattle.bm_fire.specs.Shown.{ArePostsHashed}
-use Rattle.bm_board.specs.Accounts.{account_of}
+use Rattle.bm_world_fire.specs.Shown.{ArePostsHashed}
+use Rattle.bm_world_board.specs.Accounts.{account_of}
 
 -- what a world stands for
 pub record Played (H : Type 0) : Type 0 where

@@ -5,7 +5,7 @@ use Rattle.spec_run.specs.World.{ContractPosition}
 use Rattle.bm_compile.specs.Numbered.{Numbered}
 use Rattle.bm_match.specs.Matches.{choice_in}
 use Rattle.bm_match.specs.declared.found.Active.{Active}
-use Rattle.bm_spending.specs.Purposes.{active_in}
+use Rattle.bm_world_spend.specs.Purposes.{active_in}
 
 -- the contract of what is held, and the number of its position's choice among the contract's nodes
 abbrev pub node_in : Setup → Option ContractPosition → Option (ℕ × ℕ)

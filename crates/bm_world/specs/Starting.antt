@@ -3,7 +3,7 @@ use Rattle.std.specs.Prelude.{◌≡◌, ℕ, List, [], None}
 use Rattle.spec_terms.specs.Advert.{Advert}
 use Rattle.spec_run.specs.declared.header.Header.{Header}
 use Rattle.spec_run.specs.Event.{opening_world, opening_collision}
-use Rattle.bm_opening.specs.Opening.{setup_with}
+use Rattle.bm_world_opening.specs.Opening.{setup_with}
 use Rattle.bm_world.specs.Playing.{Played}
 
 -- a run that opened: no two different opening strings have one digest, and this is the world before any event

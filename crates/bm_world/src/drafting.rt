@@ -4,17 +4,17 @@ ghost use Rattle.std.specs.Prelude.{◌≡◌, IfOk, IfErr};
 ghost use Rattle.bm_hash.specs.Trails.{StopsAlong};
 ghost use Rattle.spec_run.specs.Conditions.{IsEvent};
 ghost use Rattle.spec_run.specs.Event as run;
-ghost use Rattle.bm_board.specs.Drafts.{setup_of, world_of, Drafts, Signs};
+ghost use Rattle.bm_world_board.specs.Drafts.{setup_of, world_of, Drafts, Signs};
 ghost use Rattle.bm_world.specs.Kinds.{IsNoCommit};
 ghost use Rattle.bm_world.specs.Playing.{IsPlayable, IsCompiledAfter};
 
 use crate::handing::draft_handing;
 use crate::signing::draft_signing;
 use crate::telling::draft_telling;
-use bm_board::{Board, Drafted};
-use bm_commit::draft_commit;
 use bm_compile::Compiled;
 use bm_hash::{Hash32, Trail, TrailError};
+use bm_world_board::{Board, Drafted};
+use bm_world_commit::draft_commit;
 use spec_run::Event;
 use std::alloc::Global;
 

@@ -5,14 +5,14 @@ ghost use Rattle.bm_hash.specs.Trails.{StopsAlong};
 ghost use Rattle.spec_run.specs.Conditions.{IsEvent, IsPiece, IsGift};
 ghost use Rattle.spec_run.specs.Event as run;
 ghost use Rattle.spec_run.specs.declared.event.Event.TheVariants as events;
-ghost use Rattle.bm_board.specs.Drafts.{setup_of, world_of, Drafts, Signs};
+ghost use Rattle.bm_world_board.specs.Drafts.{setup_of, world_of, Drafts, Signs};
 ghost use Rattle.bm_world.specs.Kinds.{IsHanding};
 ghost use Rattle.bm_world.specs.Playing.{IsPlayable};
 
-use bm_board::{Board, Drafted};
-use bm_fire::{draft_fire, draft_fire_init};
 use bm_hash::{Hash32, Trail, TrailError};
-use bm_spending::{draft_append, draft_give};
+use bm_world_board::{Board, Drafted};
+use bm_world_fire::{draft_fire, draft_fire_init};
+use bm_world_spend::{draft_append, draft_give};
 use spec_data::Name;
 use spec_run::Event;
 use std::alloc::Global;

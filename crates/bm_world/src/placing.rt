@@ -1,7 +1,7 @@
 //! Compiled contracts on the board.
 
 ghost use Rattle.std.specs.Prelude.{◌≡◌};
-ghost use Rattle.bm_board.specs.Compiling.{placed};
+ghost use Rattle.bm_world_board.specs.Compiling.{placed};
 
 use bm_compile::Compiled;
 use spec_data::Seq;

@@ -3,16 +3,16 @@
 ghost use Rattle.std.specs.Prelude.{◌≡◌, IfOk, IfErr, OnErr};
 ghost use Rattle.spec_run.specs.Conditions.{IsEvent};
 ghost use Rattle.spec_run.specs.Values as values;
-ghost use Rattle.bm_board.specs.Drafts.{setup_of, world_of, Signs};
+ghost use Rattle.bm_world_board.specs.Drafts.{setup_of, world_of, Signs};
 ghost use Rattle.bm_world.specs.Playing.{IsPlayable, Passes, SameBoard, GoesOn, Tests, Halts};
 
 use crate::drafting::draft;
 use crate::halt::Halt;
 use crate::placing::place;
-use bm_board::{Board, Drafted};
 use bm_compile::Compiled;
 use bm_hash::{Hash32, Trail};
-use bm_settle::{first_guessed, settle};
+use bm_world_board::{Board, Drafted};
+use bm_world_settle::{first_guessed, settle};
 use spec_data::Seq;
 use spec_run::{Event, Outcome, Record};
 use std::alloc::Global;

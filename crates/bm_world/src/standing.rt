@@ -3,12 +3,12 @@
 ghost use Rattle.std.specs.Prelude.{◌≡◌, slice_get};
 ghost use Rattle.std.specs.Option.{option_copied};
 ghost use Rattle.spec_run.specs.World.{live_position};
-ghost use Rattle.bm_board.specs.Compiling.{compiled_at};
-ghost use Rattle.bm_spending.specs.Purposes.{choice_at};
+ghost use Rattle.bm_world_board.specs.Compiling.{compiled_at};
+ghost use Rattle.bm_world_spend.specs.Purposes.{choice_at};
 ghost use Rattle.bm_world.specs.Standing.{node_by};
 
-use bm_board::Board;
-use bm_coins::HeldPosition;
+use bm_world_board::Board;
+use bm_world_coins::HeldPosition;
 
 // What the output of this number stands for, if it is live and a contract's.
 fn held_at(board: &Board, number: u32) -> Option<&HeldPosition>

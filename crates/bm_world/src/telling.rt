@@ -4,13 +4,13 @@ ghost use Rattle.std.specs.Prelude.{◌≡◌, IfOk, IfErr};
 ghost use Rattle.bm_hash.specs.Trails.{StopsAlong};
 ghost use Rattle.spec_run.specs.Conditions.{IsEvent};
 ghost use Rattle.spec_run.specs.Event as run;
-ghost use Rattle.bm_board.specs.Drafts.{setup_of, world_of, Drafts, Signs};
+ghost use Rattle.bm_world_board.specs.Drafts.{setup_of, world_of, Drafts, Signs};
 ghost use Rattle.bm_world.specs.Kinds.{IsTelling};
 ghost use Rattle.bm_world.specs.Playing.{IsPlayable};
 
-use bm_board::{Board, Drafted};
-use bm_drafts::{draft_advertise, draft_mine, draft_post, draft_reveal};
 use bm_hash::{Hash32, Trail, TrailError};
+use bm_world_board::{Board, Drafted};
+use bm_world_events::{draft_advertise, draft_mine, draft_post, draft_reveal};
 use spec_run::Event;
 use std::alloc::Global;
 

@@ -12,22 +12,22 @@ ghost use Rattle.bm_world.specs.declared.halt.StartError.TheVariants.{Collided};
 ghost use Rattle.bm_world.specs.Playing.{most_records, setup_in, IsWorld, Went, Stopped, Tested, Judged, StoppedJudging};
 ghost use Rattle.bm_world.specs.Reached.{IsReached};
 ghost use Rattle.bm_world.specs.Standing.{node_in};
-ghost use Rattle.bm_board.specs.Drafts.{setup_of, world_of};
-ghost use Rattle.bm_opening.specs.Opening.{setup_with};
+ghost use Rattle.bm_world_board.specs.Drafts.{setup_of, world_of};
+ghost use Rattle.bm_world_opening.specs.Opening.{setup_with};
 ghost use Rattle.bm_world.specs.Starting.{Opens};
 
 use crate::halt::{Halt, StartError};
 use crate::playing::{play, test};
 use crate::standing::node_at;
 use crate::starting::start_error;
-use bm_board::Board;
 use bm_book::Book;
 use bm_compile::Compiled;
 use bm_exchange::Exchange;
 use bm_hash::{Hash32, Trail};
 use bm_ledger::Ledger;
-use bm_opening::open_board;
 use bm_wellformed::Checked;
+use bm_world_board::Board;
+use bm_world_opening::open_board;
 use spec_bitcoin::{Refusal, Tx};
 use spec_data::Seq;
 use spec_run::{Event, Header, Outcome, Record};
@@ -54,7 +54,7 @@ impl<H: Hash32> Model for World<H> {
 
     ghost coded = { Prim.hlevel (codes, coded_choice) };
 
-    ghost use Rattle.bm_board.specs.Drafts.{setup_of, world_of};
+    ghost use Rattle.bm_world_board.specs.Drafts.{setup_of, world_of};
 
     ghost view = { λ w. record {
       hasher = w.trail.hasher;

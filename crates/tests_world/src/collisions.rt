@@ -1,8 +1,8 @@
 //! Runs that are halted by two messages with one digest, or by a secret that somebody gives away.
 
 use crate::worlds::played;
+use bitml_play::{Played, Stop};
 use bm_hash::{Hash32, Toy, Twin};
-use bm_playing::{Played, Stop};
 use spec_data::{Bytes, OutOfMemory};
 use std::alloc::Global;
 

@@ -2,9 +2,9 @@
 
 use crate::worlds::{SHOWN, left};
 use bm_calculus::{Config, Step};
-use bm_course::translate;
 use bm_hash::Sha;
 use bm_offers::{Offer, offers};
+use bm_translate_course::translate;
 use bm_world::World;
 use spec_run::Event;
 use std::alloc::Global;

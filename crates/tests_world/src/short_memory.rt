@@ -7,9 +7,9 @@ ghost use Rattle.spec_run.specs.Setup.{Setup, is_declared};
 ghost use Rattle.bm_world.specs.Playing.{setup_in};
 
 use crate::worlds::{OPENING, left};
-use bm_board::is_name_among;
 use bm_hash::{Hash32, Sha};
 use bm_world::{Halt, World};
+use bm_world_board::is_name_among;
 use spec_bitcoin::Tx;
 use spec_data::{Name, OutOfMemory, Seq};
 use spec_run::Event;

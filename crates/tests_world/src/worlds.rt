@@ -3,9 +3,9 @@
 ghost use Rattle.std.specs.Prelude.{IfOk};
 ghost use Rattle.bm_judge.specs.Judges.{IsTaken, IsTakenIfAny};
 
+use bitml_play::{Played, play};
 use bm_hash::{Hash32, Sha};
 use bm_judge::{Judgement, judge_both};
-use bm_playing::{Played, play};
 use bm_wellformed::Checked;
 use bm_world::World;
 use spec_data::{Bytes, OutOfMemory};

@@ -5,10 +5,10 @@ use Rattle.spec_run.specs.Setup.{Setup}
 use Rattle.spec_tool.specs.Commands.{Printed, setup_of, run_answer}
 use Rattle.spec_picture.specs.Drawing.{draw_text}
 use Rattle.theory_picture.proofs.Endings.{unopened_answer}
-use Rattle.bm_command.specs.Seen.{printed}
+use Rattle.bitml_command.specs.Seen.{printed}
 use Rattle.bm_world.specs.Playing.{setup_in}
-use Rattle.bm_playing.specs.Whole.{IsPlayed, IsLeft}
-use Rattle.bm_replies.proofs.Left.{of_its_own, contracts_are}
+use Rattle.bitml_play.specs.Whole.{IsPlayed, IsLeft}
+use Rattle.bitml_reply.proofs.Left.{of_its_own, contracts_are}
 use Rattle.bitml_draw.proofs.Left.{only_one}
 use Rattle.bitml_draw.proofs.playing.draw_reply.Goals as goal
 

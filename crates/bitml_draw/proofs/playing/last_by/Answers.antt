@@ -3,7 +3,7 @@ use Rattle.std.specs.Prelude.{IfOk}
 use Rattle.std.proofs.lemmas.Option.{slice_get_within, slice_get_read}
 use Rattle.spec_picture.specs.declared.last.Last.{Last}
 use Rattle.bm_world.specs.Playing.{setup_in}
-use Rattle.bm_playing.specs.Whole.{IsLeft}
+use Rattle.bitml_play.specs.Whole.{IsLeft}
 use Rattle.bitml_draw.proofs.Left.{whole_is, halted_is}
 use Rattle.bitml_draw.proofs.playing.last_by.Goals as goal
 

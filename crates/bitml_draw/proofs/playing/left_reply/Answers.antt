@@ -1,9 +1,9 @@
 use Rattle.std.proofs.Common.{◌≡◌, length, sym, ap, subst, ◌∙◌}
 use Rattle.std.specs.Prelude.{IfOk}
 use Rattle.spec_tool.specs.Commands.{Printed}
-use Rattle.bm_command.specs.Seen.{printed}
+use Rattle.bitml_command.specs.Seen.{printed}
 use Rattle.bm_world.specs.Playing.{setup_in}
-use Rattle.bm_replies.proofs.Left.{steps_for_each}
+use Rattle.bitml_reply.proofs.Left.{steps_for_each}
 use Rattle.bitml_draw.proofs.Left.{entries_same, drawn_is}
 use Rattle.bitml_draw.proofs.playing.left_reply.Goals as goal
 

@@ -1,8 +1,8 @@
 use Rattle.std.proofs.Common.{map, ap, Some, ◌∙◌}
 use Rattle.spec_tool.specs.Commands.{plan}
 use Rattle.spec_picture.specs.Drawing.{drawn_answer}
-use Rattle.bm_command.specs.Seen.{asked}
-use Rattle.bm_headline.proofs.Ending.{replied}
+use Rattle.bitml_command.specs.Seen.{asked}
+use Rattle.bitml_headline.proofs.Ending.{replied}
 use Rattle.bitml_draw.proofs.tool.reply.Goals as goal
 
 pub returns-clause-reply : goal.returns-clause-reply

@@ -1,6 +1,6 @@
 use Rattle.std.proofs.Common.{◌≡◌, ap, subst, ◌∙◌, IfOk}
 use Rattle.spec_run.specs.Compiled.{compiled_instance}
-use Rattle.bm_listed.specs.Parts.{candidates_by}
+use Rattle.bm_audit_listed.specs.Parts.{candidates_by}
 use Rattle.bm_world.specs.Playing.{setup_in}
 use Rattle.bm_audit.proofs.Listing.{candidates_in}
 use Rattle.bm_audit.proofs.report.catalog_of.Goals as goal

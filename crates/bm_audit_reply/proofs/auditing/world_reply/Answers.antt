@@ -1,7 +1,7 @@
 use Rattle.std.proofs.Common.{◌≡◌, subst}
 use Rattle.std.specs.Prelude.{IfOk}
 use Rattle.spec_tool.specs.Commands.{Printed}
-use Rattle.bm_command.specs.Seen.{printed}
+use Rattle.bitml_command.specs.Seen.{printed}
 use Rattle.bm_world.specs.Playing.{setup_in}
 use Rattle.bm_audit_reply.proofs.Replied.{found_path, shows_clash, halted_is}
 use Rattle.bm_audit_reply.proofs.auditing.world_reply.Goals as goal

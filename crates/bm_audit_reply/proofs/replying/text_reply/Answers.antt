@@ -3,9 +3,9 @@ use Rattle.std.specs.Prelude.{IfOk}
 use Rattle.spec_run.specs.Setup.{Setup}
 use Rattle.spec_tool.specs.Commands.{Printed, setup_of}
 use Rattle.spec_tool.specs.AuditText.{audit_answer}
-use Rattle.bm_command.specs.Seen.{printed}
-use Rattle.bm_replies.specs.Last.{IsLast, IsWhole}
-use Rattle.bm_replies.proofs.Ended.{halted_if_whole}
+use Rattle.bitml_command.specs.Seen.{printed}
+use Rattle.bitml_reply.specs.Last.{IsLast, IsWhole}
+use Rattle.bitml_reply.proofs.Ended.{halted_if_whole}
 use Rattle.bm_audit_reply.proofs.Replied.{whole_audit}
 use Rattle.bm_audit_reply.proofs.replying.text_reply.Goals as goal
 

@@ -2,9 +2,9 @@ use Rattle.std.proofs.Common.{None, refl, subst, arith}
 use Rattle.spec_run.specs.Setup.{Setup}
 use Rattle.spec_tool.specs.AutoText.{auto_answer}
 use Rattle.spec_tool.specs.Commands.{setup_of}
-use Rattle.bm_replies.specs.Last.{IsLast, IsWhole}
-use Rattle.bm_replies.proofs.Ended.{halted_if_whole}
-use Rattle.bm_replies.proofs.Left.{of_its_own}
+use Rattle.bitml_reply.specs.Last.{IsLast, IsWhole}
+use Rattle.bitml_reply.proofs.Ended.{halted_if_whole}
+use Rattle.bitml_reply.proofs.Left.{of_its_own}
 use Rattle.bm_auto_reply.proofs.Replied.{halted_continues, header_here, whole_answer, whole_continues}
 use Rattle.bm_auto_reply.proofs.replying.rules_reply.Goals as goal
 

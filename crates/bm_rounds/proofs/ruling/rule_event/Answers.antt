@@ -1,6 +1,6 @@
 use Rattle.std.proofs.Common.{sym, ap, ◌∙◌}
 use Rattle.spec_tool.specs.Turns.{act_event}
-use Rattle.bm_board.specs.Drafts.{setup_of, world_of}
+use Rattle.bm_world_board.specs.Drafts.{setup_of, world_of}
 use Rattle.bm_rounds.proofs.Branches.{authorises_is, fires_is}
 use Rattle.bm_rounds.proofs.ruling.rule_event.Goals as goal
 

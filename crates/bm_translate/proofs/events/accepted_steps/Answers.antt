@@ -1,5 +1,5 @@
 use Rattle.std.proofs.Common.{◌++◌, ◌∙◌}
-use Rattle.bm_board.specs.Drafts.{setup_of}
+use Rattle.bm_world_board.specs.Drafts.{setup_of}
 use Rattle.bm_translate.proofs.Turns.{accepted_reveals}
 use Rattle.bm_translate.proofs.events.accepted_steps.Goals as goal
 

@@ -1,5 +1,5 @@
 use Rattle.std.proofs.Common.{◌∙◌}
-use Rattle.bm_board.specs.Drafts.{setup_of}
+use Rattle.bm_world_board.specs.Drafts.{setup_of}
 use Rattle.bm_translate.proofs.Turns.{advertise_are, commit_are, reveal_are, post_are}
 use Rattle.bm_translate.proofs.events.done_steps.Goals as goal
 

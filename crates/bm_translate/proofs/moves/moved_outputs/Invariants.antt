@@ -1,6 +1,6 @@
 use Rattle.std.proofs.Common.{◌≡◌, ℕ, map, take}
 use Rattle.spec_calculus.specs.declared.step.Owner.{Owner}
-use Rattle.bm_board.specs.Accounts.{owner_in}
+use Rattle.bm_world_board.specs.Accounts.{owner_in}
 use Rattle.bm_translate.proofs.moves.moved_outputs.Given as goal
 
 -- the outputs so far

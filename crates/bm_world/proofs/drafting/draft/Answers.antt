@@ -1,5 +1,5 @@
 use Rattle.std.proofs.Common.{sym, ◌∙◌}
-use Rattle.bm_commit.proofs.Bound.{bound_at}
+use Rattle.bm_world_commit.proofs.Bound.{bound_at}
 use Rattle.bm_world.proofs.Compiling.{no_commit, still_compiled}
 use Rattle.bm_world.proofs.drafting.draft.Goals as goal
 

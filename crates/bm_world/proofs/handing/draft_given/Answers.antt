@@ -1,5 +1,5 @@
 use Rattle.std.proofs.Common.{arith}
-use Rattle.bm_spending.proofs.Kept.{placed_kept, apart_kept, fresh_gift}
+use Rattle.bm_world_spend.proofs.Kept.{placed_kept, apart_kept, fresh_gift}
 use Rattle.bm_world.proofs.handing.draft_given.Goals as goal
 
 pub draft_give-requires-clause-placed : goal.draft_give-requires-clause-placed

@@ -1,5 +1,5 @@
-use Rattle.bm_fire.proofs.Kept.{standing_of}
-use Rattle.bm_fire.proofs.Small.{small_of}
+use Rattle.bm_world_fire.proofs.Kept.{standing_of}
+use Rattle.bm_world_fire.proofs.Small.{small_of}
 use Rattle.bm_world.proofs.Fresh.{fresh_tx}
 use Rattle.bm_world.proofs.handing.draft_taken.Goals as goal
 

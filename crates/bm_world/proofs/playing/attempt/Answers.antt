@@ -1,7 +1,7 @@
 use Rattle.std.proofs.Common.{refl, ap}
 use Rattle.std.proofs.lemmas.Result.{err_from_is_err_and}
-use Rattle.bm_board.specs.declared.board.Board.{Board}
-use Rattle.bm_board.specs.Drafts.{setup_of, world_of}
+use Rattle.bm_world_board.specs.declared.board.Board.{Board}
+use Rattle.bm_world_board.specs.Drafts.{setup_of, world_of}
 use Rattle.bm_world.proofs.Played.{makeable_of, memory_halts, goes_by}
 use Rattle.bm_world.proofs.playing.attempt.Goals as goal
 

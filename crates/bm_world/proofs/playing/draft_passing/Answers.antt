@@ -3,8 +3,8 @@ use Rattle.std.specs.List.{find}
 use Rattle.std.specs.Option.{option_copied}
 use Rattle.spec_run.specs.Draft.{is_guessed}
 use Rattle.std.proofs.lemmas.Result.{err_from_is_err_and}
-use Rattle.bm_board.specs.declared.board.Board.{Board}
-use Rattle.bm_board.specs.Drafts.{setup_of, world_of}
+use Rattle.bm_world_board.specs.declared.board.Board.{Board}
+use Rattle.bm_world_board.specs.Drafts.{setup_of, world_of}
 use Rattle.bm_world.proofs.Played.{drafting_halts, memory_halts, guess_halts, passes_by}
 use Rattle.bm_world.proofs.playing.draft_passing.Goals as goal
 

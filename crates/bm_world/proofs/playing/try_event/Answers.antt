@@ -1,4 +1,4 @@
-use Rattle.bm_board.specs.Drafts.{setup_of, world_of}
+use Rattle.bm_world_board.specs.Drafts.{setup_of, world_of}
 use Rattle.bm_world.proofs.Played.{tests_by}
 use Rattle.bm_world.proofs.playing.try_event.Goals as goal
 

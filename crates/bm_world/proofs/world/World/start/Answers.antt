@@ -1,7 +1,7 @@
 use Rattle.std.proofs.Common.{◌≡◌, []}
 use Rattle.spec_run.specs.Event.{opening_strings}
 use Rattle.bm_hash.specs.Trails.{Hashed, Stops}
-use Rattle.bm_opening.specs.Opening.{setup_with, IsOpened}
+use Rattle.bm_world_opening.specs.Opening.{setup_with, IsOpened}
 use Rattle.bm_world.proofs.Opened.{opened_world, opened_is, collided_is}
 use Rattle.bm_world.proofs.world.World.start.Goals as goal
 

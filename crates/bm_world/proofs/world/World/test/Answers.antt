@@ -1,7 +1,7 @@
 use Rattle.std.proofs.Common.{None, subst}
 use Rattle.spec_run.specs.Event.{draft}
 use Rattle.spec_run.specs.Draft.{settled}
-use Rattle.bm_board.specs.Drafts.{setup_of, world_of}
+use Rattle.bm_world_board.specs.Drafts.{setup_of, world_of}
 use Rattle.bm_world.specs.Playing.{IsWorld}
 use Rattle.bm_world.proofs.Played.{playable_of, world_halted, world_hears}
 use Rattle.bm_world.proofs.Reaching.{calm_of}

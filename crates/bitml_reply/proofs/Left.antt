@@ -1,0 +1,80 @@
+-- What is read off the world that a run left.
+use Rattle.std.proofs.Common.{◌≡◌, ℕ, ◌<◌, ◌^◌, List, length, map, Option, Some, None, refl, sym, ap, subst, ◌∙◌}
+use Rattle.std.specs.Prelude.{slice_get, option_map}
+use Rattle.spec_bitcoin.specs.Live.{Chain}
+use Rattle.spec_calculus.specs.declared.step.Step.{Step}
+use Rattle.spec_calculus.specs.Configuration.{Configuration}
+use Rattle.spec_run.specs.declared.event.Event.{Event}
+use Rattle.spec_run.specs.Setup.{Setup}
+use Rattle.spec_run.specs.Offers.{Offer, offers}
+use Rattle.spec_run.specs.Ledger.{chain_of}
+use Rattle.spec_run.specs.Translation.{translated, last_world, last_configuration}
+use Rattle.spec_text.specs.declared.entry.Entry.{Entry}
+use Rattle.spec_text.specs.PlanText.{counts_text, step_count}
+use Rattle.spec_text.specs.PlayText.{Ending, whole}
+use Rattle.spec_text.specs.Played.{entries, ending, halted, live_outputs}
+use Rattle.bm_world.specs.Playing as world
+use Rattle.bm_world.specs.Playing.{setup_in}
+use Rattle.bitml_play.specs.declared.stop.Stop.{Stop}
+use Rattle.bitml_play.specs.Going.{halt_of}
+use Rattle.bitml_play.specs.Whole.{IsLeft}
+use Rattle.bitml_shows.specs.Entries.{entries_by}
+use Rattle.bitml_shows.specs.Live.{number_and_value}
+use Rattle.bitml_shows.proofs.Shown.{live_of_chain}
+use Rattle.bitml_reply.specs.Counted.{run_counts}
+use Rattle.bitml_reply.proofs.Contracts.{contracts_are_few}
+use Rattle.bitml_reply.proofs.Endings.{halted_is, whole_is}
+use Rattle.bitml_reply.proofs.Reports.{recorded, steps_are, configuration_is, one_each, entries_are, whole_end}
+
+module _ {H : Type 0} (digest : H → List ℕ → List ℕ) (s : Setup) (es : List Event) (left : world.Played H) (stop : Option (ℕ × Stop)) (l : IsLeft digest s es left stop) where
+  -- it is left by these events of its own setup
+  pub of_its_own : IsLeft digest (setup_in digest left) es left stop
+  of_its_own = subst (λ (t : Setup). IsLeft digest t es left stop) (sym l.setup) l
+
+  pub hash_is : digest left.hasher ≡ s.hash
+  hash_is = ap (λ (t : Setup). t.hash) l.setup
+
+  pub contracts_are : left.contracts ≡ s.contracts
+  contracts_are = ap (λ (t : Setup). t.contracts) l.setup
+
+  -- ---- its course
+
+  pub last_is : (g : Configuration) → g ≡ last_configuration s (recorded left.trace) → g ≡ last_configuration s es
+  last_is g e = e ∙ configuration_is digest s es left l.trace
+
+  pub last_is_numbered : (g : Configuration) → g ≡ last_configuration s es → length g.contracts < 2 ^ 32
+  last_is_numbered g e = subst (λ (x : Configuration). length x.contracts < 2 ^ 32) (sym e) (contracts_are_few s es l.run.setup)
+
+  pub steps_for_each : (steps : List (List Step)) → steps ≡ translated s (recorded left.trace) → length steps ≡ length left.trace
+  steps_for_each = one_each digest s es left l.trace
+
+  pub shown_are : (steps : List (List Step)) (shown : List Entry) → steps ≡ translated s (recorded left.trace) → shown ≡ entries_by left.trace steps → shown ≡ entries s es
+  shown_are steps shown e h = h ∙ entries_are digest s es left l.trace steps e
+
+-- ---- of a run that was halted
+
+module _ {H : Type 0} (digest : H → List ℕ → List ℕ) (s : Setup) (es : List Event) (left : world.Played H) (n : ℕ) (stop : Stop) (l : IsLeft digest s es left (Some (n, stop))) where
+  -- the event that was halted is there
+  pub event_is : (e : Event) → slice_get es n ≡ Some e → ending s es ≡ halted e (halt_of stop)
+  event_is e at =
+      halted_is s es e (halt_of stop) l.run.opens
+      (l.stops.2 ∙ ap (λ (o : Option Event). option_map (λ (x : Event). (x, halt_of stop)) o) (sym l.stops.1 ∙ at))
+
+-- ---- of one that wasn't
+
+module _ {H : Type 0} (digest : H → List ℕ → List ℕ) (s : Setup) (es : List Event) (left : world.Played H) (l : IsLeft digest s es left None) where
+  pub whole_ends : (chain : Chain) (g : Configuration) (end : Ending) → chain ≡ chain_of left.world → g ≡ last_configuration s es
+      → end ≡ whole chain.tip (map number_and_value chain.live) g (map (λ (o : Offer). o.event) (offers g)) → end ≡ ending s es
+  whole_ends chain g end at e h =
+      whole_end s es left.world g end (l.whole refl) e (whole_is s es l.run.opens l.stops)
+      (h ∙ ap (λ (c : Chain). whole c.tip (map number_and_value c.live) g (map (λ (o : Offer). o.event) (offers g))) at)
+
+  pub live_are : (chain : Chain) (live : List (ℕ × ℕ)) → chain ≡ chain_of left.world → live ≡ map number_and_value chain.live → live ≡ live_outputs (last_world s es)
+  live_are chain live at e =
+      e ∙ ap (λ (c : Chain). map number_and_value c.live) at ∙ live_of_chain left.world ∙ ap live_outputs (l.whole refl)
+
+  pub counts_are : (steps : List (List Step)) (n : ℕ) (g : Configuration) → steps ≡ translated s (recorded left.trace) → n ≡ step_count steps
+      → g ≡ last_configuration s (recorded left.trace) → counts_text (length es) n g (last_world s es) ≡ run_counts s es
+  counts_are steps n g e count last =
+      ap (λ (m : ℕ). counts_text (length es) m g (last_world s es)) (count ∙ ap step_count (e ∙ steps_are digest s es left l.trace))
+      ∙ ap (λ (x : Configuration). counts_text (length es) (step_count (translated s es)) x (last_world s es)) (last ∙ configuration_is digest s es left l.trace)

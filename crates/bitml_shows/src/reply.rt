@@ -1,0 +1,43 @@
+//! The reply to a run that is shown event by event.
+
+ghost use Rattle.std.specs.Prelude.{◌≡◌, IfOk};
+ghost use Rattle.spec_text.specs.PlayText.{report_text};
+ghost use Rattle.spec_tool.specs.Commands.{prints, ending_status};
+ghost use Rattle.bitml_command.specs.Seen.{printed};
+ghost use Rattle.bm_report.specs.Endings.{ending_of, IsNumbered};
+
+use bitml_command::Reply;
+use bm_report::{Ending, report};
+use spec_data::{Bytes, OutOfMemory};
+use spec_run::Header;
+use spec_text::Entry;
+use std::alloc::Global;
+
+// 0 where all events were played, 7 where a secret was guessed, 8 where strings collided.
+fn ending_status(ending: &Ending) -> u8
+    ensures { result ≡ ending_status (ending_of ending.now) }
+{
+    match ending {
+        Ending::Whole { .. } => 0,
+        Ending::Guessed { .. } => 7,
+        Ending::Collided { .. } => 8,
+    }
+}
+
+/// The report of a run with its status.
+pub fn report_reply(
+    alloc: Global,
+    header: &Header,
+    entries: &[Entry],
+    ending: &Ending,
+) -> Result<Reply, OutOfMemory>
+    requires { IsNumbered ending.now }
+    ensures { IfOk result (λ reply. printed reply
+        ≡ prints (ending_status (ending_of ending.now)) (report_text header.now.deposits entries.now (ending_of ending.now))) }
+{
+    let text = report(alloc, header, entries, ending)?;
+    Ok(Reply {
+        status: ending_status(ending),
+        text: Bytes::of(text),
+    })
+}

@@ -1,5 +1,0 @@
-use Rattle.bm_headline.proofs.Headlines.{headlines}
-use Rattle.bm_headline.proofs.theorem.by_theorems.Goals as goal
-
-pub returns : goal.returns
-returns c = headlines (record { causes = c.requires.causes; statuses = c.requires.statuses; ends = c.requires.ends; headline = c.requires.headline; value = c.requires.value })

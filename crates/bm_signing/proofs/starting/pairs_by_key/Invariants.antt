@@ -1,8 +1,0 @@
-use Rattle.std.proofs.Common.{◌≡◌, ◌++◌, drop}
-use Rattle.bm_signing.specs.Starting.{pairs_by_key}
-use Rattle.bm_signing.proofs.starting.pairs_by_key.Given as goal
-
--- the pairs so far and those of the rest are all
-abbrev pub invariant-loop-owner : goal.invariant-loop-owner
-invariant-loop-owner l =
-    l.pairs.items ++ pairs_by_key l.key l.party (drop l.owner-index l.owners) l.rest ≡ pairs_by_key l.key l.party l.owners l.digests

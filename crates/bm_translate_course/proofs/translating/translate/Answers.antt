@@ -1,0 +1,50 @@
+use Rattle.std.proofs.Common.{sym, ap, ◌∙◌, subst}
+use Rattle.spec_run.specs.Statements.{Simulates, HoldsThroughout, licensed}
+use Rattle.spec_run.specs.Translation.{opening_configuration, translated, last_configuration}
+use Rattle.bm_world_board.specs.Drafts.{setup_of}
+use Rattle.bm_world.specs.Playing.{setup_in}
+use Rattle.bm_translate_course.specs.Courses.{events_of, IsPlayed}
+use Rattle.bm_translate_course.proofs.FromWorld.{played_of, same_setup}
+use Rattle.bm_translate_course.proofs.translating.translate.Goals as goal
+
+pub translate_run-requires : goal.translate_run-requires
+translate_run-requires g c = record { run = played }
+  where
+    played : IsPlayed (setup_of (g.H.Hash32.digest_of c.trail.result.now.hasher) c.board.result.now) c.board.result.now
+        c.trail.result.now.messages c.trace.result.now
+    played =
+        let digest = g.H.Hash32.digest_of in
+        let w = c.args.world.now in
+        let b = c.board.result.now in
+        subst (λ n. IsPlayed (setup_of (g.H.Hash32.digest_of n.hasher) c.board.result.now) c.board.result.now n.messages c.trace.result.now)
+        (sym c.trail.ensures)
+        (subst (λ t. IsPlayed (setup_of (digest w.hasher) b) b w.world.hashed t) (sym c.trace.ensures.trace)
+        (played_of (digest w.hasher) b w.world.hashed w.trace w.halt c.board.ensures.is))
+
+pub returns-clause-opening : goal.returns-clause-opening
+returns-clause-opening g c =
+    c.in_ok-made.ensures.opening
+    ∙ ap opening_configuration (same_setup g.H.Hash32.digest_of c.trail.result.now c.board.result.now c.args.world.now c.trail.ensures c.board.ensures.header c.board.ensures.contracts)
+
+pub returns-clause-steps : goal.returns-clause-steps
+returns-clause-steps g c =
+    let e = same_setup g.H.Hash32.digest_of c.trail.result.now c.board.result.now c.args.world.now c.trail.ensures c.board.ensures.header c.board.ensures.contracts in
+    c.in_ok-made.ensures.steps ∙ (λ i. translated (e i) (events_of (c.trace.ensures.trace i)))
+
+pub returns-clause-last : goal.returns-clause-last
+returns-clause-last g c =
+    let e = same_setup g.H.Hash32.digest_of c.trail.result.now c.board.result.now c.args.world.now c.trail.ensures c.board.ensures.header c.board.ensures.contracts in
+    c.in_ok-made.ensures.last ∙ (λ i. last_configuration (e i) (events_of (c.trace.ensures.trace i)))
+
+pub returns-clause-simulated : goal.returns-clause-simulated
+returns-clause-simulated g c =
+    let e = same_setup g.H.Hash32.digest_of c.trail.result.now c.board.result.now c.args.world.now c.trail.ensures c.board.ensures.header c.board.ensures.contracts in
+    subst (λ t. Simulates (setup_in g.H.Hash32.digest_of c.args.world.now) (events_of t)) c.trace.ensures.trace
+    (subst (λ s. Simulates s (events_of c.trace.result.now)) e c.in_ok-made.ensures.simulated)
+
+pub returns-clause-licensed : goal.returns-clause-licensed
+returns-clause-licensed g c =
+    let e = same_setup g.H.Hash32.digest_of c.trail.result.now c.board.result.now c.args.world.now c.trail.ensures c.board.ensures.header c.board.ensures.contracts in
+    subst (λ t. HoldsThroughout (setup_in g.H.Hash32.digest_of c.args.world.now) (licensed (setup_in g.H.Hash32.digest_of c.args.world.now)) (events_of t))
+    c.trace.ensures.trace
+    (subst (λ s. HoldsThroughout s (licensed s) (events_of c.trace.result.now)) e c.in_ok-made.ensures.licensed)

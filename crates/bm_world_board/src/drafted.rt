@@ -1,0 +1,92 @@
+//! What an event is to come to, where nothing collides and nothing is guessed.
+
+ghost use Rattle.std.specs.Prelude.{◌≡◌, ℕ, List, [], None};
+ghost use Rattle.spec_run.specs.World.{World};
+ghost use Rattle.spec_run.specs.Draft.{refused, done};
+ghost use Rattle.bm_world_board.specs.declared.drafted.Change.TheVariants.{Nothing};
+ghost use Rattle.bm_world_board.specs.Drafts.{as_draft, changed, tx_in};
+
+use bm_world_coins::NewPositions;
+use spec_bitcoin::Tx;
+use spec_calculus::Advertised;
+use spec_data::{Bytes, Name, Seq};
+use spec_run::{Outcome, Reason};
+use std::alloc::Global;
+
+/// What a transaction is to the contracts: what its outputs stand for, and the contract that it begins.
+#[derive(Drop)]
+pub struct Purpose {
+    pub positions: NewPositions,
+    pub begins: Option<u32>,
+}
+
+/// A transaction that is accepted, the numbers of what it spends, and what it is to the contracts.
+#[derive(Drop)]
+pub struct Appending {
+    pub tx: Tx,
+    pub txid: [u8; 32],
+    pub spent: Seq<u32>,
+    pub purpose: Purpose,
+}
+
+/// A party's commitment for a contract, its digests in the precondition's order.
+#[derive(Drop)]
+pub struct Promising {
+    pub contract: u32,
+    pub party: Name,
+    pub digests: Seq<(Name, [u8; 32])>,
+}
+
+/// What an event changes last, besides what it posts.
+#[derive(Drop)]
+pub enum Change {
+    Nothing,
+    /// So many blocks come.
+    Blocks(u32),
+    /// A contract is advertised, with its bindings.
+    Advertise(Advertised),
+    /// A party commits its secrets.
+    Commit(Promising),
+    /// A transaction is appended to the ledger.
+    Append(Appending),
+}
+
+/// What an event is to come to.
+#[derive(Drop)]
+pub struct Drafted {
+    pub outcome: Outcome,
+    /// The strings that it posts, in order.
+    pub posts: Seq<Bytes>,
+    /// The secret that it may post, by its owner and its name.
+    pub allowed: Option<(Name, Name)>,
+    pub change: Change,
+}
+
+impl Drafted {
+    /// Refused for a reason.
+    pub fn refused(alloc: Global, reason: Reason) -> Drafted
+        ensures same { (w : World) (hashes : List (List ℕ)) → as_draft w hashes result ≡ refused w hashes reason }
+        ensures change { result.change ≡ Nothing }
+    {
+        Drafted {
+            outcome: Outcome::Refused(reason),
+            posts: Seq::new(alloc),
+            allowed: None,
+            change: Change::Nothing,
+        }
+    }
+
+    /// Done, with this change, which appends no transaction.
+    pub fn done(alloc: Global, change: Change) -> Drafted
+        requires { tx_in change ≡ None }
+        ensures change { result.change ≡ change }
+        ensures same { (w : World) (hashes : List (List ℕ)) → as_draft w hashes result ≡ done (changed w change) hashes }
+    {
+        Drafted {
+            outcome: Outcome::Done,
+            posts: Seq::new(alloc),
+            allowed: None,
+            change,
+        }
+    }
+}

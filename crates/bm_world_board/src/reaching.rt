@@ -1,0 +1,183 @@
+//! Transactions that reach the ledger.
+
+ghost use Rattle.std.specs.Prelude.{◌≡◌, ◌<◌, ◌+◌, ◌^◌, ◌++◌, ℕ, List, length, map, take, None, IfOk, IfErr, OnOk};
+ghost use Rattle.std.specs.List.{flat_map};
+ghost use Rattle.bm_hash.specs.Messages.{evidence_of};
+ghost use Rattle.bm_hash.specs.Trails.{Hashes, StopsAlong};
+ghost use Rattle.spec_bitcoin.specs.Verdict as spec;
+ghost use Rattle.spec_run.specs.Ledger as run;
+ghost use Rattle.bm_world_board.specs.Drafts.{setup_of, world_of, Drafts};
+ghost use Rattle.bm_world_board.specs.Reaching.{IsAcceptedDraft, IsReadyIf, IsPurpose, IsFresh, reaches_in};
+
+use crate::board::Board;
+use crate::drafted::{Appending, Change, Drafted, Purpose};
+use bm_hash::{Hash32, Trail, TrailError, hash_all};
+use bm_ledger::Ledger;
+use spec_bitcoin::{Refusal, Tx, TxIn, TxOut};
+use spec_data::{Bytes, OutOfMemory, Seq};
+use spec_run::{Outcome, Reason};
+use std::alloc::Global;
+
+// A refusal of the ledger as the reason of an event.
+fn reason_of(refusal: Refusal) -> Reason
+    ensures { result ≡ run.reason_of refusal }
+{
+    match refusal {
+        Refusal::NoInput => Reason::NoInput,
+        Refusal::NoOutput => Reason::NoOutput,
+        Refusal::InputRepeated => Reason::InputRepeated,
+        Refusal::MissingInput(k) => Reason::MissingInput(k),
+        Refusal::ValueLimit => Reason::ValueLimit,
+        Refusal::InsufficientIn => Reason::InsufficientIn,
+        Refusal::NotFinal => Reason::NotFinal,
+        Refusal::ScriptSigNotEmpty(k) => Reason::ScriptSigNotEmpty(k),
+        Refusal::NotWitnessScript(k) => Reason::NotWitnessScript(k),
+        Refusal::ScriptMismatch(k) => Reason::ScriptMismatch(k),
+        Refusal::ItemTooLong(k) => Reason::ItemTooLong(k),
+        Refusal::ScriptFalse(k) => Reason::ScriptFalse(k),
+    }
+}
+
+// The birth number of the output that an input spends, 0 where it isn't live.
+fn spent_number(ledger: &Ledger, input: &TxIn) -> u32
+    ensures { result ≡ spec.spent_number ledger.now.live input.now }
+{
+    match ledger.number(&input.prev) {
+        Some(number) => number,
+        None => 0,
+    }
+}
+
+/// The birth numbers of the outputs that are spent, in the order of the inputs.
+pub fn spent_numbers(
+    alloc: Global,
+    ledger: &Ledger,
+    inputs: &[TxIn],
+) -> Result<Seq<u32>, OutOfMemory>
+    ensures { IfOk result (λ numbers. numbers ≡ map (spec.spent_number ledger.now.live) inputs.now) }
+{
+    let mut numbers = Seq::new(alloc);
+    for input in inputs {
+        numbers.push(spent_number(ledger, input))?;
+    }
+    Ok(numbers)
+}
+
+// The numbers of new outputs, of which this is the first one's, each with its value.
+fn made_numbers(
+    alloc: Global,
+    births: u32,
+    outputs: &[TxOut],
+) -> Result<Seq<(u32, u64)>, OutOfMemory>
+    requires { births + length outputs.now < 2 ^ 32 }
+    ensures { IfOk result (λ made. made ≡ run.made_with_values births outputs.now) }
+{
+    let mut made = Seq::new(alloc);
+    let mut next = births;
+    for output in outputs {
+        made.push((next, output.value))?;
+        next += 1;
+    }
+    Ok(made)
+}
+
+fn put_items(alloc: Global, items: &mut Seq<Bytes>, witness: &[Bytes]) -> Result<(), OutOfMemory>
+    ensures { OnOk result (items.new ≡ items.old ++ witness.now) }
+{
+    for item in witness {
+        items.push(item.copy(alloc)?)?;
+    }
+    Ok(())
+}
+
+// Every item of every witness, input by input.
+fn items_of(alloc: Global, inputs: &[TxIn]) -> Result<Seq<Bytes>, OutOfMemory>
+    ensures { IfOk result (λ items. items ≡ flat_map (λ i. i.witness) inputs.now) }
+{
+    let mut items = Seq::new(alloc);
+    for input in inputs {
+        put_items(alloc, &mut items, input.witness.as_slice())?;
+    }
+    Ok(items)
+}
+
+// The draft of a transaction that the ledger accepts, whose strings are hashed.
+fn draft_accepted(
+    alloc: Global,
+    board: &Board,
+    tx: Tx,
+    txid: [u8; 32],
+    purpose: Purpose,
+    posts: Seq<Bytes>,
+) -> Result<Drafted, OutOfMemory>
+    requires room { length board.now.coins.outputs + length tx.outputs < 2 ^ 32 }
+    requires posts { posts ≡ run.items_of tx }
+    ensures draft { IfOk result (λ d. (hash : List ℕ → List ℕ) (messages : List (List ℕ)) → IsAcceptedDraft hash (setup_of hash board.now) (world_of board.now messages) tx txid purpose d) }
+    ensures ready { IfOk result (λ d. (hash : List ℕ → List ℕ) (messages : List (List ℕ)) → IsReadyIf hash (world_of board.now messages) tx txid d.change) }
+{
+    let spent = spent_numbers(alloc, board.coins.ledger(), tx.inputs.as_slice())?;
+    let made = made_numbers(alloc, board.coins.ledger().births(), tx.outputs.as_slice())?;
+    let outcome = Outcome::Accepted {
+        spent: spent.copy(alloc)?,
+        made,
+        lock: tx.lock,
+    };
+    Ok(Drafted {
+        outcome,
+        posts,
+        allowed: None,
+        change: Change::Append(Appending {
+            tx,
+            txid,
+            spent,
+            purpose,
+        }),
+    })
+}
+
+// The draft of a transaction that the ledger accepts; its items are hashed.
+#[tactic(auto, using(bm_hash::proofs::HashesLemmas::stops_early, bm_hash::proofs::HashesLemmas::stops_late))]
+fn accept<H: Hash32 + Drop>(
+    alloc: Global,
+    trail: &mut Trail<H>,
+    board: &Board,
+    tx: Tx,
+    txid: [u8; 32],
+    purpose: Purpose,
+) -> Result<Drafted, TrailError>
+    requires clear { evidence_of (H.digest_of trail.old.hasher) trail.old.messages ≡ None }
+    requires room { length board.now.coins.outputs + length tx.outputs < 2 ^ 32 }
+    ensures draft { IfOk result (λ d. (hash : List ℕ → List ℕ) (messages : List (List ℕ)) → IsAcceptedDraft hash (setup_of hash board.now) (world_of board.now messages) tx txid purpose d) }
+    ensures ready { IfOk result (λ d. (hash : List ℕ → List ℕ) (messages : List (List ℕ)) → IsReadyIf hash (world_of board.now messages) tx txid d.change) }
+    ensures trail { Hashes H.digest_of trail.old trail.new (run.items_of tx) result }
+{
+    let posts = items_of(alloc, tx.inputs.as_slice())?;
+    hash_all(trail, posts.as_slice())?;
+    let drafted = draft_accepted(alloc, board, tx, txid, purpose, posts)?;
+    Ok(drafted)
+}
+
+/// The draft of a transaction that reaches the ledger, where this is what it is to the contracts.
+pub fn reach<H: Hash32 + Drop>(
+    alloc: Global,
+    trail: &mut Trail<H>,
+    board: &Board,
+    tx: Tx,
+    purpose: Purpose,
+) -> Result<Drafted, TrailError>
+    requires few { length tx.inputs < 2 ^ 32 }
+    requires room { length board.now.coins.outputs + length tx.outputs < 2 ^ 32 }
+    requires clear { evidence_of (H.digest_of trail.old.hasher) trail.old.messages ≡ None }
+    requires fresh { IsFresh (setup_of (H.digest_of trail.old.hasher) board.now) (world_of board.now trail.old.messages) tx }
+    requires purpose { IsPurpose (setup_of (H.digest_of trail.old.hasher) board.now) (world_of board.now trail.old.messages) tx purpose }
+    ensures hasher { trail.new.hasher ≡ trail.old.hasher }
+    ensures ok { IfOk result (Drafts (H.digest_of trail.old.hasher) (world_of board.now trail.old.messages) trail.old.messages trail.new.messages (reaches_in (setup_of (H.digest_of trail.old.hasher) board.now) (world_of board.now trail.old.messages) tx)) }
+    ensures err { IfErr result (StopsAlong H.digest_of trail.old trail.new ((reaches_in (setup_of (H.digest_of trail.old.hasher) board.now) (world_of board.now trail.old.messages) tx).hashes)) }
+{
+    let judged = board.coins.examine(trail, &board.book, &tx)?;
+    if let Some(refusal) = judged.refusal {
+        return Ok(Drafted::refused(alloc, reason_of(refusal)));
+    }
+    let drafted = accept(alloc, trail, board, tx, judged.txid, purpose)?;
+    Ok(drafted)
+}

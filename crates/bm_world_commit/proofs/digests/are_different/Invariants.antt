@@ -1,0 +1,10 @@
+use Rattle.std.proofs.Common.{◌≡◌, length}
+use Rattle.spec_data.specs.Lists.{are_different}
+use Rattle.spec_terms.specs.Precondition.{names_of}
+use Rattle.bm_world_commit.proofs.digests.are_different.Given as goal
+
+abbrev pub invariant-loop-first : goal.invariant-loop-first
+invariant-loop-first l = are_different (names_of l.rest) ≡ are_different (names_of l.digests)
+
+abbrev pub decreases-loop-first : goal.decreases-loop-first
+decreases-loop-first l = length l.rest

@@ -1,0 +1,34 @@
+//! Blocks that come.
+
+ghost use Rattle.std.specs.Prelude.{◌≡◌, ℕ, List, ◌+◌, ◌≤◌, None};
+ghost use Rattle.spec_data.specs.Ranges.{last_height};
+ghost use Rattle.spec_data.specs.Lists.{first_reason};
+ghost use Rattle.bm_hash.specs.Messages.{evidence_of};
+ghost use Rattle.spec_run.specs.Event.{mine_row, mine_draft};
+ghost use Rattle.bm_world_board.specs.Drafts.{world_of, Drafts};
+
+use bm_world_board::{Board, Change, Drafted};
+use spec_data::LAST_HEIGHT;
+use spec_run::Reason;
+use std::alloc::Global;
+
+// Why it is refused, if it is.
+fn mine_refusal(board: &Board, blocks: u32) -> Option<Reason>
+    ensures reason { (messages : List (List ℕ)) → result ≡ first_reason (mine_row (world_of board.now messages) blocks) }
+    ensures few { result ≡ None → board.now.coins.tip + blocks ≤ last_height }
+{
+    if board.coins.tip() as u64 + blocks as u64 > LAST_HEIGHT as u64 {
+        return Some(Reason::TimeLimit);
+    }
+    None
+}
+
+/// The draft of `mine`; it hashes nothing.
+pub fn draft_mine(alloc: Global, board: &Board, blocks: u32) -> Drafted
+    ensures { (hash : List ℕ → List ℕ) (messages : List (List ℕ)) → evidence_of hash messages ≡ None → Drafts hash (world_of board.now messages) messages messages (mine_draft (world_of board.now messages) blocks) result }
+{
+    if let Some(reason) = mine_refusal(board, blocks) {
+        return Drafted::refused(alloc, reason);
+    }
+    Drafted::done(alloc, Change::Blocks(blocks))
+}

@@ -1,0 +1,66 @@
+-- Initial transactions, by what their contracts are compiled to.
+use Rattle.std.proofs.Common.{◌≡◌, ℕ, [], ◌∷◌, true, not, Option, Some, None, refl, sym, ap, ◌∙◌}
+use Rattle.std.specs.Prelude.{option_map, is_some, if◌then◌else◌}
+use Rattle.spec_data.specs.Lists.{first_reason}
+use Rattle.spec_terms.specs.Advert.{Advert}
+use Rattle.spec_compiler.specs.Instance.{Instance}
+use Rattle.spec_compiler.specs.Transactions.{prepared, initial_unsigned}
+use Rattle.spec_run.specs.declared.outcome.Reason.TheVariants as reason
+use Rattle.spec_run.specs.Setup.{Setup, contract_at}
+use Rattle.spec_run.specs.World.{World}
+use Rattle.spec_run.specs.Compiled.{instance_if_complete, compiled_instance}
+use Rattle.spec_run.specs.Firing.{with_witnesses, initial_by, fire_init_row}
+use Rattle.theory_world.proofs.Later.{compiled_is}
+use Rattle.bm_compile.specs.Numbered.{Numbered, numbered}
+use Rattle.bm_world_fire.specs.Filled.{initial_with, owners_in}
+use Rattle.bm_world_fire.proofs.Taken.{deposits_each}
+
+module _ (s : Setup) (w : World) (k : ℕ) where
+  -- no contract
+  pub initial_nowhere : contract_at s k ≡ None → None ≡ initial_by s (compiled_instance s w k)
+  initial_nowhere e = sym (ap (λ o. initial_by s (instance_if_complete w k o)) e)
+
+  -- not compiled
+  pub instance_none : option_map (numbered s.hash) (compiled_instance s w k) ≡ None → compiled_instance s w k ≡ None
+  instance_none e = by_instance (compiled_instance s w k) e
+    where
+      by_instance : (o : Option Instance) → option_map (numbered s.hash) o ≡ None → o ≡ None
+      by_instance None q = refl
+      by_instance (Some st) q = cc
+
+  pub initial_none : option_map (numbered s.hash) (compiled_instance s w k) ≡ None → None ≡ initial_by s (compiled_instance s w k)
+  initial_none e = sym (ap (initial_by s) (instance_none e))
+
+  -- compiled
+  pub initial_some : (a : Advert) (n : Numbered) → contract_at s k ≡ Some a → option_map (numbered s.hash) (compiled_instance s w k) ≡ Some n → Some (initial_with s.hash a.pre n.init) ≡ initial_by s (compiled_instance s w k)
+  initial_some a n there e = by_instance (compiled_instance s w k) refl e
+    where
+      by_instance : (o : Option Instance) → compiled_instance s w k ≡ o → option_map (numbered s.hash) o ≡ Some n → Some (initial_with s.hash a.pre n.init) ≡ initial_by s o
+      by_instance None c q = cc
+      by_instance (Some st) c q =
+          let is = compiled_is s w k st c in
+          let made : n ≡ numbered s.hash st = cc in
+          let same : is.advert ≡ a = (let z : (let y : Option Advert = Some is.advert in y) ≡ Some a = sym is.there ∙ there in cc) in
+          let text : st.advert ≡ a = ap (λ (y : Instance). y.advert) is.is ∙ same in
+          let d = prepared s.hash (initial_unsigned s.hash st) in
+          let filled = deposits_each s (owners_in st.advert.pre) d.digests in
+          (λ i. Some (initial_with s.hash ((sym text i).pre) ((made i).init))) ∙ (λ i. Some (with_witnesses d.tx (filled i)))
+
+  -- ---- refusals
+
+  pub refused_nowhere : contract_at s k ≡ None → Some reason.NoContract ≡ first_reason (fire_init_row s w k)
+  refused_nowhere e = sym (ap (λ o. if not (is_some o) then Some reason.NoContract else first_reason ((not (is_some (compiled_instance s w k)), reason.NotCompiled) ∷ [])) e)
+
+  pub refused_uncompiled : (a : Advert) → contract_at s k ≡ Some a → option_map (numbered s.hash) (compiled_instance s w k) ≡ None → Some reason.NotCompiled ≡ first_reason (fire_init_row s w k)
+  refused_uncompiled a there e =
+      sym (ap (λ o. if not (is_some o) then Some reason.NoContract else first_reason ((not (is_some (compiled_instance s w k)), reason.NotCompiled) ∷ [])) there
+      ∙ ap (λ o. if not (is_some o) then Some reason.NotCompiled else None) (instance_none e))
+
+  instance_some : (n : Numbered) (o : Option Instance) → option_map (numbered s.hash) o ≡ Some n → is_some o ≡ true
+  instance_some n None e = cc
+  instance_some n (Some st) e = refl
+
+  pub passed : (a : Advert) (n : Numbered) → contract_at s k ≡ Some a → option_map (numbered s.hash) (compiled_instance s w k) ≡ Some n → None ≡ first_reason (fire_init_row s w k)
+  passed a n there e =
+      sym (ap (λ o. if not (is_some o) then Some reason.NoContract else first_reason ((not (is_some (compiled_instance s w k)), reason.NotCompiled) ∷ [])) there
+      ∙ ap (λ b. if not b then Some reason.NotCompiled else None) (instance_some n (compiled_instance s w k) e))

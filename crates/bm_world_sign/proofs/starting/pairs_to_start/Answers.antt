@@ -1,0 +1,26 @@
+use Rattle.std.proofs.Common.{◌≡◌, [], rules, sym, ap, ◌∙◌}
+use Rattle.spec_run.specs.Signing.{initial_pairs}
+use Rattle.bm_world_board.specs.Drafts.{setup_of}
+use Rattle.bm_world_sign.specs.Instances.{instance_on}
+use Rattle.bm_world_sign.proofs.Shown.{not_shown}
+use Rattle.bm_world_sign.proofs.Signed.{initial_shown}
+use Rattle.bm_world_sign.proofs.starting.pairs_to_start.Goals as goal
+
+pub returns-in_default : goal.returns-in_default
+returns-in_default g c =
+    let hash = g.H.Hash32.digest_of c.args.trail.now.hasher in
+    let messages = c.args.trail.now.messages in
+    let o = instance_on hash c.args.board.now messages c.args.contract in
+    let empty : c.new.result.items ≡ [] = search rules in
+    let none = not_shown hash c.args.contract o (c.in_default.ensures hash messages c.requires) in
+    empty ∙ sym (ap (initial_pairs (setup_of hash c.args.board.now) c.args.party.now) none)
+
+pub returns : goal.returns
+returns g c =
+    let hash = g.H.Hash32.digest_of c.args.trail.now.hasher in
+    let messages = c.args.trail.now.messages in
+    let o = instance_on hash c.args.board.now messages c.args.contract in
+    c.in_ok-pairs.ensures
+    ∙ rw (c.in_ok-key.ensures, c.hasher.ensures, c.deref.ensures.value, c.in_ok-owners.ensures, c.as_slice-digests.ensures, c.init.ensures)
+    (initial_shown (setup_of hash c.args.board.now) c.args.contract c.args.party.now o c.in-Some.checked.now c.in-Some.compiled.now
+    (c.in-Some.ensures hash messages c.requires))

@@ -1,0 +1,166 @@
+//! Branches of active contracts that ask a party.
+
+ghost use Rattle.std.specs.Prelude.{◌≡◌, ◌++◌, ◌∷◌, [], ℕ, List, None, IfOk, option_map, slice_get};
+ghost use Rattle.std.specs.Option.{option_copied};
+ghost use Rattle.bm_hash.specs.Messages.{evidence_of};
+ghost use Rattle.spec_data.specs.Lists.{first_reason};
+ghost use Rattle.spec_run.specs.World.{live_position, live_position_at};
+ghost use Rattle.spec_run.specs.Ledger.{position_path, position_branch};
+ghost use Rattle.spec_run.specs.Signing as spec;
+ghost use Rattle.bm_syntax.specs.View.{guarded};
+ghost use Rattle.bm_world_board.specs.Drafts.{setup_of, world_of, Drafts, Signs};
+ghost use Rattle.bm_world_sign.specs.Instances.{AllCompiled, instance_on};
+ghost use Rattle.bm_world_sign.specs.Authorising.{first_pair};
+
+use crate::booking::draft_pairs;
+use bm_hash::{Hash32, Trail};
+use bm_honest::{Pair, Prepared, branch_key};
+use bm_syntax::{Guarded, asks, branch_at};
+use bm_world_board::{Board, Drafted};
+use bm_world_coins::HeldPosition;
+use spec_data::{Name, OutOfMemory};
+use spec_run::Reason;
+use spec_terms::{Path, PathStep};
+use std::alloc::Global;
+
+// What the live contract output of this number stands for.
+fn held_at(board: &Board, output: u32) -> Option<&HeldPosition>
+    ensures { option_copied result ≡ live_position (slice_get board.now.coins.outputs output) }
+{
+    match board.coins.output(output) {
+        Some(output) => output.live_position(),
+        None => None,
+    }
+}
+
+// The branch of this number of what is held.
+fn branch_held<'a>(board: &'a Board, held: &HeldPosition, branch: u32) -> Option<&'a Guarded>
+    ensures { (hash : List ℕ → List ℕ)
+        → option_map (λ b. guarded b.now) result ≡ position_branch (setup_of hash board.now) held.now branch }
+{
+    match board.contract(held.contract()) {
+        Some(checked) => branch_at(&checked.advert().root, held.position(), branch),
+        None => None,
+    }
+}
+
+// Why it is refused, if it is.
+fn authorise_refusal(board: &Board, party: &Name, output: u32, branch: u32) -> Option<Reason>
+    ensures { (hash : List ℕ → List ℕ) (messages : List (List ℕ)) → result
+        ≡ first_reason (spec.authorise_row (setup_of hash board.now) (world_of board.now messages) party.now output branch) }
+{
+    let Some(held) = held_at(board, output) else {
+        return Some(Reason::NotActive);
+    };
+    let Some(taken) = branch_held(board, held, branch) else {
+        return Some(Reason::NoBranch);
+    };
+    if !asks(taken, party) {
+        return Some(Reason::NotAsked);
+    }
+    None
+}
+
+// The path of a branch of what is held.
+fn path_of(alloc: Global, held: &HeldPosition, branch: u32) -> Result<Path, OutOfMemory>
+    ensures { IfOk result (λ path. path ≡ position_path held.now branch) }
+{
+    let mut steps = Vec::from_slice(alloc, held.position().steps())?;
+    steps.push(PathStep::Branch(branch))?;
+    Ok(Path::of(steps))
+}
+
+// The transaction of the branch at a path, where the contract is compiled.
+fn transaction_at<'a>(board: &'a Board, contract: u32, path: &Path) -> Option<&'a Prepared>
+    ensures { (hash : List ℕ → List ℕ) (messages : List (List ℕ)) → AllCompiled hash board.now messages
+        → option_map (λ p. p.now) result
+        ≡ spec.prepared_if_compiled (setup_of hash board.now) (instance_on hash board.now messages contract) path.now }
+{
+    match board.compiled(contract) {
+        Some(compiled) => compiled.transaction_at(path),
+        None => None,
+    }
+}
+
+// The pair of a key and the first of these digests, if there is one.
+fn first_pair(alloc: Global, key: [u8; 33], digests: &[[u8; 32]]) -> Result<Vec<Pair>, OutOfMemory>
+    ensures { IfOk result (λ pairs. pairs.items ≡ first_pair key digests.now) }
+{
+    let mut pairs = Vec::new(alloc);
+    let Some((digest, _)) = digests.split_first() else {
+        return Ok(pairs);
+    };
+    pairs.push((key, *digest))?;
+    Ok(pairs)
+}
+
+// The pair of the party's key of the branch at a path, nothing where the contract isn't compiled.
+fn pairs_at<H: Hash32 + Drop>(
+    alloc: Global,
+    trail: &Trail<H>,
+    board: &Board,
+    party: &Name,
+    contract: u32,
+    path: &Path,
+) -> Result<Vec<Pair>, OutOfMemory>
+    requires { AllCompiled (H.digest_of trail.now.hasher) board.now trail.now.messages }
+    ensures { let hash = H.digest_of trail.now.hasher in
+        let s = setup_of hash board.now in
+        IfOk result (λ pairs. pairs.items ≡ spec.branch_pair s party.now contract path.now
+        (spec.prepared_if_compiled s (instance_on hash board.now trail.now.messages contract) path.now)) }
+{
+    let Some(made) = transaction_at(board, contract, path) else {
+        return Ok(Vec::new(alloc));
+    };
+    let key = branch_key(alloc, trail.hasher(), contract, path, party)?;
+    let pairs = first_pair(alloc, key, made.digests.as_slice())?;
+    Ok(pairs)
+}
+
+// What the party signs to authorise the branch of this number of what the output holds.
+fn pairs_to_authorise<H: Hash32 + Drop>(
+    alloc: Global,
+    trail: &Trail<H>,
+    board: &Board,
+    party: &Name,
+    output: u32,
+    branch: u32,
+) -> Result<Vec<Pair>, OutOfMemory>
+    requires { AllCompiled (H.digest_of trail.now.hasher) board.now trail.now.messages }
+    ensures { let hash = H.digest_of trail.now.hasher in
+        let w = world_of board.now trail.now.messages in
+        IfOk result (λ pairs. pairs.items
+        ≡ spec.authorising_pairs (setup_of hash board.now) w party.now (live_position_at w output) branch) }
+{
+    let Some(held) = held_at(board, output) else {
+        return Ok(Vec::new(alloc));
+    };
+    let path = path_of(alloc, held, branch)?;
+    let pairs = pairs_at(alloc, trail, board, party, held.contract(), &path)?;
+    Ok(pairs)
+}
+
+/// The draft of `authorise`, whose pair is then in the book; it hashes nothing.
+pub fn draft_authorise<H: Hash32 + Drop>(
+    alloc: Global,
+    trail: &Trail<H>,
+    board: &mut Board,
+    party: &Name,
+    output: u32,
+    branch: u32,
+) -> Result<Drafted, OutOfMemory>
+    requires clear { evidence_of (H.digest_of trail.now.hasher) trail.now.messages ≡ None }
+    requires compiled { AllCompiled (H.digest_of trail.now.hasher) board.old trail.now.messages }
+    ensures board { Signs board.old board.new }
+    ensures ok { let hash = H.digest_of trail.now.hasher in
+        let messages = trail.now.messages in
+        IfOk result (Drafts hash (world_of board.new messages) messages messages
+        (spec.authorise_draft (setup_of hash board.old) (world_of board.old messages) party.now output branch)) }
+{
+    if let Some(reason) = authorise_refusal(board, party, output, branch) {
+        return Ok(Drafted::refused(alloc, reason));
+    }
+    let pairs = pairs_to_authorise(alloc, trail, board, party, output, branch)?;
+    let drafted = draft_pairs(alloc, board, &pairs)?;
+    Ok(drafted)
+}

@@ -1,0 +1,13 @@
+use Rattle.std.proofs.Common.{sym, ap, ◌∙◌}
+use Rattle.std.specs.List.{find}
+use Rattle.std.specs.Option.{option_copied}
+use Rattle.std.specs.Str.{bytes_eq}
+use Rattle.bm_world_board.specs.declared.accounts.Account.{Account}
+use Rattle.bm_world_spend.proofs.Gifted.{found_account}
+use Rattle.bm_world_spend.proofs.giving.giver.Goals as goal
+
+pub returns-in-Some : goal.returns-in-Some
+returns-in-Some c = λ hash parties same.
+    let party = c.args.party.now in
+    found_account hash parties party c.in-Some.account.now
+    (ap (λ l. find (λ (x : Account). bytes_eq x.party party) l) (sym same) ∙ sym c.account_at.ensures ∙ ap option_copied c.in-Some.is)

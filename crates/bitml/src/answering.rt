@@ -11,9 +11,8 @@ use crate::further::{audit_texts, auto_texts};
 use crate::making::make_reply;
 use crate::partial::{joined_texts, shown_texts};
 use crate::running::{plan_texts, play_texts, psbt_texts, weigh_texts};
-use bitml_command::{Command, Reply};
+use bitml_command::{Command, Reply, check_reply};
 use bm_hash::Hash32;
-use bm_judge::check_reply;
 use spec_data::{Bytes, OutOfMemory};
 use std::alloc::Global;
 

@@ -6,11 +6,10 @@ ghost use Rattle.spec_tool.specs.Answers.{with_contract, audited_file, size_of, 
 ghost use Rattle.bitml_command.specs.Seen.{printed};
 
 use crate::running::judge_two;
-use bitml_command::Reply;
-use bm_audit_reply::audit_reply;
+use bitml_command::{Judgement, Reply};
+use bm_audit::audit_reply;
 use bm_auto_reply::auto_reply;
 use bm_hash::Hash32;
-use bm_judge::Judgement;
 use spec_data::{Bytes, OutOfMemory};
 use std::alloc::Global;
 

@@ -7,10 +7,9 @@ ghost use Rattle.spec_tool.specs.Commands.{most_size, run_answer, both_judged, m
 ghost use Rattle.spec_tool.specs.Answers.{run_in, contracts_in};
 ghost use Rattle.bitml_command.specs.Seen.{printed};
 
-use bitml_command::Reply;
+use bitml_command::{Judgement, Reply, judge_both};
 use bitml_reply::made_reply;
 use bm_hash::Hash32;
-use bm_judge::{Judgement, judge_both};
 use bm_make::make;
 use spec_data::{Bytes, OutOfMemory};
 use std::alloc::Global;

@@ -10,12 +10,11 @@ ghost use Rattle.spec_tool.specs.Answers.{run_in, contracts_in, with_contract, i
 ghost use Rattle.spec_tool.specs.PsbtText as psbts;
 ghost use Rattle.spec_tool.specs.WeighText as weights;
 ghost use Rattle.bitml_command.specs.Seen.{printed};
-ghost use Rattle.bm_judge.specs.Judges.{JudgesFiles, IsTakenIfAny};
+ghost use Rattle.bitml_command.specs.Judges.{JudgesFiles, IsTakenIfAny};
 
-use bitml_command::Reply;
+use bitml_command::{Judgement, Reply, judge_both};
 use bitml_reply::{plan_reply, play_reply, psbt_reply, weigh_reply};
 use bm_hash::Hash32;
-use bm_judge::{Judgement, judge_both};
 use spec_data::{Bytes, OutOfMemory};
 use spec_tool::Which;
 use std::alloc::Global;

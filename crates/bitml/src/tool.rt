@@ -12,11 +12,10 @@ ghost use Rattle.bitml.specs.Served.{IsServed};
 use crate::answering::text_reply;
 use bitml_command::{Command, Reading, Reply, command_of, files_of, read_all};
 use bitml_headline::{answers_are_headlines, finish};
-use bm_hash::Hash32;
+use bm_hash::{Hash32, hashes_bytes};
 use bm_io::{Files, Sink};
 use spec_data::{Bytes, OutOfMemory};
 use std::alloc::Global;
-use theory_hashed::hashes_bytes;
 
 /// The reply to what the reads of a command's files gave.
 fn reply_to<H: Hash32 + Drop>(

@@ -1,2 +1,5 @@
 pub mod PathSteps
 pub mod Told
+pub mod FewEvents
+pub mod InOrder
+pub mod Taken

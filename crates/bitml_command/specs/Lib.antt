@@ -1,3 +1,4 @@
 pub mod Files
 pub mod Path
 pub mod Seen
+pub mod Judges

@@ -3,8 +3,8 @@ use Rattle.std.proofs.Common.{◌≡◌, ◌≤◌, List, [], ◌∷◌, length,
 use Rattle.std.specs.Prelude.{IfOk, slice_range}
 use Rattle.spec_tool.specs.Reads.{Text, text_at}
 use Rattle.spec_tool.specs.Answers.{run_in}
-use Rattle.bm_judge.specs.declared.both.Judgement.{Judgement}
-use Rattle.bm_judge.specs.Judges.{JudgesFiles}
+use Rattle.bitml_command.specs.declared.both.Judgement.{Judgement}
+use Rattle.bitml_command.specs.Judges.{JudgesFiles}
 
 pub judged_two : {E : Type 0} (texts : List Text) (t : Text) (r : Result Judgement E) → 2 ≤ length texts → t ≡ get_or texts 0 t
     → IfOk r (JudgesFiles (run_in t) (slice_range texts 1 2)) → IfOk r (JudgesFiles (run_in (text_at texts 0)) (text_at texts 1 ∷ []))

@@ -4,13 +4,12 @@ ghost use Rattle.std.specs.Prelude.{◌≡◌, ◌≤◌, ◌∷◌, [], length,
 ghost use Rattle.spec_tool.specs.Reads.{text_at};
 ghost use Rattle.spec_tool.specs.Answers.{run_in};
 ghost use Rattle.bitml_command.specs.Seen.{printed};
-ghost use Rattle.bm_judge.specs.Judges.{JudgesFiles, IsTakenIfAny};
+ghost use Rattle.bitml_command.specs.Judges.{JudgesFiles, IsTakenIfAny};
 ghost use Rattle.spec_picture.specs.Drawing as spec;
 
 use crate::playing::draw_reply;
-use bitml_command::Reply;
+use bitml_command::{Judgement, Reply, judge_both};
 use bm_hash::Hash32;
-use bm_judge::{Judgement, judge_both};
 use spec_data::{Bytes, OutOfMemory};
 use std::alloc::Global;
 

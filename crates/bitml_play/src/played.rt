@@ -13,13 +13,12 @@ ghost use Rattle.bm_world.specs.Starting.{Opens};
 
 use crate::events::play_events;
 use crate::stop::Stop;
-use bm_hash::Hash32;
+use bm_hash::{Hash32, hashes_bytes};
 use bm_wellformed::Checked;
 use bm_world::{StartError, World};
 use spec_data::{Bytes, OutOfMemory};
 use spec_run::Run;
 use std::alloc::{AllocError, Global};
-use theory_hashed::hashes_bytes;
 
 /// A run that was played.
 #[derive(Drop)]

@@ -17,7 +17,7 @@ use crate::last::{Last, let_go, play_to_end};
 use bitml_command::Reply;
 use bitml_shows::live_outputs;
 use bm_hash::Hash32;
-use bm_listing::counts_text;
+use bm_plan::counts_text;
 use bm_translate_course::{Translation, translate};
 use bm_wellformed::Checked;
 use bm_world::World;

@@ -13,7 +13,7 @@ ghost use Rattle.bm_world.specs.Playing.{setup_in};
 use crate::last::{Last, let_go, play_to_end};
 use bitml_command::Reply;
 use bm_hash::Hash32;
-use bm_listing::plan_text;
+use bm_plan::plan_text;
 use bm_wellformed::Checked;
 use bm_world::World;
 use spec_data::{Bytes, OutOfMemory};

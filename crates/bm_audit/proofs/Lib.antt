@@ -3,3 +3,4 @@ pub mod Composed
 pub mod Hearing
 pub mod Saying
 pub mod Listing
+pub mod Replied

@@ -39,8 +39,8 @@ use Rattle.bitml_play.proofs.Courses.{trace_is}
 use Rattle.bitml_reply.specs.Halting.{collided_printed, halt_printed}
 use Rattle.bitml_reply.specs.Last.{IsHalted, IsWhole}
 use Rattle.bitml_reply.proofs.Ended.{whole_if}
-use Rattle.bm_rounds.specs.Trying.{IsCause}
-use Rattle.bm_rounds.specs.Extending.{Extends, StopsExtending}
+use Rattle.bm_auto.specs.Trying.{IsCause}
+use Rattle.bm_auto.specs.Extending.{Extends, StopsExtending}
 use Rattle.bm_auto_reply.specs.Continued.{Continues, ContinuesIfWhole, GoesOnBeside}
 use Rattle.bm_auto_reply.proofs.Judging.{IsRead, read_is}
 

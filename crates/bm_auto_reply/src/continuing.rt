@@ -8,16 +8,15 @@ ghost use Rattle.spec_tool.specs.Commands.{prints};
 ghost use Rattle.spec_tool.specs.AutoText.{auto_answer};
 ghost use Rattle.theory_auto.specs.OwnRules.{IsHonest};
 ghost use Rattle.bitml_command.specs.Seen.{printed};
-ghost use Rattle.bm_strategy.specs.Longer.{longer};
+ghost use Rattle.bm_auto.specs.Longer.{longer};
 ghost use Rattle.bm_world.specs.Playing.{setup_in};
 ghost use Rattle.bitml_play.specs.Whole.{IsLeft};
 ghost use Rattle.bm_auto_reply.specs.Continued.{ContinuesIfWhole};
 
 use bitml_command::Reply;
 use bitml_reply::halt_reply;
+use bm_auto::{extend, longer_reply};
 use bm_hash::Hash32;
-use bm_rounds::extend;
-use bm_strategy::longer_reply;
 use bm_world::World;
 use spec_data::OutOfMemory;
 use spec_run::{Event, Run};

@@ -2,7 +2,7 @@
 
 ghost use Rattle.std.specs.Prelude.{◌≡◌, List, ℕ, IfOk, length, sum, ◌%◌, ◌∷◌, replicate};
 ghost use Rattle.sha2.specs.Sha256.{sha256};
-ghost use Rattle.spec_data.specs.Hashes.{IsBytes};
+ghost use Rattle.spec_data.specs.Hashes.{IsBytes, HashesBytes};
 ghost use Rattle.bm_hash.specs.Digests.{toy_digest, twin_digest, length-sha256, length-toy_digest, length-twin_digest};
 ghost use Rattle.bm_hash.specs.Digests.{bytes-sha256, bytes-toy_digest, bytes-twin_digest};
 
@@ -96,3 +96,8 @@ impl Hash32 for Twin {
         }
     }
 }
+
+/// Each digest is a string of 32 bytes.
+pub fn hashes_bytes<H: Hash32>(hasher: &H)
+    ensures { HashesBytes (H.digest_of hasher.now) }
+{}

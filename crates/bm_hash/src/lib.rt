@@ -6,7 +6,7 @@ mod key;
 mod messages;
 mod strings;
 
-pub use hashing::{Hash32, Sha, Toy, Twin};
+pub use hashing::{Hash32, Sha, Toy, Twin, hashes_bytes};
 pub use messages::{Trail, TrailError};
 pub use spec_data::{Bytes, OutOfMemory};
 pub use strings::hash_all;

@@ -1,4 +1,1 @@
-pub mod Symbols
-pub mod ReadBack
-pub mod OnlyWritten
 pub mod Standard

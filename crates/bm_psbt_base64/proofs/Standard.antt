@@ -7,9 +7,9 @@ use Rattle.base64.specs.Engines.{standard}
 use Rattle.base64.specs.GeneralPurpose.{encode_of, decode_of}
 use Rattle.base64.specs.declared.decode.DecodeError.{DecodeError}
 use Rattle.spec_tool.specs.Base64.{symbols, padding, symbol_of, base64_text, base64_bytes}
-use Rattle.bm_psbt_base64.proofs.Symbols.{some}
-use Rattle.bm_psbt_base64.proofs.ReadBack.{text_reads}
-use Rattle.bm_psbt_base64.proofs.OnlyWritten.{bytes_only}
+use Rattle.theory_psbt.proofs.Base64Symbols.{some}
+use Rattle.theory_psbt.proofs.Base64ReadBack.{text_reads}
+use Rattle.theory_psbt.proofs.Base64OnlyWritten.{bytes_only}
 
 -- ---- writing
 

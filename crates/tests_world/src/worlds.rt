@@ -1,11 +1,11 @@
 //! Runs that are read and played, and the worlds that they leave.
 
 ghost use Rattle.std.specs.Prelude.{IfOk};
-ghost use Rattle.bm_judge.specs.Judges.{IsTaken, IsTakenIfAny};
+ghost use Rattle.bitml_command.specs.Judges.{IsTaken, IsTakenIfAny};
 
+use bitml_command::{Judgement, judge_both};
 use bitml_play::{Played, play};
 use bm_hash::{Hash32, Sha};
-use bm_judge::{Judgement, judge_both};
 use bm_wellformed::Checked;
 use bm_world::World;
 use spec_data::{Bytes, OutOfMemory};

@@ -13,7 +13,7 @@ use Rattle.spec_tool.specs.Listed.{Listed}
 use Rattle.spec_tool.specs.Psbt.{Psbt, Pairing, pairing_bytes, map_bytes, magic, IsPairing, IsMap, Spells}
 use Rattle.spec_tool.specs.PsbtBytes.{psbt_of, psbt_bytes}
 use Rattle.spec_tool.specs.PsbtText.{listed_psbt, psbt_line, without_feed, formed, decoded, psbt_in}
-use Rattle.bm_psbt_base64.proofs.ReadBack.{text_reads}
+use Rattle.theory_psbt.proofs.Base64ReadBack.{text_reads}
 use Rattle.theory_bitcoin.proofs.Exact.{IsBytes-back, bytes_none, bytes_cons}
 use Rattle.theory_psbt.specs.Fitting.{IsFitting}
 use Rattle.theory_psbt.specs.Listed.{IsListed}

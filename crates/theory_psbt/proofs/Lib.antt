@@ -13,3 +13,6 @@ pub mod SameTx
 pub mod InputsApart
 pub mod Combining
 pub mod Signers
+pub mod Base64Symbols
+pub mod Base64ReadBack
+pub mod Base64OnlyWritten

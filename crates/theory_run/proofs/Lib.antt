@@ -10,3 +10,4 @@ pub mod Steps
 pub mod Tracking
 pub mod Widths
 pub mod Worlds
+mod Soundness

@@ -1,2 +1,3 @@
 pub mod OwnSignatures
 pub mod WorldsOfRuns
+pub mod Sound

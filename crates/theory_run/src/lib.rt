@@ -2,9 +2,8 @@
 #![tactic(auto)]
 
 ghost use Rattle.spec_run.specs.Statements.{SimulationTheorem, LicenceTheorem, HonestDepositsTheorem, HaltsTheorem};
-ghost use Rattle.theory_run.specs.WorldsOfRuns.{WorldsOfRuns};
-ghost use Rattle.spec_run.specs.Statements.{SimulationTheorem, LicenceTheorem, HonestDepositsTheorem};
 ghost use Rattle.theory_run.specs.WorldsOfRuns.{WorldsOfRuns, WorldsOfTurns};
+ghost use Rattle.theory_run.specs.Sound.{RunsAreSound};
 
 /// Every run of events is, step by step, a legal run of the calculus, and configuration and world
 /// agree at the opening and after every event.
@@ -39,4 +38,11 @@ pub fn worlds_of_runs()
 /// So has the world that each turn of a run left.
 pub fn worlds_of_turns()
     ensures { WorldsOfTurns }
+{}
+
+/// At the opening of a run, after each of its events and at its end the configuration is one that a
+/// legal run leads to: its numbers stand apart, its contracts hold their static balances, each step
+/// keeps money, and nothing is more than all money.
+pub fn runs_are_sound()
+    ensures { RunsAreSound }
 {}

@@ -6,7 +6,7 @@ use Rattle.spec_tool.specs.Answers.{if_whole, rules_judged}
 use Rattle.spec_tool.specs.AutoText.{strategy_in, auto_answer}
 use Rattle.spec_tool.specs.Commands.{Printed, setup_of}
 use Rattle.bitml_command.specs.Seen.{printed}
-use Rattle.bm_strategy.specs.Judged.{judged}
+use Rattle.bm_auto.specs.Judged.{judged}
 use Rattle.bm_auto_reply.proofs.Judging.{IsRead, read_is}
 use Rattle.bm_auto_reply.proofs.Replied.{refused_beside, rules_beside}
 use Rattle.bm_auto_reply.proofs.replying.auto_reply.Goals as goal

@@ -1,3 +1,0 @@
-pub mod FewEvents
-pub mod InOrder
-pub mod Taken

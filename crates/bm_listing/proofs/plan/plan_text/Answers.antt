@@ -1,7 +1,0 @@
-use Rattle.std.proofs.Common.{◌≡◌, subst, IfOk}
-use Rattle.bm_listing.proofs.PlanTold.{plan_told-setting}
-use Rattle.bm_listing.proofs.plan.plan_text.Goals as goal
-
-pub returns-clause-compiled : goal.returns-clause-compiled
-returns-clause-compiled c hash s e =
-    subst (λ t. IfOk c.told.result (λ text. text.items ≡ t)) (plan_told-setting hash s _ e) c.told.ensures

@@ -1,5 +1,0 @@
-use Rattle.std.proofs.Common.{codes}
-use Rattle.bm_listing.proofs.weigh.init_value.Goals as goal
-
-pub returns : goal.returns
-returns c = c.transaction_value.ensures (codes "init") c.in_ok-name.ensures

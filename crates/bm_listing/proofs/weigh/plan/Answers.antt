@@ -1,5 +1,0 @@
-use Rattle.bm_listing.specs.Told.{listed_values}
-use Rattle.bm_listing.proofs.weigh.plan.Goals as goal
-
-pub returns : goal.returns
-returns c = c.plan_value.ensures (listed_values c.args.checked.now _) c.in_ok-values.ensures

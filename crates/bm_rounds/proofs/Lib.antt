@@ -1,6 +1,0 @@
-pub mod Boards
-pub mod Branches
-pub mod Numbers
-pub mod Rounded
-pub mod Steps
-pub mod Tried

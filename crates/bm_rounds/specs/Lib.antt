@@ -1,5 +1,0 @@
-pub mod Extending
-pub mod Ruled
-pub mod Taking
-pub mod Trying
-pub mod Turning

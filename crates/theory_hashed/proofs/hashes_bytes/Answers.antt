@@ -1,4 +1,0 @@
-use Rattle.theory_hashed.proofs.hashes_bytes.Goals as goal
-
-pub returns : goal.returns
-returns g c = record { size = g.met.H.Hash32.sized c.args.hasher.now; bytes = g.met.H.Hash32.bytes c.args.hasher.now }

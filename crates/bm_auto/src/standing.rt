@@ -1,7 +1,6 @@
 //! Where the outputs of the first contract's positions are.
 
 ghost use Rattle.std.specs.Prelude.{◌≡◌, ℕ, List, Some, slice_get};
-ghost use Rattle.std.specs.Option.{option_copied};
 ghost use Rattle.spec_run.specs.World.{live_position};
 ghost use Rattle.spec_tool.specs.Turns as spec;
 ghost use Rattle.spec_tool.specs.Weights.{last_branch, position_of};
@@ -49,21 +48,11 @@ fn is_at(held: &HeldPosition, position: &[PathStep]) -> bool
     held.contract() == 0 && held.position().steps() == position
 }
 
-// What the output of this number stands for, where it is live and a contract's.
-fn held_at(coins: &Coins, number: u32) -> Option<&HeldPosition>
-    ensures { option_copied result ≡ live_position (slice_get coins.now.outputs number) }
-{
-    match coins.output(number) {
-        Some(output) => output.live_position(),
-        None => None,
-    }
-}
-
 // Whether the output of this number stands, live, for the position of the first contract.
 fn stands(coins: &Coins, number: u32, position: &[PathStep]) -> bool
     ensures { result ≡ spec.stands_at 0 position.now (live_position (slice_get coins.now.outputs number)) }
 {
-    match held_at(coins, number) {
+    match coins.held_at(number) {
         Some(held) => is_at(held, position),
         None => false,
     }

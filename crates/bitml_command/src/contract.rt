@@ -8,11 +8,11 @@ ghost use Rattle.spec_tool.specs.Answers as spec;
 ghost use Rattle.bitml_command.specs.Judges.{Judges};
 
 use crate::error::JudgeError;
-use crate::refusal::{MAX_TEXT, put_exceeded, put_fault, put_text_fault, put_too_long};
+use crate::refusal::{put_exceeded, put_fault, put_text_fault, put_too_long};
 use bm_reader::{ReaderError, read_advert};
 use bm_syntax::{Advert, Limit};
 use bm_wellformed::{CheckError, Checked, check};
-use spec_data::Bytes;
+use spec_data::{Bytes, MOST_TEXT_BYTES};
 use spec_terms::Place;
 use spec_text::TextFault;
 use std::alloc::Global;
@@ -84,7 +84,7 @@ fn judge_text(alloc: Global, text: &[u8]) -> Result<Checked, JudgeError>
 fn contract_of(alloc: Global, text: &[u8]) -> Result<Checked, JudgeError>
     ensures { Judges result (contract_of text.now) }
 {
-    if text.len() > MAX_TEXT {
+    if text.len() > MOST_TEXT_BYTES {
         return refuse_too_long(alloc);
     }
     judge_text(alloc, text)

@@ -5,14 +5,8 @@ ghost use Rattle.spec_tool.specs.Commands as spec;
 ghost use Rattle.bitml_command.specs.Seen.{command, asked};
 
 use crate::command::Command;
-use spec_data::OutOfMemory;
+use spec_data::{MOST_RUN_BYTES, MOST_TEXT_BYTES, OutOfMemory};
 use std::alloc::Global;
-
-/// The most bytes of a contract's text.
-const MOST_TEXT_BYTES: usize = 1_048_576;
-
-/// The most bytes of a run file.
-const MOST_RUN_BYTES: usize = 8_388_608;
 
 /// The most bytes of a file with a partially signed transaction.
 const MOST_PSBT_BYTES: usize = 8_388_608;

@@ -1,20 +1,16 @@
 //! Why a contract is refused, in words.
 
 ghost use Rattle.std.specs.Prelude.{◌≡◌, ◌++◌, OnOk};
-ghost use Rattle.std.specs.List.{flat_map};
-ghost use Rattle.spec_bitcoin.specs.Keys.{step_text, path_text};
 ghost use Rattle.spec_text.specs.Refusals.{limit_text, place_text, fault_name, fault_text, text_fault_text, exceeded_text};
 ghost use Rattle.spec_text.specs.Refusals.{too_long_text, contract_refused_line};
 
-use bm_syntax::{Limit, PathStep};
+use bm_keys::put_path;
+use bm_syntax::Limit;
 use bm_text::{put, put_decimal};
-use spec_data::OutOfMemory;
+use spec_data::{MOST_TEXT_BYTES, OutOfMemory};
 use spec_terms::Place;
 use spec_text::TextFault;
 use std::alloc::Global;
-
-/// The most bytes of a contract's text.
-pub const MAX_TEXT: usize = 1_048_576;
 
 /// The name of a limit.
 fn limit_text(limit: Limit) -> &'static [u8]
@@ -51,40 +47,6 @@ fn fault_name(number: u8) -> &'static [u8]
         8 => b"FeeShort",
         _ => b"",
     }
-}
-
-#[tactic(auto, using(std::proofs::Common::append_assoc))]
-fn put_step(alloc: Global, out: &mut Vec<u8>, step: PathStep) -> Result<(), OutOfMemory>
-    ensures { OnOk result (out.new.items ≡ out.old.items ++ step_text step) }
-{
-    match step {
-        PathStep::Branch(number) => {
-            put(out, b".")?;
-            put_decimal(alloc, out, number as u64)
-        }
-        PathStep::Part(number) => {
-            put(out, b"/")?;
-            put_decimal(alloc, out, number as u64)
-        }
-    }
-}
-
-fn put_path_steps(alloc: Global, out: &mut Vec<u8>, path: &[PathStep]) -> Result<(), OutOfMemory>
-    ensures { OnOk result (out.new.items ≡ out.old.items ++ flat_map step_text path.now) }
-{
-    for step in path {
-        put_step(alloc, out, *step)?;
-    }
-    Ok(())
-}
-
-/// The path to a branch or a position, from the root on.
-#[tactic(auto, using(std::proofs::Common::append_assoc))]
-fn put_path(alloc: Global, out: &mut Vec<u8>, path: &[PathStep]) -> Result<(), OutOfMemory>
-    ensures { OnOk result (out.new.items ≡ out.old.items ++ path_text path.now) }
-{
-    put(out, b"r")?;
-    put_path_steps(alloc, out, path)
 }
 
 /// Where an advert has a fault or exceeds a limit.
@@ -167,7 +129,7 @@ pub fn put_too_long(alloc: Global, out: &mut Vec<u8>) -> Result<(), OutOfMemory>
     ensures { OnOk result (out.new.items ≡ out.old.items ++ too_long_text) }
 {
     put(out, b"limit Text ")?;
-    put_decimal(alloc, out, MAX_TEXT as u64)
+    put_decimal(alloc, out, MOST_TEXT_BYTES as u64)
 }
 
 /// The line on the contract of this number that is refused.

@@ -8,9 +8,9 @@ ghost use Rattle.spec_tool.specs.Answers as spec;
 ghost use Rattle.bitml_command.specs.Judges.{Judges};
 
 use crate::error::JudgeError;
-use bm_runfile::{MOST_RUN_BYTES, Run, RunError, RunLimit, read_run};
+use bm_runfile::{Run, RunError, RunLimit, read_run};
 use bm_text::{put, put_decimal};
-use spec_data::{Bytes, OutOfMemory};
+use spec_data::{Bytes, MOST_RUN_BYTES, OutOfMemory};
 use spec_text::RunFault;
 use std::alloc::Global;
 

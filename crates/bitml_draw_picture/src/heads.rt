@@ -8,9 +8,9 @@ ghost use Rattle.spec_picture.specs.Words as words;
 ghost use Rattle.spec_picture.specs.Picture as spec;
 
 use crate::marks::cut;
-use crate::phrases::put_names;
 use crate::shapes::put_words;
 use crate::xml::{put_attribute, put_number};
+use bm_print::put_names;
 use bm_text::put;
 use spec_data::{Name, OutOfMemory};
 use std::alloc::Global;

@@ -2,32 +2,16 @@
 
 ghost use Rattle.std.specs.Prelude.{◌≡◌, ◌++◌, codes, map, IfOk, OnOk};
 ghost use Rattle.std.specs.Fmt.{decimal};
-ghost use Rattle.spec_text.specs.Canonical.{joined};
 ghost use Rattle.spec_terms.specs.Parties.{add_all};
 ghost use Rattle.spec_terms.specs.Core.{asks};
 ghost use Rattle.bm_syntax.specs.View.{guarded, test as test_view, parts_view};
 ghost use Rattle.spec_picture.specs.Tree as spec;
 
+use bm_print::put_names;
 use bm_syntax::{Guarded, Part, Pred, add_new, lock};
 use bm_text::{put, put_decimal};
 use spec_data::{Name, OutOfMemory};
 use std::alloc::Global;
-
-// Names with commas between them.
-#[tactic(auto, using(std::proofs::Common::append_assoc))]
-pub(crate) fn put_names(out: &mut Vec<u8>, names: &[Name]) -> Result<(), OutOfMemory>
-    ensures { OnOk result (out.new.items ≡ out.old.items ++ joined (codes ", ") names.now) }
-{
-    let Some((first, others)) = names.split_first() else {
-        return Ok(());
-    };
-    put(out, first.bytes())?;
-    for name in others {
-        put(out, b", ")?;
-        put(out, name.bytes())?;
-    }
-    Ok(())
-}
 
 /// A word and the names behind it; nothing where there is no name.
 #[tactic(auto, using(std::proofs::Common::append_assoc))]

@@ -1,4 +1,5 @@
--- The nodes of the definitions that the nodes of code are seen as.
+-- The nodes of the definitions that the nodes of code are seen as, and how many branches they have.
+use Rattle.std.specs.Prelude.{ℕ, length, Option, Some, None}
 use Rattle.spec_nodes.specs.Nodes as spec
 use Rattle.bm_syntax.specs.View.{test}
 use Rattle.bm_arena.specs.declared.node.Core.{Core}
@@ -16,3 +17,9 @@ deed_view (Split parts) = spec.splits parts.items
 abbrev pub node_view : Node → spec.Node
 node_view (Choice position branches) = spec.choice_node position branches.items
 node_view (Branch path asks lock core) = spec.branch_node path asks.items lock (deed_view core)
+
+-- how many branches a choice's node has
+abbrev pub branches_in : Option spec.Node → ℕ
+branches_in None = 0
+branches_in (Some (spec.choice_node position branches)) = length branches
+branches_in (Some (spec.branch_node path asked height deed)) = 0

@@ -1,8 +1,8 @@
 //! The nodes of a contract by number.
 
-ghost use Rattle.std.specs.Prelude.{◌≡◌, ◌+◌, ◌<◌, ◌^◌, [], ◌∷◌, ◌++◌, length, map, slice_get, slice_set, OnOk};
+ghost use Rattle.std.specs.Prelude.{◌≡◌, ◌+◌, ◌<◌, ◌^◌, [], ◌∷◌, ◌++◌, Some, length, map, min, slice_get, slice_set, OnOk};
 ghost use Rattle.std.specs.Option.{option_map};
-ghost use Rattle.bm_arena.specs.NodeView.{node_view};
+ghost use Rattle.bm_arena.specs.NodeView.{node_view, branches_in};
 
 use crate::node::Node;
 use spec_data::OutOfMemory;
@@ -31,6 +31,16 @@ impl Model for Arena {
     ghost view = { λ a. map node_view a.nodes.items };
 
     ghost invariant = { λ a. length a.nodes.items < 2 ^ 32 };
+}
+
+// How many branches a choice's node has.
+fn listed(node: &Node) -> usize
+    ensures { result ≡ branches_in (Some (node_view node.now)) }
+{
+    match node {
+        Node::Choice { branches, .. } => branches.len(),
+        Node::Branch { .. } => 0,
+    }
 }
 
 impl Arena {
@@ -79,5 +89,15 @@ impl Arena {
         ensures { option_map (λ n. node_view n.now) result ≡ slice_get self.now number }
     {
         self.nodes.get(number as usize)
+    }
+
+    /// How many branches the choice of this number has, but no more than there are nodes.
+    pub fn listed_at(&self, number: u32) -> u32
+        ensures { result ≡ min (branches_in (slice_get self.now number)) (length self.now) }
+    {
+        match self.node(number) {
+            Some(node) => listed(node).min(self.len() as usize) as u32,
+            None => 0,
+        }
     }
 }

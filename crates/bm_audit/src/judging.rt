@@ -1,7 +1,6 @@
 //! What the ledger says of a transaction.
 
 ghost use Rattle.std.specs.Prelude.{◌≡◌, ◌<◌, ◌^◌, ℕ, List, length, option_map, slice_get, IfOk};
-ghost use Rattle.std.specs.Option.{option_copied};
 ghost use Rattle.spec_bitcoin.specs.Verdict.{refusal_of};
 ghost use Rattle.spec_run.specs.Setup.{Setup};
 ghost use Rattle.spec_run.specs.World.{World as RunWorld, live_position};
@@ -54,23 +53,13 @@ fn branches_at(board: &Board, held: &HeldPosition) -> usize
     }
 }
 
-// What the output of this number stands for, if it is live and a contract's.
-fn held_at(board: &Board, number: u32) -> Option<&HeldPosition>
-    ensures { option_copied result ≡ live_position (slice_get board.now.coins.outputs number) }
-{
-    match board.coins.output(number) {
-        Some(output) => output.live_position(),
-        None => None,
-    }
-}
-
 // What an accepted transaction is that isn't an initial one, and spends the output of this number first.
 fn taken(board: &Board, number: u32, tx: &Tx) -> Result<Now, OutOfMemory>
     ensures { (s : Setup) (spent : List ℕ) → s.contracts ≡ board.now.contracts → run.first_number spent ≡ number
         → IfOk result (λ now. now ≡ spec.now_by (run.kind_by s tx.now spent None
         (live_position (slice_get board.now.coins.outputs number)))) }
 {
-    let Some(held) = held_at(board, number) else {
+    let Some(held) = board.coins.held_at(number) else {
         return Ok(Now::Move);
     };
     let count = narrow(branches_at(board, held))?;

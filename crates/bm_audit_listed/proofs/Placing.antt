@@ -7,14 +7,14 @@ use Rattle.std.specs.Prelude.{if◌then◌else◌}
 use Rattle.std.specs.Ordering.{nat_cmp, is_eq}
 use Rattle.std.specs.declared.cmp.Ordering.{Ordering}
 use Rattle.std.specs.Cmp.{eq_by_cmp_equiv}
-use Rattle.std.specs.Cmp.Lexicographic.{slice_cmp, nat_list_cmp_total, nat_list_eq_equiv}
+use Rattle.std.specs.Cmp.Lexicographic.{slice_cmp, nat_list_cmp_total}
 use Rattle.std.specs.Str.{bytes_eq}
-use Rattle.std.specs.Map.{lookup, IsKeyTest, AreApart, KeepsOthers}
+use Rattle.std.specs.Map.{lookup}
 use Rattle.std.specs.BTreeMap as tree
 use Rattle.std.specs.BTreeMap.{BTreeMap}
 use Rattle.std.specs.Global.{Vec}
 use Rattle.std.proofs.lemmas.Slice.Eq.{bytes_eq-Decides}
-use Rattle.std.proofs.lemmas.Map.Text.{is_eq-slice_cmp}
+use Rattle.spec_data.proofs.MapLemmas.{other_entries, apart_in_order}
 use Rattle.spec_bitcoin.specs.Spelling.{stripped}
 use Rattle.bm_audit_listed.specs.declared.entries.Candidate.{Candidate}
 use Rattle.bm_audit_listed.specs.Indexed.{places_from, places_or_none, found_at, IsIndexed, Leaves, Adds}
@@ -23,16 +23,6 @@ abbrev pub Index : Type 0
 Index = BTreeMap (Vec ℕ) (List ℕ)
 
 -- ---- the index at any bytes, after a change at some
-
-other_entries : {K X : Type 0} (eq : K → K → Bool) (test : K → Bool) (old new : List (K × X)) → KeepsOthers eq test old new
-    → (other : K → Bool) → IsKeyTest eq other → AreApart test other → lookup other new ≡ lookup other old
-unfolding KeepsOthers
-other_entries eq test old new h = h
-
-apart_in_order : (bs cs ks : List ℕ) → bytes_eq bs cs ≡ false → is_eq (slice_cmp nat_cmp bs ks) ≡ true
-    → is_eq (slice_cmp nat_cmp cs ks) ≡ false
-apart_in_order bs cs ks n y =
-    is_eq-slice_cmp cs ks ∙ nat_list_eq_equiv.symm cs ks ∙ sym (nat_list_eq_equiv.congr bs ks cs (sym (is_eq-slice_cmp bs ks) ∙ y)) ∙ n
 
 abbrev pub vec_cmp : List ℕ → Vec ℕ → Ordering
 vec_cmp bs k = slice_cmp nat_cmp bs k.items

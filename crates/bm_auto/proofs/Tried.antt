@@ -21,8 +21,8 @@ use Rattle.spec_tool.specs.Turns.{rule_event, Progressed, keeps, takes, tried, t
 use Rattle.theory_world.proofs.Hashed.{NoClash, no_clash, all_new, among_head, among_tail}
 use Rattle.theory_world.proofs.Refused.{refusals_keep}
 use Rattle.theory_auto.specs.OwnRules.{IsHonest}
-use Rattle.theory_auto.proofs.Fewer.{Within, again_calm}
-use Rattle.theory_auto.proofs.Hashless.{carried, rule_draft}
+use Rattle.theory_run.proofs.Events.Hashless.{carried, draft_same}
+use Rattle.theory_run.proofs.Fewer.{Within, again_calm}
 use Rattle.theory_auto.proofs.OwnRules.{done_by, declared_among, is_event}
 use Rattle.bm_hash.specs.Messages.{evidence_of}
 use Rattle.bm_world.specs.declared.halt.Halt.{Halt}
@@ -75,7 +75,7 @@ module _ (s : Setup) (w : World) (r : Rule) (e : Event) (has : rule_event s w r 
   after = record w { hashed = noted_all w.hashed (draft s w e).hashes }
 
   same : draft s after e ≡ carried heard d
-  same = rule_draft s w heard r e has
+  same = draft_same s w heard e
 
   is_calm : IsCalm s w d
   is_calm = calm_of s w (settled w d) e went

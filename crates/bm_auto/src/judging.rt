@@ -2,7 +2,6 @@
 
 ghost use Rattle.std.specs.Prelude.{◌≡◌, ◌++◌, codes, Some, Err, IfOk, OnOk};
 ghost use Rattle.std.specs.Fmt.{decimal};
-ghost use Rattle.spec_text.specs.Limits.{most_run_bytes, most_events};
 ghost use Rattle.spec_tool.specs.Sizes.{rule_line_bytes};
 ghost use Rattle.spec_tool.specs.AutoText as spec;
 ghost use Rattle.bm_auto.specs.Judged.{judged};
@@ -10,25 +9,17 @@ ghost use Rattle.bm_auto.specs.Judged.{judged};
 use crate::error::StrategyError;
 use crate::read::{MOST_STRATEGY_BYTES, read_strategy};
 use bm_text::{put, put_decimal};
-use spec_data::{Bytes, OutOfMemory};
+use spec_data::{Bytes, MOST_EVENTS, MOST_RUN_BYTES, OutOfMemory};
 use spec_run::{Event, Header};
 use spec_tool::Rule;
 use std::alloc::{AllocError, Global};
 
-/// The bytes that a run file may have.
-const MOST_RUN_BYTES: u128 = 8_388_608;
-
-/// The events that a run file may have.
-const MOST_EVENTS: u128 = 10_000;
-
 /// The bytes that the line of a rule's event may have, with its end.
 const RULE_LINE_BYTES: u128 = 128;
 
-/// The numbers are those of the definitions.
-pub fn strategy_limits_of_runs_are_defined()
-    ensures run { MOST_RUN_BYTES ≡ most_run_bytes }
-    ensures events { MOST_EVENTS ≡ most_events }
-    ensures line { RULE_LINE_BYTES ≡ rule_line_bytes }
+/// The number is that of the definitions.
+pub fn rule_lines_are_defined()
+    ensures { RULE_LINE_BYTES ≡ rule_line_bytes }
 {}
 
 /// How a strategy file is judged.
@@ -68,7 +59,7 @@ fn has_room(events: &[Event], rules: &[Rule]) -> bool
     ensures { result ≡ spec.has_room events.now rules.now }
 {
     let count = events.len() as u128 + rules.len() as u128;
-    count <= MOST_EVENTS
+    count <= MOST_EVENTS as u128
 }
 
 // Whether the run file has room for a line of each rule.
@@ -76,7 +67,7 @@ fn fits_within(run_bytes: usize, rules: &[Rule]) -> bool
     ensures { result ≡ spec.fits_within run_bytes rules.now }
 {
     let bytes = run_bytes as u128 + RULE_LINE_BYTES * rules.len() as u128;
-    bytes < MOST_RUN_BYTES
+    bytes < MOST_RUN_BYTES as u128
 }
 
 // The rules, where they stay within the limits of a run file.

@@ -16,7 +16,7 @@ mod turning;
 
 pub use error::StrategyError;
 pub use extending::extend;
-pub use judging::{StrategyJudgement, judge_strategy, strategy_limits_of_runs_are_defined};
+pub use judging::{StrategyJudgement, judge_strategy, rule_lines_are_defined};
 pub use printing::longer_reply;
 pub use read::{MOST_STRATEGY_BYTES, read_strategy, strategy_limits_are_defined};
 pub use refusing::strategy_refused;

@@ -1,46 +1,15 @@
 //! Where the outputs of the first contract's positions are.
 
 ghost use Rattle.std.specs.Prelude.{◌≡◌, ℕ, List, Some, slice_get};
-ghost use Rattle.std.specs.Option.{option_copied};
 ghost use Rattle.spec_run.specs.World.{live_position};
 ghost use Rattle.spec_tool.specs.Turns as spec;
-ghost use Rattle.spec_tool.specs.Weights.{last_branch, position_of};
-ghost use Rattle.bm_plan.specs.Listed.{step_branch};
 ghost use Rattle.bm_world_board.specs.Drafts.{setup_of, world_of};
 
+use bm_plan::{front_of, last_branch};
 use bm_syntax::walk::at;
 use bm_world_board::Board;
 use bm_world_coins::{Coins, HeldPosition};
 use spec_terms::{Path, PathStep};
-
-// The steps to the position whose branch the path is.
-#[tactic(auto, using(bm_plan::proofs::LastStep::position_is_front))]
-fn front_of(path: &Path) -> &[PathStep]
-    ensures { result.now ≡ position_of path.now }
-{
-    let steps = path.steps();
-    &steps[..steps.len().saturating_sub(1)]
-}
-
-fn step_branch(step: PathStep) -> u32
-    ensures { result ≡ step_branch step }
-{
-    match step {
-        PathStep::Branch(i) => i,
-        PathStep::Part(_) => 0,
-    }
-}
-
-// The number of the branch that a path ends with.
-#[tactic(auto, using(bm_plan::proofs::LastStep::last_branch_is))]
-fn last_branch(path: &Path) -> u32
-    ensures { result ≡ last_branch path.now }
-{
-    match path.steps().last() {
-        Some(step) => step_branch(*step),
-        None => 0,
-    }
-}
 
 // Whether this is the position of the first contract.
 fn is_at(held: &HeldPosition, position: &[PathStep]) -> bool
@@ -49,21 +18,11 @@ fn is_at(held: &HeldPosition, position: &[PathStep]) -> bool
     held.contract() == 0 && held.position().steps() == position
 }
 
-// What the output of this number stands for, where it is live and a contract's.
-fn held_at(coins: &Coins, number: u32) -> Option<&HeldPosition>
-    ensures { option_copied result ≡ live_position (slice_get coins.now.outputs number) }
-{
-    match coins.output(number) {
-        Some(output) => output.live_position(),
-        None => None,
-    }
-}
-
 // Whether the output of this number stands, live, for the position of the first contract.
 fn stands(coins: &Coins, number: u32, position: &[PathStep]) -> bool
     ensures { result ≡ spec.stands_at 0 position.now (live_position (slice_get coins.now.outputs number)) }
 {
-    match held_at(coins, number) {
+    match coins.held_at(number) {
         Some(held) => is_at(held, position),
         None => false,
     }

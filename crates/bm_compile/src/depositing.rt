@@ -46,7 +46,7 @@ pub(crate) fn party_script<H: Hash32>(
 }
 
 /// An output of this value, in satoshi, for whoever shows this script and what it asks for.
-pub(crate) fn pays<H: Hash32>(
+pub fn pays<H: Hash32>(
     alloc: Global,
     hasher: &H,
     script: &[u8],
@@ -83,8 +83,8 @@ fn deposit<H: Hash32>(
     })
 }
 
-// The owner and the value of the volatile deposit of this name.
-fn volatile_of<'a>(pre: &'a [Pre], name: &Name) -> Option<(&'a Name, u64)>
+/// The owner and the value of the volatile deposit of this name.
+pub fn volatile_of<'a>(pre: &'a [Pre], name: &Name) -> Option<(&'a Name, u64)>
     ensures { option_map (λ p. holding p.0.now p.1) result ≡ look_up name.now (volatile pre.now) }
 {
     for entry in pre {

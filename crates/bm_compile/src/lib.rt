@@ -18,4 +18,5 @@ pub use binding::are_bound;
 pub use bm_hash::TrailError;
 pub use compiled::Compiled;
 pub use compiling::compile;
+pub use depositing::{pays, volatile_of};
 pub use spec_compiler::Prepared;

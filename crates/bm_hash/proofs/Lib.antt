@@ -1,3 +1,4 @@
+pub mod Chains
 pub mod Collisions
 pub mod Evidence
 pub mod HashSteps

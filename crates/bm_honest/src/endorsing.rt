@@ -12,11 +12,12 @@ ghost use Rattle.bm_compile.specs.Numbered.{numbered};
 ghost use Rattle.bm_honest.specs.Pairs.{person_pairs, owner_pairs, pairs_for, pairs_at, pairs_of_paths};
 
 use crate::branches::seen_at;
-use crate::keys::{branch_key, deposit_key};
+use crate::keys::deposit_key;
 use crate::needs::owner_of;
 use bm_arena::Arena;
 use bm_compile::Compiled;
 use bm_hash::Hash32;
+use bm_keys::branch_key;
 use bm_wellformed::Checked;
 use spec_compiler::Prepared;
 use spec_data::{Name, OutOfMemory};

@@ -1,52 +1,17 @@
 //! Which keys have signed.
 
-ghost use Rattle.std.specs.Prelude.{◌≡◌, ◌∷◌, IfOk};
+ghost use Rattle.std.specs.Prelude.{◌≡◌, IfOk};
 ghost use Rattle.spec_bitcoin.specs.Keys as spec;
 ghost use Rattle.spec_compiler.specs.Instance as instance;
 ghost use Rattle.spec_compiler.specs.Instance.{branch_label};
 
 use bm_book::Book;
 use bm_hash::Hash32;
-use bm_keys::label_text;
+use bm_keys::{branch_key, label_key};
 use spec_bitcoin::Label;
 use spec_data::{Name, OutOfMemory};
 use spec_terms::Path;
 use std::alloc::Global;
-
-// Byte 02 and a digest.
-fn key_with(digest: &[u8; 32]) -> [u8; 33]
-    ensures { result ≡ 2 ∷ digest.now }
-{
-    let mut key = [2; 33];
-    key[1..].copy_from_slice(digest);
-    key
-}
-
-// The key of a label.
-fn label_key<H: Hash32>(alloc: Global, hash: &H, label: &Label) -> Result<[u8; 33], OutOfMemory>
-    ensures { IfOk result (λ key. key ≡ spec.key_of (H.digest_of hash.now) label.now) }
-{
-    let text = label_text(alloc, label)?;
-    Ok(key_with(&hash.hash32(&text)))
-}
-
-/// A participant's key of a branch.
-pub fn branch_key<H: Hash32>(
-    alloc: Global,
-    hash: &H,
-    contract: u32,
-    path: &Path,
-    party: &Name,
-) -> Result<[u8; 33], OutOfMemory>
-    ensures { IfOk result (λ key. key ≡ spec.key_of (H.digest_of hash.now) (branch_label contract path.now party.now)) }
-{
-    let label = Label::Branch {
-        contract,
-        path: path.copy(alloc)?,
-        party: *party,
-    };
-    label_key(alloc, hash, &label)
-}
 
 /// A party's key of its deposits.
 pub fn deposit_key<H: Hash32>(

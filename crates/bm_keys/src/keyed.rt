@@ -3,18 +3,64 @@
 ghost use Rattle.std.specs.Prelude.{◌≡◌, IfOk, ◌∷◌, []};
 ghost use Rattle.bm_hash.specs.Trails.{Hashes};
 ghost use Rattle.spec_bitcoin.specs.Keys as spec;
+ghost use Rattle.spec_bitcoin.specs.declared.label.Label.TheVariants.{Deposit, Branch};
 
-use crate::texts::label_text;
+use crate::texts::{deposit_text, label_text};
 use bm_hash::{Hash32, Trail, TrailError};
 use spec_bitcoin::Label;
+use spec_data::{Name, OutOfMemory};
+use spec_terms::Path;
 use std::alloc::Global;
 
-fn key_with(digest: &[u8; 32]) -> [u8; 33]
+/// Byte 02 and a digest: the key of a label whose text has this hash.
+pub fn key_with(digest: &[u8; 32]) -> [u8; 33]
     ensures { result ≡ 2 ∷ digest.now }
 {
     let mut key = [2; 33];
     key[1..].copy_from_slice(digest);
     key
+}
+
+/// The key of a label whose text was hashed earlier, so that it isn't hashed along a trail.
+pub fn label_key<H: Hash32>(
+    alloc: Global,
+    hasher: &H,
+    label: &Label,
+) -> Result<[u8; 33], OutOfMemory>
+    ensures { IfOk result (λ key. key ≡ spec.key_of (H.digest_of hasher.now) label.now) }
+{
+    let text = label_text(alloc, label)?;
+    Ok(key_with(&hasher.hash32(&text)))
+}
+
+/// A party's key of its deposits, whose label's text was hashed when the run opened.
+pub fn deposit_key<H: Hash32>(
+    alloc: Global,
+    hasher: &H,
+    party: &[u8],
+) -> Result<[u8; 33], OutOfMemory>
+    ensures { IfOk result (λ key. key ≡ spec.key_of (H.digest_of hasher.now) (Deposit party.now)) }
+{
+    let text = deposit_text(alloc, party)?;
+    Ok(key_with(&hasher.hash32(&text)))
+}
+
+/// A participant's key of the branch at a path, whose label's text was hashed when the contract was compiled.
+pub fn branch_key<H: Hash32>(
+    alloc: Global,
+    hasher: &H,
+    contract: u32,
+    path: &Path,
+    party: &Name,
+) -> Result<[u8; 33], OutOfMemory>
+    ensures { IfOk result (λ key. key ≡ spec.key_of (H.digest_of hasher.now) (Branch contract path.now party.now)) }
+{
+    let label = Label::Branch {
+        contract,
+        path: path.copy(alloc)?,
+        party: *party,
+    };
+    label_key(alloc, hasher, &label)
 }
 
 /// The key of a label: byte 02 and the hash of the label's text, which is hashed.

@@ -7,7 +7,9 @@ mod reading;
 mod texts;
 
 pub use bm_hash::{Hash32, Trail, TrailError};
-pub use keyed::{deposit_script, key, pay_to, signature};
+pub use keyed::{
+    branch_key, deposit_key, deposit_script, key, key_with, label_key, pay_to, signature,
+};
 pub use reading::{LabelError, read_label};
 pub use spec_bitcoin::Label;
 pub use spec_data::Name;

@@ -38,11 +38,20 @@ pub fn put_path(alloc: Global, out: &mut Vec<u8>, steps: &[PathStep]) -> Result<
 }
 
 #[tactic(auto, unfolding(spec_bitcoin::specs::Keys::label_text))]
-fn put_deposit(out: &mut Vec<u8>, party: &Name) -> Result<(), OutOfMemory>
+fn put_deposit(out: &mut Vec<u8>, party: &[u8]) -> Result<(), OutOfMemory>
     ensures { OnOk result (out.new.items ≡ out.old.items ++ spec.label_text (Deposit party.now)) }
 {
     out.extend_from_slice(b"D:")?;
-    out.extend_from_slice(party.bytes())
+    out.extend_from_slice(party)
+}
+
+/// `D:` and the party: the text of the label of a party's deposits.
+pub(crate) fn deposit_text(alloc: Global, party: &[u8]) -> Result<Vec<u8>, OutOfMemory>
+    ensures { IfOk result (λ text. text.items ≡ spec.label_text (Deposit party.now)) }
+{
+    let mut out = Vec::new(alloc);
+    put_deposit(&mut out, party)?;
+    Ok(out)
 }
 
 #[tactic(auto, unfolding(spec_bitcoin::specs::Keys::label_text))]
@@ -69,7 +78,7 @@ pub fn label_text(alloc: Global, label: &Label) -> Result<Vec<u8>, OutOfMemory>
 {
     let mut out = Vec::new(alloc);
     match label {
-        Label::Deposit { party } => put_deposit(&mut out, party)?,
+        Label::Deposit { party } => put_deposit(&mut out, party.bytes())?,
         Label::Branch {
             contract,
             path,

@@ -14,7 +14,7 @@ use Rattle.spec_nodes.specs.Numbers.{IsChoiceOf, choice_number_at}
 use Rattle.spec_run.specs.Ledger.{count_of}
 use Rattle.theory_nodes.specs.Found.{ChoicesAreFound}
 use Rattle.theory_script.proofs.Listing.Subterms.{Each, EachUnder, EachPart, each_at}
-use Rattle.bm_match.specs.Matches.{branches_in}
+use Rattle.bm_arena.specs.NodeView.{branches_in}
 
 -- ---- each branch has a node
 

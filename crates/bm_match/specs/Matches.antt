@@ -1,12 +1,12 @@
 -- What a transaction is to the contracts of a run that are compiled.
-use Rattle.std.specs.Prelude.{◌≡◌, ℕ, ◌+◌, List, [], ◌∷◌, length, Bool, true, false, if◌then◌else◌}
+use Rattle.std.specs.Prelude.{◌≡◌, ℕ, ◌+◌, List, [], ◌∷◌, Bool, true, false, if◌then◌else◌}
 use Rattle.std.specs.Prelude.{Option, Some, None, option_map, slice_get}
 use Rattle.std.specs.Option.{option_and_then}
 use Rattle.spec_terms.specs.Term.{Contract}
 use Rattle.spec_terms.specs.Advert.{Advert}
 use Rattle.spec_terms.specs.Paths.{contract_under}
 use Rattle.spec_terms.specs.declared.path.PathStep.{PathStep}
-use Rattle.spec_nodes.specs.Nodes.{Node, choice_node, branch_node, nodes_of}
+use Rattle.spec_nodes.specs.Nodes.{Node, nodes_of}
 use Rattle.spec_nodes.specs.Numbers.{choice_number_at}
 use Rattle.spec_bitcoin.specs.declared.tx.Tx.{Tx}
 use Rattle.spec_compiler.specs.Instance.{Instance}
@@ -20,12 +20,6 @@ use Rattle.bm_compile.specs.Numbered.{Numbered, numbered}
 use Rattle.bm_match.specs.declared.found.Match.{Match}
 use Rattle.bm_match.specs.declared.found.Match.TheVariants.{Init, Branch, Move}
 use Rattle.bm_match.specs.declared.found.Active.{Active}
-
--- how many branches a choice's node has
-abbrev pub branches_in : Option Node → ℕ
-branches_in None = 0
-branches_in (Some (choice_node position branches)) = length branches
-branches_in (Some (branch_node path asked height deed)) = 0
 
 -- ---- one contract
 

@@ -8,5 +8,6 @@ mod found;
 mod same;
 
 pub use chosen::{chosen_by, first_witness};
+pub use counting::branches_at;
 pub use found::{Active, Match, find, find_among, first_initial, is_initial};
 pub use same::same_bare;

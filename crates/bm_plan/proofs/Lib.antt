@@ -1,6 +1,6 @@
 pub mod AsCompiled
 pub mod Choices
-pub mod LastStep
+mod LastStep
 pub mod Secrets
 pub mod Json
 pub mod PlanTold

@@ -16,6 +16,7 @@ mod weights;
 pub use compiled::weigh;
 pub use counts::counts_text;
 pub use listed::weigh_listed;
+pub use paths::{front_of, last_branch, position_of};
 pub use plan::plan_text;
 pub use spec_tool::Weight;
 pub use weights::weigh_text;

@@ -13,14 +13,20 @@ use bm_syntax::{Advert, Contract, Guarded, Path, PathStep, core};
 use spec_data::{Bytes, OutOfMemory};
 use std::alloc::Global;
 
-// The steps to the position whose branch the path is.
+/// The steps to the position whose branch or part the path is.
 #[tactic(auto, using(crate::proofs::LastStep::position_is_front))]
-pub(crate) fn position_of(alloc: Global, path: &Path) -> Result<Path, OutOfMemory>
-    ensures { IfOk result (λ position. position ≡ spec.position_of path.now) }
+pub fn front_of(path: &Path) -> &[PathStep]
+    ensures { result.now ≡ spec.position_of path.now }
 {
     let steps = path.steps();
-    let count = steps.len().saturating_sub(1);
-    Ok(Path::of(Vec::from_slice(alloc, &steps[..count])?))
+    &steps[..steps.len().saturating_sub(1)]
+}
+
+/// The position whose branch or part the path is.
+pub fn position_of(alloc: Global, path: &Path) -> Result<Path, OutOfMemory>
+    ensures { IfOk result (λ position. position ≡ spec.position_of path.now) }
+{
+    Ok(Path::of(Vec::from_slice(alloc, front_of(path))?))
 }
 
 // The number of the branch that a step leads to.
@@ -33,9 +39,9 @@ fn step_branch(step: PathStep) -> u32
     }
 }
 
-// The number of the branch that a path ends with.
+/// The number of the branch that a path ends with.
 #[tactic(auto, using(crate::proofs::LastStep::last_branch_is))]
-pub(crate) fn last_branch(path: &Path) -> u32
+pub fn last_branch(path: &Path) -> u32
     ensures { result ≡ spec.last_branch path.now }
 {
     match path.steps().last() {

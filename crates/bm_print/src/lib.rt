@@ -8,4 +8,5 @@ mod prefix;
 pub mod printer;
 mod text;
 
+pub use prefix::put_names;
 pub use printer::print_advert;

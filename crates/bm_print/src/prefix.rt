@@ -9,8 +9,8 @@ use bm_syntax::{Name, Pred};
 use bm_text::put;
 use spec_data::OutOfMemory;
 
-/// Names with commas between them.
-fn put_names(out: &mut Vec<u8>, names: &[Name]) -> Result<(), OutOfMemory>
+/// Writes names with commas between them.
+pub fn put_names(out: &mut Vec<u8>, names: &[Name]) -> Result<(), OutOfMemory>
     ensures { OnOk result (out.new.items ≡ out.old.items ++ spec.joined (codes ", ") names.now) }
 {
     let Some((first, others)) = names.split_first() else {

@@ -1,12 +1,7 @@
 -- What a reader of code answers, by the reader of the definitions that it follows.
-use Rattle.std.specs.Prelude.{◌≡◌, ℕ, Result, Ok, Err, Option, Some, None}
+use Rattle.std.specs.Prelude.{◌≡◌, Result, Ok, Err, Option, Some, None}
 use Rattle.bm_psbt.specs.declared.fault.PsbtError.{PsbtError}
 use Rattle.bm_psbt.specs.declared.fault.PsbtError.TheVariants.{BadPsbt, Memory}
-
--- what was returned, seen by a view, is what the definition reads, and so is the number of bytes that are left at a fault
-abbrev pub Gives : {X Y : Type 0} → (X → Y) → Result X ℕ → Result Y ℕ → Type 0
-Gives view (Ok x) read = read ≡ Ok (view x)
-Gives view (Err left) read = read ≡ Err left
 
 -- the definition reads nothing, unless memory ran out
 abbrev pub Fails : {Y : Type 0} → PsbtError → Option Y → Type 0

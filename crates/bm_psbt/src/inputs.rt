@@ -13,7 +13,7 @@ ghost use Rattle.bm_psbt.specs.Ordered.{rest_of, signatures_in, spent_in, witnes
 
 use crate::fault::PsbtError;
 use crate::maps::Record;
-use crate::numbers::{count_at, string_of, u64_at};
+use bm_tx::{count_at, string_of, u64_at};
 use spec_bitcoin::TxOut;
 use spec_data::{Bytes, OutOfMemory, Seq};
 use spec_tool::PsbtInput;

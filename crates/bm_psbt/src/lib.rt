@@ -5,7 +5,6 @@ mod combining;
 mod fault;
 mod inputs;
 mod maps;
-mod numbers;
 mod order;
 mod psbt;
 mod reading;

@@ -5,7 +5,7 @@ ghost use Rattle.bm_psbt.specs.Giving.{Reads, Fails};
 ghost use Rattle.bm_psbt.specs.Gathered.{pairs, one_put, gathered, ordered_at};
 
 use crate::fault::PsbtError;
-use crate::numbers::string_of;
+use bm_tx::string_of;
 use std::alloc::{AllocError, Global};
 use std::collections::BTreeMap;
 

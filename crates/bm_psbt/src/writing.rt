@@ -10,31 +10,11 @@ ghost use Rattle.bm_psbt.specs.Written.{records_bytes, signature_records};
 use crate::inputs::ALL_TYPE;
 use crate::psbt::Psbt;
 use crate::reading::MAGIC;
-use bm_tx::{encode_stripped, put_output, put_sized};
+use bm_tx::{encode_stripped, put_count, put_output, put_sized};
 use spec_bitcoin::TxOut;
 use spec_data::{Bytes, OutOfMemory, Seq};
 use spec_tool::PsbtInput;
 use std::alloc::Global;
-
-// A count, in the shortest of its four forms.
-#[tactic(auto, unfolding(spec_bitcoin::specs::Spelling::compact))]
-fn put_count(out: &mut Vec<u8>, count: u64) -> Result<(), OutOfMemory>
-    ensures { OnOk result (out.new.items ≡ out.old.items ++ compact count) }
-{
-    if count < 253 {
-        out.push(count as u8)?;
-    } else if count < 0x1_0000 {
-        out.push(253)?;
-        out.extend_from_slice(&(count as u16).to_le_bytes())?;
-    } else if count < 0x1_0000_0000 {
-        out.push(254)?;
-        out.extend_from_slice(&(count as u32).to_le_bytes())?;
-    } else {
-        out.push(255)?;
-        out.extend_from_slice(&count.to_le_bytes())?;
-    }
-    Ok(())
-}
 
 // A key and a value, each with its length before it.
 fn put_record(out: &mut Vec<u8>, key: &[u8], value: &[u8]) -> Result<(), OutOfMemory>

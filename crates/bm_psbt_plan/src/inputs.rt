@@ -1,37 +1,21 @@
 //! The inputs of a contract's transactions.
 
-ghost use Rattle.std.specs.Prelude.{◌≡◌, ◌++◌, ◌∷◌, [], OnOk, IfOk, option_map};
-ghost use Rattle.spec_data.specs.Lists.{look_up};
-ghost use Rattle.spec_terms.specs.Precondition.{holding, persistent, volatile};
-ghost use Rattle.spec_compiler.specs.Transactions as transactions;
+ghost use Rattle.std.specs.Prelude.{◌≡◌, ◌++◌, ◌∷◌, [], OnOk, IfOk};
+ghost use Rattle.spec_terms.specs.Precondition.{holding, persistent};
 ghost use Rattle.bm_psbt_plan.specs.Parts as spec;
 
-use crate::keys::{branch_keys, deposit_key};
+use crate::keys::branch_keys;
 use crate::signing::signatures;
 use bm_book::Book;
+use bm_compile::{pays, volatile_of};
 use bm_hash::Hash32;
-use bm_keys::{deposit_script, pay_to};
+use bm_keys::{deposit_key, deposit_script};
 use bm_wellformed::Checked;
 use spec_bitcoin::TxOut;
 use spec_data::{Bytes, Name, OutOfMemory, Seq};
 use spec_terms::{Path, Pre};
 use spec_tool::PsbtInput;
 use std::alloc::Global;
-
-// An output of this value, in satoshi, for whoever shows this script and what it asks for.
-fn pays<H: Hash32>(
-    alloc: Global,
-    hasher: &H,
-    script: &[u8],
-    value: u64,
-) -> Result<TxOut, OutOfMemory>
-    ensures { IfOk result (λ output. output ≡ transactions.pays (H.digest_of hasher.now) script.now value) }
-{
-    Ok(TxOut {
-        value,
-        script: Bytes::from_slice(alloc, &pay_to(&hasher.hash32(script)))?,
-    })
-}
 
 // An input that spends this output by this script, with the signatures that are there.
 fn input_with(
@@ -95,25 +79,6 @@ pub(crate) fn persistent_inputs<H: Hash32>(
         }
     }
     Ok(inputs)
-}
-
-// The owner and the value of the volatile deposit of this name.
-fn volatile_of<'a>(pre: &'a [Pre], name: &Name) -> Option<(&'a Name, u64)>
-    ensures { option_map (λ p. holding p.0.now p.1) result ≡ look_up name.now (volatile pre.now) }
-{
-    for entry in pre {
-        if let Pre::Volatile {
-            party,
-            value,
-            name: known,
-        } = entry
-        {
-            if *known == *name {
-                return Some((party, *value));
-            }
-        }
-    }
-    None
 }
 
 // The input that spends the volatile deposit of this name.

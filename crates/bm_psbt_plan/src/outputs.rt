@@ -1,24 +1,12 @@
 //! The outputs of a contract's positions.
 
-ghost use Rattle.std.specs.Prelude.{◌≡◌, IfOk, option_map};
+ghost use Rattle.std.specs.Prelude.{◌≡◌, option_map};
 ghost use Rattle.spec_tool.specs.Weights as weights;
 ghost use Rattle.bm_psbt_plan.specs.Parts as spec;
 
 use bm_compile::{Compiled, Prepared};
 use spec_bitcoin::TxOut;
-use spec_data::OutOfMemory;
 use spec_terms::{Path, PathStep};
-use std::alloc::Global;
-
-/// The steps to the position whose branch or part the path is.
-#[tactic(auto, using(bm_plan::proofs::LastStep::position_is_front))]
-pub(crate) fn front_of(alloc: Global, path: &Path) -> Result<Path, OutOfMemory>
-    ensures { IfOk result (λ front. front ≡ weights.position_of path.now) }
-{
-    let steps = path.steps();
-    let count = steps.len().saturating_sub(1);
-    Ok(Path::of(Vec::from_slice(alloc, &steps[..count])?))
-}
 
 // An output of a transaction.
 fn output_of(prepared: Option<&Prepared>, number: usize) -> Option<&TxOut>

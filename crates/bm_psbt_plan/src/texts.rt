@@ -15,11 +15,12 @@ ghost use Rattle.bm_psbt_plan.specs.Parts as parts;
 ghost use Rattle.bm_psbt_plan.specs.OfRun.{IsOfRun};
 
 use crate::inputs::{path_inputs, persistent_inputs};
-use crate::outputs::{front_of, output_at};
+use crate::outputs::output_at;
 use bm_book::Book;
 use bm_compile::Compiled;
 use bm_hash::Hash32;
 use bm_keys::put_path;
+use bm_plan::position_of;
 use bm_psbt::{Psbt, encode};
 use bm_psbt_base64::base64_text;
 use bm_syntax::walk::at;
@@ -132,8 +133,8 @@ fn path_psbt<H: Hash32>(
     requires { parts.IsOne (parts.path_psbt (H.digest_of hasher.now) book.now 0 checked.now path.now compiled.now) }
     ensures { IfOk result (λ psbt. psbt ≡ parts.path_psbt (H.digest_of hasher.now) book.now 0 checked.now path.now compiled.now) }
 {
-    let position = front_of(alloc, path)?;
-    let front = front_of(alloc, &position)?;
+    let position = position_of(alloc, path)?;
+    let front = position_of(alloc, &position)?;
     let Some(prepared) = compiled.transaction_at(path) else {
         return Ok(None);
     };

@@ -177,7 +177,7 @@ pub(crate) fn put_moment(
 
 /// The last line of a run in which a secret is guessed.
 #[tactic(auto, using(std::proofs::Common::append_assoc))]
-pub(crate) fn put_guessed(out: &mut Vec<u8>, party: &Name, secret: &Name) -> Result<(), OutOfMemory>
+pub fn put_guessed(out: &mut Vec<u8>, party: &Name, secret: &Name) -> Result<(), OutOfMemory>
     ensures { OnOk result (out.new.items ≡ out.old.items ++ spec.guessed_line party.now secret.now) }
 {
     put(out, b"guessed ")?;
@@ -189,7 +189,7 @@ pub(crate) fn put_guessed(out: &mut Vec<u8>, party: &Name, secret: &Name) -> Res
 
 /// The last line of a run in which two strings collide.
 #[tactic(auto, using(std::proofs::Common::append_assoc))]
-pub(crate) fn put_collided(
+pub fn put_collided(
     alloc: Global,
     out: &mut Vec<u8>,
     earlier: &[u8],

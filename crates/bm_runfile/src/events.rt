@@ -10,9 +10,9 @@ use crate::error::{LineError, WordError};
 use crate::event_words::{
     advertise, append, authorise, commit, endorse, fire, give, init, mine, post, reveal, sign,
 };
-use crate::limits::{MOST_EVENTS, MOST_LINE_BYTES};
+use crate::limits::MOST_LINE_BYTES;
 use crate::lines::words_of;
-use spec_data::Name;
+use spec_data::{MOST_EVENTS, Name};
 use spec_run::Event;
 use spec_text::RunLimit;
 use std::alloc::Global;

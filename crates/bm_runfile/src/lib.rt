@@ -15,7 +15,7 @@ mod read;
 mod words;
 
 pub use error::{RunError, WordError};
-pub use limits::{MOST_RUN_BYTES, run_limits_are_defined};
+pub use limits::run_limits_are_defined;
 pub use lines::{first_line, words_of};
 pub use paths::read_path;
 pub use pieces::{

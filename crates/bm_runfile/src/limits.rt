@@ -2,10 +2,7 @@
 
 ghost use Rattle.std.specs.Prelude.{◌≡◌};
 ghost use Rattle.spec_data.specs.Ranges.{most_parties, most_header_deposits, most_header_secrets};
-ghost use Rattle.spec_text.specs.Limits.{most_run_bytes, most_line_bytes, most_events};
-
-/// The bytes that a run file may have.
-pub const MOST_RUN_BYTES: usize = 8_388_608;
+ghost use Rattle.spec_text.specs.Limits.{most_line_bytes};
 
 /// The bytes that a line may have, without its end.
 pub(crate) const MOST_LINE_BYTES: usize = 1_048_576;
@@ -19,15 +16,10 @@ pub(crate) const MOST_SECRETS: usize = 1_000;
 /// The deposits that a header has at most.
 pub(crate) const MOST_DEPOSITS: usize = 1_000;
 
-/// The events of a run.
-pub(crate) const MOST_EVENTS: usize = 10_000;
-
 /// The numbers are those of the definitions.
 pub fn run_limits_are_defined()
-    ensures bytes { MOST_RUN_BYTES ≡ most_run_bytes }
     ensures line { MOST_LINE_BYTES ≡ most_line_bytes }
     ensures parties { MOST_PARTIES ≡ most_parties }
     ensures secrets { MOST_SECRETS ≡ most_header_secrets }
     ensures deposits { MOST_DEPOSITS ≡ most_header_deposits }
-    ensures events { MOST_EVENTS ≡ most_events }
 {}

@@ -1,44 +1,15 @@
 //! The lengths of secrets that are committed.
 
-ghost use Rattle.std.specs.Prelude.{◌≡◌, ◌≤◌, option_map, if◌then◌else◌, Some, None, IfOk};
+ghost use Rattle.std.specs.Prelude.{◌≡◌, if◌then◌else◌, Some, None, IfOk};
 ghost use Rattle.spec_data.specs.Lists.{is_among};
-ghost use Rattle.spec_run.specs.Setup.{held_among};
-ghost use Rattle.spec_run.specs.Committing as committing;
 ghost use Rattle.bm_translate.specs.Lengths as spec;
 
-use bm_exchange::Exchange;
+use bm_exchange::{Exchange, held_secret, is_secret_long};
 use bm_hash::{Hash32, Trail};
 use bm_world_board::is_name_among;
 use spec_data::{Name, OutOfMemory, Seq};
 use spec_run::{Header, HeldSecret};
 use std::alloc::Global;
-
-/// The party's secret of this name among these.
-pub(crate) fn held_secret<'a>(
-    secrets: &'a [HeldSecret],
-    party: &Name,
-    name: &Name,
-) -> Option<&'a [u8]>
-    ensures { option_map (λ b. b.now) result ≡ held_among party.now name.now secrets.now }
-{
-    for held in secrets {
-        if held.party == *party && held.name == *name {
-            return Some(held.bytes.as_slice());
-        }
-    }
-    None
-}
-
-/// Whether the bytes have the size of a secret.
-pub(crate) fn is_secret_long(bytes: &[u8]) -> bool
-    ensures { result ≡ committing.is_secret_long bytes.now }
-{
-    let size = bytes.len();
-    if size < 16 {
-        return false;
-    }
-    size <= 520
-}
 
 // The length of a secret with these bytes, if they have the size of one.
 fn long_size(bytes: &[u8]) -> Option<u32>

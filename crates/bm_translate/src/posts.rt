@@ -5,8 +5,7 @@ ghost use Rattle.std.specs.List.{flat_map};
 ghost use Rattle.spec_run.specs.Setup.{held_among, bytes_or_none};
 ghost use Rattle.bm_translate.specs.Shown as spec;
 
-use crate::lengths::held_secret;
-use bm_exchange::Exchange;
+use bm_exchange::{Exchange, held_secret};
 use spec_bitcoin::{Tx, TxIn};
 use spec_data::{Bytes, Name, OutOfMemory};
 use spec_run::{Event, HeldSecret, Outcome, Record};

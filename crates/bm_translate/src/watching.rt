@@ -7,9 +7,8 @@ ghost use Rattle.spec_calculus.specs.Branches as branches;
 ghost use Rattle.spec_run.specs.Secrets.{digest_at, secrets_from, secrets_of_contract};
 ghost use Rattle.bm_translate.specs.Shown as spec;
 
-use crate::lengths::is_secret_long;
 use bm_calculus::Config;
-use bm_exchange::Exchange;
+use bm_exchange::{Exchange, is_secret_long};
 use bm_hash::{Hash32, Trail};
 use bm_wellformed::Checked;
 use spec_calculus::{Revealed, Step};

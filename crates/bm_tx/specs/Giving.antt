@@ -6,6 +6,11 @@ use Rattle.spec_bitcoin.specs.declared.tx.TxIn.{TxIn}
 use Rattle.spec_bitcoin.specs.Spelling.{is_filled}
 use Rattle.spec_bitcoin.specs.Reading.{◌>>=◌, Body, byte_where, is_one, plain_at, witness_at, may_be}
 
+-- what was returned, seen by a view, is what the definition reads, and so is the number of bytes that are left at a fault
+abbrev pub Reads : {X Y : Type 0} → (X → Y) → Result X ℕ → Result Y ℕ → Type 0
+Reads view (Ok x) read = read ≡ Ok (view x)
+Reads view (Err left) read = read ≡ Err left
+
 -- an error is that of the definition, unless memory ran out
 abbrev pub Fails : {Y : Type 0} → ReadError → Result Y ℕ → Type 0
 Fails Memory read = Unit {0}

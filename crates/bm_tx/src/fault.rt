@@ -1,7 +1,7 @@
 //! Why bytes were not read.
 
 ghost use Rattle.std.specs.Prelude.{◌≡◌};
-ghost use Rattle.bm_tx.specs.declared.fault.ReadError.TheVariants.{Memory};
+ghost use Rattle.bm_tx.specs.declared.fault.ReadError.TheVariants.{Memory, Bad};
 
 use std::alloc::{AllocError, AllocFailed};
 
@@ -19,6 +19,14 @@ pub enum ReadError {
     Memory,
     /// How many bytes are left at the fault.
     Bad(usize),
+}
+
+impl From<usize> for ReadError {
+    ghost from_gives = { λ left e. e ≡ Bad left };
+
+    fn from(left: usize) -> ReadError {
+        ReadError::Bad(left)
+    }
 }
 
 impl From<AllocError> for ReadError {

@@ -1,36 +1,33 @@
-//! Numbers, counts and strings at the front of bytes.
+//! Numbers, counts and strings at the front of bytes. Where they go wrong, the answer is how many bytes are left.
 
 ghost use Rattle.std.specs.Prelude.{◌≡◌, ◌^◌, length, IfOk};
 ghost use Rattle.std.specs.Int.{w16, w32, w64};
-ghost use Rattle.bm_tx.specs.Giving.{Gives};
+ghost use Rattle.bm_tx.specs.Giving.{Reads};
 ghost use Rattle.spec_bitcoin.specs.Reading.{chunk, byte_where, number_at, wide_at, compact_at, compact_from, string_at, any};
 ghost use Rattle.spec_bitcoin.specs.Reading.{not_zero, may_be};
 
-use crate::fault::ReadError;
-use spec_data::Bytes;
-use std::alloc::Global;
-
 /// So many bytes, and those after them.
-pub(crate) fn chunk_of(bytes: &[u8], len: usize) -> Result<(&[u8], &[u8]), ReadError>
-    ensures gives { Gives (λ x. (x.0.now, x.1.now)) result (chunk len bytes.now) }
+pub(crate) fn chunk_of(bytes: &[u8], len: usize) -> Result<(&[u8], &[u8]), usize>
+    ensures gives { Reads (λ x. (x.0.now, x.1.now)) result (chunk len bytes.now) }
     ensures len { IfOk result (λ x. length x.0.now ≡ len) }
 {
     if bytes.len() < len {
-        return Err(ReadError::Bad(0));
+        return Err(0);
     }
     Ok(bytes.split_at(len))
 }
 
-pub(crate) fn u32_at(bytes: &[u8]) -> Result<(u32, &[u8]), ReadError>
-    ensures { Gives (λ x. (x.0, x.1.now)) result (number_at w32 bytes.now) }
+pub(crate) fn u32_at(bytes: &[u8]) -> Result<(u32, &[u8]), usize>
+    ensures { Reads (λ x. (x.0, x.1.now)) result (number_at w32 bytes.now) }
 {
     let (front, rest) = chunk_of(bytes, 4)?;
     let number = u32::from_le_bytes([front[0], front[1], front[2], front[3]]);
     Ok((number, rest))
 }
 
-pub(crate) fn u64_at(bytes: &[u8]) -> Result<(u64, &[u8]), ReadError>
-    ensures { Gives (λ x. (x.0, x.1.now)) result (number_at w64 bytes.now) }
+/// A number of eight bytes, and the bytes after it.
+pub fn u64_at(bytes: &[u8]) -> Result<(u64, &[u8]), usize>
+    ensures { Reads (λ x. (x.0, x.1.now)) result (number_at w64 bytes.now) }
 {
     let (front, rest) = chunk_of(bytes, 8)?;
     let number = u64::from_le_bytes([
@@ -41,61 +38,61 @@ pub(crate) fn u64_at(bytes: &[u8]) -> Result<(u64, &[u8]), ReadError>
 
 // A number of two bytes that is no shorter form's.
 #[tactic(auto, unfolding(spec_bitcoin::specs::Reading::wide_at))]
-fn wide16_at(bytes: &[u8]) -> Result<(u64, &[u8]), ReadError>
-    ensures { Gives (λ x. (x.0, x.1.now)) result (wide_at w16 253 bytes.now) }
+fn wide16_at(bytes: &[u8]) -> Result<(u64, &[u8]), usize>
+    ensures { Reads (λ x. (x.0, x.1.now)) result (wide_at w16 253 bytes.now) }
 {
     let (front, rest) = chunk_of(bytes, 1)?;
     let [last, rest @ ..] = rest else {
-        return Err(ReadError::Bad(0));
+        return Err(0);
     };
     let number = u16::from_le_bytes([front[0], *last]);
     if number < 253 {
-        return Err(ReadError::Bad(rest.len() + 1));
+        return Err(rest.len() + 1);
     }
     Ok((u64::from(number), rest))
 }
 
 // A number of four bytes that is no shorter form's.
 #[tactic(auto, unfolding(spec_bitcoin::specs::Reading::wide_at))]
-fn wide32_at(bytes: &[u8]) -> Result<(u64, &[u8]), ReadError>
-    ensures { Gives (λ x. (x.0, x.1.now)) result (wide_at w32 (2 ^ 16) bytes.now) }
+fn wide32_at(bytes: &[u8]) -> Result<(u64, &[u8]), usize>
+    ensures { Reads (λ x. (x.0, x.1.now)) result (wide_at w32 (2 ^ 16) bytes.now) }
 {
     let (front, rest) = chunk_of(bytes, 3)?;
     let [last, rest @ ..] = rest else {
-        return Err(ReadError::Bad(0));
+        return Err(0);
     };
     let number = u32::from_le_bytes([front[0], front[1], front[2], *last]);
     if number < 0x1_0000 {
-        return Err(ReadError::Bad(rest.len() + 1));
+        return Err(rest.len() + 1);
     }
     Ok((u64::from(number), rest))
 }
 
 // A number of eight bytes that is no shorter form's.
 #[tactic(auto, unfolding(spec_bitcoin::specs::Reading::wide_at))]
-fn wide64_at(bytes: &[u8]) -> Result<(u64, &[u8]), ReadError>
-    ensures { Gives (λ x. (x.0, x.1.now)) result (wide_at w64 (2 ^ 32) bytes.now) }
+fn wide64_at(bytes: &[u8]) -> Result<(u64, &[u8]), usize>
+    ensures { Reads (λ x. (x.0, x.1.now)) result (wide_at w64 (2 ^ 32) bytes.now) }
 {
     let (front, rest) = chunk_of(bytes, 7)?;
     let [last, rest @ ..] = rest else {
-        return Err(ReadError::Bad(0));
+        return Err(0);
     };
     let number = u64::from_le_bytes([
         front[0], front[1], front[2], front[3], front[4], front[5], front[6], *last,
     ]);
     if number < 0x1_0000_0000 {
-        return Err(ReadError::Bad(rest.len() + 1));
+        return Err(rest.len() + 1);
     }
     Ok((number, rest))
 }
 
-/// A count.
+/// A count, in the shortest of its four forms, and the bytes after it.
 #[tactic(auto, unfolding(spec_bitcoin::specs::Reading::compact_at))]
-pub(crate) fn count_at(bytes: &[u8]) -> Result<(u64, &[u8]), ReadError>
-    ensures { Gives (λ x. (x.0, x.1.now)) result (compact_at any bytes.now) }
+pub fn count_at(bytes: &[u8]) -> Result<(u64, &[u8]), usize>
+    ensures { Reads (λ x. (x.0, x.1.now)) result (compact_at any bytes.now) }
 {
     match bytes {
-        [] => Err(ReadError::Bad(0)),
+        [] => Err(0),
         [253, rest @ ..] => wide16_at(rest),
         [254, rest @ ..] => wide32_at(rest),
         [255, rest @ ..] => wide64_at(rest),
@@ -105,12 +102,12 @@ pub(crate) fn count_at(bytes: &[u8]) -> Result<(u64, &[u8]), ReadError>
 
 /// A count that isn't 0.
 #[tactic(auto, unfolding(spec_bitcoin::specs::Reading::compact_at))]
-pub(crate) fn some_count_at(bytes: &[u8]) -> Result<(u64, &[u8]), ReadError>
-    ensures { Gives (λ x. (x.0, x.1.now)) result (compact_at not_zero bytes.now) }
+pub(crate) fn some_count_at(bytes: &[u8]) -> Result<(u64, &[u8]), usize>
+    ensures { Reads (λ x. (x.0, x.1.now)) result (compact_at not_zero bytes.now) }
 {
     match bytes {
-        [] => Err(ReadError::Bad(0)),
-        [0, ..] => Err(ReadError::Bad(bytes.len())),
+        [] => Err(0),
+        [0, ..] => Err(bytes.len()),
         [253, rest @ ..] => wide16_at(rest),
         [254, rest @ ..] => wide32_at(rest),
         [255, rest @ ..] => wide64_at(rest),
@@ -119,12 +116,8 @@ pub(crate) fn some_count_at(bytes: &[u8]) -> Result<(u64, &[u8]), ReadError>
 }
 
 /// The count of a witness, after which so many witnesses follow; whether an item was seen before.
-pub(crate) fn witness_count_at(
-    bytes: &[u8],
-    left: usize,
-    seen: bool,
-) -> Result<(u64, &[u8]), ReadError>
-    ensures { Gives (λ x. (x.0, x.1.now)) result (compact_at (may_be left seen) bytes.now) }
+pub(crate) fn witness_count_at(bytes: &[u8], left: usize, seen: bool) -> Result<(u64, &[u8]), usize>
+    ensures { Reads (λ x. (x.0, x.1.now)) result (compact_at (may_be left seen) bytes.now) }
 {
     if seen {
         return count_at(bytes);
@@ -135,12 +128,11 @@ pub(crate) fn witness_count_at(
     }
 }
 
-/// Bytes with their length before them.
+/// Bytes with their length before them, and those after them.
 #[tactic(auto, unfolding(spec_bitcoin::specs::Reading::string_at))]
-pub(crate) fn string_of(alloc: Global, bytes: &[u8]) -> Result<(Bytes, &[u8]), ReadError>
-    ensures { Gives (λ x. (x.0, x.1.now)) result (string_at bytes.now) }
+pub fn string_of(bytes: &[u8]) -> Result<(&[u8], &[u8]), usize>
+    ensures { Reads (λ x. (x.0.now, x.1.now)) result (string_at bytes.now) }
 {
     let (len, rest) = count_at(bytes)?;
-    let (text, rest) = chunk_of(rest, len as usize)?;
-    Ok((Bytes::from_slice(alloc, text)?, rest))
+    chunk_of(rest, len as usize)
 }

@@ -15,6 +15,14 @@ use spec_bitcoin::{OutPoint, Tx, TxIn, TxOut};
 use spec_data::{Bytes, Seq};
 use std::alloc::Global;
 
+// Bytes with their length before them.
+fn bytes_of(alloc: Global, bytes: &[u8]) -> Result<(Bytes, &[u8]), ReadError>
+    ensures { Gives (λ x. (x.0, x.1.now)) result (string_at bytes.now) }
+{
+    let (text, rest) = string_of(bytes)?;
+    Ok((Bytes::from_slice(alloc, text)?, rest))
+}
+
 fn txid_of(bytes: &[u8]) -> Result<([u8; 32], &[u8]), ReadError>
     ensures { Gives (λ x. (x.0, x.1.now)) result (chunk 32 bytes.now) }
 {
@@ -30,7 +38,7 @@ fn input_of(alloc: Global, bytes: &[u8]) -> Result<(TxIn, &[u8]), ReadError>
 {
     let (txid, rest) = txid_of(bytes)?;
     let (vout, rest) = u32_at(rest)?;
-    let (script_sig, rest) = string_of(alloc, rest)?;
+    let (script_sig, rest) = bytes_of(alloc, rest)?;
     let (sequence, rest) = u32_at(rest)?;
     let input = TxIn {
         prev: OutPoint { txid, vout },
@@ -59,7 +67,7 @@ fn output_of(alloc: Global, bytes: &[u8]) -> Result<(TxOut, &[u8]), ReadError>
     ensures { Gives (λ x. (x.0, x.1.now)) result (output_at bytes.now) }
 {
     let (value, rest) = u64_at(bytes)?;
-    let (script, rest) = string_of(alloc, rest)?;
+    let (script, rest) = bytes_of(alloc, rest)?;
     Ok((TxOut { value, script }, rest))
 }
 
@@ -82,7 +90,7 @@ fn items_of(alloc: Global, count: u64, bytes: &[u8]) -> Result<(Seq<Bytes>, &[u8
     let mut items = Seq::new(alloc);
     let mut rest = bytes;
     for _ in 0..count {
-        let (item, after) = string_of(alloc, rest)?;
+        let (item, after) = bytes_of(alloc, rest)?;
         items.push(item)?;
         rest = after;
     }

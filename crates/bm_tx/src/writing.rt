@@ -29,9 +29,9 @@ pub fn put_long_word(out: &mut Vec<u8>, number: u64) -> Result<(), OutOfMemory>
     out.extend_from_slice(&number.to_le_bytes())
 }
 
-/// A count, in the shortest of its four forms.
+/// Writes a count, in the shortest of its four forms.
 #[tactic(auto, unfolding(spec_bitcoin::specs::Spelling::compact))]
-fn put_count(out: &mut Vec<u8>, count: u64) -> Result<(), OutOfMemory>
+pub fn put_count(out: &mut Vec<u8>, count: u64) -> Result<(), OutOfMemory>
     ensures { OnOk result (out.new.items ≡ out.old.items ++ spec.compact count) }
 {
     if count < 253 {

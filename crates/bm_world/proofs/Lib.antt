@@ -1,8 +1,5 @@
-mod Births
 mod Compiling
-mod Fewer
 mod Fresh
-mod Hashless
 mod Heard
 mod Opened
 mod Placed

@@ -24,7 +24,7 @@ use Rattle.spec_run.specs.Steps.{steps_of}
 use Rattle.spec_run.specs.Values.{is_refused}
 use Rattle.spec_calculus.specs.Steps.{after_steps}
 use Rattle.theory_world.proofs.Hashed.{noted_more, all_more}
-use Rattle.bm_world.proofs.Fewer.{Within}
+use Rattle.theory_run.proofs.Fewer.{Within}
 use Rattle.theory_run.proofs.Facts.Bookkeeping.{KeptBooks, keeps_after}
 use Rattle.bm_hash.specs.declared.messages.TrailError.{TrailError}
 use Rattle.bm_hash.specs.declared.messages.TrailError.TheVariants as trail
@@ -50,7 +50,7 @@ use Rattle.bm_world.proofs.Heard.{kept_heard}
 use Rattle.bm_world.proofs.Found.{found_there, found_more}
 use Rattle.bm_world.specs.Reached.{IsReached, AreFound}
 use Rattle.bm_world.proofs.Reaching.{IsCalm, calm_of, reached_more, reached_later}
-use Rattle.bm_world.proofs.Births.{event_grows}
+use Rattle.theory_run.proofs.Events.Births.{event_grows}
 use Rattle.bm_world.proofs.Posts.{posts_reached}
 
 -- ---- a ready change can be made

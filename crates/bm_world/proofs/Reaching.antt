@@ -15,9 +15,9 @@ use Rattle.spec_run.specs.Event.{Passed, Progress, draft, record_of, opening_wor
 use Rattle.spec_run.specs.Translation.{world_after, opening_configuration, last_world}
 use Rattle.spec_run.specs.Statements.{IsRun}
 use Rattle.spec_run.proofs.Courses.{passing, left_more, last_left, played_more}
-use Rattle.bm_world.proofs.Fewer.{Within, all_within, collision_within}
+use Rattle.theory_run.proofs.Fewer.{Within, all_within, collision_within}
 use Rattle.bm_world.specs.Reached.{events_of, IsLeft, IsReached}
-use Rattle.bm_world.proofs.Hashless.{carried, draft_same}
+use Rattle.theory_run.proofs.Events.Hashless.{carried, draft_same}
 
 abbrev recorded : Passed → Record
 recorded p = record_of p.event p.draft

@@ -1,5 +1,4 @@
 pub mod Naming
-pub mod Chains
 pub mod Refusals
 pub mod Reached
 pub mod Compilations

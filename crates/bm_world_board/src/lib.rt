@@ -3,6 +3,7 @@
 
 mod accounts;
 mod board;
+mod branches;
 mod drafted;
 mod reaching;
 

@@ -9,12 +9,13 @@ ghost use Rattle.spec_bitcoin.specs.Digests as digests;
 ghost use Rattle.spec_bitcoin.specs.declared.tx.TxOut.{TxOut as Out};
 ghost use Rattle.spec_bitcoin.specs.Live.{born, IsNewTxid};
 ghost use Rattle.spec_bitcoin.specs.Verdict as spec;
+ghost use Rattle.spec_run.specs.World.{live_position};
 ghost use Rattle.spec_run.specs.Event.{holds_nothing};
 ghost use Rattle.spec_run.specs.Ledger.{live_from, spend_from, made_from};
 ghost use Rattle.bm_world_coins.specs.Coined.{chain, spend_one, position_by};
 
 use crate::made::MadeOutput;
-use crate::positions::NewPositions;
+use crate::positions::{HeldPosition, NewPositions};
 use bm_book::Book;
 use bm_hash::{Hash32, Trail, TrailError};
 use bm_ledger::{Judged, Ledger};
@@ -93,6 +94,16 @@ impl Coins {
         ensures { option_copied result ≡ slice_get self.now.outputs number }
     {
         self.outputs.get(number as usize)
+    }
+
+    /// What the output of this number stands for, if it is live and a contract's.
+    pub fn held_at(&self, number: u32) -> Option<&HeldPosition>
+        ensures { option_copied result ≡ live_position (slice_get self.now.outputs number) }
+    {
+        match self.output(number) {
+            Some(output) => output.live_position(),
+            None => None,
+        }
     }
 
     /// So many blocks come; it takes no memory.

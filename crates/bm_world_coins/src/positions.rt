@@ -2,6 +2,7 @@
 
 ghost use Rattle.std.specs.Prelude.{◌≡◌, ◌++◌, ◌∷◌, [], IfOk};
 ghost use Rattle.spec_terms.specs.declared.path.PathStep.TheVariants.{Part};
+ghost use Rattle.spec_run.specs.Ledger.{position_path};
 ghost use Rattle.bm_world_coins.specs.Coined.{position_by};
 
 use spec_data::OutOfMemory;
@@ -46,6 +47,15 @@ impl HeldPosition {
         &self.position
     }
 
+    /// The path of a branch of it.
+    pub fn path_of(&self, alloc: Global, branch: u32) -> Result<Path, OutOfMemory>
+        ensures { IfOk result (λ path. path ≡ position_path self.now branch) }
+    {
+        let mut steps = Vec::from_slice(alloc, self.position.steps())?;
+        steps.push(PathStep::Branch(branch))?;
+        Ok(Path::of(steps))
+    }
+
     /// An equal one.
     pub fn copy(&self, alloc: Global) -> Result<HeldPosition, OutOfMemory>
         ensures { IfOk result (λ new. new ≡ self.now) }
@@ -78,7 +88,7 @@ fn part_of(alloc: Global, path: &Path, part: u32) -> Result<Path, OutOfMemory>
 }
 
 // A position that is held, copied.
-fn held_at(alloc: Global, contract: u32, position: &Path) -> Result<HeldPosition, OutOfMemory>
+fn held_copy(alloc: Global, contract: u32, position: &Path) -> Result<HeldPosition, OutOfMemory>
     ensures { IfOk result (λ h. h ≡ record { contract = contract; position = position.now }) }
 {
     Ok(HeldPosition::new(contract, position.copy(alloc)?))
@@ -92,7 +102,7 @@ impl NewPositions {
         match self {
             NewPositions::Deposits => Ok(None),
             NewPositions::Same { contract, position } => {
-                let held = held_at(alloc, *contract, position)?;
+                let held = held_copy(alloc, *contract, position)?;
                 Ok(Some(held))
             }
             NewPositions::Parts { contract, path } => {

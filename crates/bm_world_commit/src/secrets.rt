@@ -1,6 +1,6 @@
 //! A party's secrets: their names in a contract, and those of honest parties, which stand in the header.
 
-ghost use Rattle.std.specs.Prelude.{◌≡◌, ◌++◌, ◌∷◌, [], ℕ, List, None, map, option_map, slice_get};
+ghost use Rattle.std.specs.Prelude.{◌≡◌, ◌++◌, ◌∷◌, [], ℕ, List, None, map, slice_get};
 ghost use Rattle.std.specs.Prelude.{if◌then◌else◌, IfOk, OnOk};
 ghost use Rattle.spec_data.specs.Lists.{is_among};
 ghost use Rattle.spec_terms.specs.Precondition.{secrets_of};
@@ -11,17 +11,13 @@ ghost use Rattle.spec_run.specs.Committing as spec;
 ghost use Rattle.bm_world_board.specs.Drafts.{setup_of};
 ghost use Rattle.bm_world_commit.specs.Committed.{own_string, own_digest};
 
+use bm_exchange::{held_secret, is_secret_long};
 use bm_hash::{Hash32, Trail, TrailError};
 use bm_world_board::Board;
 use spec_data::{Name, OutOfMemory, Seq};
 use spec_run::HeldSecret;
 use spec_terms::Pre;
 use std::alloc::Global;
-
-// The fewest bytes of a secret, and the most.
-const LEAST_BYTES: usize = 16;
-
-const MOST_BYTES: usize = 520;
 
 // The names of the party's secrets in a precondition.
 fn names_in(alloc: Global, entries: &[Pre], party: &Name) -> Result<Seq<Name>, OutOfMemory>
@@ -53,18 +49,6 @@ pub(crate) fn secret_names(
     }
 }
 
-// The party's secret of this name among these.
-fn held_secret<'a>(secrets: &'a [HeldSecret], party: &Name, name: &Name) -> Option<&'a [u8]>
-    ensures { option_map (λ b. b.now) result ≡ held_among party.now name.now secrets.now }
-{
-    for held in secrets {
-        if held.party == *party && held.name == *name {
-            return Some(held.bytes.as_slice());
-        }
-    }
-    None
-}
-
 /// The first of the names whose secret doesn't stand in the header.
 pub(crate) fn not_held(board: &Board, party: &Name, wanted: &[Name]) -> Option<Name>
     ensures { (hash : List ℕ → List ℕ) → result ≡ spec.not_held (setup_of hash board.now) party.now wanted.now }
@@ -75,12 +59,6 @@ pub(crate) fn not_held(board: &Board, party: &Name, wanted: &[Name]) -> Option<N
         }
     }
     None
-}
-
-fn is_secret_long(bytes: &[u8]) -> bool
-    ensures { result ≡ spec.is_secret_long bytes.now }
-{
-    LEAST_BYTES <= bytes.len() && bytes.len() <= MOST_BYTES
 }
 
 // Whether the party's secret has the size of one.

@@ -1,6 +1,6 @@
 //! Secrets that honest parties post.
 
-ghost use Rattle.std.specs.Prelude.{◌≡◌, ◌∷◌, [], ℕ, List, Some, None, option_map, slice_get, IfOk, IfErr};
+ghost use Rattle.std.specs.Prelude.{◌≡◌, ◌∷◌, [], ℕ, List, Some, None, slice_get, IfOk, IfErr};
 ghost use Rattle.spec_data.specs.Lists.{is_among, first_reason};
 ghost use Rattle.spec_terms.specs.Precondition.{secrets_of};
 ghost use Rattle.bm_hash.specs.Messages.{evidence_of};
@@ -12,6 +12,7 @@ ghost use Rattle.spec_run.specs.Revealing.{reveal_row, reveal_draft};
 ghost use Rattle.bm_world_board.specs.Drafts.{setup_of, world_of, Drafts};
 
 use crate::posting::draft_posting;
+use bm_exchange::held_secret;
 use bm_hash::{Hash32, Trail, TrailError};
 use bm_world_board::{Board, Drafted};
 use spec_data::{Bytes, Name, OutOfMemory};
@@ -43,22 +44,6 @@ fn has_secret(board: &Board, contract: u32, party: &Name, secret: &Name) -> bool
         Some(checked) => is_secret_of(checked.advert().pre.as_slice(), party, secret),
         None => false,
     }
-}
-
-/// The party's secret of this name among these.
-pub(crate) fn held_secret<'a>(
-    secrets: &'a [HeldSecret],
-    party: &Name,
-    name: &Name,
-) -> Option<&'a [u8]>
-    ensures { option_map (λ b. b.now) result ≡ held_among party.now name.now secrets.now }
-{
-    for held in secrets {
-        if held.party == *party && held.name == *name {
-            return Some(held.bytes.as_slice());
-        }
-    }
-    None
 }
 
 // The bytes of the party's secret, none where it isn't held.

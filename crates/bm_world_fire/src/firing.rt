@@ -16,7 +16,7 @@ ghost use Rattle.bm_world_board.specs.Reaching.{IsFresh};
 ghost use Rattle.bm_world_fire.specs.Shown.{ArePostsHashed};
 ghost use Rattle.bm_world_fire.specs.Standing.{IsSmall, AreSmall, AreStanding};
 
-use crate::branches::{branch_held, held_at, reveals_of};
+use crate::branches::reveals_of;
 use crate::initial::{initial_refusal, initial_transaction};
 use crate::shown::first_unshown;
 use crate::taking::taking_transaction;
@@ -126,10 +126,10 @@ fn taking_refusal<H: Hash32 + Drop>(
     ensures { let s = setup_of (H.digest_of trail.now.hasher) board.now in let w = world_of board.now trail.now.messages in
         IfOk result (λ reason. reason ≡ first_reason (spec.fire_row s w output branch)) }
 {
-    let Some(held) = held_at(board, output) else {
+    let Some(held) = board.coins.held_at(output) else {
         return Ok(Some(Reason::NotActive));
     };
-    let Some(taken) = branch_held(board, held, branch) else {
+    let Some(taken) = board.branch_held(held, branch) else {
         return Ok(Some(Reason::NoBranch));
     };
     match unknown_secret(trail, board, held, taken)? {

@@ -4,26 +4,14 @@ ghost use Rattle.std.specs.Prelude.{◌≡◌, ℕ, List, None, map, option_map,
 ghost use Rattle.spec_data.specs.Lists.{look_up, is_among};
 ghost use Rattle.bm_hash.specs.Messages.{evidence_of};
 ghost use Rattle.spec_run.specs.Setup.{bytes_or_none};
-ghost use Rattle.spec_run.specs.Committing as committing;
 ghost use Rattle.bm_world_board.specs.Drafts.{setup_of, world_of};
 ghost use Rattle.bm_world_fire.specs.Shown.{if_shown, shown_by, first_unshown_by, ArePostsHashed};
 
-use bm_exchange::Exchange;
+use bm_exchange::{Exchange, is_secret_long};
 use bm_hash::{Hash32, Trail};
 use bm_world_board::Board;
 use spec_data::{Bytes, Name, OutOfMemory, Seq};
 use std::alloc::Global;
-
-// The fewest bytes of a secret, and the most.
-const LEAST_BYTES: usize = 16;
-
-const MOST_BYTES: usize = 520;
-
-fn is_secret_long(bytes: &[u8]) -> bool
-    ensures { result ≡ committing.is_secret_long bytes.now }
-{
-    LEAST_BYTES <= bytes.len() && bytes.len() <= MOST_BYTES
-}
 
 // The digest of this name.
 fn digest_of<'a>(digests: &'a [(Name, [u8; 32])], name: &Name) -> Option<&'a [u8; 32]>

@@ -20,7 +20,7 @@ ghost use Rattle.bm_world_fire.specs.Taken.{taking_with};
 ghost use Rattle.bm_world_fire.specs.Shown.{shown_by, ArePostsHashed};
 ghost use Rattle.bm_world_fire.specs.Standing.{IsStanding, AreStanding};
 
-use crate::branches::{branch_count, branch_held, held_at, path_of, puts_of, reveals_of};
+use crate::branches::{puts_of, reveals_of};
 use crate::deposits::{put_witnesses, volatile_owners};
 use crate::filling::with_witnesses;
 use crate::shown::shown_strings;
@@ -29,6 +29,7 @@ use bm_compile::Compiled;
 use bm_hash::{Hash32, Trail};
 use bm_honest::branch_key;
 use bm_keys::signature;
+use bm_match::branches_at;
 use bm_syntax::Guarded;
 use bm_wellformed::Checked;
 use bm_world_board::Board;
@@ -184,14 +185,14 @@ fn taking_held<H: Hash32 + Drop>(
     ensures { let s = setup_of (H.digest_of trail.now.hasher) board.now in let w = world_of board.now trail.now.messages in
         IfOk result (λ tx. tx ≡ spec.taking_of_position s w (Some held.now) branch) }
 {
-    let path = path_of(alloc, held, branch)?;
+    let path = held.path_of(alloc, branch)?;
     let Some(made) = compiled.transaction_at(&path) else {
         unreachable!()
     };
     let Some(script) = compiled.script_at(held.position()) else {
         unreachable!()
     };
-    let branches = branch_count(compiled.arena(), held.position());
+    let branches = branches_at(compiled.arena(), held.position());
     let hashes = board.exchange.all_digests(held.contract())?;
     let tx = filled(
         alloc,
@@ -226,10 +227,10 @@ pub(crate) fn taking_transaction<H: Hash32 + Drop>(
     ensures { let s = setup_of (H.digest_of trail.now.hasher) board.now in let w = world_of board.now trail.now.messages in
         IfOk result (λ tx. tx ≡ spec.taking_of_position s w (live_position_at w output) branch) }
 {
-    let Some(held) = held_at(board, output) else {
+    let Some(held) = board.coins.held_at(output) else {
         return Ok(None);
     };
-    let Some(taken) = branch_held(board, held, branch) else {
+    let Some(taken) = board.branch_held(held, branch) else {
         return Ok(None);
     };
     let Some(checked) = board.contract(held.contract()) else {

@@ -14,7 +14,7 @@ use Rattle.bm_hash.specs.Trails.{Hashed, Stops}
 use Rattle.bm_hash.proofs.HashesLemmas.{Stops-first}
 use Rattle.bm_world_board.specs.declared.accounts.Account.{Account}
 use Rattle.bm_world_board.specs.Accounts.{account_of, opening_labels, opening_scripts}
-use Rattle.bm_world_board.proofs.Chains.{hashed_then, stops_then}
+use Rattle.bm_hash.proofs.Chains.{hashed_then, stops_then}
 use Rattle.bm_world_opening.specs.Opening.{setup_with}
 
 -- what the account of a party that was found pays to

@@ -1,13 +1,10 @@
 //! Branches of active contracts that ask a party.
 
-ghost use Rattle.std.specs.Prelude.{◌≡◌, ◌++◌, ◌∷◌, [], ℕ, List, None, IfOk, option_map, slice_get};
-ghost use Rattle.std.specs.Option.{option_copied};
+ghost use Rattle.std.specs.Prelude.{◌≡◌, ◌++◌, ◌∷◌, [], ℕ, List, None, IfOk, option_map};
 ghost use Rattle.bm_hash.specs.Messages.{evidence_of};
 ghost use Rattle.spec_data.specs.Lists.{first_reason};
-ghost use Rattle.spec_run.specs.World.{live_position, live_position_at};
-ghost use Rattle.spec_run.specs.Ledger.{position_path, position_branch};
+ghost use Rattle.spec_run.specs.World.{live_position_at};
 ghost use Rattle.spec_run.specs.Signing as spec;
-ghost use Rattle.bm_syntax.specs.View.{guarded};
 ghost use Rattle.bm_world_board.specs.Drafts.{setup_of, world_of, Drafts, Signs};
 ghost use Rattle.bm_world_sign.specs.Instances.{AllCompiled, instance_on};
 ghost use Rattle.bm_world_sign.specs.Authorising.{first_pair};
@@ -15,59 +12,28 @@ ghost use Rattle.bm_world_sign.specs.Authorising.{first_pair};
 use crate::booking::draft_pairs;
 use bm_hash::{Hash32, Trail};
 use bm_honest::{Pair, Prepared, branch_key};
-use bm_syntax::{Guarded, asks, branch_at};
+use bm_syntax::asks;
 use bm_world_board::{Board, Drafted};
-use bm_world_coins::HeldPosition;
 use spec_data::{Name, OutOfMemory};
 use spec_run::Reason;
-use spec_terms::{Path, PathStep};
+use spec_terms::Path;
 use std::alloc::Global;
-
-// What the live contract output of this number stands for.
-fn held_at(board: &Board, output: u32) -> Option<&HeldPosition>
-    ensures { option_copied result ≡ live_position (slice_get board.now.coins.outputs output) }
-{
-    match board.coins.output(output) {
-        Some(output) => output.live_position(),
-        None => None,
-    }
-}
-
-// The branch of this number of what is held.
-fn branch_held<'a>(board: &'a Board, held: &HeldPosition, branch: u32) -> Option<&'a Guarded>
-    ensures { (hash : List ℕ → List ℕ)
-        → option_map (λ b. guarded b.now) result ≡ position_branch (setup_of hash board.now) held.now branch }
-{
-    match board.contract(held.contract()) {
-        Some(checked) => branch_at(&checked.advert().root, held.position(), branch),
-        None => None,
-    }
-}
 
 // Why it is refused, if it is.
 fn authorise_refusal(board: &Board, party: &Name, output: u32, branch: u32) -> Option<Reason>
     ensures { (hash : List ℕ → List ℕ) (messages : List (List ℕ)) → result
         ≡ first_reason (spec.authorise_row (setup_of hash board.now) (world_of board.now messages) party.now output branch) }
 {
-    let Some(held) = held_at(board, output) else {
+    let Some(held) = board.coins.held_at(output) else {
         return Some(Reason::NotActive);
     };
-    let Some(taken) = branch_held(board, held, branch) else {
+    let Some(taken) = board.branch_held(held, branch) else {
         return Some(Reason::NoBranch);
     };
     if !asks(taken, party) {
         return Some(Reason::NotAsked);
     }
     None
-}
-
-// The path of a branch of what is held.
-fn path_of(alloc: Global, held: &HeldPosition, branch: u32) -> Result<Path, OutOfMemory>
-    ensures { IfOk result (λ path. path ≡ position_path held.now branch) }
-{
-    let mut steps = Vec::from_slice(alloc, held.position().steps())?;
-    steps.push(PathStep::Branch(branch))?;
-    Ok(Path::of(steps))
 }
 
 // The transaction of the branch at a path, where the contract is compiled.
@@ -132,10 +98,10 @@ fn pairs_to_authorise<H: Hash32 + Drop>(
         IfOk result (λ pairs. pairs.items
         ≡ spec.authorising_pairs (setup_of hash board.now) w party.now (live_position_at w output) branch) }
 {
-    let Some(held) = held_at(board, output) else {
+    let Some(held) = board.coins.held_at(output) else {
         return Ok(Vec::new(alloc));
     };
-    let path = path_of(alloc, held, branch)?;
+    let path = held.path_of(alloc, branch)?;
     let pairs = pairs_at(alloc, trail, board, party, held.contract(), &path)?;
     Ok(pairs)
 }

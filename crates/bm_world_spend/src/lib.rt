@@ -9,4 +9,4 @@ mod refusing;
 
 pub use appending::{draft_append, draft_reaching};
 pub use giving::draft_give;
-pub use purposes::purpose;
+pub use purposes::{choice_of, purpose};

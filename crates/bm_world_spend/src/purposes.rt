@@ -1,7 +1,6 @@
 //! What a transaction is to the contracts.
 
 ghost use Rattle.std.specs.Prelude.{◌≡◌, ◌<◌, ◌^◌, ◌++◌, ◌∷◌, [], ℕ, List, length, map, option_map, slice_get, IfOk};
-ghost use Rattle.std.specs.Option.{option_copied};
 ghost use Rattle.spec_terms.specs.declared.path.PathStep.TheVariants.{Branch as To};
 ghost use Rattle.spec_bitcoin.specs.Verdict as spec;
 ghost use Rattle.spec_run.specs.World.{live_position};
@@ -26,18 +25,8 @@ use spec_terms::{Path, PathStep};
 use std::alloc::Global;
 use theory_nodes::{branches_are_found, choices_are_found};
 
-// What the output of this number stands for, if it is live and a contract's.
-fn held_at(board: &Board, number: u32) -> Option<&HeldPosition>
-    ensures { option_copied result ≡ live_position (slice_get board.now.coins.outputs number) }
-{
-    match board.coins.output(number) {
-        Some(output) => output.live_position(),
-        None => None,
-    }
-}
-
-// The number of the choice at a position that is held, where its contract is compiled.
-fn choice_of(board: &Board, held: &HeldPosition) -> Option<u32>
+/// The number of the choice at a position that is held, where its contract is compiled.
+pub fn choice_of(board: &Board, held: &HeldPosition) -> Option<u32>
     ensures { result ≡ by.choice_at (compiled_at board.now.compiled held.now.contract) held.now.position }
 {
     match board.compiled(held.contract()) {
@@ -50,7 +39,7 @@ fn choice_of(board: &Board, held: &HeldPosition) -> Option<u32>
 fn active_at(board: &Board, number: u32) -> Option<Active>
     ensures { result ≡ by.active_in board.now.compiled number (live_position (slice_get board.now.coins.outputs number)) }
 {
-    let held = held_at(board, number)?;
+    let held = board.coins.held_at(number)?;
     let node = choice_of(board, held)?;
     Some(Active {
         contract: held.contract(),

@@ -45,6 +45,18 @@ most_secret_length = 504
 
 -- ---- runs
 
+-- bytes of a contract's text
+abbrev pub most_text_bytes : ℕ
+most_text_bytes = 1048576
+
+-- bytes of a run file
+abbrev pub most_run_bytes : ℕ
+most_run_bytes = 8388608
+
+-- events of a run file
+abbrev pub most_events : ℕ
+most_events = 10000
+
 -- contracts of a run
 abbrev pub most_contracts : ℕ
 most_contracts = 16

@@ -8,5 +8,5 @@ pub mod seq;
 
 pub use byte_list::{Bytes, OutOfMemory};
 pub use name::Name;
-pub use ranges::{LAST_HEIGHT, MAX_MONEY};
+pub use ranges::{LAST_HEIGHT, MAX_MONEY, MOST_EVENTS, MOST_RUN_BYTES, MOST_TEXT_BYTES};
 pub use seq::Seq;

@@ -1,8 +1,7 @@
 //! Run files read and print back, the first line that doesn't count is named, and the largest text is read.
 
-use bm_runfile::{
-    MOST_RUN_BYTES, RunError, RunLimit, print_event, print_header, read_run, run_limits_are_defined,
-};
+use bm_runfile::{RunError, RunLimit, print_event, print_header, read_run};
+use spec_data::MOST_RUN_BYTES;
 use spec_run::Event;
 use std::alloc::{AllocError, Global};
 use std::test::Fail;
@@ -13,8 +12,6 @@ const LINES: &[u8] =
 
 /// Why a text is no run; nothing if it is one.
 fn fault(alloc: Global, text: &[u8]) -> Option<RunError> {
-    // The constant here is the bound of the definitions.
-    run_limits_are_defined();
     if text.len() > MOST_RUN_BYTES {
         return None;
     }

@@ -40,7 +40,8 @@ use Rattle.theory_generator.proofs.NumberWords.{small_back, line_word, output_wo
 use Rattle.theory_world.proofs.Contracts.Checking.{contract_checked}
 use Rattle.theory_world.proofs.Labels.{path_fine}
 use Rattle.theory_auto.specs.Continued.{AreTaken}
-use Rattle.theory_auto.proofs.Births.{most_births, next_few}
+use Rattle.theory_run.proofs.Events.Births.{most_births}
+use Rattle.theory_auto.proofs.FewOutputs.{next_few}
 use Rattle.theory_auto.proofs.EventEnds.{EndsNowhere}
 use Rattle.theory_auto.proofs.Honest.{IsNamed, HasNames}
 use Rattle.theory_auto.proofs.OwnRules.{done_by, is_event}

@@ -16,8 +16,9 @@ use Rattle.spec_tool.specs.Turns.{rule_event, Progress, extended}
 use Rattle.theory_world.proofs.Hashed.{NoClash}
 use Rattle.theory_run.proofs.Worlds.WorldsOfRuns.{worlds_of_runs}
 use Rattle.theory_auto.specs.Continued.{AreTaken, IsRefusal, IsRefusedIf, IsIdle, HashedMore, GoesOnBy, StrategiesGoOn}
-use Rattle.theory_auto.proofs.Fewer.{Within, collision_within, again_calm}
-use Rattle.theory_auto.proofs.Hashless.{carried, rule_same, rule_draft}
+use Rattle.theory_run.proofs.Fewer.{Within, collision_within, again_calm}
+use Rattle.theory_run.proofs.Events.Hashless.{carried, draft_same}
+use Rattle.theory_auto.proofs.HashlessRules.{rule_same}
 use Rattle.theory_auto.proofs.Tries.{Rests, RestsBy, RestsIf}
 use Rattle.theory_auto.proofs.Rounds.{as_many, Ended, EndsBy, rounds_end}
 use Rattle.theory_auto.proofs.Longer.{longer}
@@ -34,7 +35,7 @@ module _ (s : Setup) (w : World) (hs : List (List ℕ)) (clear : NoClash s.hash 
       collision_within s.hash xs hs d.hashes within (again_calm s.hash hs d.hashes clear rests.heard) in
       let there = record w { hashed = xs } in
       let is : event s there e ≡ Went (carried xs d) (settled there (carried xs d)) =
-      ap (answer s there) (rule_draft s w xs r e has)
+      ap (answer s there) (draft_same s w xs e)
       ∙ (ap (λ c. settle there (carried xs d) c (guess s w.posted d.posts d.allowed)) calm
       ∙ ap (settle there (carried xs d) None) rests.unguessed) in
       subst IsRefusal (sym is) rests.refused

@@ -1,5 +1,6 @@
 mod Added
-mod Births
+mod FewOutputs
+mod HashlessRules
 mod EventEnds
 mod Longer
 mod Reread
@@ -7,8 +8,6 @@ mod Rounds
 mod Shorter
 mod Tries
 pub mod Continued
-pub mod Fewer
-pub mod Hashless
 pub mod Honest
 pub mod OwnRules
 pub mod Printed

@@ -14,8 +14,8 @@ use Rattle.spec_tool.specs.declared.rule.Rule.{Rule}
 use Rattle.spec_tool.specs.Turns.{rule_event, Progress, Progressed, tried_if, resting, round, after_events, rounds_on, rounds}
 use Rattle.theory_world.proofs.Hashed.{NoClash}
 use Rattle.theory_auto.specs.Continued.{AreTaken, HaltsAt}
-use Rattle.theory_auto.proofs.Fewer.{Within}
-use Rattle.theory_auto.proofs.Hashless.{rule_same}
+use Rattle.theory_run.proofs.Fewer.{Within}
+use Rattle.theory_auto.proofs.HashlessRules.{rule_same}
 use Rattle.theory_auto.proofs.Tries.{Rests, RestsIf, Moved, MovesBy, kept_moved, tried_moved}
 
 -- ---- one round

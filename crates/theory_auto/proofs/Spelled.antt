@@ -35,7 +35,7 @@ use Rattle.theory_text.proofs.Lines.ValidRuns.{an_event, a_run, run_eq, fault_ru
 use Rattle.theory_auto.specs.OwnRules.{IsHonest}
 use Rattle.theory_auto.specs.Spelled.{GoesWith, LongerRunsAreSpelled}
 use Rattle.theory_auto.proofs.Added.{IsRule, AreAdded, taken_written}
-use Rattle.theory_auto.proofs.Births.{last_few}
+use Rattle.theory_auto.proofs.FewOutputs.{last_few}
 use Rattle.theory_auto.proofs.Continued.{strategies_go}
 use Rattle.theory_auto.proofs.EventEnds.{among_named, event_ends}
 use Rattle.theory_auto.proofs.Honest.{HasNames, strategies_honest, strategies_named}

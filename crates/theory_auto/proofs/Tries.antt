@@ -20,8 +20,9 @@ use Rattle.theory_world.proofs.Hashed.{NoClash, no_clash, all_new, all_more}
 use Rattle.theory_world.proofs.Refused.{refusals_keep}
 use Rattle.theory_run.proofs.Halting.Halts.{collides, calm_is, guesses}
 use Rattle.theory_auto.specs.Continued.{AreTaken, HaltsAt}
-use Rattle.theory_auto.proofs.Fewer.{Within, all_within, collision_within}
-use Rattle.theory_auto.proofs.Hashless.{carried, rule_same, rule_draft}
+use Rattle.theory_run.proofs.Fewer.{Within, all_within, collision_within}
+use Rattle.theory_run.proofs.Events.Hashless.{carried, draft_same}
+use Rattle.theory_auto.proofs.HashlessRules.{rule_same}
 
 -- ---- rules that rest
 
@@ -175,7 +176,7 @@ module _ (s : Setup) (w : World) (hs : List (List ℕ)) (r : Rule) (rs : List Ru
     after = noted_all hs comes.hashes
 
     same : comes ≡ carried hs (draft s w e)
-    same = rule_draft s w hs r e has
+    same = draft_same s w hs e
 
     went : event s there e ≡ Went comes (settled there comes)
     went = rw (calm, unguessed) refl

@@ -2,6 +2,8 @@ pub mod Advertised
 pub mod AfterAdvert
 pub mod AfterCommit
 pub mod AfterSigning
+pub mod Births
 pub mod Fired
 pub mod Given
+pub mod Hashless
 pub mod Quiet

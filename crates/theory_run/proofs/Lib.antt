@@ -1,6 +1,7 @@
 pub mod Accepted
 pub mod Events
 pub mod Facts
+pub mod Fewer
 pub mod Following
 pub mod Halting
 pub mod Honest

@@ -1,7 +1,7 @@
 use Rattle.std.proofs.Common.{◌∙◌, refl}
 use Rattle.std.proofs.lemmas.Result.{err_from_is_err_and}
 use Rattle.bm_world_board.specs.Accounts.{account_with, script_string}
-use Rattle.bm_world_board.proofs.Chains.{hashed_each, stops_each, mapped_step}
+use Rattle.bm_hash.proofs.Chains.{hashed_each, stops_each, mapped_step}
 use Rattle.bm_world_board.proofs.accounts.accounts_with.Goals as goal
 
 pub loop-one-preserved : goal.loop-one-preserved

@@ -1,7 +1,7 @@
 use Rattle.std.proofs.Common.{◌∙◌, refl}
 use Rattle.std.proofs.lemmas.Result.{err_from_is_err_and}
 use Rattle.bm_world_commit.specs.Committed.{own_string, own_digest}
-use Rattle.bm_world_board.proofs.Chains.{hashed_each, stops_each, mapped_step}
+use Rattle.bm_hash.proofs.Chains.{hashed_each, stops_each, mapped_step}
 use Rattle.bm_world_commit.proofs.secrets.own_digests.Goals as goal
 
 pub loop-name-preserved : goal.loop-name-preserved

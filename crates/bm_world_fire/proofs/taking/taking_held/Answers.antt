@@ -37,8 +37,8 @@ filled-requires-clause-there g c =
     let j = c.args.branch in
     let b = guarded c.args.taken.now in
     let numbers = number_of s w held is c.args.compiled.now c.requires.compiled in
-    let count : c.branch_count-branches.result ≡ length (branches is.choice) =
-    c.branch_count-branches.ensures is.instance.advert.root (c.arena.ensures ∙ ap (λ n. n.nodes) numbers)
+    let count : c.branches_at-branches.result ≡ length (branches is.choice) =
+    c.branches_at-branches.ensures is.instance.advert.root (c.arena.ensures ∙ ap (λ n. n.nodes) numbers)
     ∙ ap (λ q. count_of (contract_under is.instance.advert.root q)) c.position-2.ensures ∙ ap count_of (choice_there s w held is) in
     subst (λ n. j < n) (sym count) (within s w held is j b c.requires.taken)
 
@@ -53,8 +53,8 @@ returns g c =
     let b = guarded c.args.taken.now in
     let numbers = number_of s w held is c.args.compiled.now c.requires.compiled in
     let posted = c.args.board.now.exchange.posted in
-    let count : c.branch_count-branches.result ≡ length (branches is.choice) =
-    c.branch_count-branches.ensures is.instance.advert.root (c.arena.ensures ∙ ap (λ n. n.nodes) numbers)
+    let count : c.branches_at-branches.result ≡ length (branches is.choice) =
+    c.branches_at-branches.ensures is.instance.advert.root (c.arena.ensures ∙ ap (λ n. n.nodes) numbers)
     ∙ ap (λ q. count_of (contract_under is.instance.advert.root q)) c.position-2.ensures ∙ ap count_of (choice_there s w held is) in
     let made = made_is s w held is j b c.requires.taken c.in-Some.made.now
     (sym (ap (option_map (λ r. r.now)) c.in-Some.is) ∙ c.transaction_at.ensures.compiled hash is.instance numbers ∙ ap (prepared_at s.hash is.instance) c.in_ok-path.ensures) in

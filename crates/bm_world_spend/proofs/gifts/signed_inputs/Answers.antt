@@ -1,6 +1,6 @@
 use Rattle.std.proofs.Common.{◌≡◌, ◌∙◌, refl, get_or}
 use Rattle.std.proofs.lemmas.Result.{err_from_is_err_and}
-use Rattle.bm_world_board.proofs.Chains.{hashed_step, stops_step, mapped_step}
+use Rattle.bm_hash.proofs.Chains.{hashed_step, stops_step, mapped_step}
 use Rattle.bm_world_spend.specs.Gifts.{strings_of, pair_of, signed_input}
 use Rattle.bm_world_spend.proofs.Signed.{there_is, signed_step, front_step}
 use Rattle.bm_world_spend.proofs.gifts.signed_inputs.Goals as goal

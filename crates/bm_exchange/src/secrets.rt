@@ -1,0 +1,32 @@
+//! Secrets: how long they are, and those of honest parties, which stand in the header.
+
+ghost use Rattle.std.specs.Prelude.{◌≡◌, option_map};
+ghost use Rattle.spec_run.specs.Setup.{held_among};
+ghost use Rattle.spec_run.specs.Committing as committing;
+
+use spec_data::Name;
+use spec_run::HeldSecret;
+
+// The fewest bytes of a secret, and the most.
+const LEAST_BYTES: usize = 16;
+
+const MOST_BYTES: usize = 520;
+
+/// Whether the bytes have the size of a secret.
+pub fn is_secret_long(bytes: &[u8]) -> bool
+    ensures { result ≡ committing.is_secret_long bytes.now }
+{
+    LEAST_BYTES <= bytes.len() && bytes.len() <= MOST_BYTES
+}
+
+/// The party's secret of this name among these.
+pub fn held_secret<'a>(secrets: &'a [HeldSecret], party: &Name, name: &Name) -> Option<&'a [u8]>
+    ensures { option_map (λ b. b.now) result ≡ held_among party.now name.now secrets.now }
+{
+    for held in secrets {
+        if held.party == *party && held.name == *name {
+            return Some(held.bytes.as_slice());
+        }
+    }
+    None
+}

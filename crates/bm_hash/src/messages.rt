@@ -11,7 +11,7 @@ ghost use Rattle.bm_hash.specs.Trails.{Hashes, IsClash, HaveApartDigests};
 
 use crate::hashing::Hash32;
 use crate::key::Key;
-use bm_pieces::Pieces;
+use crate::pieces::Pieces;
 use indexmap::IndexMap;
 use spec_data::OutOfMemory;
 use std::alloc::{AllocError, AllocFailed, Global};

@@ -3,7 +3,7 @@ use Rattle.std.proofs.Common.{◌≡◌, ℕ, zero, suc, ◌+◌, ◌-◌, ◌<�
 use Rattle.std.specs.Prelude.{slice_range}
 use Rattle.std.proofs.lemmas.List.{get_or_default, take-append-le, drop-append-le, take-take, take_all, length-drop, length-take-le, drop-take}
 use Rattle.std.proofs.Math.Seq.{drop-append_seam}
-use Rattle.bm_pieces.specs.Pieces.{pieces_from, start_at, AreEnds}
+use Rattle.bm_hash.specs.Pieces.{pieces_from, start_at, AreEnds}
 
 -- ---- ends
 

@@ -1,8 +1,7 @@
 //! Byte strings one after another in one buffer.
-#![tactic(auto)]
 
 ghost use Rattle.std.specs.Prelude.{◌≡◌, ◌<◌, ◌≤◌, ◌++◌, ◌∷◌, [], OnOk, OnErr, length, slice_index_or, slice_range, take};
-ghost use Rattle.bm_pieces.specs.Pieces.{start_at};
+ghost use Rattle.bm_hash.specs.Pieces.{start_at};
 
 use spec_data::OutOfMemory;
 use std::alloc::Global;
@@ -17,7 +16,7 @@ pub struct Pieces {
 
 impl Model for Pieces {
     ghost use Rattle.std.specs.Prelude.{List, ℕ, length};
-    ghost use Rattle.bm_pieces.specs.Pieces.{pieces_from, AreEnds};
+    ghost use Rattle.bm_hash.specs.Pieces.{pieces_from, AreEnds};
 
     ghost Value = { List (List ℕ) };
 

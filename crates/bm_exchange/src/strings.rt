@@ -5,7 +5,7 @@ ghost use Rattle.spec_data.specs.Lists.{is_among};
 ghost use Rattle.bm_exchange.specs.Placed.{IsPlaced, mark_of, marked_at};
 
 use crate::places::{Places, is_here, mark_of};
-use bm_pieces::Pieces;
+use bm_hash::Pieces;
 use spec_data::OutOfMemory;
 use std::alloc::{AllocError, Global};
 use std::collections::BTreeMap;

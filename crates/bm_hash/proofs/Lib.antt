@@ -3,4 +3,5 @@ pub mod Collisions
 pub mod Evidence
 pub mod HashSteps
 pub mod HashesLemmas
+pub mod Piecing
 pub mod Placed

@@ -1,12 +1,14 @@
-//! Hash functions of 32 bytes, and a trail of the messages that were hashed.
+//! Hash functions of 32 bytes, a trail of the messages that were hashed, and the buffer that holds them.
 #![tactic(auto)]
 
 mod hashing;
 mod key;
 mod messages;
+mod pieces;
 mod strings;
 
 pub use hashing::{Hash32, Sha, Toy, Twin, hashes_bytes};
 pub use messages::{Trail, TrailError};
+pub use pieces::Pieces;
 pub use spec_data::{Bytes, OutOfMemory};
 pub use strings::hash_all;

@@ -6,16 +6,20 @@ ghost use Rattle.std.specs.Vec.{vec_len};
 ghost use Rattle.indexmap.specs.IndexMap.{IsUnchanged};
 ghost use Rattle.bm_hash.specs.Keys.{place_in, Places};
 ghost use Rattle.bm_hash.specs.declared.messages.TrailError.TheVariants.{Collided, Memory};
-ghost use Rattle.bm_hash.specs.Messages.{evidence_of, message_of};
-ghost use Rattle.bm_hash.specs.Trails.{Hashes, IsClash, HaveApartDigests};
+ghost use Rattle.bm_hash.specs.Messages.{evidence_of, message_of, IsAt};
+ghost use Rattle.bm_hash.specs.Trails.{Hashed, Hashes, IsClash, HaveApartDigests};
 
 use crate::hashing::Hash32;
 use crate::key::Key;
-use bm_pieces::Pieces;
+use crate::pieces::Pieces;
 use indexmap::IndexMap;
 use spec_data::OutOfMemory;
 use std::alloc::{AllocError, AllocFailed, Global};
 use std::marker::Model;
+
+// How many of the last messages a message is compared with before it is hashed. A transaction has some eight strings, which come
+// when it is signed and again when the ledger judges it.
+const RECENT: usize = 32;
 
 /// Why a message was not hashed.
 #[derive(Clone, Copy, Debug, PartialEq, Eq)]
@@ -83,6 +87,30 @@ fn add_message(
     Ok(())
 }
 
+// The digest of the message at a place, where the index leads from it to this very place.
+fn digest_at(index: &IndexMap<Key, usize>, place: usize) -> Option<[u8; 32]>
+    ensures { IfSome result (λ d. place_in index.now d ≡ Some place) }
+{
+    let (key, first) = index.get_index(place)?;
+    if *first == place {
+        Some(key.digest)
+    } else {
+        None
+    }
+}
+
+// The digest of a message, if it is one of the last ones.
+fn recent_digest(
+    messages: &Pieces,
+    index: &IndexMap<Key, usize>,
+    message: &[u8],
+) -> Option<[u8; 32]>
+    ensures { IfSome result (λ d. IsAt messages.now (place_in index.now d) message.now) }
+{
+    let place = messages.find_last(message, RECENT)?;
+    digest_at(index, place)
+}
+
 impl<H: Hash32 + Drop> Trail<H> {
     /// A trail of no message.
     pub fn new(alloc: Global, hasher: H) -> Trail<H>
@@ -103,8 +131,19 @@ impl<H: Hash32 + Drop> Trail<H> {
         &self.hasher
     }
 
-    /// The digest of a message, which is then on the trail.
-    pub fn hash(&mut self, message: &[u8]) -> Result<[u8; 32], TrailError>
+    // The digest of a message that is among the last ones of a trail on which nothing clashed. To hash it again would change nothing.
+    fn recall(&self, message: &[u8]) -> Option<[u8; 32]>
+        ensures digest { IfSome result (λ d. d ≡ H.digest_of self.now.hasher message.now) }
+        ensures trail { IfSome result (λ d. Hashed (H.digest_of self.now.hasher) self.now.messages self.now.messages (message.now ∷ [])) }
+    {
+        if self.collision.is_some() {
+            return None;
+        }
+        recent_digest(&self.messages, &self.index, message)
+    }
+
+    // The digest of a message as the hash function gives it; the message is then on the trail.
+    fn hash_anew(&mut self, message: &[u8]) -> Result<[u8; 32], TrailError>
         ensures digest { IfOk result (λ d. d ≡ H.digest_of self.old.hasher message.now) }
         ensures trail { Hashes H.digest_of self.old self.new (message.now ∷ []) result }
     {
@@ -125,6 +164,17 @@ impl<H: Hash32 + Drop> Trail<H> {
                 add_message(&mut self.messages, &mut self.index, digest, message)?;
                 Ok(digest)
             }
+        }
+    }
+
+    /// The digest of a message, which is then on the trail. The hash function is spared where the message is among the last ones.
+    pub fn hash(&mut self, message: &[u8]) -> Result<[u8; 32], TrailError>
+        ensures digest { IfOk result (λ d. d ≡ H.digest_of self.old.hasher message.now) }
+        ensures trail { Hashes H.digest_of self.old self.new (message.now ∷ []) result }
+    {
+        match self.recall(message) {
+            Some(digest) => Ok(digest),
+            None => self.hash_anew(message),
         }
     }
 

@@ -1,8 +1,8 @@
 use Rattle.std.proofs.Common.{[], ap, ◌∙◌, arith}
 use Rattle.std.specs.Prelude.{slice_range, slice_index_or}
-use Rattle.bm_pieces.specs.Pieces.{start_at}
-use Rattle.bm_pieces.proofs.Piecing.{fewer, piece_between}
-use Rattle.bm_pieces.proofs.Pieces.get.Goals as goal
+use Rattle.bm_hash.specs.Pieces.{start_at}
+use Rattle.bm_hash.proofs.Piecing.{fewer, piece_between}
+use Rattle.bm_hash.proofs.pieces.Pieces.get.Goals as goal
 
 pub start_of-start-requires : goal.start_of-start-requires
 start_of-start-requires c =

@@ -1,6 +1,6 @@
 use Rattle.std.proofs.Common.{◌++◌, ◌∷◌, [], ap, ◌∙◌, arith}
-use Rattle.bm_pieces.proofs.Piecing.{pushed}
-use Rattle.bm_pieces.proofs.Pieces.push.Goals as goal
+use Rattle.bm_hash.proofs.Piecing.{pushed}
+use Rattle.bm_hash.proofs.pieces.Pieces.push.Goals as goal
 
 pub invariant_of-self-2 : goal.invariant_of-self-2
 invariant_of-self-2 c =

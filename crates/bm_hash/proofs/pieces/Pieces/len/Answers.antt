@@ -1,6 +1,6 @@
 use Rattle.std.proofs.Common.{arith}
-use Rattle.bm_pieces.proofs.Piecing.{as_many}
-use Rattle.bm_pieces.proofs.Pieces.len.Goals as goal
+use Rattle.bm_hash.proofs.Piecing.{as_many}
+use Rattle.bm_hash.proofs.pieces.Pieces.len.Goals as goal
 
 pub returns : goal.returns
 returns c =

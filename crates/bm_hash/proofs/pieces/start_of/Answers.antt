@@ -1,6 +1,6 @@
 use Rattle.std.proofs.Common.{arith}
-use Rattle.bm_pieces.proofs.Piecing.{start_before}
-use Rattle.bm_pieces.proofs.start_of.Goals as goal
+use Rattle.bm_hash.proofs.Piecing.{start_before}
+use Rattle.bm_hash.proofs.pieces.start_of.Goals as goal
 
 pub returns-in-Some : goal.returns-in-Some
 returns-in-Some c =

@@ -1,7 +1,7 @@
 use Rattle.std.proofs.Common.{take, ap, ◌∙◌, arith}
-use Rattle.bm_pieces.specs.Pieces.{start_at}
-use Rattle.bm_pieces.proofs.Piecing.{as_many, cut}
-use Rattle.bm_pieces.proofs.Pieces.truncate.Goals as goal
+use Rattle.bm_hash.specs.Pieces.{start_at}
+use Rattle.bm_hash.proofs.Piecing.{as_many, cut}
+use Rattle.bm_hash.proofs.pieces.Pieces.truncate.Goals as goal
 
 pub start_of-end-requires : goal.start_of-end-requires
 start_of-end-requires c =

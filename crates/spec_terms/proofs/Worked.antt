@@ -110,8 +110,24 @@ wrapped_core = refl
 wrapped_asks : asks wrapped ≡ A ∷ B ∷ []
 wrapped_asks = refl
 
+-- the greater height stands outside
 wrapped_lock : lock wrapped ≡ 5
 wrapped_lock = refl
+
+-- and here inside
+wrapped_later : lock (auth A (after 3 (auth B (after 5 (withdraw C))))) ≡ 5
+wrapped_later = refl
+
+-- between two smaller ones
+wrapped_between : lock (after 3 (after 5 (after 4 (withdraw C)))) ≡ 5
+wrapped_between = refl
+
+unlocked : lock (auth A (withdraw C)) ≡ 0
+unlocked = refl
+
+-- what stands under the core is another's lock
+locked_below : lock (after 3 (put_reveal [] (a ∷ []) always (branch (after 9 (withdraw A)) no_branch))) ≡ 3
+locked_below = refl
 
 -- ---- paths and the order of the text
 

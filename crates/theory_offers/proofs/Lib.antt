@@ -16,6 +16,7 @@ mod Unmet
 pub mod Basis
 pub mod Beginning
 pub mod BegunInRun
+pub mod Complete
 pub mod OffersKept
 pub mod Throughout
 pub mod WholeRun

@@ -1,2 +1,1 @@
-pub mod HaveEvents
 pub mod Begun

@@ -2,7 +2,7 @@
 #![tactic(auto)]
 
 ghost use Rattle.spec_run.specs.Statements.{OffersTheorem, OffersThroughoutTheorem};
-ghost use Rattle.theory_offers.specs.HaveEvents.{OffersHaveEvents};
+ghost use Rattle.spec_run.specs.HaveEvents.{OffersHaveEvents, OffersAreCompleteTheorem};
 ghost use Rattle.theory_offers.specs.Begun.{EndorsedBeforeStart};
 
 /// Every enabled and authorised contract step after a run has a compiled transaction that the
@@ -21,6 +21,12 @@ pub fn offers_throughout_theorem()
 /// once, in their order.
 pub fn offers_have_events()
     ensures { OffersHaveEvents }
+{}
+
+/// So at the opening of a run, after every event and at its end everything that may be taken is
+/// offered, each once and in order.
+pub fn offers_are_complete()
+    ensures { OffersAreCompleteTheorem }
 {}
 
 /// A contract begins in a run only where all its endorsements are in the book, and they stay there.

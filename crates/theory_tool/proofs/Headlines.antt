@@ -32,6 +32,7 @@ use Rattle.theory_run.proofs.Honest.Throughout.{licence}
 use Rattle.theory_run.proofs.Halting.HaltsRightly.{halts}
 use Rattle.theory_offers.proofs.Throughout.{kept_throughout_offers}
 use Rattle.theory_offers.proofs.WholeRun.{kept_offers}
+use Rattle.theory_offers.proofs.Complete.{complete}
 
 -- ---- one contract
 
@@ -192,6 +193,7 @@ headline hash bytes run_file contract_files run contracts r c few =
             licensed = licence s run.events is;
             offers = kept_offers s run.events is;
             offers_throughout = kept_throughout_offers s run.events is;
+            offers_complete = complete s run.events is;
             halts = halts.runs s run.events is;
             shown = shown_is s run.events opens simulates;
           };

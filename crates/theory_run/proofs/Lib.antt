@@ -10,4 +10,4 @@ pub mod Steps
 pub mod Tracking
 pub mod Widths
 pub mod Worlds
-mod Soundness
+pub mod Soundness

@@ -15,6 +15,7 @@ use Rattle.theory_world.proofs.Refused.{refusals_keep}
 use Rattle.theory_world.proofs.Ledger.Worth.{values_keep}
 use Rattle.theory_run.proofs.Honest.Throughout.{honest_deposits}
 use Rattle.theory_run.proofs.Worlds.WorldsOfRuns.{worlds_of_runs, worlds_of_turns}
+use Rattle.theory_run.proofs.Soundness.{sound_runs}
 use Rattle.theory_offers.proofs.BegunInRun.{endorsed_before_start}
 use Rattle.theory_tool.specs.Kept.{value_kept, refusals_kept, IsSafe, RunsAreKept}
 use Rattle.theory_tool.proofs.Headlines.{valid_runs_are}
@@ -63,6 +64,7 @@ safe s es is = record {
   endorsed = endorsed_before_start s es is;
   world = worlds_of_runs s es is;
   worlds = worlds_of_turns s es is;
+  sound = sound_runs s es is;
 }
 
 pub kept : RunsAreKept

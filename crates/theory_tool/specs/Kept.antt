@@ -12,6 +12,7 @@ use Rattle.spec_run.specs.Statements.{Claim, HoldsThroughout, spends_with_leave}
 use Rattle.spec_run.specs.Values.{KeepsValue, is_refused}
 use Rattle.spec_text.specs.Refusals.{run_of}
 use Rattle.spec_tool.specs.Commands.{contracts_from, setup_of}
+use Rattle.theory_run.specs.Sound.{IsSoundThroughout}
 use Rattle.theory_run.specs.WorldsOfRuns.{IsWorldOfRun}
 use Rattle.theory_offers.specs.Begun.{EndorsedThroughout}
 
@@ -41,6 +42,8 @@ pub record IsSafe (s : Setup) (es : List Event) : Type 0 where
   -- and of the world after every event
   pub world : IsWorldOfRun s es (last_world s es)
   pub worlds : EveryWorldIsOfRun s es
+  -- a legal run leads to every configuration: numbers stand apart, each contract can pay for each of its branches, money is bounded
+  pub sound : IsSoundThroughout s es
 
 -- ---- all of it
 

@@ -1,5 +1,6 @@
 -- Files that tell of themselves fix the reads, and so the answer.
-use Rattle.std.proofs.Common.{◌≡◌, ℕ, Bool, true, false, List, [], ◌∷◌, length, Option, Some, None, refl, sym, ap, subst, ◌∙◌, arith, cond, ◌==◌}
+use Rattle.std.proofs.Common.{◌≡◌, ℕ, Bool, true, false, List, [], ◌∷◌, length, Option, Some, None, refl, sym, ap, subst, ◌∙◌, arith, cond}
+use Rattle.std.proofs.Common.{◌==◌}
 use Rattle.std.specs.Prelude.{take}
 use Rattle.spec_tool.specs.Reads.{Asked, Read}
 use Rattle.spec_tool.specs.Commands.{Command, Printed}

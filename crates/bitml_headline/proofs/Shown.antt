@@ -41,7 +41,8 @@ texts_count (file ∷ files) (failed ∷ reads) e = tt
 
 -- ---- the headline
 
-module _ (theorem : HeadlineTheorem) (kept : RunsAreKept) (hash : List ℕ → List ℕ) (bytes : HashesBytes hash) (run : List ℕ) (contracts : List (List ℕ)) (few : length contracts ≤ most_contracts) where
+module _ (theorem : HeadlineTheorem) (kept : RunsAreKept) (hash : List ℕ → List ℕ) (bytes : HashesBytes hash) (run : List ℕ)
+    (contracts : List (List ℕ)) (few : length contracts ≤ most_contracts) where
   of_texts : (texts : List Text) → length texts ≡ length (files_of (play run contracts)) → ShowsRun hash texts (text_answer hash (play run contracts) texts)
   of_texts texts count run_text contract_texts r adverts e valid well_formed =
       let here : length texts ≡ suc (length contract_texts) = ap length e ∙ ap (λ (m : ℕ). suc m) (length-map contract_texts (λ (t : List ℕ). Some t)) in
@@ -61,7 +62,8 @@ module _ (theorem : HeadlineTheorem) (kept : RunsAreKept) (hash : List ℕ → L
   pub of_play : (reads : List Read) → are_made (files_of (play run contracts)) reads ≡ true → ShowsTexts hash (texts_read reads) (tool_answer hash (Some (play run contracts)) reads)
   of_play reads made = of_read (texts_read reads) (texts_count (files_of (play run contracts)) reads made)
 
-pub shows : HeadlineTheorem → RunsAreKept → (hash : List ℕ → List ℕ) → HashesBytes hash → (command : Option Command) (reads : List Read) → HasFew command → tool_reads command reads ≡ true
+pub shows : HeadlineTheorem → RunsAreKept → (hash : List ℕ → List ℕ) → HashesBytes hash
+    → (command : Option Command) (reads : List Read) → HasFew command → tool_reads command reads ≡ true
     → Shows hash command reads (tool_answer hash command reads)
 shows theorem kept hash bytes None reads few made = tt
 shows theorem kept hash bytes (Some (check contract)) reads few made = tt

@@ -13,6 +13,7 @@ mod TakingLeads
 mod Takings
 mod Unlocked
 mod Unmet
+pub mod Authorised
 pub mod Basis
 pub mod Beginning
 pub mod BegunInRun

@@ -3,6 +3,7 @@
 
 ghost use Rattle.spec_run.specs.Statements.{OffersTheorem, OffersThroughoutTheorem};
 ghost use Rattle.spec_run.specs.HaveEvents.{OffersHaveEvents, OffersAreCompleteTheorem};
+ghost use Rattle.theory_offers.specs.Authorised.{AuthorisationsHaveSignatures};
 ghost use Rattle.theory_offers.specs.Begun.{EndorsedBeforeStart};
 
 /// Every enabled and authorised contract step after a run has a compiled transaction that the
@@ -32,4 +33,10 @@ pub fn offers_are_complete()
 /// A contract begins in a run only where all its endorsements are in the book, and they stay there.
 pub fn endorsed_before_start()
     ensures { EndorsedBeforeStart }
+{}
+
+/// At the opening of a run, after every event and at its end each authorisation has its signature in
+/// the book, and an honest party's signature of a branch that asks it stands for its authorisation.
+pub fn authorisations_have_signatures()
+    ensures { AuthorisationsHaveSignatures }
 {}

@@ -1,6 +1,5 @@
 -- The run with offers at its end, computed: its texts are taken, no event is refused, and both shares are offered.
 use Rattle.std.proofs.Common.{◌≡◌, ℕ, zero, suc, ◌<◌, ◌/◌, ◌%◌, List, [], ◌∷◌, ◌++◌, fold, replicate, None, Ok, refl, arith, codes}
-use Rattle.std.specs.Prelude.{Result}
 use Rattle.std.specs.Fmt.{digits}
 use Rattle.std.proofs.lemmas.Nat.{mod_below}
 use Rattle.spec_data.specs.Hashes.{IsBytes, HashesBytes}
@@ -66,7 +65,8 @@ unfolding low_bytes
 hashes_bytes = record {
   size = λ message. refl;
   bytes = λ message.
-      IsBytes-append (low_bytes 8 (fold stirred 0 message)) (replicate 24 0) (low_are_bytes 8 (fold stirred 0 message)) (zeros_are_bytes 24);
+      IsBytes-append (low_bytes 8 (fold stirred 0 message)) (replicate 24 0)
+      (low_are_bytes 8 (fold stirred 0 message)) (zeros_are_bytes 24);
 }
 
 -- ---- what the texts are
@@ -119,8 +119,8 @@ unfolding is_name digits
 run_is_taken = refl
 
 contract_is_taken : contracts_from 0 (example_contract ∷ []) ≡ all_contracts
-unfolding is_name word_front number_front symbol_front read_contract advert_of_all advert_at entries_at entry_at head_at deposit_at secret_at
-    fee_at choice_with branches_at branch_at parts_at auth_at after_at put_at reveal_at split_at reveals_at puts_at put_reveals_at
+unfolding is_name word_front number_front symbol_front read_contract advert_of_all advert_at entries_at entry_at head_at deposit_at
+    secret_at fee_at choice_with branches_at branch_at parts_at auth_at after_at put_at reveal_at split_at reveals_at puts_at put_reveals_at
     headed_at one_branch_at condition_at names_from test_at comparison_at formula_at constant_at length_at withdraw_at digits
 contract_is_taken = refl
 

@@ -1,6 +1,6 @@
 -- What holds of every run of valid files, whatever is printed of it: of money, of refusals, of honest parties' deposits, of contracts
 -- that begin, and of every world that it comes to.
-use Rattle.std.specs.Prelude.{◌≡◌, ℕ, ◌+◌, ◌≤◌, List, length, true, Some, None, Ok, slice_get, take}
+use Rattle.std.specs.Prelude.{◌≡◌, ℕ, ◌+◌, ◌≤◌, List, length, true, Some, Ok, slice_get, take}
 use Rattle.spec_terms.specs.Advert.{Advert}
 use Rattle.spec_run.specs.declared.event.Event.{Event}
 use Rattle.spec_run.specs.declared.event.Run.{Run}
@@ -14,6 +14,7 @@ use Rattle.spec_text.specs.Refusals.{run_of}
 use Rattle.spec_tool.specs.Commands.{contracts_from, setup_of}
 use Rattle.theory_run.specs.Sound.{IsSoundThroughout}
 use Rattle.theory_run.specs.WorldsOfRuns.{IsWorldOfRun}
+use Rattle.theory_offers.specs.Authorised.{SignedThroughout}
 use Rattle.theory_offers.specs.Begun.{EndorsedThroughout}
 
 -- ---- any run
@@ -38,6 +39,8 @@ pub record IsSafe (s : Setup) (es : List Event) : Type 0 where
   pub honest_deposits : HoldsThroughout s (spends_with_leave s) es
   -- a contract begins only where it is endorsed, and stays endorsed
   pub endorsed : EndorsedThroughout s es
+  -- each authorisation has its signature, and an honest party's signature of a branch that asks it stands for its authorisation
+  pub signed : SignedThroughout s es
   -- hashed messages, signatures under each key, places of contract outputs, different commitments and bounded money: of the last world,
   -- and of the world after every event
   pub world : IsWorldOfRun s es (last_world s es)

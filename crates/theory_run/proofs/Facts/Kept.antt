@@ -24,11 +24,13 @@ use Rattle.spec_calculus.specs.Beginning.{is_init_authorised}
 use Rattle.spec_calculus.specs.Branches.{has_branch_authorised}
 use Rattle.spec_compiler.specs.Instance.{Instance, branch_label, deposit_key, people}
 use Rattle.spec_compiler.specs.declared.unsigned.Spent.{Spent}
-use Rattle.spec_compiler.specs.Transactions.{Standing, tx_of, digest_of_spent, put_deposits, persistent_deposits, branch_unsigned, initial_unsigned, party_script}
+use Rattle.spec_compiler.specs.Transactions.{Standing, tx_of, digest_of_spent, put_deposits, persistent_deposits, branch_unsigned}
+use Rattle.spec_compiler.specs.Transactions.{initial_unsigned, party_script}
 use Rattle.spec_compiler.specs.ByPath.{position_at}
 use Rattle.spec_compiler.specs.Hashed.{compiled_strings}
 use Rattle.spec_run.specs.Setup.{Setup, is_declared, is_honest, contract_at, pre_at, people_at}
-use Rattle.spec_run.specs.World.{ContractPosition, Output, World, output_at, is_deposit, live_position_at, live_position, bindings_at, is_advertised}
+use Rattle.spec_run.specs.World.{ContractPosition, Output, World, output_at, is_deposit, live_position_at, live_position, bindings_at}
+use Rattle.spec_run.specs.World.{is_advertised}
 use Rattle.spec_run.specs.Owners.{paid_to}
 use Rattle.spec_run.specs.Compiled.{compiled_instance}
 use Rattle.spec_run.specs.Event.{opening_outputs}
@@ -38,7 +40,8 @@ use Rattle.theory_calculus.proofs.Members.{all_then}
 use Rattle.theory_world.specs.Transactions.{HeardLists, IsNumbered, NoScripts}
 use Rattle.theory_world.specs.KeptApart.{are_made}
 use Rattle.theory_world.proofs.Later.{Lasts, SameOutput, compiled_is}
-use Rattle.theory_run.specs.KeptBook.{HeardDigest, SpentFor, AllSpentFor, From, opening_id, Gave, Needed, Started, DepositCause, gave, needed, started, BranchCause, IsBound, AdvertFine, HeldFine, KeptBook}
+use Rattle.theory_run.specs.KeptBook.{HeardDigest, SpentFor, AllSpentFor, From, opening_id, Gave, Needed, Started, DepositCause, gave}
+use Rattle.theory_run.specs.KeptBook.{needed, started, BranchCause, IsBound, AdvertFine, HeldFine, KeptBook}
 
 -- a test that isn't false is true
 true_from_ne_false : (b : Bool) → (b ≡ false → ⊥) → b ≡ true

@@ -21,7 +21,8 @@ use Rattle.theory_calculus.proofs.Names.{bytes-true}
 use Rattle.theory_world.specs.KeptApart.{NoClash, Once}
 use Rattle.theory_world.proofs.Hashed.{find_any, any_found}
 use Rattle.theory_run.specs.KeptSecrets.{has_secret, committed_by, is_own}
-use Rattle.theory_run.proofs.Facts.Secrets.{different_secrets, has_secret-append, filter-member, different-filter, all-filter, is_known_in, legal_reveals}
+use Rattle.theory_run.proofs.Facts.Secrets.{different_secrets, has_secret-append, filter-member, different-filter, all-filter, is_known_in}
+use Rattle.theory_run.proofs.Facts.Secrets.{legal_reveals}
 
 -- the strings posted so far begin those of the run: the first that passes a test is the first of the run
 pub record Begins (z posted : List (List ℕ)) : Type 0 where

@@ -1,13 +1,13 @@
 -- The headline of an answer, by the theorems on statuses and on runs.
 use Rattle.std.proofs.Common.{◌≡◌, ℕ, Bool, true, false, ◌==◌, cond, List, length, Option, Some, None, sym, ◌∙◌, inl, inr}
 use Rattle.spec_run.specs.Conditions.{HashesBytes}
-use Rattle.spec_run.specs.Statements.{ValueTheorem}
 use Rattle.spec_tool.specs.Reads.{Read, texts_read}
 use Rattle.spec_tool.specs.Commands.{Command, Printed}
 use Rattle.spec_tool.specs.Answers.{tool_answer, ended}
 use Rattle.spec_tool.specs.Causes.{CausesTheorem}
 use Rattle.spec_tool.specs.Headline.{HeadlineTheorem}
 use Rattle.theory_tool.specs.Ended.{CallsEnd}
+use Rattle.theory_tool.specs.Kept.{RunsAreKept}
 use Rattle.theory_tool.specs.Statuses.{StatusesTheorem}
 use Rattle.bitml_command.specs.Seen.{HasFew}
 use Rattle.bitml_headline.specs.Headline.{Around, Answers, GivesUp, AnswersOrGivesUp, Headline, HeadlineOfAnswers}
@@ -31,7 +31,7 @@ pub record Theorems : Type 0 where
   pub statuses : StatusesTheorem
   pub ends : CallsEnd
   pub headline : HeadlineTheorem
-  pub value : ValueTheorem
+  pub kept : RunsAreKept
 
 module _ (t : Theorems) (hash : List ℕ → List ℕ) (bytes : HashesBytes hash) (command : Option Command) (before now : Around) where
   usage_is : (reads : List Read) → (tool_answer hash command reads).status ≡ 2 → command ≡ None
@@ -52,7 +52,7 @@ module _ (t : Theorems) (hash : List ℕ → List ℕ) (bytes : HashesBytes hash
     serves = inl (record {
       answers = a;
       caused = caused t.causes t.statuses hash command a.reads;
-      shows = shows t.headline t.value hash bytes command a.reads few a.made;
+      shows = shows t.headline t.kept hash bytes command a.reads few a.made;
     });
     usage = λ e. usage_is a.reads (ended_with (tool_answer hash command a.reads) a.ends.went 2 (λ f. absurd (cc)) (sym e ∙ a.ends.status_is));
     unread = λ e. a.unread (unread_is command a.reads (ended_with (tool_answer hash command a.reads) a.ends.went 3 (λ f. absurd (cc)) (sym e ∙ a.ends.status_is)));

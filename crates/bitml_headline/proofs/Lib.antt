@@ -3,4 +3,4 @@ pub mod Ending
 pub mod Headlines
 pub mod Shown
 pub mod Texts
-pub mod Worth
+pub mod Determined

@@ -2,7 +2,6 @@
 use Rattle.std.proofs.Common.{◌≡◌, ℕ, suc, ◌+◌, ◌≤◌, true, List, [], ◌∷◌, length, Option, Some, None, refl, sym, ap, subst, ◌∙◌, arith}
 use Rattle.std.proofs.lemmas.List.{length-map}
 use Rattle.spec_run.specs.Conditions.{HashesBytes}
-use Rattle.spec_run.specs.Statements.{ValueTheorem}
 use Rattle.spec_data.specs.Digits.{onto}
 use Rattle.spec_data.specs.Ranges.{most_contracts}
 use Rattle.spec_text.specs.Refusals.{contract_of, run_of}
@@ -13,8 +12,8 @@ use Rattle.spec_tool.specs.Commands.{Printed, setup_of, onto_judged, contracts_f
 use Rattle.spec_tool.specs.Answers.{tool_answer, tool_reads, read_answer, text_answer, contracts_in}
 use Rattle.spec_tool.specs.Headline as shown
 use Rattle.spec_tool.specs.Headline.{HeadlineTheorem}
+use Rattle.theory_tool.specs.Kept.{RunsAreKept}
 use Rattle.bitml_headline.specs.Headline.{texts_of, ShowsRun, ShowsTexts, Shows}
-use Rattle.bitml_headline.proofs.Worth.{never_grows}
 use Rattle.bitml_command.specs.Seen.{HasFew}
 
 contracts_in_texts : (k : ℕ) (texts : List (List ℕ)) → contracts_in k (texts_of texts) ≡ contracts_from k texts
@@ -42,7 +41,8 @@ texts_count (file ∷ files) (failed ∷ reads) e = tt
 
 -- ---- the headline
 
-module _ (theorem : HeadlineTheorem) (value : ValueTheorem) (hash : List ℕ → List ℕ) (bytes : HashesBytes hash) (run : List ℕ) (contracts : List (List ℕ)) (few : length contracts ≤ most_contracts) where
+module _ (theorem : HeadlineTheorem) (kept : RunsAreKept) (hash : List ℕ → List ℕ) (bytes : HashesBytes hash) (run : List ℕ)
+    (contracts : List (List ℕ)) (few : length contracts ≤ most_contracts) where
   of_texts : (texts : List Text) → length texts ≡ length (files_of (play run contracts)) → ShowsRun hash texts (text_answer hash (play run contracts) texts)
   of_texts texts count run_text contract_texts r adverts e valid well_formed =
       let here : length texts ≡ suc (length contract_texts) = ap length e ∙ ap (λ (m : ℕ). suc m) (length-map contract_texts (λ (t : List ℕ). Some t)) in
@@ -52,7 +52,7 @@ module _ (theorem : HeadlineTheorem) (value : ValueTheorem) (hash : List ℕ →
       ap (text_answer hash (play run contracts)) e ∙ ap (both_judged (run_answer play_text) hash (run_of run_text)) (contracts_in_texts 0 contract_texts) in (
         subst (λ (p : Printed). shown.Headline hash run_text contract_texts p) (sym same)
             (theorem hash bytes run_text contract_texts r adverts valid well_formed few_texts),
-        never_grows value (setup_of hash r adverts) r.events,
+        kept hash bytes run_text contract_texts r adverts valid well_formed few_texts,
       )
 
   of_read : (o : Option (List Text)) → Counts (length (files_of (play run contracts))) o → ShowsTexts hash o (read_answer hash (play run contracts) o)
@@ -62,16 +62,17 @@ module _ (theorem : HeadlineTheorem) (value : ValueTheorem) (hash : List ℕ →
   pub of_play : (reads : List Read) → are_made (files_of (play run contracts)) reads ≡ true → ShowsTexts hash (texts_read reads) (tool_answer hash (Some (play run contracts)) reads)
   of_play reads made = of_read (texts_read reads) (texts_count (files_of (play run contracts)) reads made)
 
-pub shows : HeadlineTheorem → ValueTheorem → (hash : List ℕ → List ℕ) → HashesBytes hash → (command : Option Command) (reads : List Read) → HasFew command → tool_reads command reads ≡ true
+pub shows : HeadlineTheorem → RunsAreKept → (hash : List ℕ → List ℕ) → HashesBytes hash
+    → (command : Option Command) (reads : List Read) → HasFew command → tool_reads command reads ≡ true
     → Shows hash command reads (tool_answer hash command reads)
-shows theorem value hash bytes None reads few made = tt
-shows theorem value hash bytes (Some (check contract)) reads few made = tt
-shows theorem value hash bytes (Some (play run contracts)) reads few made = of_play theorem value hash bytes run contracts few reads made
-shows theorem value hash bytes (Some (plan run contract)) reads few made = tt
-shows theorem value hash bytes (Some (make number size)) reads few made = tt
-shows theorem value hash bytes (Some (psbt_of run contract which)) reads few made = tt
-shows theorem value hash bytes (Some (psbt_shown file)) reads few made = tt
-shows theorem value hash bytes (Some (psbt_joined first second)) reads few made = tt
-shows theorem value hash bytes (Some (weigh run contract)) reads few made = tt
-shows theorem value hash bytes (Some (audit run contract file)) reads few made = tt
-shows theorem value hash bytes (Some (auto run contract strategy)) reads few made = tt
+shows theorem kept hash bytes None reads few made = tt
+shows theorem kept hash bytes (Some (check contract)) reads few made = tt
+shows theorem kept hash bytes (Some (play run contracts)) reads few made = of_play theorem kept hash bytes run contracts few reads made
+shows theorem kept hash bytes (Some (plan run contract)) reads few made = tt
+shows theorem kept hash bytes (Some (make number size)) reads few made = tt
+shows theorem kept hash bytes (Some (psbt_of run contract which)) reads few made = tt
+shows theorem kept hash bytes (Some (psbt_shown file)) reads few made = tt
+shows theorem kept hash bytes (Some (psbt_joined first second)) reads few made = tt
+shows theorem kept hash bytes (Some (weigh run contract)) reads few made = tt
+shows theorem kept hash bytes (Some (audit run contract file)) reads few made = tt
+shows theorem kept hash bytes (Some (auto run contract strategy)) reads few made = tt

@@ -9,11 +9,10 @@ use Rattle.spec_tool.specs.Answers.{tool_answer, tool_reads, ended}
 use Rattle.spec_tool.specs.Causes.{is_run_refused, is_contract_refused, is_psbt_refused}
 use Rattle.spec_tool.specs.Headline as shown
 use Rattle.theory_tool.specs.Statuses.{Plays, Guess, Collision, AuditRefused, StrategyRefused, AllIsWell}
+use Rattle.theory_tool.specs.Kept.{KeepsRun}
 use Rattle.bm_io.specs.Counts.{RoseBy}
 use Rattle.bm_io.specs.Files.{Told}
 use Rattle.spec_run.specs.Conditions.{HashesBytes}
-use Rattle.spec_run.specs.Statements.{Claim, HoldsThroughout}
-use Rattle.spec_run.specs.Values.{KeepsValue}
 use Rattle.bitml_command.specs.Files.{Tells, AsksFront}
 use Rattle.bitml_command.specs.Seen.{HasFew}
 
@@ -124,17 +123,14 @@ Caused hash (Some command) reads printed = CausedByTexts hash command (texts_rea
 abbrev pub texts_of : List (List ℕ) → List Text
 texts_of texts = map Some texts
 
--- what all live outputs are worth doesn't grow by the event, and stays where no transaction was accepted
-abbrev pub value_kept : Claim
-value_kept before g w t = KeepsValue w t.outcome t.world
-
 -- where `play` takes a run and its contracts, its answer shows the ledger's run of all events with a legal run of the calculus beside
--- it, or a collision or guessed secret at its end; and no event makes the live outputs worth more
+-- it, or a collision or guessed secret at its end; and the run keeps all that the theorems on runs say of money, refusals, deposits,
+-- beginnings and worlds
 abbrev pub ShowsRun : (List ℕ → List ℕ) → List Text → Printed → Type 0
 ShowsRun hash texts printed =
     (run_text : List ℕ) (contract_texts : List (List ℕ)) (run : Run) (contracts : List Advert)
     → texts ≡ Some run_text ∷ texts_of contract_texts → run_of run_text ≡ Ok run → contracts_from 0 contract_texts ≡ Ok contracts
-    → shown.Headline hash run_text contract_texts printed × HoldsThroughout (setup_of hash run contracts) value_kept run.events
+    → shown.Headline hash run_text contract_texts printed × KeepsRun (setup_of hash run contracts) run.events
 
 abbrev pub ShowsTexts : (List ℕ → List ℕ) → Option (List Text) → Printed → Type 0
 ShowsTexts hash None printed = Unit {0}

@@ -5,4 +5,4 @@ mod finishing;
 mod theorem;
 
 pub use finishing::finish;
-pub use theorem::answers_are_headlines;
+pub use theorem::{answers_are_headlines, files_determine_answers};

@@ -1,15 +1,17 @@
 //! What is known of answers.
 
-ghost use Rattle.spec_run.specs.Statements.{ValueTheorem};
 ghost use Rattle.spec_tool.specs.Causes.{CausesTheorem};
 ghost use Rattle.spec_tool.specs.Headline.{HeadlineTheorem};
 ghost use Rattle.theory_tool.specs.Ended.{CallsEnd};
+ghost use Rattle.theory_tool.specs.Kept.{RunsAreKept};
 ghost use Rattle.theory_tool.specs.Statuses.{StatusesTheorem};
 ghost use Rattle.bitml_headline.specs.Headline.{HeadlineOfAnswers};
+ghost use Rattle.bitml_headline.specs.Determined.{FilesDetermineAnswers};
 
-use theory_headline::headline_theorem;
-use theory_tool::{calls_end_by_causes, statuses_have_causes, statuses_have_exact_causes};
-use theory_world::value_theorem;
+use theory_tool::{
+    calls_end_by_causes, headline_theorem, runs_are_kept, statuses_have_causes,
+    statuses_have_exact_causes,
+};
 
 // A call that gives the defined answer or gives up has its headline, where the theorems hold.
 fn by_theorems()
@@ -17,12 +19,12 @@ fn by_theorems()
     requires statuses { StatusesTheorem }
     requires ends { CallsEnd }
     requires headline { HeadlineTheorem }
-    requires value { ValueTheorem }
+    requires kept { RunsAreKept }
     ensures { HeadlineOfAnswers }
 {}
 
 /// A call that gives the defined answer, or gives up for want of memory, has its headline: each status comes exactly by its cause, and
-/// what `play` writes is a faithful run, in which no event makes the live outputs worth more.
+/// what `play` writes is a faithful run, which keeps what the theorems on runs say of money, refusals, deposits, beginnings and worlds.
 pub fn answers_are_headlines()
     ensures { HeadlineOfAnswers }
 {
@@ -30,6 +32,11 @@ pub fn answers_are_headlines()
     statuses_have_exact_causes();
     calls_end_by_causes();
     headline_theorem();
-    value_theorem();
+    runs_are_kept();
     by_theorems();
 }
+
+/// Two answered calls with the same words over files that tell the same have one status and one text, unless a write failed.
+pub fn files_determine_answers()
+    ensures { FilesDetermineAnswers }
+{}

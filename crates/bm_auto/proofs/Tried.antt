@@ -18,7 +18,8 @@ use Rattle.spec_run.specs.Event.{draft, event, record_of}
 use Rattle.spec_run.specs.Values.{is_refused, RefusedKept}
 use Rattle.spec_tool.specs.declared.rule.Rule.{Rule}
 use Rattle.spec_tool.specs.Turns.{rule_event, Progressed, keeps, takes, tried, tried_if}
-use Rattle.theory_world.proofs.Hashed.{NoClash, no_clash, all_new, among_head, among_tail}
+use Rattle.theory_world.specs.KeptApart.{NoClash}
+use Rattle.theory_world.proofs.Hashed.{no_clash, all_new, among_head, among_tail}
 use Rattle.theory_world.proofs.Refused.{refusals_keep}
 use Rattle.theory_auto.specs.OwnRules.{IsHonest}
 use Rattle.theory_run.proofs.Events.Hashless.{carried, draft_same}

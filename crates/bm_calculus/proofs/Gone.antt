@@ -11,7 +11,7 @@ use Rattle.spec_data.specs.Lists.{has_number}
 use Rattle.spec_calculus.specs.declared.parts.Deposit.{Deposit}
 use Rattle.spec_calculus.specs.Moves.{kept, value_at}
 use Rattle.spec_calculus.specs.Branches.{gone, total_value}
-use Rattle.theory_calculus.specs.InOrder.{are_ascending}
+use Rattle.spec_calculus.specs.InOrder.{are_ascending}
 use Rattle.theory_calculus.proofs.Sums.{gone_apart, gone_none, gone_value, kept_gone}
 
 abbrev value : Deposit → ℕ

@@ -11,7 +11,7 @@ use Rattle.spec_calculus.specs.Configuration.{Configuration}
 use Rattle.spec_calculus.specs.Moves.{kept, made}
 use Rattle.spec_calculus.specs.Branches.{others, parts_made}
 use Rattle.spec_calculus.specs.Steps.{owned}
-use Rattle.theory_calculus.specs.InOrder.{are_ascending}
+use Rattle.spec_calculus.specs.InOrder.{are_ascending}
 use Rattle.theory_calculus.specs.Numbered.{IsNumbered, deposit_numbers}
 use Rattle.theory_calculus.proofs.Numbered.{grown_ascends, add_contracts, fewer_contracts, parts_numbers, row_from}
 use Rattle.theory_calculus.proofs.Numbered.{numbered_after, opening_numbered}

@@ -8,7 +8,7 @@ use Rattle.std.specs.Ordering.{nat_cmp, ordering_index}
 use Rattle.std.proofs.lemmas.Bool.{and_parts}
 use Rattle.std.proofs.lemmas.Bool.Decides.{nat_tests}
 use Rattle.std.proofs.lemmas.Cmp.{ranked}
-use Rattle.theory_calculus.specs.InOrder.{are_ascending}
+use Rattle.spec_calculus.specs.InOrder.{are_ascending}
 
 module _ {X : Type 0} (name : X → ℕ) where
   all_at : (n : ℕ) (xs : List X) (j : ℕ) (d : X) → list_all (λ m. nat_lt n m) (map name xs) ≡ true → j < length xs

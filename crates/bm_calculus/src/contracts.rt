@@ -3,7 +3,7 @@
 ghost use Rattle.std.specs.Prelude.{◌≡◌, ◌++◌, ◌∷◌, [], nat_lt, map, true, option_map, IfOk, OnOk, OnErr};
 ghost use Rattle.std.specs.List.{list_all};
 ghost use Rattle.spec_calculus.specs.Branches as spec;
-ghost use Rattle.theory_calculus.specs.InOrder.{are_ascending};
+ghost use Rattle.spec_calculus.specs.InOrder.{are_ascending};
 ghost use Rattle.bm_calculus.specs.Answers.{root_of};
 
 mod edits;
@@ -25,7 +25,7 @@ pub struct ActiveContracts {
 impl Model for ActiveContracts {
     ghost use Rattle.std.specs.Prelude.{◌≡◌, List, map, true};
     ghost use Rattle.spec_calculus.specs.declared.parts.ActiveContract.{ActiveContract as Plain};
-    ghost use Rattle.theory_calculus.specs.InOrder.{are_ascending};
+    ghost use Rattle.spec_calculus.specs.InOrder.{are_ascending};
 
     ghost Value = { List Plain };
 

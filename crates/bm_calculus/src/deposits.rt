@@ -8,7 +8,7 @@ ghost use Rattle.spec_data.specs.Ranges.{max_money};
 ghost use Rattle.spec_calculus.specs.Moves as spec;
 ghost use Rattle.spec_calculus.specs.Branches.{gone, total_value};
 ghost use Rattle.spec_calculus.specs.Same as same;
-ghost use Rattle.theory_calculus.specs.InOrder.{are_ascending};
+ghost use Rattle.spec_calculus.specs.InOrder.{are_ascending};
 
 mod edits;
 mod listed;
@@ -31,7 +31,7 @@ pub struct Deposits {
 impl Model for Deposits {
     ghost use Rattle.std.specs.Prelude.{◌≡◌, List, map, true};
     ghost use Rattle.spec_calculus.specs.declared.parts.Deposit.{Deposit as Plain};
-    ghost use Rattle.theory_calculus.specs.InOrder.{are_ascending};
+    ghost use Rattle.spec_calculus.specs.InOrder.{are_ascending};
 
     ghost Value = { List Plain };
 

@@ -5,7 +5,7 @@ ghost use Rattle.spec_terms.specs.declared.path.PathStep.TheVariants.{Branch as 
 ghost use Rattle.spec_calculus.specs.Beginning as beginning;
 ghost use Rattle.spec_calculus.specs.Branches as spec;
 ghost use Rattle.spec_calculus.specs.Steps as steps;
-ghost use Rattle.theory_calculus.specs.InOrder.{are_ascending};
+ghost use Rattle.spec_calculus.specs.InOrder.{are_ascending};
 ghost use Rattle.theory_calculus.specs.Numbered.{IsNumbered};
 ghost use Rattle.theory_calculus.specs.Money.{IsWithinAllMoney};
 ghost use Rattle.bm_syntax.specs.View.{guarded};

@@ -7,6 +7,7 @@ ghost use Rattle.spec_calculus.specs.Offers as spec;
 ghost use Rattle.spec_run.specs.Setup.{Setup};
 ghost use Rattle.spec_run.specs.declared.event.Event.{Event as Happening};
 ghost use Rattle.spec_run.specs.Offers.{Offer as Offered, offers as all_offers};
+ghost use Rattle.spec_run.specs.HaveEvents.{HasEvents};
 ghost use Rattle.spec_run.specs.Translation.{last_configuration, last_world};
 ghost use Rattle.spec_run.specs.Statements.{IsRun, IsKept};
 ghost use Rattle.bm_syntax.specs.View.{guarded};
@@ -21,7 +22,7 @@ use spec_calculus::{ActiveContract, Step};
 use spec_data::OutOfMemory;
 use spec_run::Event;
 use std::alloc::Global;
-use theory_offers::offers_theorem;
+use theory_offers::{offers_have_events, offers_theorem};
 
 // Offers the beginning of each contract that may begin.
 #[tactic(auto, using(crate::proofs::Steps::cons_offered))]
@@ -102,16 +103,18 @@ fn add_all_takings(
     Ok(())
 }
 
-/// Every contract step that may be taken now, each with the event that it is taken by: beginnings by contract, then the others by
-/// output and branch. After a run each has a compiled transaction that the ledger accepts, and its event leads to its step. The
+/// Every contract step that may be taken now and no other, each once and with the event that it is taken by: beginnings by contract, then
+/// the others by output and branch. After a run each has a compiled transaction that the ledger accepts, and its event leads to its step. The
 /// cost is that of asking whether each beginning, and each branch of each active contract, may be taken.
 #[tactic(auto, using(crate::proofs::Steps::both_offered))]
 pub fn offers(alloc: Global, config: &Config) -> Result<Vec<Offer>, OutOfMemory>
     requires { length config.now.contracts < 2 ^ 32 }
     ensures listed { IfOk result (λ v. v.items ≡ all_offers config.now) }
+    ensures complete { IfOk result (λ v. HasEvents config.now v.items) }
     ensures kept { IfOk result (λ v. (s : Setup) (es : List Happening) → IsRun s es → config.now ≡ last_configuration s es
         → (offer : Offered) → Contains v.items offer → IsKept s config.now (last_world s es) offer) }
 {
+    offers_have_events();
     offers_theorem();
     let mut found = Vec::new(alloc);
     add_beginnings(&mut found, config, config.contracts())?;

@@ -15,7 +15,7 @@ use Rattle.spec_calculus.specs.Beginning.{bindings_of, is_there}
 use Rattle.spec_run.specs.Setup.{Setup, pre_at}
 use Rattle.spec_run.specs.World.{World, bindings_at}
 use Rattle.spec_run.specs.Steps.{auth_inits, is_of_party, is_bound_live, branch_steps, begin_steps, init_steps}
-use Rattle.theory_run.proofs.Steps.Moved.{AgreeOnMoney}
+use Rattle.theory_run.specs.Tracks.{AgreeOnMoney}
 use Rattle.theory_run.proofs.Steps.Beginnings.{bindings_same, there_same}
 use Rattle.bm_translate.specs.Asking.{init_missing, init_allowed, taking}
 

@@ -23,7 +23,7 @@ use Rattle.spec_compiler.specs.Witness.{chosen_by}
 use Rattle.spec_run.specs.Agreement.{active_by, active_in}
 use Rattle.spec_run.specs.Steps.{begin_steps, branch_steps, move_steps, kind_steps}
 use Rattle.theory_world.proofs.Later.{IsCompiledAt, compiled_is}
-use Rattle.theory_run.proofs.Facts.Kept.{HeldFine}
+use Rattle.theory_run.specs.KeptBook.{HeldFine}
 use Rattle.theory_world.proofs.Ledger.Outputs.{active-at}
 use Rattle.theory_run.proofs.Steps.Beginnings.{committed_same}
 use Rattle.bm_compile.specs.Numbered.{Numbered, numbered}

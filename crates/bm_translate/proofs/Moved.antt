@@ -10,7 +10,8 @@ use Rattle.spec_run.specs.Setup.{Setup}
 use Rattle.spec_run.specs.World.{World}
 use Rattle.spec_run.specs.Owners.{owner_among, owner_by}
 use Rattle.spec_run.specs.Steps.{moved_output, move_of, auth_move, parties_once, owners_of, move_steps}
-use Rattle.theory_run.proofs.Steps.Moved.{AgreeOnMoney, owner_there}
+use Rattle.theory_run.specs.Tracks.{AgreeOnMoney}
+use Rattle.theory_run.proofs.Steps.Moved.{owner_there}
 use Rattle.bm_world_board.specs.declared.accounts.Account.{Account}
 use Rattle.bm_world_board.specs.Accounts.{account_of, owner_in}
 use Rattle.bm_translate.specs.Moving.{move_by, moved_steps}

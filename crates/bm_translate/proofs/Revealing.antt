@@ -16,7 +16,8 @@ use Rattle.spec_run.specs.Secrets.{all_secrets, secrets_from, digest_at, is_show
 use Rattle.spec_run.specs.Steps.{reveal_step, reveals}
 use Rattle.theory_calculus.proofs.Names.{bytes-true}
 use Rattle.theory_world.proofs.Hashed.{among_left}
-use Rattle.theory_run.proofs.Facts.KeptSecrets.{committed_by, length_at-by}
+use Rattle.theory_run.specs.KeptSecrets.{committed_by}
+use Rattle.theory_run.proofs.Facts.KeptSecrets.{length_at-by}
 use Rattle.bm_translate.specs.declared.watching.Watched.{Watched}
 use Rattle.bm_translate.specs.Shown.{string_of, is_one_of, watched_of, watched_all, noted, comes_up, is_out, reveal_of, revealed_by, revealed_of}
 use Rattle.bm_translate.specs.Moments.{AreHeard}

@@ -11,7 +11,7 @@ use Rattle.spec_run.specs.World.{Promise, World}
 use Rattle.spec_run.specs.Compiled.{compiled_instance}
 use Rattle.spec_run.specs.Draft.{settled}
 use Rattle.spec_run.specs.Event.{draft, record_of}
-use Rattle.theory_run.proofs.Simulated.{KeptRun}
+use Rattle.theory_run.specs.KeptRuns.{KeptRun}
 use Rattle.bm_hash.specs.Messages.{message_of}
 use Rattle.bm_match.specs.Matches.{all_compiled}
 use Rattle.bm_world_board.specs.declared.board.Board.{Board}

@@ -7,7 +7,7 @@ ghost use Rattle.spec_calculus.specs.Moves as calculus;
 ghost use Rattle.spec_run.specs.Setup.{Setup};
 ghost use Rattle.spec_run.specs.World.{World};
 ghost use Rattle.spec_run.specs.Steps as spec;
-ghost use Rattle.theory_run.proofs.Steps.Moved.{AgreeOnMoney};
+ghost use Rattle.theory_run.specs.Tracks.{AgreeOnMoney};
 ghost use Rattle.bm_world_board.specs.Accounts.{account_of, owner_in};
 ghost use Rattle.bm_translate.specs.Moving.{move_by, moved_steps, with_owner, with_owners};
 

@@ -7,7 +7,7 @@ ghost use Rattle.spec_calculus.specs.Moves as moves;
 ghost use Rattle.spec_run.specs.Setup.{Setup, pre_at};
 ghost use Rattle.spec_run.specs.World.{World};
 ghost use Rattle.spec_run.specs.Steps as spec;
-ghost use Rattle.theory_run.proofs.Steps.Moved.{AgreeOnMoney};
+ghost use Rattle.theory_run.specs.Tracks.{AgreeOnMoney};
 ghost use Rattle.bm_translate.specs.Asking.{init_allowed};
 
 use bm_calculus::Config;

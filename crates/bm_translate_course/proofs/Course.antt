@@ -10,7 +10,8 @@ use Rattle.spec_run.specs.Event.{Passed, opening_world, record_of}
 use Rattle.spec_run.specs.Translation.{Turn, turn_of, turns_from, opening_configuration, last_configuration, last_or, translated, record_in, world_after}
 use Rattle.spec_run.specs.Steps.{outcome_steps}
 use Rattle.spec_run.specs.Statements.{HoldsFrom}
-use Rattle.theory_run.proofs.Simulated.{KeptRun, opening_run}
+use Rattle.theory_run.specs.KeptRuns.{KeptRun}
+use Rattle.theory_run.proofs.Simulated.{opening_run}
 use Rattle.std.proofs.lemmas.List.{drop_more}
 use Rattle.spec_terms.specs.Advert.{Advert}
 use Rattle.bm_match.specs.Matches.{compiled_from}

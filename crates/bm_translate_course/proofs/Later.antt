@@ -10,7 +10,7 @@ use Rattle.spec_run.specs.Event.{Passed, draft}
 use Rattle.spec_run.specs.Translation.{turn_of, turns_from, world_after, record_in}
 use Rattle.spec_run.specs.Statements.{HoldsFrom}
 use Rattle.theory_world.proofs.Later.{Lasts}
-use Rattle.theory_run.proofs.Simulated.{KeptRun}
+use Rattle.theory_run.specs.KeptRuns.{KeptRun}
 use Rattle.theory_run.proofs.Facts.Growing.{Grows, grows}
 use Rattle.bm_translate.specs.Moments.{IsLater}
 use Rattle.bm_translate.proofs.Left.{left, promises_by, adverts_by}

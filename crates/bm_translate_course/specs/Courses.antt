@@ -12,7 +12,7 @@ use Rattle.spec_run.specs.Event.{Passed, draft, opening_world, played, record_of
 use Rattle.spec_run.specs.Steps.{outcome_steps}
 use Rattle.spec_run.specs.Translation.{Turn, opening_configuration, turns_from, world_after, last_or, record_in}
 use Rattle.spec_run.specs.Statements.{Claim, IsRun, HoldsFrom}
-use Rattle.theory_run.proofs.Simulated.{KeptRun}
+use Rattle.theory_run.specs.KeptRuns.{KeptRun}
 use Rattle.bm_match.specs.Matches.{all_compiled}
 use Rattle.bm_world_board.specs.declared.board.Board.{Board}
 use Rattle.bm_world_board.specs.Accounts.{account_of}

@@ -22,7 +22,7 @@ use Rattle.spec_run.specs.Event.{draft}
 use Rattle.theory_calculus.proofs.Names.{all_among}
 use Rattle.theory_world.proofs.Contracts.Checking.{contract_checked}
 use Rattle.theory_world.proofs.Contracts.Mentions.{a_person}
-use Rattle.theory_run.proofs.Facts.Bookkeeping.{KeptBooks}
+use Rattle.theory_run.specs.KeptRuns.{KeptBooks}
 use Rattle.theory_run.proofs.Facts.Growing.{grows}
 use Rattle.theory_run.proofs.Facts.Undertakings.{IsQuiet, told_stays}
 use Rattle.bm_compile.specs.Numbered.{numbered}

@@ -15,11 +15,12 @@ use Rattle.spec_run.specs.Ledger.{live_from, chain_of, strings_of, items_of}
 use Rattle.theory_world.proofs.Hashed.{no_clash, all_more, all_new, among_left}
 use Rattle.theory_world.proofs.Same.{place-true}
 use Rattle.theory_world.proofs.Ledger.Found.{found}
-use Rattle.theory_world.proofs.Ledger.Preimages.{IsNumbered}
+use Rattle.theory_world.specs.Transactions.{IsNumbered}
 use Rattle.theory_world.proofs.Ledger.Worth.{accepted_by}
 use Rattle.theory_world.proofs.Ledger.Accepting.{accepting}
 use Rattle.theory_run.proofs.Accepted.Accept.{fresh}
-use Rattle.theory_run.proofs.Facts.Bookkeeping.{KeptBooks, fits, checks}
+use Rattle.theory_run.specs.KeptRuns.{KeptBooks}
+use Rattle.theory_run.proofs.Facts.Bookkeeping.{fits, checks}
 use Rattle.bm_world_board.specs.Reaching.{IsFresh}
 
 module _ (s : Setup) (setup : IsSetup s) (g : Configuration) (w : World) (keeps : KeptBooks s g w) (tx : Tx) (fine : IsNumbered tx) where

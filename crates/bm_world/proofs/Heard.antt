@@ -8,10 +8,11 @@ use Rattle.spec_run.specs.Setup.{Setup}
 use Rattle.spec_run.specs.World.{World}
 use Rattle.spec_run.specs.Conditions.{IsSetup}
 use Rattle.theory_world.proofs.Hashed.{no_clash, all_more}
-use Rattle.theory_run.proofs.Facts.Kept.{KeptBook}
+use Rattle.theory_run.specs.KeptBook.{KeptBook}
 use Rattle.theory_run.proofs.Facts.KeptCommitments.{promises_stay}
 use Rattle.theory_run.proofs.Facts.OwnLabels.{labels_later}
-use Rattle.theory_run.proofs.Facts.Bookkeeping.{KeptBooks, checks}
+use Rattle.theory_run.specs.KeptRuns.{KeptBooks}
+use Rattle.theory_run.proofs.Facts.Bookkeeping.{checks}
 use Rattle.theory_run.proofs.Events.Quiet.{refused_after}
 use Rattle.bm_world.specs.Playing.{Kept}
 

@@ -16,7 +16,8 @@ use Rattle.spec_run.specs.Event.{opening_outputs, opening_strings, opening_world
 use Rattle.theory_world.proofs.Tests.{length_map}
 use Rattle.theory_world.proofs.Ledger.Outputs.{length-made_from}
 use Rattle.spec_run.specs.Translation.{opening_configuration}
-use Rattle.theory_run.proofs.Facts.Bookkeeping.{KeptBooks, opening_keeps}
+use Rattle.theory_run.specs.KeptRuns.{KeptBooks}
+use Rattle.theory_run.proofs.Facts.Bookkeeping.{opening_keeps}
 use Rattle.bm_hash.specs.declared.messages.TrailError.{TrailError}
 use Rattle.bm_hash.specs.declared.messages.TrailError.TheVariants as errors
 use Rattle.bm_hash.specs.Messages.{evidence_of}

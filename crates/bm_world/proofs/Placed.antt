@@ -9,7 +9,8 @@ use Rattle.spec_run.specs.Conditions.{IsSetup}
 use Rattle.spec_run.specs.Translation.{last_world, last_configuration}
 use Rattle.spec_run.specs.Statements.{simulated}
 use Rattle.theory_run.proofs.Following.{run_posts, kept_at_end}
-use Rattle.theory_run.proofs.Simulated.{KeptRun, kept_run, keeps_simulated, opening_run}
+use Rattle.theory_run.specs.KeptRuns.{KeptRun}
+use Rattle.theory_run.proofs.Simulated.{kept_run, keeps_simulated, opening_run}
 use Rattle.bm_compile.specs.Numbered.{Numbered}
 use Rattle.bm_match.specs.declared.found.Active.{Active}
 use Rattle.bm_match.specs.Matches.{choice_in, all_compiled, IsActive}

@@ -25,7 +25,8 @@ use Rattle.spec_run.specs.Values.{is_refused}
 use Rattle.spec_calculus.specs.Steps.{after_steps}
 use Rattle.theory_world.proofs.Hashed.{noted_more, all_more}
 use Rattle.theory_run.proofs.Fewer.{Within}
-use Rattle.theory_run.proofs.Facts.Bookkeeping.{KeptBooks, keeps_after}
+use Rattle.theory_run.specs.KeptRuns.{KeptBooks}
+use Rattle.theory_run.proofs.Facts.Bookkeeping.{keeps_after}
 use Rattle.bm_hash.specs.declared.messages.TrailError.{TrailError}
 use Rattle.bm_hash.specs.declared.messages.TrailError.TheVariants as trail
 use Rattle.bm_world.specs.Halts.{halt_of}

@@ -22,7 +22,7 @@ use Rattle.spec_run.specs.Draft.{Answer, Halted, settled}
 use Rattle.spec_run.specs.Draft as run
 use Rattle.spec_run.specs.Event.{draft, event, record_of}
 use Rattle.bm_hash.specs.Messages.{evidence_of, noted_all}
-use Rattle.theory_run.proofs.Facts.Bookkeeping.{KeptBooks}
+use Rattle.theory_run.specs.KeptRuns.{KeptBooks}
 use Rattle.bm_world.specs.declared.halt.Halt.{Halt}
 use Rattle.bm_world.specs.declared.halt.Halt.TheVariants.{Collided, Guessed}
 use Rattle.bm_compile.specs.Numbered.{Numbered}

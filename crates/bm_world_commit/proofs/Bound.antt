@@ -8,8 +8,8 @@ use Rattle.spec_terms.specs.Precondition.{deposits}
 use Rattle.spec_calculus.specs.Configuration.{Configuration}
 use Rattle.spec_run.specs.Setup.{Setup, pre_of}
 use Rattle.spec_run.specs.World.{World, bindings_at}
-use Rattle.theory_calculus.proofs.Members.{Is_in}
-use Rattle.theory_run.proofs.Facts.Bookkeeping.{KeptBooks}
+use Rattle.theory_calculus.specs.Members.{Is_in}
+use Rattle.theory_run.specs.KeptRuns.{KeptBooks}
 use Rattle.bm_world_commit.specs.Committed.{IsBoundAt}
 
 every_in : {A : Type 0} (f : A → Bool) (xs : List A) → ((x : A) → Is_in x xs → f x ≡ true) → list_all f xs ≡ true

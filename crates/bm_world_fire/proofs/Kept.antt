@@ -3,8 +3,8 @@ use Rattle.spec_calculus.specs.Configuration.{Configuration}
 use Rattle.spec_run.specs.Setup.{Setup}
 use Rattle.spec_run.specs.World.{World}
 use Rattle.theory_world.proofs.Contracts.Standing.{term_choice}
-use Rattle.theory_run.proofs.Facts.Bookkeeping.{KeptBooks}
-use Rattle.theory_run.proofs.Facts.Kept.{HeldFine}
+use Rattle.theory_run.specs.KeptRuns.{KeptBooks}
+use Rattle.theory_run.specs.KeptBook.{HeldFine}
 use Rattle.theory_run.proofs.Events.Quiet.{IsActive, active}
 use Rattle.bm_world_spend.specs.Placed.{IsPlaced}
 use Rattle.bm_world_fire.specs.Standing.{IsStanding, AreStanding}

@@ -32,7 +32,8 @@ use Rattle.theory_script.proofs.Checked.{core_fact, puts_known}
 use Rattle.theory_world.proofs.Tests.{length_map}
 use Rattle.theory_world.proofs.Labels.{core_readable}
 use Rattle.theory_world.proofs.Contracts.Checking.{compiled_checked}
-use Rattle.theory_run.proofs.Facts.Bookkeeping.{KeptBooks, fits, checks}
+use Rattle.theory_run.specs.KeptRuns.{KeptBooks}
+use Rattle.theory_run.proofs.Facts.Bookkeeping.{fits, checks}
 use Rattle.theory_run.proofs.Facts.Readings.{branch_is_readable}
 use Rattle.theory_run.proofs.Widths.Putting.{no_more}
 use Rattle.theory_run.proofs.Events.Fired.{started_numbered, taken_numbered}

@@ -10,7 +10,7 @@ use Rattle.spec_run.specs.Setup.{Setup}
 use Rattle.spec_run.specs.World.{ContractPosition, World, live_position_at}
 use Rattle.spec_run.specs.Compiled.{compiled_instance}
 use Rattle.spec_run.specs.Firing.{initial_by, taking_of_position}
-use Rattle.theory_world.proofs.Ledger.Preimages.{IsNumbered}
+use Rattle.theory_world.specs.Transactions.{IsNumbered}
 
 -- what is held is a position of a contract that is compiled
 pub record IsStanding (s : Setup) (w : World) (held : ContractPosition) : Type 0 where

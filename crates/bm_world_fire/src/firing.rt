@@ -9,7 +9,7 @@ ghost use Rattle.spec_bitcoin.specs.declared.tx.Tx.{Tx as Transaction};
 ghost use Rattle.spec_run.specs.Compiled.{compiled_instance};
 ghost use Rattle.spec_run.specs.Firing as spec;
 ghost use Rattle.bm_syntax.specs.View.{guarded};
-ghost use Rattle.theory_world.proofs.Ledger.Preimages.{IsNumbered};
+ghost use Rattle.theory_world.specs.Transactions.{IsNumbered};
 ghost use Rattle.bm_match.specs.Matches.{all_compiled};
 ghost use Rattle.bm_world_board.specs.Drafts.{setup_of, world_of, Drafts};
 ghost use Rattle.bm_world_board.specs.Reaching.{IsFresh};

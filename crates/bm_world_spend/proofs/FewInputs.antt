@@ -9,7 +9,8 @@ use Rattle.spec_data.proofs.ListLemmas.{no_reason-none_true}
 use Rattle.spec_run.specs.Setup.{Setup}
 use Rattle.spec_run.specs.World.{World}
 use Rattle.spec_run.specs.Giving.{give_row}
-use Rattle.theory_calculus.proofs.Members.{Is_in, get_below}
+use Rattle.theory_calculus.specs.Members.{Is_in}
+use Rattle.theory_calculus.proofs.Members.{get_below}
 use Rattle.theory_run.proofs.Events.Given.{is_given}
 
 apart_one : (n m : ℕ) (rest : Bool) → ((m == n) || rest) ≡ false → ((n == m) ≡ false) × (rest ≡ false)

@@ -24,7 +24,7 @@ use Rattle.spec_run.specs.Giving.{give_row, unsigned_gift, given_pairs, gift}
 use Rattle.theory_bitcoin.specs.Apart.{bare_input, bare}
 use Rattle.theory_bitcoin.proofs.Apart.{stripped_bare}
 use Rattle.theory_calculus.proofs.Names.{bytes-true}
-use Rattle.theory_calculus.proofs.Members.{Is_in}
+use Rattle.theory_calculus.specs.Members.{Is_in}
 use Rattle.theory_world.proofs.Same.{place-true, place_refl}
 use Rattle.theory_world.proofs.Ledger.Found.{found}
 use Rattle.theory_world.proofs.Ledger.Bare.{places-bare, sequences-bare, outputs-bare, same_preimage}

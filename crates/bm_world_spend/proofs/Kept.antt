@@ -24,8 +24,9 @@ use Rattle.theory_world.proofs.Contracts.Standing.{term_choice}
 use Rattle.theory_run.proofs.Accepted.Accept.{fresh}
 use Rattle.theory_run.proofs.Events.Given.{is, all, signed_kept, gift_numbered}
 use Rattle.theory_run.proofs.Events.Quiet.{IsActive, active}
-use Rattle.theory_run.proofs.Facts.Bookkeeping.{KeptBooks, fits, checks}
-use Rattle.theory_run.proofs.Facts.Kept.{HeldFine}
+use Rattle.theory_run.specs.KeptRuns.{KeptBooks}
+use Rattle.theory_run.proofs.Facts.Bookkeeping.{fits, checks}
+use Rattle.theory_run.specs.KeptBook.{HeldFine}
 use Rattle.bm_world_spend.specs.Placed.{IsPlaced}
 use Rattle.bm_world_spend.specs.Gifts.{LieApart, IsFreshGift, signed_world}
 

@@ -8,7 +8,7 @@ ghost use Rattle.spec_bitcoin.specs.declared.tx.Tx.{Tx as Transaction};
 ghost use Rattle.spec_bitcoin.specs.Reading.{transaction_of};
 ghost use Rattle.spec_run.specs.Conditions.{IsPiece};
 ghost use Rattle.spec_run.specs.Event.{append_read};
-ghost use Rattle.theory_world.proofs.Ledger.Preimages.{IsNumbered};
+ghost use Rattle.theory_world.specs.Transactions.{IsNumbered};
 ghost use Rattle.bm_match.specs.Matches.{all_compiled};
 ghost use Rattle.bm_world_board.specs.Drafts.{setup_of, world_of, Drafts};
 ghost use Rattle.bm_world_board.specs.Reaching.{IsFresh, reaches_in};

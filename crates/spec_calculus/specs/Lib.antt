@@ -5,3 +5,5 @@ pub mod Moves
 pub mod Same
 pub mod Offers
 pub mod Steps
+pub mod InOrder
+pub mod Offered

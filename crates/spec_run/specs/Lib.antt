@@ -23,3 +23,4 @@ pub mod Values
 pub mod HonestDeposits
 pub mod Conditions
 pub mod Statements
+pub mod HaveEvents

@@ -17,6 +17,7 @@ use Rattle.spec_run.specs.Translation.{Turn, opening_configuration, course, last
 use Rattle.spec_run.specs.Offers.{Offer, offers}
 use Rattle.spec_run.specs.Halting.{OpeningIs}
 use Rattle.spec_run.specs.Statements.{Simulates, HoldsThroughout, licensed, IsKept, OffersThroughout, HaltsRightly}
+use Rattle.spec_run.specs.HaveEvents.{OffersAreComplete}
 use Rattle.spec_text.specs.Refusals.{run_of}
 use Rattle.spec_text.specs.declared.entry.Entry.{Entry}
 use Rattle.spec_text.specs.PlayText.{Ending, whole, guessed, collided, report_text}
@@ -70,6 +71,8 @@ pub record IsFaithful (s : Setup) (es : List Event) : Type 0 where
       → IsKept s (last_configuration s es) (last_world s es) offer
   -- and so it is at the opening and after every event; what is offered there is what the run offers that ends there
   pub offers_throughout : OffersThroughout s es
+  -- all contract steps that may be taken are offered, in order and each beside its event, at the opening, after every event and at the end
+  pub offers_complete : OffersAreComplete s es
   -- each event goes on where nothing halts it, and the run halts only where strings collide or a secret is given away
   pub halts : HaltsRightly s es
   -- and it is what is printed

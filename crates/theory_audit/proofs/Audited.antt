@@ -5,7 +5,7 @@ use Rattle.spec_run.specs.World.{World}
 use Rattle.spec_run.specs.Translation.{last_world}
 use Rattle.spec_text.specs.Lines.{lines_of}
 use Rattle.spec_tool.specs.Audit.{listed_in, findings_from, audit_strings, audit_collision}
-use Rattle.theory_world.proofs.Hashed.{NoClash}
+use Rattle.theory_world.specs.KeptApart.{NoClash}
 use Rattle.theory_run.proofs.Halting.Halts.{collides, calm_is}
 use Rattle.theory_run.proofs.Worlds.WorldsOfRuns.{worlds_of_runs}
 use Rattle.theory_audit.specs.Audited.{HaltsAs, AuditsFindAll}

@@ -20,7 +20,8 @@ use Rattle.spec_tool.specs.declared.finding.Finding.{Finding}
 use Rattle.spec_tool.specs.Listed.{Listed}
 use Rattle.spec_tool.specs.Audit.{Given, given_by, given_bytes, given_words, given_line, listed_in, names_among, now_by, now_for}
 use Rattle.spec_tool.specs.Audit.{kind_given, finding, findings_from}
-use Rattle.theory_calculus.proofs.Members.{Is_in, in_from_contains, contains_from_in, in_filter, filter_has}
+use Rattle.theory_calculus.specs.Members.{Is_in}
+use Rattle.theory_calculus.proofs.Members.{in_from_contains, contains_from_in, in_filter, filter_has}
 use Rattle.theory_bitcoin.proofs.Top.{fault_is_first, read_is_spelled}
 use Rattle.theory_script.proofs.Listing.Stands.{some_same}
 use Rattle.theory_text.proofs.Lines.Hex.{read_hex_is}

@@ -15,7 +15,8 @@ use Rattle.spec_tool.specs.declared.which.Which.{Which}
 use Rattle.spec_tool.specs.declared.finding.Finding.{Finding}
 use Rattle.spec_tool.specs.Listed.{Listed, same_which}
 use Rattle.spec_tool.specs.Audit.{listed_in, names_in, is_named, absent_of, Missing, missing_inputs, missing_of}
-use Rattle.theory_calculus.proofs.Members.{Is_in, in_append, in_left, in_right, in_from_contains, contains_from_in, in_filter, filter_has}
+use Rattle.theory_calculus.specs.Members.{Is_in}
+use Rattle.theory_calculus.proofs.Members.{in_append, in_left, in_right, in_from_contains, contains_from_in, in_filter, filter_has}
 use Rattle.theory_script.proofs.Listing.Stands.{some_same}
 use Rattle.theory_world.proofs.Contracts.Endorsed.{in_map, in_flat}
 use Rattle.theory_run.proofs.Accepted.Unmade.{in_images}

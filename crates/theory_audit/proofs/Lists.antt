@@ -2,7 +2,8 @@
 use Rattle.std.proofs.Common.{List, [], ◌∷◌, ◌++◌, map, Bool, true, false, refl, ap, subst, inl, inr}
 use Rattle.std.specs.Prelude.{if◌then◌else◌}
 use Rattle.std.specs.List.{filter, flat_map}
-use Rattle.theory_calculus.proofs.Members.{Is_in, in_left, in_right}
+use Rattle.theory_calculus.specs.Members.{Is_in}
+use Rattle.theory_calculus.proofs.Members.{in_left, in_right}
 use Rattle.theory_audit.specs.Audited.{AreInOrder}
 
 pub order_more : {A : Type 0} (xs : List A) (y : A) (ys : List A) → AreInOrder xs ys → AreInOrder xs (y ∷ ys)

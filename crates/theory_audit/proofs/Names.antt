@@ -18,7 +18,7 @@ use Rattle.spec_tool.specs.declared.which.Which.{Which}
 use Rattle.spec_tool.specs.declared.which.Which.TheVariants as names
 use Rattle.spec_tool.specs.Listed.{Listed, initial_listed, path_listed, listed, listed_at, same_which}
 use Rattle.spec_tool.specs.Audit.{listed_by, listed_in}
-use Rattle.theory_calculus.proofs.Members.{Is_in}
+use Rattle.theory_calculus.specs.Members.{Is_in}
 use Rattle.theory_script.specs.Listed.{at_path}
 use Rattle.theory_script.proofs.Listing.Stands.{some_same}
 use Rattle.theory_script.proofs.Listing.Transactions.{AreRight, transactions_right, paths_are_listed}

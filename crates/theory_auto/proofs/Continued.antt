@@ -13,7 +13,7 @@ use Rattle.spec_run.specs.Translation.{last_world, first_halt}
 use Rattle.spec_run.specs.Statements.{IsRun}
 use Rattle.spec_tool.specs.declared.rule.Rule.{Rule}
 use Rattle.spec_tool.specs.Turns.{rule_event, Progress, extended}
-use Rattle.theory_world.proofs.Hashed.{NoClash}
+use Rattle.theory_world.specs.KeptApart.{NoClash}
 use Rattle.theory_run.proofs.Worlds.WorldsOfRuns.{worlds_of_runs}
 use Rattle.theory_auto.specs.Continued.{AreTaken, IsRefusal, IsRefusedIf, IsIdle, HashedMore, GoesOnBy, StrategiesGoOn}
 use Rattle.theory_run.proofs.Fewer.{Within, collision_within, again_calm}

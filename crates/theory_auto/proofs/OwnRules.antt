@@ -19,7 +19,8 @@ use Rattle.spec_tool.specs.declared.rule.Act.{Act}
 use Rattle.spec_tool.specs.declared.rule.Act.TheVariants as acts
 use Rattle.spec_tool.specs.declared.rule.Rule.{Rule}
 use Rattle.spec_tool.specs.Turns.{taken_at, act_event, Progress}
-use Rattle.theory_calculus.proofs.Members.{Is_in, in_left, in_from_contains, contains_from_in}
+use Rattle.theory_calculus.specs.Members.{Is_in}
+use Rattle.theory_calculus.proofs.Members.{in_left, in_from_contains, contains_from_in}
 use Rattle.theory_calculus.proofs.Names.{bytes-true}
 use Rattle.theory_script.proofs.Listing.Stands.{some_same}
 use Rattle.theory_run.proofs.Simulated.{simulation}

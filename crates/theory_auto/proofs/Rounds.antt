@@ -12,7 +12,7 @@ use Rattle.spec_run.specs.Setup.{Setup}
 use Rattle.spec_run.specs.World.{World}
 use Rattle.spec_tool.specs.declared.rule.Rule.{Rule}
 use Rattle.spec_tool.specs.Turns.{rule_event, Progress, Progressed, tried_if, resting, round, after_events, rounds_on, rounds}
-use Rattle.theory_world.proofs.Hashed.{NoClash}
+use Rattle.theory_world.specs.KeptApart.{NoClash}
 use Rattle.theory_auto.specs.Continued.{AreTaken, HaltsAt}
 use Rattle.theory_run.proofs.Fewer.{Within}
 use Rattle.theory_auto.proofs.HashlessRules.{rule_same}

@@ -26,7 +26,8 @@ use Rattle.spec_tool.specs.Sizes.{rule_line_bytes}
 use Rattle.spec_tool.specs.Strategy.{read_strategy}
 use Rattle.spec_tool.specs.AutoText.{size_limit, events_limit, has_room, fits_within, judged_rules, longer_run}
 use Rattle.spec_tool.specs.Turns.{Progress, extended}
-use Rattle.theory_calculus.proofs.Members.{Is_in, in_left, in_from_contains, contains_from_in}
+use Rattle.theory_calculus.specs.Members.{Is_in}
+use Rattle.theory_calculus.proofs.Members.{in_left, in_from_contains, contains_from_in}
 use Rattle.theory_text.proofs.Lines.EventLines.{printed_event}
 use Rattle.theory_text.proofs.Lines.Headers.{printed_header}
 use Rattle.theory_text.proofs.Lines.ReadHeaders.{IsRead, line_keeps, no_header_read}

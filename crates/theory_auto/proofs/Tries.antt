@@ -16,7 +16,8 @@ use Rattle.spec_run.specs.Halting.{HaltIsThere}
 use Rattle.spec_run.specs.Values.{is_refused, RefusedKept}
 use Rattle.spec_tool.specs.declared.rule.Rule.{Rule}
 use Rattle.spec_tool.specs.Turns.{rule_event, Progress, Progressed, keeps, takes, tried, round}
-use Rattle.theory_world.proofs.Hashed.{NoClash, no_clash, all_new, all_more}
+use Rattle.theory_world.specs.KeptApart.{NoClash}
+use Rattle.theory_world.proofs.Hashed.{no_clash, all_new, all_more}
 use Rattle.theory_world.proofs.Refused.{refusals_keep}
 use Rattle.theory_run.proofs.Halting.Halts.{collides, calm_is, guesses}
 use Rattle.theory_auto.specs.Continued.{AreTaken, HaltsAt}

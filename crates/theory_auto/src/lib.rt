@@ -6,7 +6,7 @@ ghost use Rattle.theory_auto.specs.OwnRules.{StrategiesAreHonest, StrategiesKeep
 ghost use Rattle.theory_auto.specs.Printed.{PrintedIsLonger};
 ghost use Rattle.theory_auto.specs.Spelled.{LongerRunsAreSpelled};
 
-use theory_headline::valid_runs;
+use theory_tool::valid_runs;
 
 /// The rules of a strategy go on with a run by events that the longer run does or accepts, each a
 /// rule's and no rule twice, until no rule that is left is enabled; or the first event that is tried

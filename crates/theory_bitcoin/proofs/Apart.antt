@@ -16,6 +16,7 @@ use Rattle.theory_bitcoin.proofs.Formats.{IsWide, wide32, wide64}
 use Rattle.theory_bitcoin.proofs.Parts.{IsBare, body_bytes, Plain, String, the_string, Output, an_output}
 use Rattle.theory_bitcoin.proofs.Transactions.{with_bytes, starts_plain, bare_marked}
 use Rattle.theory_bitcoin.proofs.Top.{one_transaction}
+use Rattle.theory_bitcoin.specs.Places.{AllPlaces}
 
 -- ---- fronts of one length
 
@@ -87,10 +88,6 @@ prev_bytes i = place_bytes i.prev
 
 some_place : (p : OutPoint) (x : List ℕ) → [] ≡ place_bytes p ++ x → IsPlace p → ⊥
 some_place p x e h = let n : 0 ≡ length (place_bytes p ++ x) = ap length e in omega (arith, n, length-append (place_bytes p) x, length-append p.txid (word p.vout), h.size)
-
-abbrev pub AllPlaces : List TxIn → Type 0
-AllPlaces [] = Unit {0}
-AllPlaces (i ∷ is) = IsPlace i.prev × AllPlaces is
 
 pub inputs_places : (is : List TxIn) → AllByRecursion IsInput is → AllPlaces is
 inputs_places [] h = tt

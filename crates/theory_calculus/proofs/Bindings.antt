@@ -15,8 +15,9 @@ use Rattle.spec_calculus.specs.Same.{owner_eq}
 use Rattle.spec_calculus.specs.Beginning.{is_advertised, fits_deposit, binds_each, are_bound_apart, bindings_of, is_there, are_there, and_then, numbers_of}
 use Rattle.spec_calculus.specs.Moves.{deposit_at, is_live, value_at, owner_at, value_in}
 use Rattle.spec_calculus.specs.Moves as moves
-use Rattle.theory_calculus.specs.InOrder.{are_ascending}
-use Rattle.theory_calculus.proofs.Members.{Is_in, found, some_there}
+use Rattle.spec_calculus.specs.InOrder.{are_ascending}
+use Rattle.theory_calculus.specs.Members.{Is_in}
+use Rattle.theory_calculus.proofs.Members.{found, some_there}
 use Rattle.theory_calculus.proofs.Names.{bytes-true, bytes_refl, in_named}
 
 -- ---- what is kept of bindings

@@ -17,7 +17,7 @@ use Rattle.spec_terms.specs.Precondition.{Holding, persistent, volatile, deposit
 use Rattle.spec_terms.specs.Term.{Guarded, auth, after, put_reveal, withdraw, split, Contract, Parts}
 use Rattle.spec_terms.specs.declared.path.PathStep.{PathStep}
 use Rattle.theory_calculus.specs.Money.{Pays}
-use Rattle.theory_calculus.proofs.Members.{Is_in}
+use Rattle.theory_calculus.specs.Members.{Is_in}
 use Rattle.theory_calculus.proofs.Stands.{none_at, stands_next}
 use Rattle.theory_calculus.proofs.Faultless.{no_fault}
 use Rattle.theory_calculus.proofs.Names.{different_names, persistent_different, deposits_different}

@@ -20,7 +20,8 @@ use Rattle.spec_calculus.specs.Beginning.{contract_at, pre_of, is_advertised, bi
 use Rattle.spec_calculus.specs.Moves.{kept, made}
 use Rattle.spec_calculus.specs.Steps.{premises, fails}
 use Rattle.theory_calculus.specs.Numbered.{IsNumbered}
-use Rattle.theory_calculus.proofs.Members.{Is_in, in_append, in_filter, some_there, no_false}
+use Rattle.theory_calculus.specs.Members.{Is_in}
+use Rattle.theory_calculus.proofs.Members.{in_append, in_filter, some_there, no_false}
 use Rattle.theory_calculus.proofs.Bindings.{IsBound, bound_later, earlier, bound_now, bindings_more}
 use Rattle.theory_calculus.proofs.Checked.{deposit_names_differ}
 

@@ -23,7 +23,8 @@ use Rattle.spec_calculus.specs.Branches.{active_at, contract_number, position_of
 use Rattle.spec_calculus.specs.Steps.{premises, fails, effect, branch_at, opening}
 use Rattle.theory_calculus.specs.Numbered.{IsNumbered}
 use Rattle.theory_calculus.specs.Money.{Pays, IsBalanced, total_money, fee_at, IsMoneyKept, IsFunded, MoneyIsKept, IsWithinAllMoney, MoneyStaysWithin}
-use Rattle.theory_calculus.proofs.Members.{Is_in, in_append, in_filter, in_from_contains, contains_from_in, some_there, no_false}
+use Rattle.theory_calculus.specs.Members.{Is_in}
+use Rattle.theory_calculus.proofs.Members.{in_append, in_filter, in_from_contains, contains_from_in, some_there, no_false}
 use Rattle.theory_calculus.proofs.Runs.{kept_along}
 use Rattle.theory_calculus.proofs.Numbered.{numbered_after, opening_numbered}
 use Rattle.theory_calculus.proofs.Sums.{sum_of, kept_gone, gone_value, others_balance}

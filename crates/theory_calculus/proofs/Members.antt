@@ -4,12 +4,9 @@ use Rattle.std.specs.Prelude.{slice_index_or, if◌then◌else◌, cond, is_some
 use Rattle.std.specs.List.{Contains, filter, find, list_all}
 use Rattle.std.proofs.lemmas.Bool.{and_parts, and_from}
 use Rattle.spec_data.specs.Lists.{first_false, AllTrue}
+use Rattle.theory_calculus.specs.Members.{Is_in}
 
 -- ---- an element of a list
-
-abbrev pub Is_in : {A : Type 0} → A → List A → Type 0
-Is_in x [] = ⊥
-Is_in x (y ∷ ys) = (x ≡ y) ⊎ Is_in x ys
 
 -- a list that has an element has some length
 pub in_some : {A : Type 0} (x : A) (xs : List A) → Is_in x xs → 0 < length xs

@@ -12,7 +12,7 @@ use Rattle.spec_terms.specs.Precondition.{Holding, persistent, volatile, deposit
 use Rattle.spec_terms.specs.declared.place.Place.TheVariants as places
 use Rattle.spec_terms.specs.declared.pre.Pre.{Pre}
 use Rattle.spec_terms.specs.declared.pre.Pre.TheVariants.{Persistent, Volatile, Secret}
-use Rattle.theory_calculus.proofs.Members.{Is_in}
+use Rattle.theory_calculus.specs.Members.{Is_in}
 use Rattle.theory_calculus.proofs.Faultless.{map_none, no_fault}
 
 -- ---- byte strings

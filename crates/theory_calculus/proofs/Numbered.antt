@@ -21,7 +21,7 @@ use Rattle.spec_calculus.specs.Beginning.{contract_at, pre_of, fee_of, bindings_
 use Rattle.spec_calculus.specs.Moves.{kept, made}
 use Rattle.spec_calculus.specs.Branches.{active_at, contract_number, position_of, balance_of, advert_of, puts_of_taken, payee_of, values_of, gone, total_value, others, parts_made}
 use Rattle.spec_calculus.specs.Steps.{branch_at, begun, continued, withdrawn, divided, moved, effect, opening, owned}
-use Rattle.theory_calculus.specs.InOrder.{are_ascending}
+use Rattle.spec_calculus.specs.InOrder.{are_ascending}
 use Rattle.theory_calculus.specs.Numbered.{IsNumbered, NumbersStandApart, deposit_numbers, contract_numbers}
 use Rattle.theory_calculus.proofs.Members.{all_append, all_then}
 use Rattle.theory_calculus.proofs.Ordered.{in_order-append}

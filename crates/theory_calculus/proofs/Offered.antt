@@ -1,5 +1,6 @@
 -- Every enabled contract step stands among the offers, and the offers stand in order.
-use Rattle.std.proofs.Common.{◌≡◌, ℕ, zero, suc, ◌+◌, ◌<◌, ◌≤◌, List, [], ◌∷◌, ◌++◌, map, Bool, true, false, Option, Some, None, refl, sym, ap, ◌∙◌, subst, arith, inl, inr}
+use Rattle.std.proofs.Common.{◌≡◌, ℕ, zero, suc, ◌+◌, ◌<◌, ◌≤◌, List, [], ◌∷◌, ◌++◌, map, Bool, true, false, Option, Some, None, refl, sym}
+use Rattle.std.proofs.Common.{ap, ◌∙◌, subst, arith, inl, inr}
 use Rattle.std.specs.Prelude.{◌==◌, nat_lt, slice_get, option_map, option_and_then, is_some}
 use Rattle.std.specs.List.{Contains, list_all}
 use Rattle.std.proofs.lemmas.Bool.{and_parts, and_from, eqb-true, eq-eqb}
@@ -16,12 +17,16 @@ use Rattle.spec_calculus.specs.declared.step.Step.TheVariants as steps
 use Rattle.spec_calculus.specs.declared.parts.ActiveContract.{ActiveContract}
 use Rattle.spec_calculus.specs.Configuration.{Configuration}
 use Rattle.spec_calculus.specs.Beginning.{contract_at}
-use Rattle.spec_calculus.specs.Branches.{active_at, branch_in, branch_of, is_put, is_withdraw, is_split, is_put_core, is_withdraw_core, is_split_core}
+use Rattle.spec_calculus.specs.Branches.{active_at, branch_in, branch_of, is_put, is_withdraw, is_split, is_put_core, is_withdraw_core}
+use Rattle.spec_calculus.specs.Branches.{is_split_core}
 use Rattle.spec_calculus.specs.Steps.{fails, premises, branch_at}
 use Rattle.spec_calculus.specs.Offers.{is_enabled, beginnings, taking, takings, branches_at, branches_in, branches_of, all_takings, offers}
-use Rattle.theory_calculus.specs.InOrder.{stands_in_order, are_ascending}
-use Rattle.theory_calculus.specs.Offered.{is_contract_step, key_of, is_key_less, is_offered_before, EveryEnabledIsOffered, OffersStandInOrder}
-use Rattle.theory_calculus.proofs.Members.{Is_in, in_left, in_right, in_from_contains, contains_from_in, in_filter, filter_has, all_in, all_append, all_filter, found, some_there, no_false}
+use Rattle.spec_calculus.specs.InOrder.{stands_in_order, are_ascending}
+use Rattle.spec_calculus.specs.Offered.{is_contract_step, key_of, is_key_less, is_offered_before}
+use Rattle.theory_calculus.specs.Offered.{EveryEnabledIsOffered, OffersStandInOrder}
+use Rattle.theory_calculus.specs.Members.{Is_in}
+use Rattle.theory_calculus.proofs.Members.{in_left, in_right, in_from_contains, contains_from_in, in_filter, filter_has, all_in}
+use Rattle.theory_calculus.proofs.Members.{all_append, all_filter, found, some_there, no_false}
 use Rattle.theory_calculus.proofs.Ordered.{in_order-append, in_order-filter}
 
 -- ---- a branch by its path is the branch of its number at the position

@@ -9,7 +9,8 @@ use Rattle.spec_terms.specs.Precondition.{Holding, volatile}
 use Rattle.spec_terms.specs.Term.{Guarded, auth, after, put_reveal, withdraw, split, Contract, no_branch, branch, branches, Parts, no_part, part, parts_list, Pred}
 use Rattle.spec_terms.specs.declared.path.PathStep.{PathStep}
 use Rattle.spec_terms.specs.declared.path.PathStep.TheVariants.{Branch as To, Part as Into}
-use Rattle.theory_calculus.proofs.Members.{Is_in, in_append}
+use Rattle.theory_calculus.specs.Members.{Is_in}
+use Rattle.theory_calculus.proofs.Members.{in_append}
 
 module _ (ds : List (List ℕ × Holding)) (fee : ℕ) where
   -- a position or branch, with the balance that it has from its position

@@ -3,7 +3,7 @@ use Rattle.std.proofs.Common.{◌≡◌, List, [], ◌∷◌, ◌++◌, Bool, tr
 use Rattle.std.specs.Prelude.{if◌then◌else◌}
 use Rattle.std.specs.List.{filter, list_all}
 use Rattle.std.proofs.lemmas.Bool.{and_parts, and_from}
-use Rattle.theory_calculus.specs.InOrder.{stands_in_order}
+use Rattle.spec_calculus.specs.InOrder.{stands_in_order}
 use Rattle.theory_calculus.proofs.Members.{all_append, all_filter}
 
 module _ {X : Type 0} (before : X → X → Bool) where

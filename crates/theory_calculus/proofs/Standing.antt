@@ -21,7 +21,8 @@ use Rattle.spec_calculus.specs.Branches.{active_at, contract_number, position_of
 use Rattle.spec_calculus.specs.Steps.{branch_at}
 use Rattle.spec_calculus.specs.Offers.{branches_at, branches_in}
 use Rattle.theory_calculus.specs.Money.{Pays}
-use Rattle.theory_calculus.proofs.Members.{Is_in, found, some_there}
+use Rattle.theory_calculus.specs.Members.{Is_in}
+use Rattle.theory_calculus.proofs.Members.{found, some_there}
 use Rattle.theory_calculus.proofs.Offered.{branch_is}
 use Rattle.theory_calculus.proofs.Sums.{gone_value}
 use Rattle.theory_calculus.proofs.Stands.{stands_branch, stands_next, stands_part, choice_next, choice_part}

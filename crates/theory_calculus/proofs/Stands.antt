@@ -12,7 +12,8 @@ use Rattle.spec_terms.specs.Term.{Guarded, auth, after, put_reveal, withdraw, sp
 use Rattle.spec_terms.proofs.PathLemmas.{subterm_from-step}
 use Rattle.spec_terms.specs.declared.path.PathStep.{PathStep}
 use Rattle.spec_terms.specs.declared.path.PathStep.TheVariants.{Branch as To, Part as Into}
-use Rattle.theory_calculus.proofs.Members.{Is_in, in_left, in_right, in_append}
+use Rattle.theory_calculus.specs.Members.{Is_in}
+use Rattle.theory_calculus.proofs.Members.{in_left, in_right, in_append}
 use Rattle.theory_calculus.proofs.Faultless.{no_place}
 
 -- ---- what the check has seen

@@ -12,7 +12,7 @@ use Rattle.spec_calculus.specs.declared.parts.Deposit.{Deposit}
 use Rattle.spec_calculus.specs.declared.parts.ActiveContract.{ActiveContract}
 use Rattle.spec_calculus.specs.Moves.{value_at, value_in, value_out, kept, made}
 use Rattle.spec_calculus.specs.Branches.{active_at, balance_of, gone, total_value, others, parts_made}
-use Rattle.theory_calculus.specs.InOrder.{are_ascending}
+use Rattle.spec_calculus.specs.InOrder.{are_ascending}
 use Rattle.theory_calculus.specs.Money.{total_balance}
 
 abbrev value : Deposit → ℕ

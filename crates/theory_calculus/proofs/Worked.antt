@@ -8,8 +8,8 @@ use Rattle.spec_calculus.specs.Configuration.{Configuration}
 use Rattle.spec_calculus.specs.Steps.{after_steps, opening}
 use Rattle.spec_calculus.specs.Offers.{offers}
 use Rattle.theory_calculus.specs.Money.{total_money, IsMoneyKept}
-use Rattle.theory_calculus.specs.InOrder.{stands_in_order}
-use Rattle.theory_calculus.specs.Offered.{is_offered_before}
+use Rattle.spec_calculus.specs.InOrder.{stands_in_order}
+use Rattle.spec_calculus.specs.Offered.{is_offered_before}
 
 abbrev A : List ℕ
 A = 65 ∷ []

@@ -1,4 +1,4 @@
-pub mod InOrder
 pub mod Offered
 pub mod Numbered
 pub mod Money
+pub mod Members

@@ -6,7 +6,7 @@ use Rattle.spec_terms.specs.Advert.{Advert}
 use Rattle.spec_calculus.specs.declared.step.Step.{Step}
 use Rattle.spec_calculus.specs.Configuration.{Configuration}
 use Rattle.spec_calculus.specs.Steps.{Legal, IsLegalRun, after_steps, opening}
-use Rattle.theory_calculus.specs.InOrder.{are_ascending}
+use Rattle.spec_calculus.specs.InOrder.{are_ascending}
 
 -- ---- legal runs
 

@@ -43,7 +43,7 @@ use Rattle.spec_tool.specs.declared.which.Which.TheVariants as names
 use Rattle.spec_tool.specs.Listed.{Listed, deposit_signer, branch_signers, path_signers, initial_listed, path_listed, listed_at}
 use Rattle.theory_bitcoin.proofs.Exact.{bytes_none, bytes_cons}
 use Rattle.theory_calculus.proofs.Faultless.{no_fault}
-use Rattle.theory_calculus.proofs.Members.{Is_in}
+use Rattle.theory_calculus.specs.Members.{Is_in}
 use Rattle.theory_calculus.proofs.Names.{volatile_named, persistent_deposit}
 use Rattle.theory_script.proofs.Balances.{position_little}
 use Rattle.theory_script.proofs.Checked.{core_fact, puts_known}
@@ -55,7 +55,8 @@ use Rattle.theory_world.proofs.Contracts.Made.{IsBranch, known}
 use Rattle.theory_world.proofs.Contracts.Mentions.{a_person}
 use Rattle.theory_world.proofs.Contracts.Standing.{term_branch, term_choice}
 use Rattle.theory_run.proofs.Accepted.Spending.{Checked}
-use Rattle.theory_run.proofs.Facts.Bookkeeping.{KeptBooks, checks}
+use Rattle.theory_run.specs.KeptRuns.{KeptBooks}
+use Rattle.theory_run.proofs.Facts.Bookkeeping.{checks}
 use Rattle.theory_run.proofs.Facts.Labelled.{compiled_label}
 use Rattle.theory_run.proofs.Facts.Readings.{branch_is_readable}
 use Rattle.theory_run.proofs.Widths.Fitting.{bound_place, initial_fits}

@@ -18,7 +18,8 @@ use Rattle.spec_run.specs.Event.{opening_world}
 use Rattle.spec_run.specs.Translation.{opening_configuration, course, last_configuration, last_world}
 use Rattle.spec_run.specs.Statements.{IsRun, HoldsThroughout, simulated}
 use Rattle.theory_run.proofs.Following.{Keeps, run_posts, claims_and_keeps, holds-map, kept_throughout, kept_at_end}
-use Rattle.theory_run.proofs.Simulated.{KeptRun, opening_run, keeps_simulated}
+use Rattle.theory_run.specs.KeptRuns.{KeptRun}
+use Rattle.theory_run.proofs.Simulated.{opening_run, keeps_simulated}
 use Rattle.theory_listed.specs.InRuns.{ListsFitting, ListedFitInRuns, IsReadBack, ReadsBack, ListedReadInRuns}
 use Rattle.theory_listed.proofs.Digests.{AreBytes, bytes_after}
 use Rattle.theory_listed.proofs.Fitting.{all_fit}

@@ -41,7 +41,7 @@ use Rattle.theory_world.proofs.Later.{compiled_is}
 use Rattle.theory_world.proofs.Tests.{length_map}
 use Rattle.theory_world.proofs.Contracts.Checking.{compiled_checked}
 use Rattle.theory_world.proofs.Contracts.Standing.{term_branch}
-use Rattle.theory_run.proofs.Facts.Bookkeeping.{KeptBooks}
+use Rattle.theory_run.specs.KeptRuns.{KeptBooks}
 use Rattle.theory_run.proofs.Facts.Readings.{branch_is_readable}
 use Rattle.theory_run.proofs.Widths.Fitting.{pays_size}
 use Rattle.theory_listed.proofs.Digests.{AreBytes}

@@ -26,7 +26,8 @@ use Rattle.spec_compiler.specs.ByPath as by_path
 use Rattle.spec_compiler.specs.ByPath.{position_at}
 use Rattle.spec_compiler.specs.Endorsements.{put_owner, branch_needs, put_needs, needs_of, path_needs, is_met, is_endorsed}
 use Rattle.theory_calculus.proofs.Names.{bytes-true, all_among}
-use Rattle.theory_calculus.proofs.Members.{all_map, Is_in}
+use Rattle.theory_calculus.specs.Members.{Is_in}
+use Rattle.theory_calculus.proofs.Members.{all_map}
 use Rattle.theory_world.proofs.Tests.{all-append}
 use Rattle.theory_world.proofs.Contracts.Positions.{branch_here, covered}
 use Rattle.theory_world.proofs.Contracts.Standing.{stand_of_branch, position_named, term_branches}

@@ -31,7 +31,7 @@ use Rattle.spec_run.specs.HonestDeposits.{gives}
 use Rattle.spec_run.specs.Event.{append_read, mine_row, draft}
 use Rattle.theory_world.proofs.Bookless.{initial_same}
 use Rattle.theory_run.proofs.Accepted.WhatItIs.{initial_is}
-use Rattle.theory_run.proofs.Facts.Bookkeeping.{KeptBooks}
+use Rattle.theory_run.specs.KeptRuns.{KeptBooks}
 use Rattle.theory_run.proofs.Honest.Leaves.{KeptLeave}
 use Rattle.theory_offers.proofs.Endorsing.{IsReady, KeptStarts}
 use Rattle.theory_offers.proofs.Basis.Offered.{KeptOffers}

@@ -26,11 +26,12 @@ use Rattle.spec_run.specs.Ledger.{verdict_in, strings_of, items_of, reason_of, a
 use Rattle.spec_run.specs.HonestDeposits.{gives, SpendsWithLeave}
 use Rattle.spec_run.specs.Event.{append_read, draft, record_of}
 use Rattle.theory_world.proofs.Ledger.Worth.{accepted_by}
-use Rattle.theory_run.proofs.Facts.Kept.{KeptBook}
+use Rattle.theory_run.specs.KeptBook.{KeptBook}
 use Rattle.theory_run.proofs.Accepted.WhatItIs.{initial_is}
 use Rattle.theory_run.proofs.Events.Given.{signed_kept}
 use Rattle.theory_run.proofs.Accepted.ScriptsApart.{gift_starts_nothing}
-use Rattle.theory_run.proofs.Facts.Bookkeeping.{KeptBooks, checks, fits}
+use Rattle.theory_run.specs.KeptRuns.{KeptBooks}
+use Rattle.theory_run.proofs.Facts.Bookkeeping.{checks, fits}
 use Rattle.theory_run.proofs.Honest.Leaves.{KeptLeave}
 use Rattle.theory_run.proofs.Honest.HonestSpends.{leave_of_event}
 use Rattle.theory_offers.proofs.Endorsing.{KeptStarts}

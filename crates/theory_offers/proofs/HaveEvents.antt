@@ -10,11 +10,12 @@ use Rattle.spec_calculus.specs.declared.step.Step.TheVariants as steps
 use Rattle.spec_calculus.specs.Offers as calculus
 use Rattle.spec_calculus.specs.Steps.{fails}
 use Rattle.spec_run.specs.Offers.{Offer, offers_of, offers}
-use Rattle.theory_calculus.specs.InOrder.{stands_in_order}
-use Rattle.theory_calculus.specs.Offered.{is_contract_step, is_offered_before}
-use Rattle.theory_calculus.proofs.Members.{Is_in, in_from_contains, in_append}
+use Rattle.spec_calculus.specs.InOrder.{stands_in_order}
+use Rattle.spec_calculus.specs.Offered.{is_contract_step, is_offered_before}
+use Rattle.theory_calculus.specs.Members.{Is_in}
+use Rattle.theory_calculus.proofs.Members.{in_from_contains, in_append}
 use Rattle.theory_calculus.proofs.Offered.{offers_kind, every_enabled, in_order}
-use Rattle.theory_offers.specs.HaveEvents.{OffersHaveEvents}
+use Rattle.spec_run.specs.HaveEvents.{OffersHaveEvents}
 
 one_step : (s : Step) → is_contract_step s ≡ true → map (λ (o : Offer). o.step) (offers_of s) ≡ s ∷ []
 one_step (steps.Init contract) h = refl

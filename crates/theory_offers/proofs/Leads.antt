@@ -28,8 +28,8 @@ use Rattle.spec_run.specs.Event.{draft}
 use Rattle.spec_run.specs.Statements.{IsLast, LeadsTo, IsKept}
 use Rattle.theory_bitcoin.specs.Apart.{bare}
 use Rattle.theory_run.proofs.Facts.OnePosition.{one_initial}
-use Rattle.theory_run.proofs.Facts.KeptSecrets.{KeptSecrets}
-use Rattle.theory_run.proofs.Facts.Kept.{KeptBook}
+use Rattle.theory_run.specs.KeptSecrets.{KeptSecrets}
+use Rattle.theory_run.specs.KeptBook.{KeptBook}
 use Rattle.theory_run.proofs.Accepted.Spending.{Checked}
 use Rattle.theory_run.proofs.Accepted.WhatItIs.{initial_is, not_initial}
 use Rattle.theory_world.proofs.Ledger.Acceptable.{none_reason, with-bare}

@@ -13,9 +13,11 @@ mod TakingLeads
 mod Takings
 mod Unlocked
 mod Unmet
+pub mod Authorised
 pub mod Basis
 pub mod Beginning
 pub mod BegunInRun
+pub mod Complete
 pub mod OffersKept
 pub mod Throughout
 pub mod WholeRun

@@ -21,10 +21,12 @@ use Rattle.spec_run.specs.Conditions.{IsSetup}
 use Rattle.spec_run.specs.Agreement.{Agree}
 use Rattle.spec_run.specs.Offers.{Offer, offers_of, offers}
 use Rattle.spec_run.specs.Statements.{IsKept}
-use Rattle.theory_calculus.proofs.Members.{Is_in, in_append, in_at}
+use Rattle.theory_calculus.specs.Members.{Is_in}
+use Rattle.theory_calculus.proofs.Members.{in_append, in_at}
 use Rattle.theory_world.proofs.Contracts.Standing.{term_choice}
-use Rattle.theory_run.proofs.Facts.KeptSecrets.{Begins, KeptSecrets}
-use Rattle.theory_run.proofs.Facts.Kept.{KeptBook}
+use Rattle.theory_run.specs.KeptSecrets.{KeptSecrets}
+use Rattle.theory_run.proofs.Facts.KeptSecrets.{Begins}
+use Rattle.theory_run.specs.KeptBook.{KeptBook}
 use Rattle.theory_run.proofs.Accepted.Spending.{Checked}
 use Rattle.theory_offers.proofs.Basis.Offered.{KeptOffers}
 use Rattle.theory_offers.proofs.Leads.{init_kept}

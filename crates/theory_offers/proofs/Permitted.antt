@@ -31,12 +31,13 @@ use Rattle.spec_run.specs.Firing.{shown_strings, first_unshown}
 use Rattle.spec_run.specs.Steps.{core_step}
 use Rattle.spec_run.specs.Statements.{IsKept}
 use Rattle.theory_calculus.proofs.Names.{all_among}
-use Rattle.theory_calculus.proofs.Members.{Is_in, no_false}
+use Rattle.theory_calculus.specs.Members.{Is_in}
+use Rattle.theory_calculus.proofs.Members.{no_false}
 use Rattle.theory_script.proofs.Scripts.Predicates.{within_of_test}
 use Rattle.theory_world.proofs.Ledger.Outputs.{active-at}
 use Rattle.theory_world.proofs.Later.{compiled_is}
 use Rattle.theory_world.proofs.Contracts.Standing.{term_branches}
-use Rattle.theory_run.proofs.Facts.Kept.{KeptBook, HeldFine}
+use Rattle.theory_run.specs.KeptBook.{KeptBook, HeldFine}
 use Rattle.theory_run.proofs.Accepted.Spending.{Checked}
 use Rattle.theory_offers.proofs.Basis.Offered.{KeptOffers}
 use Rattle.theory_offers.proofs.Starts.{one_total}

@@ -31,11 +31,13 @@ use Rattle.spec_run.specs.Statements.{IsKept}
 use Rattle.theory_script.proofs.Checked.{core_fact}
 use Rattle.theory_calculus.proofs.Faultless.{no_fault}
 use Rattle.theory_calculus.proofs.Names.{different_names}
-use Rattle.theory_calculus.proofs.Members.{Is_in, all_in, no_false}
+use Rattle.theory_calculus.specs.Members.{Is_in}
+use Rattle.theory_calculus.proofs.Members.{all_in, no_false}
 use Rattle.theory_world.proofs.Later.{compiled_is}
 use Rattle.theory_world.proofs.Contracts.Standing.{term_choice}
-use Rattle.theory_run.proofs.Facts.KeptSecrets.{Begins, KeptSecrets}
-use Rattle.theory_run.proofs.Facts.Kept.{KeptBook}
+use Rattle.theory_run.specs.KeptSecrets.{KeptSecrets}
+use Rattle.theory_run.proofs.Facts.KeptSecrets.{Begins}
+use Rattle.theory_run.specs.KeptBook.{KeptBook}
 use Rattle.theory_run.proofs.Accepted.Spending.{Checked}
 use Rattle.theory_world.proofs.Ledger.Acceptable.{worth}
 use Rattle.theory_offers.proofs.Basis.Offered.{KeptOffers}

@@ -30,13 +30,14 @@ use Rattle.spec_run.specs.Firing.{initial_witnesses, initial_transaction}
 use Rattle.spec_run.specs.Ledger.{verdict_in}
 use Rattle.spec_run.specs.Steps.{names_deposit, is_bound_live}
 use Rattle.theory_calculus.proofs.Names.{all_among, different_names, persistent_deposit, persistent_different}
-use Rattle.theory_calculus.proofs.Members.{Is_in, in_some, no_false}
+use Rattle.theory_calculus.specs.Members.{Is_in}
+use Rattle.theory_calculus.proofs.Members.{in_some, no_false}
 use Rattle.theory_world.proofs.Tests.{any_map, length_map, all_alike}
 use Rattle.theory_world.proofs.Ledger.Outputs.{deposit-at, deposit_of}
-use Rattle.theory_run.proofs.Facts.KeptSecrets.{KeptSecrets, committed_by}
+use Rattle.theory_run.specs.KeptSecrets.{KeptSecrets, committed_by}
 use Rattle.theory_world.proofs.Later.{compiled_from}
 use Rattle.theory_world.proofs.Contracts.Mentions.{has_deposit, a_person}
-use Rattle.theory_run.proofs.Facts.Kept.{KeptBook}
+use Rattle.theory_run.specs.KeptBook.{KeptBook}
 use Rattle.theory_world.proofs.Ledger.Acceptable.{Asked, accepts, worth}
 use Rattle.theory_world.proofs.Contracts.Checking.{all_checked}
 use Rattle.theory_offers.proofs.Basis.Offered.{KeptOffers, number_of, ready_all, numbers_apart}

@@ -27,10 +27,11 @@ use Rattle.spec_run.specs.Steps.{reveals, kind_steps, branch_steps, auth_branch,
 use Rattle.spec_run.specs.Event.{draft}
 use Rattle.spec_run.specs.Statements.{IsLast, LeadsTo, IsKept}
 use Rattle.theory_bitcoin.specs.Apart.{bare_input, bare}
-use Rattle.theory_calculus.proofs.Members.{get_below, Is_in}
+use Rattle.theory_calculus.specs.Members.{Is_in}
+use Rattle.theory_calculus.proofs.Members.{get_below}
 use Rattle.theory_calculus.proofs.Names.{persistent_deposit}
 use Rattle.theory_script.proofs.Scripts.Choosing.{witness_chooses}
-use Rattle.theory_run.proofs.Facts.Kept.{KeptBook}
+use Rattle.theory_run.specs.KeptBook.{KeptBook}
 use Rattle.theory_run.proofs.Accepted.Spending.{Checked}
 use Rattle.theory_run.proofs.Accepted.Kinded.{counted}
 use Rattle.theory_run.proofs.Accepted.WhatItIs.{initial_is, at_bound}

@@ -34,13 +34,13 @@ use Rattle.spec_run.specs.Signing.{prepared_if_compiled}
 use Rattle.spec_run.specs.Ledger.{verdict_in, contract_in, position_path, position_branch}
 use Rattle.spec_run.specs.Steps.{names_deposit}
 use Rattle.theory_calculus.proofs.Names.{bytes_refl}
-use Rattle.theory_calculus.proofs.Members.{Is_in}
+use Rattle.theory_calculus.specs.Members.{Is_in}
 use Rattle.theory_script.proofs.Scripts.Witnesses.{witness_opens, stack_short, secrets_short}
 use Rattle.theory_script.proofs.Listing.Stands.{position_stands}
 use Rattle.theory_world.proofs.Hashed.{among_tail, among_head}
 use Rattle.theory_world.proofs.Later.{compiled_is}
 use Rattle.theory_world.proofs.Contracts.Standing.{unsigned_of_branch, position_named, term_choice}
-use Rattle.theory_run.proofs.Facts.Kept.{KeptBook, HeldFine}
+use Rattle.theory_run.specs.KeptBook.{KeptBook, HeldFine}
 use Rattle.theory_run.proofs.Accepted.Spending.{Checked}
 use Rattle.theory_run.proofs.Accepted.Kinded.{looked_branch}
 use Rattle.theory_run.proofs.Accepted.WhatItIs.{at_bound}

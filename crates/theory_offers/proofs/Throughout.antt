@@ -24,7 +24,8 @@ use Rattle.spec_run.specs.Offers.{Offer, offers}
 use Rattle.spec_run.specs.Statements.{IsRun, IsKept, spends_with_leave, offers_kept as kept_offers, OffersThroughoutTheorem}
 use Rattle.theory_world.proofs.Tests.{any_map}
 use Rattle.theory_world.proofs.Hashed.{any_found}
-use Rattle.theory_run.proofs.Facts.KeptSecrets.{Begins, KeptSecrets, committed_by, length_at-by}
+use Rattle.theory_run.specs.KeptSecrets.{KeptSecrets, committed_by}
+use Rattle.theory_run.proofs.Facts.KeptSecrets.{Begins, length_at-by}
 use Rattle.theory_run.proofs.Steps.Followed.{agree_all}
 use Rattle.theory_run.proofs.Following.{Keeps, turn_at, posted_begins, run_posts, kept_at_end, holds_throughout}
 use Rattle.theory_run.proofs.Facts.Bookkeeping.{checks}

@@ -22,9 +22,10 @@ use Rattle.spec_run.specs.Revealing.{fits, fitting}
 use Rattle.spec_run.specs.Secrets.{digest_at, is_shown, secret_size, length_in_run}
 use Rattle.spec_run.specs.Firing.{shown_string, shown_strings, first_unshown}
 use Rattle.theory_calculus.proofs.Names.{bytes-true, bytes_refl}
-use Rattle.theory_calculus.proofs.Members.{Is_in}
+use Rattle.theory_calculus.specs.Members.{Is_in}
 use Rattle.theory_world.proofs.Hashed.{any_found}
-use Rattle.theory_run.proofs.Facts.KeptSecrets.{Begins, KeptSecrets, is_own, length_at-by}
+use Rattle.theory_run.specs.KeptSecrets.{KeptSecrets, is_own}
+use Rattle.theory_run.proofs.Facts.KeptSecrets.{Begins, length_at-by}
 use Rattle.theory_run.proofs.Halting.Halts.{found}
 
 -- ---- whose a name is

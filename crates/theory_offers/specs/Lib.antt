@@ -1,2 +1,2 @@
-pub mod HaveEvents
 pub mod Begun
+pub mod Authorised

@@ -2,7 +2,8 @@
 #![tactic(auto)]
 
 ghost use Rattle.spec_run.specs.Statements.{OffersTheorem, OffersThroughoutTheorem};
-ghost use Rattle.theory_offers.specs.HaveEvents.{OffersHaveEvents};
+ghost use Rattle.spec_run.specs.HaveEvents.{OffersHaveEvents, OffersAreCompleteTheorem};
+ghost use Rattle.theory_offers.specs.Authorised.{AuthorisationsHaveSignatures};
 ghost use Rattle.theory_offers.specs.Begun.{EndorsedBeforeStart};
 
 /// Every enabled and authorised contract step after a run has a compiled transaction that the
@@ -23,7 +24,19 @@ pub fn offers_have_events()
     ensures { OffersHaveEvents }
 {}
 
+/// So at the opening of a run, after every event and at its end everything that may be taken is
+/// offered, each once and in order.
+pub fn offers_are_complete()
+    ensures { OffersAreCompleteTheorem }
+{}
+
 /// A contract begins in a run only where all its endorsements are in the book, and they stay there.
 pub fn endorsed_before_start()
     ensures { EndorsedBeforeStart }
+{}
+
+/// At the opening of a run, after every event and at its end each authorisation has its signature in
+/// the book, and an honest party's signature of a branch that asks it stands for its authorisation.
+pub fn authorisations_have_signatures()
+    ensures { AuthorisationsHaveSignatures }
 {}

@@ -9,7 +9,8 @@ use Rattle.spec_data.specs.Lists.{is_among}
 use Rattle.spec_data.specs.Messages.{noted, noted_all, is_twin, clash, collision}
 use Rattle.theory_calculus.proofs.Names.{bytes-true, bytes_refl}
 use Rattle.theory_calculus.proofs.Faultless.{map_none}
-use Rattle.theory_world.proofs.Hashed.{NoClash, among_head, among_tail, noted_more, noted_new, noted_back}
+use Rattle.theory_world.specs.KeptApart.{NoClash}
+use Rattle.theory_world.proofs.Hashed.{among_head, among_tail, noted_more, noted_new, noted_back}
 
 -- each of these strings is one of those
 abbrev pub Within : List (List ℕ) → List (List ℕ) → Type 0

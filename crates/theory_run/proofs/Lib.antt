@@ -11,4 +11,4 @@ pub mod Steps
 pub mod Tracking
 pub mod Widths
 pub mod Worlds
-mod Soundness
+pub mod Soundness

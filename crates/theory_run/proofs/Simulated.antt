@@ -22,14 +22,11 @@ use Rattle.theory_run.proofs.Facts.KeptSecrets.{Begins}
 use Rattle.theory_run.proofs.Facts.Opening.{opening_money, opening_secrets, opening_agrees}
 use Rattle.theory_run.proofs.Steps.Followed.{agree_all}
 use Rattle.theory_run.proofs.Following.{Keeps, turn_at, run_posts, holds_throughout}
-use Rattle.theory_run.proofs.Facts.Bookkeeping.{KeptBooks, checks, fits, opening_keeps, keeps_after}
-use Rattle.theory_run.proofs.Tracking.Tracked.{Tracks, IsTracked}
+use Rattle.theory_run.specs.KeptRuns.{KeptBooks, KeptRun}
+use Rattle.theory_run.proofs.Facts.Bookkeeping.{checks, fits, opening_keeps, keeps_after}
+use Rattle.theory_run.specs.Tracks.{Tracks}
+use Rattle.theory_run.proofs.Tracking.Tracked.{IsTracked}
 use Rattle.theory_run.proofs.Tracking.EveryEvent.{tracked_after}
-
--- what every run keeps: the configuration tracks the world, and signatures, outputs, contracts and commitments are fine
-pub record KeptRun (s : Setup) (z : List (List ℕ)) (g : Configuration) (w : World) : Type 0 where
-  pub tracks : Tracks s z g w
-  pub books : KeptBooks s g w
 
 module _ (s : Setup) (setup : IsSetup s) (z : List (List ℕ)) (g : Configuration) (w : World) (kept : KeptRun s z g w) where
   apart : different_secrets (all_secrets s) ≡ true

@@ -18,7 +18,8 @@ use Rattle.theory_calculus.proofs.Numbered.{numbers_apart}
 use Rattle.theory_calculus.proofs.Sums.{made_value}
 use Rattle.theory_run.specs.Sound.{IsSound, sound_after, RunsAreSound}
 use Rattle.theory_run.proofs.Following.{Keeps, run_posts, holds_throughout, kept_at_end}
-use Rattle.theory_run.proofs.Simulated.{KeptRun, opening_run, simulates, run_after}
+use Rattle.theory_run.specs.KeptRuns.{KeptRun}
+use Rattle.theory_run.proofs.Simulated.{opening_run, simulates, run_after}
 use Rattle.theory_world.proofs.Tests.{sum_map}
 
 -- a legal run goes on

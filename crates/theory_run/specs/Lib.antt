@@ -1,3 +1,9 @@
 pub mod OwnSignatures
 pub mod WorldsOfRuns
 pub mod Sound
+pub mod KeptBook
+pub mod KeptPromises
+pub mod KeptLabels
+pub mod KeptSecrets
+pub mod Tracks
+pub mod KeptRuns

@@ -8,3 +8,6 @@ pub mod Written
 pub mod Ended
 pub mod Auto
 pub mod Strategies
+pub mod Headlines
+mod Example
+pub mod Kept

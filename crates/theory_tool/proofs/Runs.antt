@@ -18,7 +18,8 @@ use Rattle.spec_run.specs.Translation.{opening_configuration, world_after, last_
 use Rattle.spec_text.specs.Played.{ending_from, ending}
 use Rattle.spec_tool.specs.Commands.{ending_status}
 use Rattle.theory_calculus.proofs.Names.{among-append}
-use Rattle.theory_world.proofs.Hashed.{NoClash, no_clash_none, no_clash, among_head}
+use Rattle.theory_world.specs.KeptApart.{NoClash}
+use Rattle.theory_world.proofs.Hashed.{no_clash_none, no_clash, among_head}
 use Rattle.theory_run.proofs.Halting.Halts.{calm_is, collides, none_away, guesses}
 use Rattle.theory_tool.specs.Runs.{CollidesAt, GuessesAt, left_by, HaltsBy, NoneHalts, OpensCalmly, OpeningCollides, IsGuessing}
 use Rattle.theory_tool.specs.Runs.{IsColliding, IsUnhalted, RunsHaltByCauses}

@@ -2,9 +2,13 @@
 #![tactic(auto)]
 
 ghost use Rattle.spec_tool.specs.Causes.{CausesTheorem};
+ghost use Rattle.spec_tool.specs.Headline.{HeadlineTheorem};
 ghost use Rattle.spec_tool.specs.Reading.{TextsTheorem, CompletenessTheorem};
+ghost use Rattle.spec_tool.specs.Statements.{ValidRunTheorem};
 ghost use Rattle.theory_tool.specs.Auto.{AutoTheorem};
 ghost use Rattle.theory_tool.specs.Ended.{CallsEnd};
+ghost use Rattle.theory_tool.specs.Example.{RunWithOffers};
+ghost use Rattle.theory_tool.specs.Kept.{RunsAreKept};
 ghost use Rattle.theory_tool.specs.Runs.{RunsHaltByCauses};
 ghost use Rattle.theory_tool.specs.Statuses.{StatusesTheorem};
 ghost use Rattle.theory_tool.specs.Strategies.{StrategiesAreRead};
@@ -69,4 +73,31 @@ pub fn auto_answers_every_case()
 /// that is one rule too many.
 pub fn strategies_are_read()
     ensures { StrategiesAreRead }
+{}
+
+/// Valid run files and well-formed contracts make a run of which the theorems on runs speak.
+pub fn valid_runs()
+    ensures { ValidRunTheorem }
+{}
+
+/// For every valid run file and every list of up to 16 well-formed contracts, `play` shows the
+/// ledger's run of all events and a legal run of the calculus that agrees with it, in which honest
+/// parties authorise only by their own events and what may be taken is offered and kept; or it
+/// shows a collision or a guessed secret.
+pub fn headline_theorem()
+    ensures { HeadlineTheorem }
+{}
+
+/// In every run of a valid run file and well-formed contracts no event makes the live outputs worth
+/// more, and a refused one changes nothing but the messages; an honest party's deposit goes only with
+/// its leave, a contract begins only where it is endorsed, and every world has the messages,
+/// signatures, places, commitments and money that the theorems on runs say.
+pub fn runs_are_kept()
+    ensures { RunsAreKept }
+{}
+
+/// A run whose contract has a secret and a split, in which no event is refused and at whose end more
+/// may be taken: so nothing that is claimed of runs is claimed of none.
+pub fn runs_with_offers_exist()
+    ensures { RunWithOffers }
 {}

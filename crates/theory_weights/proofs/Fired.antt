@@ -47,7 +47,7 @@ use Rattle.spec_tool.specs.Weights.{deposits_full, last_branch, position_of, cho
 use Rattle.spec_tool.specs.Weights.{IsSignature, IsSecret, IsInitialFull, IsPathFull}
 use Rattle.theory_script.proofs.Listing.Stands.{some_same, position_stands}
 use Rattle.theory_world.proofs.Contracts.Standing.{term_choice, term_branches, unsigned_of_branch}
-use Rattle.theory_run.proofs.Facts.Kept.{KeptBook, HeldFine}
+use Rattle.theory_run.specs.KeptBook.{KeptBook, HeldFine}
 use Rattle.theory_run.proofs.Events.Quiet.{IsActive, active, held_contract}
 use Rattle.theory_run.proofs.Halting.Halts.{found}
 

@@ -24,7 +24,8 @@ use Rattle.spec_run.specs.Statements.{Claim, HoldsFrom, HoldsThroughout, IsRun}
 use Rattle.spec_tool.specs.declared.weight.Weight.{Weight}
 use Rattle.spec_tool.specs.Weights.{weight_of, weights, exactly, added, initial_weight, path_weight, path_weights, is_on_way, total_to}
 use Rattle.spec_tool.specs.Weights.{IsInitialFull, IsPathFull}
-use Rattle.theory_calculus.proofs.Members.{Is_in, in_from_contains}
+use Rattle.theory_calculus.specs.Members.{Is_in}
+use Rattle.theory_calculus.proofs.Members.{in_from_contains}
 use Rattle.theory_script.proofs.Listing.Stands.{some_same}
 use Rattle.theory_script.proofs.Listing.Transactions.{AreRight, transactions_right}
 use Rattle.theory_run.proofs.Facts.Growing.{grows}

@@ -9,7 +9,7 @@ use Rattle.spec_bitcoin.specs.Keys.{Pair, label_text, key_of, has_signed, is_val
 use Rattle.spec_run.specs.Signing.{signed, signed_all}
 use Rattle.theory_calculus.proofs.Names.{bytes-true, bytes_refl}
 use Rattle.theory_world.proofs.Tests.{any-append}
-use Rattle.theory_world.proofs.Hashed.{NoClash}
+use Rattle.theory_world.specs.KeptApart.{NoClash}
 
 pub signed-append : (xs ys : List Pair) (k d : List ℕ) → has_signed (xs ++ ys) k d ≡ (has_signed xs k d || has_signed ys k d)
 signed-append xs ys k d = any-append (λ p. bytes_eq p.0 k && bytes_eq p.1 d) xs ys

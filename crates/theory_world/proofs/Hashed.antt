@@ -9,6 +9,7 @@ use Rattle.spec_data.specs.Lists.{is_among}
 use Rattle.spec_data.specs.Messages.{noted, noted_all, is_twin, clash, collision}
 use Rattle.theory_calculus.proofs.Names.{bytes-true, bytes_refl, among-append}
 use Rattle.theory_calculus.proofs.Faultless.{map_none}
+use Rattle.theory_world.specs.KeptApart.{NoClash}
 
 -- ---- byte strings in lists
 
@@ -83,9 +84,6 @@ all_new ms (x ∷ xs) t h = elim (or_cases (bytes_eq x t) (is_among t xs) h) [
 ]
 
 -- ---- no two of them have one digest
-
-pub record NoClash (hash : List ℕ → List ℕ) (ms : List (List ℕ)) : Type 0 where
-  pub one : (t u : List ℕ) → is_among t ms ≡ true → is_among u ms ≡ true → hash t ≡ hash u → t ≡ u
 
 pub no_clash_none : (hash : List ℕ → List ℕ) → NoClash hash []
 no_clash_none hash = record { one = λ t u h k e. cc }

@@ -15,6 +15,7 @@ use Rattle.spec_run.specs.Compiled.{outpoint_of, bound_outpoints, instance_of, i
 use Rattle.spec_run.specs.Ledger.{spend_from, made_from}
 use Rattle.theory_calculus.proofs.Members.{all_then}
 use Rattle.theory_world.proofs.Tests.{any-append}
+use Rattle.theory_world.specs.KeptApart.{are_made}
 
 -- ---- outputs by number, after a transaction
 
@@ -113,10 +114,6 @@ pub digests-other : (ps qs : List Promise) (k : ℕ) → list_any (λ p. p.contr
 digests-other [] [] k h = refl
 digests-other [] (q ∷ qs) k h = grind (arith, digests-other [] qs k)
 digests-other (p ∷ ps) qs k h = grind (arith, digests-other ps qs k)
-
--- whether each binding is to an output that was made
-abbrev pub are_made : World → List (List ℕ × ℕ) → Bool
-are_made w bs = list_all (λ b. is_some (output_at w (b.1))) bs
 
 places-last : (w next : World) (bs : List (List ℕ × ℕ)) → Lasts w.outputs next.outputs → are_made w bs ≡ true → bound_outpoints next bs ≡ bound_outpoints w bs
 places-last w next [] l h = refl

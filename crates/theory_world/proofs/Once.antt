@@ -10,6 +10,7 @@ use Rattle.spec_run.specs.Committing.{used_digests, used_again}
 use Rattle.spec_run.specs.Secrets.{digest_at}
 use Rattle.theory_calculus.proofs.Names.{bytes-true, bytes_refl, among-append}
 use Rattle.theory_world.proofs.Hashed.{among_left, among_right, among_head}
+use Rattle.theory_world.specs.KeptApart.{Once}
 
 abbrev pub digests_in : List (List ℕ × List ℕ) → List (List ℕ)
 digests_in ds = map (λ d. d.1) ds
@@ -76,9 +77,6 @@ one_name seen (p ∷ ds) n m d h j k = by_test (is_among (p.1) seen) h (one_name
     by_test : (b : Bool) → is_some (if b then Some (p.0) else used_again (seen ++ p.1 ∷ []) ds) ≡ false → (is_some (used_again (seen ++ p.1 ∷ []) ds) ≡ false → look_up n ds ≡ Some d → look_up m ds ≡ Some d → n ≡ m) → n ≡ m
     by_test true q ih = cc
     by_test false q ih = by_names (bytes_eq (p.0) n) (bytes_eq (p.0) m) refl refl j k q (ih q)
-
-pub record Once (ps : List Promise) : Type 0 where
-  pub one : (x y : Revealed) (d : List ℕ) → digest_at ps x ≡ Some d → digest_at ps y ≡ Some d → x ≡ y
 
 -- what the look-up in one commitment says
 pub new_at : (p : Promise) (x : Revealed) (d : List ℕ) → digest_at (p ∷ []) x ≡ Some d → (x.contract ≡ p.contract) × (x.party ≡ p.party) × (look_up x.secret p.digests ≡ Some d)

@@ -14,7 +14,7 @@ use Rattle.spec_calculus.specs.Branches.{has_branch_authorised}
 use Rattle.spec_calculus.specs.Steps.{with_init, with_branch, effect, after_steps}
 use Rattle.spec_run.specs.Steps.{auth_inits}
 use Rattle.theory_calculus.proofs.Names.{bytes_refl}
-use Rattle.theory_calculus.proofs.Members.{Is_in}
+use Rattle.theory_calculus.specs.Members.{Is_in}
 use Rattle.theory_world.proofs.Tests.{any-append}
 
 -- ---- one authorisation

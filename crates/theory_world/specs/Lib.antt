@@ -1,1 +1,3 @@
 pub mod Hashing
+pub mod Transactions
+pub mod KeptApart

@@ -4,7 +4,7 @@ ghost use Rattle.std.specs.Prelude.{◌≡◌, ◌≤◌, ◌<◌, ◌++◌, map
 ghost use Rattle.std.specs.Prelude.{vec_len, vec_capacity};
 ghost use Rattle.std.specs.List as lists;
 ghost use Rattle.spec_calculus.specs.Branches as spec;
-ghost use Rattle.theory_calculus.specs.InOrder.{are_ascending};
+ghost use Rattle.spec_calculus.specs.InOrder.{are_ascending};
 
 use spec_calculus::ActiveContract;
 use spec_data::OutOfMemory;

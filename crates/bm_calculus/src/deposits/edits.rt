@@ -4,7 +4,7 @@ ghost use Rattle.std.specs.Prelude.{◌≡◌, ◌≤◌, ◌<◌, ◌++◌, ◌
 ghost use Rattle.std.specs.VecDeque.{deque_len, deque_capacity};
 ghost use Rattle.std.specs.List as lists;
 ghost use Rattle.spec_calculus.specs.Moves as spec;
-ghost use Rattle.theory_calculus.specs.InOrder.{are_ascending};
+ghost use Rattle.spec_calculus.specs.InOrder.{are_ascending};
 
 use spec_calculus::Deposit;
 use spec_data::OutOfMemory;

@@ -23,15 +23,16 @@ use Rattle.spec_run.specs.Draft.{settled}
 use Rattle.spec_run.specs.Ledger.{spend_from, made_from, core_holds, branch_holds, position_path, position_branch, initial_of, first_position, kind_by, kind_of, new_position, accepted}
 use Rattle.spec_run.specs.Steps.{is_bound_live}
 use Rattle.spec_run.specs.Values.{total_live}
-use Rattle.theory_calculus.proofs.Members.{Is_in, get_below}
+use Rattle.theory_calculus.specs.Members.{Is_in}
+use Rattle.theory_calculus.proofs.Members.{get_below}
 use Rattle.spec_data.specs.Ranges.{max_money}
 use Rattle.theory_world.proofs.Ledger.Worth.{IsAccepted, balanced}
 use Rattle.theory_world.proofs.Ledger.Spend.{total-append, total-made, spend-all}
 use Rattle.theory_world.proofs.Ledger.Accepting.{AllSpent, Accepting, accepting}
 use Rattle.theory_world.proofs.Ledger.Outputs.{length-spend_from}
 use Rattle.theory_world.proofs.Later.{get-spent, get-split, get-made, lasts_spent}
-use Rattle.theory_run.proofs.Steps.CommitSteps.{Constant}
-use Rattle.theory_run.proofs.Facts.Kept.{KeptBook}
+use Rattle.theory_run.specs.Tracks.{Constant}
+use Rattle.theory_run.specs.KeptBook.{KeptBook}
 use Rattle.theory_offers.proofs.Basis.Offered.{KeptOffers}
 
 -- what is spent was made

@@ -23,12 +23,12 @@ use Rattle.spec_run.specs.Steps.{names_deposit}
 use Rattle.spec_run.specs.Event.{record_of}
 use Rattle.spec_run.specs.HonestDeposits.{is_init, was_done, gives, by_contract, takes_persistent, SpendsWithLeave}
 use Rattle.theory_calculus.proofs.Names.{persistent_deposit}
-use Rattle.theory_world.proofs.Hashed.{NoClash}
+use Rattle.theory_world.specs.KeptApart.{NoClash}
 use Rattle.theory_world.proofs.Contracts.Mentions.{HasDeposit, has_deposit}
 use Rattle.theory_world.proofs.Ledger.Worth.{IsAccepted}
 use Rattle.theory_world.proofs.Ledger.Accepting.{accepting}
 use Rattle.theory_world.proofs.Later.{compiled_is}
-use Rattle.theory_run.proofs.Facts.Kept.{KeptBook}
+use Rattle.theory_run.specs.KeptBook.{KeptBook}
 use Rattle.theory_run.proofs.Accepted.Spending.{Checked}
 use Rattle.theory_run.proofs.Facts.Opening.{owner_is}
 use Rattle.theory_run.proofs.Accepted.Accept.{bare_in, spent_at}

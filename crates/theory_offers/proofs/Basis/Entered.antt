@@ -21,9 +21,9 @@ use Rattle.spec_run.specs.Compiled.{compiled_instance}
 use Rattle.spec_run.specs.Ledger.{initial_of, first_position, Kind, Begins, Takes, Moves, kind_by, kind_of, position_branch}
 use Rattle.spec_run.specs.Steps.{reveals, reveal_step, auth_inits, auth_move, auth_branch, core_step, branch_steps, kind_steps, unauthorised, parties_once, owners_of, move_of, is_awaited}
 use Rattle.spec_run.specs.Secrets.{newly_shown}
-use Rattle.theory_calculus.proofs.Members.{Is_in}
+use Rattle.theory_calculus.specs.Members.{Is_in}
 use Rattle.theory_world.proofs.Ledger.Worth.{IsAccepted}
-use Rattle.theory_run.proofs.Facts.Kept.{KeptBook}
+use Rattle.theory_run.specs.KeptBook.{KeptBook}
 use Rattle.theory_run.proofs.Accepted.WhatItIs.{initial_is}
 use Rattle.theory_offers.proofs.Basis.Offered.{KeptOffers}
 use Rattle.theory_offers.proofs.Basis.Accepted.{next, accepted_offers}

@@ -15,7 +15,7 @@ use Rattle.spec_run.specs.Signing.{signed_all}
 use Rattle.spec_run.specs.Steps.{reveal_step}
 use Rattle.theory_world.proofs.Book.{signed_more}
 use Rattle.theory_run.proofs.Facts.Secrets.{after-reveals}
-use Rattle.theory_run.proofs.Facts.Kept.{KeptBook}
+use Rattle.theory_run.specs.KeptBook.{KeptBook}
 use Rattle.theory_offers.proofs.Basis.Offered.{KeptOffers}
 use Rattle.theory_offers.proofs.Basis.Opening.{quiet_offers, mined_offers}
 use Rattle.theory_offers.proofs.Basis.Told.{commit_offers}

@@ -27,7 +27,7 @@ use Rattle.spec_run.specs.Signing.{with_pairs, endorsing_pairs, endorse_row, end
 use Rattle.spec_run.specs.Event.{mine_row, mine_draft}
 use Rattle.spec_run.specs.Steps.{commit_lengths, steps_of}
 use Rattle.theory_calculus.proofs.Names.{different_names, persistent_different}
-use Rattle.theory_run.proofs.Facts.Kept.{KeptBook}
+use Rattle.theory_run.specs.KeptBook.{KeptBook}
 use Rattle.theory_run.proofs.Accepted.Spending.{Checked}
 use Rattle.theory_offers.proofs.Basis.Offered.{KeptOffers}
 use Rattle.theory_offers.proofs.Basis.Events.{signed_offers, posted_offers, committed_offers, waited_offers}

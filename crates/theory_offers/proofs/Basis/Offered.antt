@@ -33,11 +33,11 @@ use Rattle.spec_run.specs.Firing.{deposit_witnesses}
 use Rattle.spec_run.specs.Steps.{names_deposit, is_bound_live}
 use Rattle.spec_run.specs.Values.{live_value}
 use Rattle.theory_calculus.proofs.Names.{bytes_refl}
-use Rattle.theory_calculus.proofs.Members.{Is_in}
+use Rattle.theory_calculus.specs.Members.{Is_in}
 use Rattle.theory_script.proofs.Scripts.Deposits.{deposit_meaning}
 use Rattle.theory_world.proofs.Later.{compiled_is}
-use Rattle.theory_run.proofs.Steps.CommitSteps.{Constant}
-use Rattle.theory_run.proofs.Facts.Kept.{KeptBook}
+use Rattle.theory_run.specs.Tracks.{Constant}
+use Rattle.theory_run.specs.KeptBook.{KeptBook}
 use Rattle.theory_run.proofs.Accepted.WhatItIs.{AtBound, at_bound}
 use Rattle.theory_world.proofs.Ledger.Acceptable.{Ready, AllReady}
 

@@ -30,9 +30,10 @@ use Rattle.spec_data.specs.Ranges.{max_money}
 use Rattle.spec_run.specs.Steps.{is_bound_live}
 use Rattle.spec_run.specs.Event.{opening_outputs, holds_nothing, opening_world}
 use Rattle.spec_run.specs.Translation.{opening_configuration}
-use Rattle.theory_calculus.proofs.Members.{all_then, Is_in}
-use Rattle.theory_run.proofs.Steps.CommitSteps.{Constant}
-use Rattle.theory_run.proofs.Facts.Kept.{KeptBook}
+use Rattle.theory_calculus.specs.Members.{Is_in}
+use Rattle.theory_calculus.proofs.Members.{all_then}
+use Rattle.theory_run.specs.Tracks.{Constant}
+use Rattle.theory_run.specs.KeptBook.{KeptBook}
 use Rattle.theory_run.proofs.Worlds.Worth.{opening_worth}
 use Rattle.theory_world.proofs.Later.{compiled_is}
 use Rattle.theory_offers.proofs.Basis.Offered.{KeptOffers}

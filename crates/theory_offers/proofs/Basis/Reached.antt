@@ -20,7 +20,7 @@ use Rattle.spec_run.specs.Signing.{signed_all, with_pairs}
 use Rattle.spec_run.specs.Steps.{accepted_steps, steps_of}
 use Rattle.theory_world.proofs.Ledger.Worth.{IsAccepted, accepted_by}
 use Rattle.theory_world.proofs.Later.{lasts_spent, compiled_is, compiled_from, compiled_stays}
-use Rattle.theory_run.proofs.Facts.Kept.{KeptBook}
+use Rattle.theory_run.specs.KeptBook.{KeptBook}
 use Rattle.theory_offers.proofs.Basis.Offered.{KeptOffers}
 use Rattle.theory_offers.proofs.Basis.Events.{signed_offers}
 use Rattle.theory_offers.proofs.Basis.Opening.{quiet_offers}

@@ -27,7 +27,8 @@ use Rattle.spec_run.specs.Compiled.{compiled_instance}
 use Rattle.spec_run.specs.Signing.{signed_all, authorising_pairs, branch_pair, prepared_if_compiled, pairs_of_deposits, initial_pairs}
 use Rattle.spec_run.specs.Steps.{init_steps, is_of_party, is_bound_live}
 use Rattle.theory_calculus.proofs.Names.{bytes-true, bytes_refl}
-use Rattle.theory_calculus.proofs.Members.{Is_in, in_filter}
+use Rattle.theory_calculus.specs.Members.{Is_in}
+use Rattle.theory_calculus.proofs.Members.{in_filter}
 use Rattle.theory_world.proofs.Tests.{any-append}
 use Rattle.theory_world.proofs.Book.{signed_more, signed_new}
 use Rattle.theory_world.proofs.Later.{compiled_is}

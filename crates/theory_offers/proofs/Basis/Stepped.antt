@@ -22,14 +22,14 @@ use Rattle.spec_run.specs.Draft.{settled}
 use Rattle.spec_run.specs.Ledger.{spend_from, made_from, kind_of, new_position, accepted}
 use Rattle.spec_run.specs.Steps.{names_deposit, is_bound_live}
 use Rattle.theory_bitcoin.specs.Apart.{bare}
-use Rattle.theory_calculus.proofs.Members.{Is_in}
+use Rattle.theory_calculus.specs.Members.{Is_in}
 use Rattle.theory_calculus.proofs.Names.{persistent_deposit}
 use Rattle.theory_world.proofs.Ledger.Accepting.{accepting}
 use Rattle.theory_run.proofs.Accepted.Accept.{bare_in, spent_at}
 use Rattle.theory_world.proofs.Ledger.Worth.{IsAccepted}
 use Rattle.theory_world.proofs.Later.{get-spent, get-front, lasts_spent, compiled_is}
-use Rattle.theory_run.proofs.Steps.CommitSteps.{Constant}
-use Rattle.theory_run.proofs.Facts.Kept.{KeptBook}
+use Rattle.theory_run.specs.Tracks.{Constant}
+use Rattle.theory_run.specs.KeptBook.{KeptBook}
 use Rattle.theory_run.proofs.Accepted.WhatItIs.{AtBound, at_bound}
 use Rattle.theory_offers.proofs.Basis.Signed.{with_init-split, with_branch-split}
 

@@ -23,11 +23,13 @@ use Rattle.spec_run.specs.Owners.{suits}
 use Rattle.spec_run.specs.Advertising.{arranged, not_live, deposit_names, advertise_row, advertise_draft}
 use Rattle.spec_run.specs.Steps.{steps_of}
 use Rattle.theory_calculus.proofs.Names.{all_among, different_names, in_named}
-use Rattle.theory_calculus.proofs.Members.{Is_in, some_there}
+use Rattle.theory_calculus.specs.Members.{Is_in}
+use Rattle.theory_calculus.proofs.Members.{some_there}
 use Rattle.theory_world.proofs.Tests.{any-append}
-use Rattle.theory_world.proofs.Hashed.{NoClash}
-use Rattle.theory_world.proofs.Later.{lasts_refl, are_made, bindings-more, compiled_is, compiled_from, compiled_stays}
-use Rattle.theory_run.proofs.Facts.Kept.{KeptBook, AdvertFine, IsBound, Frame, signs}
+use Rattle.theory_world.specs.KeptApart.{NoClash, are_made}
+use Rattle.theory_world.proofs.Later.{lasts_refl, bindings-more, compiled_is, compiled_from, compiled_stays}
+use Rattle.theory_run.specs.KeptBook.{KeptBook, AdvertFine, IsBound}
+use Rattle.theory_run.proofs.Facts.Kept.{Frame, signs}
 use Rattle.theory_run.proofs.Accepted.Spending.{Checked}
 use Rattle.theory_world.proofs.Staying.{inits_stay, asked_stay}
 use Rattle.theory_run.proofs.Events.Quiet.{KeptAfter, unless_after}

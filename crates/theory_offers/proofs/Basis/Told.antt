@@ -19,8 +19,8 @@ use Rattle.theory_calculus.proofs.Names.{all_among}
 use Rattle.theory_calculus.proofs.Members.{some_there}
 use Rattle.theory_world.proofs.Tests.{any-append}
 use Rattle.theory_world.proofs.Later.{lasts_refl, compiled_is, bindings-more, compiled_stays}
-use Rattle.theory_run.proofs.Steps.CommitSteps.{Constant}
-use Rattle.theory_run.proofs.Facts.Kept.{KeptBook}
+use Rattle.theory_run.specs.Tracks.{Constant}
+use Rattle.theory_run.specs.KeptBook.{KeptBook}
 use Rattle.theory_run.proofs.Facts.Promised.{arranged_named}
 use Rattle.theory_offers.proofs.Basis.Offered.{KeptOffers}
 use Rattle.theory_offers.proofs.Basis.Opening.{extends_offers}

@@ -29,15 +29,18 @@ use Rattle.spec_run.specs.Conditions.{HashesBytes}
 use Rattle.spec_run.specs.Event.{opening_outputs}
 use Rattle.spec_run.specs.Ledger.{live_from, spend_from, made_from}
 use Rattle.theory_bitcoin.specs.Apart.{bare_input}
-use Rattle.theory_calculus.proofs.Members.{Is_in, get_below}
-use Rattle.theory_world.proofs.Hashed.{NoClash}
-use Rattle.theory_world.proofs.Ledger.Preimages.{HeardLists, heard_lists, double-apart, IsNumbered}
-use Rattle.theory_world.proofs.Ledger.Bare.{NoScripts, stripped-apart, inputless_apart}
+use Rattle.theory_calculus.specs.Members.{Is_in}
+use Rattle.theory_calculus.proofs.Members.{get_below}
+use Rattle.theory_world.specs.KeptApart.{NoClash}
+use Rattle.theory_world.specs.Transactions.{HeardLists, IsNumbered, NoScripts}
+use Rattle.theory_world.proofs.Ledger.Preimages.{heard_lists, double-apart}
+use Rattle.theory_world.proofs.Ledger.Bare.{stripped-apart, inputless_apart}
 use Rattle.theory_world.proofs.Ledger.Accepting.{IsSpent, AllSpent, Accepting, HeardAll, heard_bytes, heard_bytes_hash, heard_shared, heard_input, later_strings, first_strings}
 use Rattle.theory_world.proofs.Later.{SameOutput, get-spent, get-front, get-split, get-made}
 use Rattle.spec_calculus.specs.Branches.{has_branch_authorised}
 use Rattle.theory_world.proofs.Ledger.Outputs.{length-spend_from}
-use Rattle.theory_run.proofs.Facts.Kept.{cause_later, KeptBook, HeldFine, BranchCause, SpentFor, AllSpentFor, From, opening_id, Frame, origin_later, held_later, advert_later}
+use Rattle.theory_run.specs.KeptBook.{KeptBook, HeldFine, BranchCause, SpentFor, AllSpentFor, From, opening_id}
+use Rattle.theory_run.proofs.Facts.Kept.{cause_later, Frame, origin_later, held_later, advert_later}
 use Rattle.theory_run.proofs.Accepted.Spending.{TransactionsFit, Checked, deposit_signed}
 
 in_strings : (f : TxIn → List (List ℕ)) (is : List TxIn) (i : TxIn) (t : List ℕ) → Is_in i is → is_among t (f i) ≡ true → is_among t (flat_map f is) ≡ true

@@ -19,17 +19,18 @@ use Rattle.spec_run.specs.World.{ContractPosition, Output, World, is_advertised}
 use Rattle.spec_run.specs.Compiled.{compiled_instance}
 use Rattle.spec_run.specs.Conditions.{HashesBytes}
 use Rattle.spec_run.specs.Ledger.{spend_from, made_from, branch_holds, branch_in, position_branch, position_path, contract_in, count_of, branch_count, first_number, first_witness, initial_of, first_position, Kind, Begins, Takes, Moves, kind_by, kind_of, new_position}
-use Rattle.theory_bitcoin.proofs.Apart.{AllPlaces}
-use Rattle.theory_calculus.proofs.Members.{Is_in}
+use Rattle.theory_bitcoin.specs.Places.{AllPlaces}
+use Rattle.theory_calculus.specs.Members.{Is_in}
 use Rattle.theory_calculus.proofs.Names.{persistent_deposit}
 use Rattle.theory_script.proofs.Scripts.Chosen.{opened_is_chosen}
-use Rattle.theory_world.proofs.Ledger.Preimages.{IsNumbered}
-use Rattle.theory_world.proofs.Hashed.{NoClash}
+use Rattle.theory_world.specs.Transactions.{IsNumbered}
+use Rattle.theory_world.specs.KeptApart.{NoClash}
 use Rattle.theory_world.proofs.Ledger.Accepting.{Accepting, HeardAll, heard_input}
 use Rattle.theory_world.proofs.Later.{compiled_is}
 use Rattle.theory_world.proofs.Contracts.Standing.{term_choice, term_branches}
 use Rattle.theory_world.proofs.Contracts.Mentions.{branch_named, payee_mentioned, has_deposit}
-use Rattle.theory_run.proofs.Facts.Kept.{KeptBook, HeldFine, Frame, HeardDigest}
+use Rattle.theory_run.specs.KeptBook.{KeptBook, HeldFine, HeardDigest}
+use Rattle.theory_run.proofs.Facts.Kept.{Frame}
 use Rattle.theory_run.proofs.Accepted.Spending.{TransactionsFit, Checked, IsTaken, taken}
 use Rattle.theory_run.proofs.Accepted.Accept.{scripts_none, lists, all_strings_of}
 use Rattle.theory_run.proofs.Accepted.WhatItIs.{First, first, first_holds, at_bound, initial_is}

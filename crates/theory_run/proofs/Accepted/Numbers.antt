@@ -20,10 +20,10 @@ use Rattle.spec_run.specs.Compiled.{compiled_instance}
 use Rattle.spec_run.specs.Steps.{names_deposit}
 use Rattle.theory_bitcoin.specs.Apart.{bare_input}
 use Rattle.theory_calculus.proofs.Names.{volatile_named}
-use Rattle.theory_calculus.proofs.Members.{Is_in}
+use Rattle.theory_calculus.specs.Members.{Is_in}
 use Rattle.theory_world.proofs.Ledger.Accepting.{AllSpent}
 use Rattle.theory_world.proofs.Later.{compiled_is}
-use Rattle.theory_run.proofs.Facts.Kept.{KeptBook}
+use Rattle.theory_run.specs.KeptBook.{KeptBook}
 use Rattle.theory_run.proofs.Accepted.WhatItIs.{at_bound}
 use Rattle.theory_run.proofs.Steps.Gone.{taken_values}
 

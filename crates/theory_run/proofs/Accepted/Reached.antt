@@ -13,12 +13,15 @@ use Rattle.spec_run.specs.Compiled.{instance_of, compiled_instance}
 use Rattle.spec_run.specs.Conditions.{HashesBytes}
 use Rattle.spec_run.specs.Draft.{settled}
 use Rattle.spec_run.specs.Ledger.{items_of, strings_of, kind_of, appended, accepted}
-use Rattle.theory_world.proofs.Ledger.Preimages.{IsNumbered, numbered_few}
-use Rattle.theory_world.proofs.Hashed.{NoClash, no_clash, among_left, all_more, all_new}
+use Rattle.theory_world.specs.Transactions.{IsNumbered}
+use Rattle.theory_world.proofs.Ledger.Preimages.{numbered_few}
+use Rattle.theory_world.specs.KeptApart.{NoClash}
+use Rattle.theory_world.proofs.Hashed.{no_clash, among_left, all_more, all_new}
 use Rattle.theory_world.proofs.Ledger.Worth.{IsAccepted}
 use Rattle.theory_world.proofs.Later.{lasts_spent, compiled_is, compiled_from, compiled_stays}
 use Rattle.theory_world.proofs.Ledger.Accepting.{accepting}
-use Rattle.theory_run.proofs.Facts.Kept.{KeptBook, Frame}
+use Rattle.theory_run.specs.KeptBook.{KeptBook}
+use Rattle.theory_run.proofs.Facts.Kept.{Frame}
 use Rattle.theory_run.proofs.Accepted.Spending.{TransactionsFit, Checked}
 use Rattle.theory_run.proofs.Accepted.Kinded.{accept_kept}
 

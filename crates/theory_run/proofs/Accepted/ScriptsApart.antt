@@ -27,9 +27,9 @@ use Rattle.theory_calculus.proofs.Names.{bytes-true, bytes_refl}
 use Rattle.theory_script.proofs.Scripts.Opened.{opens_exactly}
 use Rattle.theory_script.proofs.Scripts.Deposits.{deposit_meaning}
 use Rattle.theory_script.proofs.Listing.Stands.{position_stands}
-use Rattle.theory_world.proofs.Hashed.{NoClash}
+use Rattle.theory_world.specs.KeptApart.{NoClash}
 use Rattle.theory_world.proofs.Later.{compiled_is}
-use Rattle.theory_run.proofs.Facts.Kept.{KeptBook}
+use Rattle.theory_run.specs.KeptBook.{KeptBook}
 use Rattle.theory_run.proofs.Accepted.Spending.{Checked, script_heard, each_valid}
 use Rattle.theory_run.proofs.Facts.Labelled.{same_label, deposit_label, heard_label}
 use Rattle.theory_run.proofs.Facts.Opening.{among_map}

@@ -38,24 +38,26 @@ use Rattle.spec_run.specs.World.{ContractPosition, Output, World}
 use Rattle.spec_run.specs.Owners.{paid_to}
 use Rattle.spec_run.specs.Compiled.{compiled_instance}
 use Rattle.spec_run.specs.Conditions.{HashesBytes}
-use Rattle.theory_bitcoin.proofs.Apart.{AllPlaces}
+use Rattle.theory_bitcoin.specs.Places.{AllPlaces}
 use Rattle.theory_bitcoin.specs.Apart.{bare}
 use Rattle.theory_calculus.proofs.Names.{bytes-true, bytes_refl}
-use Rattle.theory_calculus.proofs.Members.{Is_in}
+use Rattle.theory_calculus.specs.Members.{Is_in}
 use Rattle.theory_script.proofs.Scripts.Opened.{opens_exactly}
 use Rattle.theory_script.proofs.Scripts.Deposits.{deposit_meaning}
 use Rattle.theory_script.proofs.Listing.OutputScripts.{scripts_are_listed}
 use Rattle.theory_script.proofs.Listing.Stands.{position_stands}
 use Rattle.theory_script.specs.Listed.{at_path}
-use Rattle.theory_world.proofs.Hashed.{NoClash, among_left, among_right, among_head, among_tail}
-use Rattle.theory_world.proofs.Ledger.Preimages.{SameSigned, HeardLists, heard_lists, double-apart, preimage-apart, IsNumbered}
-use Rattle.theory_world.proofs.Ledger.Bare.{NoScripts, signed-bare}
+use Rattle.theory_world.specs.KeptApart.{NoClash}
+use Rattle.theory_world.proofs.Hashed.{among_left, among_right, among_head, among_tail}
+use Rattle.theory_world.specs.Transactions.{HeardLists, IsNumbered, NoScripts}
+use Rattle.theory_world.proofs.Ledger.Preimages.{SameSigned, heard_lists, double-apart, preimage-apart}
+use Rattle.theory_world.proofs.Ledger.Bare.{signed-bare}
 use Rattle.theory_world.proofs.Contracts.Positions.{covered, branch_here, transactions_strings, transactions_labels}
 use Rattle.theory_world.proofs.Contracts.Standing.{stand_of_branch, position_named}
 use Rattle.theory_world.proofs.Book.{valid_signed}
 use Rattle.theory_world.proofs.Later.{compiled_is}
 use Rattle.theory_world.proofs.Ledger.Accepting.{IsSpent}
-use Rattle.theory_run.proofs.Facts.Kept.{KeptBook, HeldFine, DepositCause, gave, needed, started, Gave, Needed, Started, HeardDigest}
+use Rattle.theory_run.specs.KeptBook.{KeptBook, HeldFine, DepositCause, Gave, Needed, Started, HeardDigest, gave, needed, started}
 
 -- ---- unsigned transactions
 

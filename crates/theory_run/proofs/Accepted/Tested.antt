@@ -26,10 +26,12 @@ use Rattle.spec_run.specs.Revealing.{fits, fitting}
 use Rattle.spec_run.specs.Secrets.{digest_at, is_shown, secret_size, length_in_run}
 use Rattle.theory_world.proofs.Hashed.{among_left, among_head, among_split, any_then, find_any}
 use Rattle.theory_calculus.proofs.Names.{bytes-true, bytes_refl, different_names, looked_in, in_looked, named_looked, all_among}
-use Rattle.theory_calculus.proofs.Members.{Is_in}
+use Rattle.theory_calculus.specs.Members.{Is_in}
 use Rattle.theory_world.proofs.Contracts.Mentions.{added}
-use Rattle.theory_run.proofs.Facts.KeptSecrets.{KeptSecrets, Begins, length_at-by}
+use Rattle.theory_run.specs.KeptSecrets.{KeptSecrets}
+use Rattle.theory_run.proofs.Facts.KeptSecrets.{Begins, length_at-by}
 use Rattle.theory_run.proofs.Facts.Posting.{is_own-some}
+use Rattle.theory_run.specs.KeptPromises.{PromisesNamed}
 
 -- ---- what the check of a contract sees to
 
@@ -94,10 +96,6 @@ secrets_different (Secret party name ∷ pre) h =
     by_test false e f q ih = and_from _ _ (ap not e) ih
 
 -- ---- the digest that is committed
-
--- all_among commitment is to secrets of its party
-pub record PromisesNamed (s : Setup) (ps : List Promise) : Type 0 where
-  pub named : (p : Promise) → Is_in p ps → (n d : List ℕ) → look_up n p.digests ≡ Some d → is_among n (secrets_at s p.contract p.party) ≡ true
 
 pub look_append : (n : List ℕ) (xs ys : List (List ℕ × List ℕ)) → digest_of (xs ++ ys) n ≡ (if is_some (look_up n xs) then digest_of xs n else digest_of ys n)
 look_append n [] ys = refl

@@ -25,14 +25,16 @@ use Rattle.spec_run.specs.Compiled.{compiled_instance}
 use Rattle.spec_run.specs.Conditions.{HashesBytes}
 use Rattle.spec_run.specs.Event.{opening_outputs}
 use Rattle.theory_bitcoin.specs.Apart.{bare_input, bare}
-use Rattle.theory_calculus.proofs.Members.{Is_in, in_some}
-use Rattle.theory_world.proofs.Hashed.{NoClash}
-use Rattle.theory_world.proofs.Ledger.Preimages.{IsNumbered, HeardLists, double-apart}
+use Rattle.theory_calculus.specs.Members.{Is_in}
+use Rattle.theory_calculus.proofs.Members.{in_some}
+use Rattle.theory_world.specs.KeptApart.{NoClash}
+use Rattle.theory_world.specs.Transactions.{IsNumbered, HeardLists}
+use Rattle.theory_world.proofs.Ledger.Preimages.{double-apart}
 use Rattle.theory_world.proofs.Ledger.Bare.{stripped-apart, inputless_apart}
 use Rattle.theory_world.proofs.Contracts.Endorsed.{in_map}
 use Rattle.theory_world.proofs.Contracts.Made.{MadeBy, by_initial, by_branch, ByBranch, made_by}
 use Rattle.theory_world.proofs.Contracts.Mentions.{HasDeposit, has_deposit}
-use Rattle.theory_run.proofs.Facts.Kept.{KeptBook, DepositCause, HeardDigest, AllFinal, SpentFor, From, opening_id}
+use Rattle.theory_run.specs.KeptBook.{KeptBook, DepositCause, HeardDigest, AllFinal, SpentFor, From, opening_id}
 use Rattle.theory_run.proofs.Accepted.Spending.{TransactionsFit, Checked, HeardUnsigned, initial_heard, branch_heard, unsigned_bytes, unsigned_bytes_hash, unsigned_no_scripts, Cause, gift_cause, put_cause, start_cause, cause_of}
 use Rattle.theory_run.proofs.Accepted.Accept.{bare_in, spent_for_in}
 use Rattle.theory_run.proofs.Facts.OnePosition.{one_initial}

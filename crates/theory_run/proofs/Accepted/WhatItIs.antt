@@ -27,15 +27,16 @@ use Rattle.spec_run.specs.Compiled.{outpoint_of, bound_outpoints, compiled_insta
 use Rattle.spec_run.specs.Conditions.{HashesBytes}
 use Rattle.spec_run.specs.Ledger.{is_initial, initial_from, initial_of, first_position}
 use Rattle.theory_bitcoin.specs.Apart.{bare_input, bare}
-use Rattle.theory_calculus.proofs.Members.{Is_in}
+use Rattle.theory_calculus.specs.Members.{Is_in}
 use Rattle.theory_calculus.proofs.Names.{persistent_deposit}
-use Rattle.theory_world.proofs.Hashed.{NoClash}
-use Rattle.theory_world.proofs.Ledger.Preimages.{double-apart, IsNumbered}
+use Rattle.theory_world.specs.KeptApart.{NoClash}
+use Rattle.theory_world.specs.Transactions.{IsNumbered}
+use Rattle.theory_world.proofs.Ledger.Preimages.{double-apart}
 use Rattle.theory_world.proofs.Ledger.Bare.{same-true, same_from, stripped-apart, txid-bare}
 use Rattle.theory_world.proofs.Ledger.Accepting.{IsSpent, AllSpent, Accepting, HeardAll, heard_bytes, heard_bytes_hash, heard_input}
 use Rattle.theory_world.proofs.Later.{compiled_is}
 use Rattle.theory_world.proofs.Contracts.Made.{MadeBy, by_initial, by_branch, ByBranch, made_by}
-use Rattle.theory_run.proofs.Facts.Kept.{KeptBook, IsBound, AdvertFine}
+use Rattle.theory_run.specs.KeptBook.{KeptBook, IsBound, AdvertFine}
 use Rattle.theory_run.proofs.Accepted.Spending.{TransactionsFit, Checked, HeardUnsigned, initial_heard, branch_heard, unsigned_bytes, unsigned_bytes_hash, taken, unsigned_no_scripts}
 use Rattle.theory_run.proofs.Accepted.Accept.{scripts_none, lists, all_strings_of}
 

@@ -23,15 +23,16 @@ use Rattle.spec_run.specs.Compiled.{compiled_instance}
 use Rattle.spec_run.specs.Conditions.{HashesBytes}
 use Rattle.spec_run.specs.Ledger.{spend_from, made_from, core_holds, initial_of, first_position}
 use Rattle.theory_bitcoin.specs.Apart.{bare}
-use Rattle.theory_world.proofs.Ledger.Preimages.{IsNumbered}
-use Rattle.theory_world.proofs.Hashed.{NoClash}
+use Rattle.theory_world.specs.Transactions.{IsNumbered}
+use Rattle.theory_world.specs.KeptApart.{NoClash}
 use Rattle.theory_world.proofs.Ledger.Accepting.{Accepting, HeardAll}
 use Rattle.theory_world.proofs.Later.{compiled_is}
 use Rattle.theory_world.proofs.Contracts.Made.{ByBranch}
 use Rattle.theory_world.proofs.Contracts.Standing.{put_position, split_position, position_named, root_position}
 use Rattle.theory_run.proofs.Facts.OnePosition.{pays_same, position_key, same_position}
 use Rattle.theory_world.proofs.Contracts.Keyed.{no_deposit}
-use Rattle.theory_run.proofs.Facts.Kept.{KeptBook, HeldFine, Frame}
+use Rattle.theory_run.specs.KeptBook.{KeptBook, HeldFine}
+use Rattle.theory_run.proofs.Facts.Kept.{Frame}
 use Rattle.theory_run.proofs.Accepted.Spending.{TransactionsFit, Checked, script_heard}
 use Rattle.theory_run.proofs.Accepted.Accept.{accepts}
 use Rattle.theory_run.proofs.Accepted.WhatItIs.{First, first, initial_first, branch_first, bare_id, IsInitial, not_initial, Making, initial_making, branch_making, making, moves_make_none}

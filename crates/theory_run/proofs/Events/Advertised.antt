@@ -16,9 +16,9 @@ use Rattle.spec_run.specs.World.{Output, World, output_at, is_deposit}
 use Rattle.spec_run.specs.Owners.{paid_to, owner_among, owner_by, suits}
 use Rattle.spec_run.specs.Advertising.{or_else_this, arranged, repeated, not_live, unsuited}
 use Rattle.theory_calculus.proofs.Names.{bytes-true, bytes_refl, deposit_named, in_named}
-use Rattle.theory_calculus.proofs.Members.{Is_in}
+use Rattle.theory_calculus.specs.Members.{Is_in}
 use Rattle.theory_world.proofs.Tests.{any-append}
-use Rattle.theory_run.proofs.Facts.Kept.{IsBound}
+use Rattle.theory_run.specs.KeptBook.{IsBound}
 
 -- ---- look-ups in what is arranged
 

@@ -26,9 +26,11 @@ use Rattle.spec_run.specs.Draft.{done}
 use Rattle.theory_calculus.proofs.Names.{all_among, different_names, in_named}
 use Rattle.theory_calculus.proofs.Members.{some_there}
 use Rattle.theory_world.proofs.Tests.{any-append}
-use Rattle.theory_world.proofs.Hashed.{NoClash, among_head}
-use Rattle.theory_world.proofs.Later.{are_made, compiled_is, compiled_from, compiled_stays, bindings-more, lasts_refl}
-use Rattle.theory_run.proofs.Facts.Kept.{KeptBook, Frame, AdvertFine, signs}
+use Rattle.theory_world.specs.KeptApart.{NoClash, are_made}
+use Rattle.theory_world.proofs.Hashed.{among_head}
+use Rattle.theory_world.proofs.Later.{compiled_is, compiled_from, compiled_stays, bindings-more, lasts_refl}
+use Rattle.theory_run.specs.KeptBook.{KeptBook, AdvertFine}
+use Rattle.theory_run.proofs.Facts.Kept.{Frame, signs}
 use Rattle.theory_run.proofs.Accepted.Spending.{Checked}
 use Rattle.theory_world.proofs.Contracts.Checking.{contract_checked}
 use Rattle.theory_world.proofs.Contracts.Mentions.{a_person}

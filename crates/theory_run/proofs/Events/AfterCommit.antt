@@ -33,13 +33,16 @@ use Rattle.spec_run.specs.Advertising.{arranged}
 use Rattle.spec_run.specs.Committing.{secrets_at, committed_digests, committed_strings, commit_row, digest_row, with_promise, strings_compiled, committed_draft, commit_draft}
 use Rattle.spec_run.specs.Draft.{Draft, settled}
 use Rattle.spec_run.specs.Steps.{steps_of}
-use Rattle.theory_calculus.proofs.Members.{all_then, Is_in, some_there}
+use Rattle.theory_calculus.specs.Members.{Is_in}
+use Rattle.theory_calculus.proofs.Members.{all_then, some_there}
 use Rattle.theory_calculus.proofs.Names.{all_among, persistent_deposit}
 use Rattle.theory_world.proofs.Tests.{any-append}
-use Rattle.theory_world.proofs.Hashed.{NoClash, no_clash, among_right, all_more, all_new}
+use Rattle.theory_world.specs.KeptApart.{NoClash}
+use Rattle.theory_world.proofs.Hashed.{no_clash, among_right, all_more, all_new}
 use Rattle.theory_world.proofs.Later.{IsCompiledAt, compiled_is, compiled_stays, digests-other, lasts_refl}
 use Rattle.theory_run.proofs.Steps.CommitSteps.{digests_looked}
-use Rattle.theory_run.proofs.Facts.Kept.{KeptBook, Frame, AdvertFine, cause_later, origin_later, held_later, advert_later, signs}
+use Rattle.theory_run.specs.KeptBook.{KeptBook, AdvertFine}
+use Rattle.theory_run.proofs.Facts.Kept.{Frame, cause_later, origin_later, held_later, advert_later, signs}
 use Rattle.theory_run.proofs.Accepted.Spending.{Checked, TransactionsFit}
 use Rattle.theory_run.proofs.Accepted.WhatItIs.{bound_at}
 use Rattle.theory_run.proofs.Widths.Putting.{all_fit, transactions_fit}
@@ -47,9 +50,11 @@ use Rattle.theory_world.proofs.Staying.{inits_stay, asked_stay}
 use Rattle.theory_run.proofs.Events.Quiet.{KeptAfter, unless_after}
 use Rattle.theory_run.proofs.Facts.Labelled.{compiled_label}
 use Rattle.theory_run.proofs.Events.AfterAdvert.{compiled_before}
-use Rattle.theory_run.proofs.Facts.KeptCommitments.{KeptPromises, one_more_promise, checked_now}
+use Rattle.theory_run.specs.KeptPromises.{KeptPromises}
+use Rattle.theory_run.proofs.Facts.KeptCommitments.{one_more_promise, checked_now}
 use Rattle.theory_run.proofs.Facts.Undertakings.{committed_sized}
-use Rattle.theory_run.proofs.Facts.OwnLabels.{KeptLabels, signs_compiled}
+use Rattle.theory_run.specs.KeptLabels.{KeptLabels}
+use Rattle.theory_run.proofs.Facts.OwnLabels.{signs_compiled}
 use Rattle.theory_run.proofs.Accepted.Unmade.{Lies, unmade}
 
 module _ (s : Setup) (setup : IsSetup s) (g : Configuration) (w : World) (kept : KeptBook s g w) (check : Checked s w) (clear : NoClash s.hash w.hashed) (promises : KeptPromises s w) (labels : KeptLabels s w)

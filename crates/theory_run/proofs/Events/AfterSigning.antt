@@ -29,11 +29,12 @@ use Rattle.spec_run.specs.Conditions.{HashesBytes}
 use Rattle.spec_run.specs.Signing.{signed_all, label_party, needs_at, pairs_of_party, pairs_of_deposits, initial_pairs, authorising_pairs}
 use Rattle.spec_run.specs.Steps.{is_bound_live}
 use Rattle.theory_calculus.proofs.Names.{bytes-true}
-use Rattle.theory_calculus.proofs.Members.{Is_in}
-use Rattle.theory_world.proofs.Hashed.{NoClash}
+use Rattle.theory_calculus.specs.Members.{Is_in}
+use Rattle.theory_world.specs.KeptApart.{NoClash}
 use Rattle.theory_world.proofs.Later.{lasts_refl, compiled_is}
 use Rattle.theory_world.proofs.Book.{signed_more, signed_back}
-use Rattle.theory_run.proofs.Facts.Kept.{KeptBook, HeldFine, DepositCause, Needed, needed, Started, started, BranchCause, Frame, signs}
+use Rattle.theory_run.specs.KeptBook.{KeptBook, HeldFine, DepositCause, Needed, Started, BranchCause, needed, started}
+use Rattle.theory_run.proofs.Facts.Kept.{Frame, signs}
 use Rattle.theory_run.proofs.Accepted.Spending.{Checked}
 use Rattle.theory_run.proofs.Facts.Labelled.{IsHeard, same_label, deposit_label, heard_label, behind_last, label_contract, label_path, lie_deposit, lie_branch, pairs_are, authorised_deposit, authorised_branch}
 use Rattle.theory_world.proofs.Contracts.Endorsed.{need_of_pair, NeedIs, branch_need, put_need, need_is}

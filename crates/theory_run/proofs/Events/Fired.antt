@@ -28,13 +28,14 @@ use Rattle.spec_run.specs.Signing.{prepared_if_compiled}
 use Rattle.spec_run.specs.Event.{append_read}
 use Rattle.spec_run.specs.Steps.{steps_of}
 use Rattle.theory_bitcoin.proofs.Top.{read_is_spelled}
-use Rattle.theory_world.proofs.Hashed.{NoClash}
-use Rattle.theory_world.proofs.Ledger.Preimages.{IsNumbered, numbered}
+use Rattle.theory_world.specs.KeptApart.{NoClash}
+use Rattle.theory_world.specs.Transactions.{IsNumbered}
+use Rattle.theory_world.proofs.Ledger.Preimages.{numbered}
 use Rattle.theory_world.proofs.Ledger.Bare.{bare_numbered}
 use Rattle.theory_world.proofs.Ledger.Acceptable.{with-bare}
 use Rattle.theory_world.proofs.Contracts.Standing.{term_choice, term_branches, unsigned_of_branch}
 use Rattle.theory_world.proofs.Ledger.Worth.{accepted_by}
-use Rattle.theory_run.proofs.Facts.Kept.{KeptBook, HeldFine}
+use Rattle.theory_run.specs.KeptBook.{KeptBook, HeldFine}
 use Rattle.theory_run.proofs.Accepted.Spending.{TransactionsFit, Checked}
 use Rattle.theory_run.proofs.Accepted.Reached.{reached_kept}
 use Rattle.theory_run.proofs.Sizes.{outputs_short}

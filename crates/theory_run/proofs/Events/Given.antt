@@ -39,17 +39,20 @@ use Rattle.spec_run.specs.Ledger.{verdict_in, items_of, strings_of, reason_of, s
 use Rattle.spec_run.specs.Signing.{with_pairs, label_party}
 use Rattle.spec_run.specs.Giving.{first_dead, value_out, give_row, given_input, given_output, unsigned_gift, given_digest, signed_input, given_pairs, gift, give_draft}
 use Rattle.spec_run.specs.Steps.{steps_of}
-use Rattle.theory_bitcoin.proofs.Apart.{AllPlaces}
+use Rattle.theory_bitcoin.specs.Places.{AllPlaces}
 use Rattle.theory_bitcoin.specs.Apart.{bare_input, bare}
 use Rattle.theory_calculus.proofs.Names.{bytes-true}
-use Rattle.theory_calculus.proofs.Members.{Is_in}
-use Rattle.theory_world.proofs.Hashed.{NoClash, no_clash, among_left, all_more, all_new}
+use Rattle.theory_calculus.specs.Members.{Is_in}
+use Rattle.theory_world.specs.KeptApart.{NoClash}
+use Rattle.theory_world.proofs.Hashed.{no_clash, among_left, all_more, all_new}
 use Rattle.theory_world.proofs.Tests.{length_map}
 use Rattle.theory_world.proofs.Ledger.Worth.{IsAccepted, accepted_by}
-use Rattle.theory_world.proofs.Ledger.Preimages.{AllSequences, IsNumbered, HeardLists, heard_lists}
+use Rattle.theory_world.specs.Transactions.{AllSequences, IsNumbered, HeardLists}
+use Rattle.theory_world.proofs.Ledger.Preimages.{heard_lists}
 use Rattle.theory_world.proofs.Ledger.Bare.{bare_numbered, bare_lists, same_preimage}
 use Rattle.theory_world.proofs.Ledger.Accepting.{IsSpent, AllSpent, accepting, HeardAll, heard_shared, heard_input}
-use Rattle.theory_run.proofs.Facts.Kept.{KeptBook, AllDead, AllFinal, HeardDigest, Gave, gave}
+use Rattle.theory_run.specs.KeptBook.{KeptBook, AllFinal, HeardDigest, Gave, gave}
+use Rattle.theory_run.proofs.Facts.Kept.{AllDead}
 use Rattle.theory_run.proofs.Accepted.Spending.{TransactionsFit, Checked}
 use Rattle.theory_world.proofs.Later.{get-spent, get-front}
 use Rattle.theory_run.proofs.Accepted.Accept.{spent_at, all_strings_of}

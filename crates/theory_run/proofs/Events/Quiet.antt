@@ -34,11 +34,13 @@ use Rattle.spec_run.specs.Revealing.{own_secret, reveal_row, reveal_draft}
 use Rattle.spec_run.specs.Event.{mine_row, mine_draft}
 use Rattle.spec_run.specs.Steps.{is_of_party, is_bound_live, init_steps, steps_of}
 use Rattle.theory_calculus.proofs.Names.{bytes-true, bytes_refl}
-use Rattle.theory_calculus.proofs.Members.{Is_in, filter_has}
-use Rattle.theory_world.proofs.Hashed.{NoClash, no_clash, among_head, all_more, all_new}
+use Rattle.theory_calculus.specs.Members.{Is_in}
+use Rattle.theory_calculus.proofs.Members.{filter_has}
+use Rattle.theory_world.specs.KeptApart.{NoClash}
+use Rattle.theory_world.proofs.Hashed.{no_clash, among_head, all_more, all_new}
 use Rattle.theory_world.proofs.Contracts.Standing.{term_branches}
 use Rattle.theory_world.proofs.Contracts.Mentions.{branch_named, asked_mentioned}
-use Rattle.theory_run.proofs.Facts.Kept.{KeptBook, HeldFine}
+use Rattle.theory_run.specs.KeptBook.{KeptBook, HeldFine}
 use Rattle.theory_run.proofs.Accepted.Spending.{Checked}
 use Rattle.theory_world.proofs.Later.{compiled_is}
 use Rattle.theory_run.proofs.Events.AfterSigning.{quiet_kept, sign_kept, authorise_kept, endorse_kept, init_kept}

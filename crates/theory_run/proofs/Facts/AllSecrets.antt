@@ -13,7 +13,8 @@ use Rattle.spec_calculus.specs.declared.parts.Revealed.{Revealed}
 use Rattle.spec_run.specs.Setup.{Setup}
 use Rattle.spec_run.specs.Secrets.{all_secrets, secrets_from, secrets_of_contract}
 use Rattle.theory_calculus.proofs.Names.{bytes_refl, different_names}
-use Rattle.theory_run.proofs.Facts.Secrets.{has_secret, same_secret, secret-true, secret_refl, has_secret-append, different_secrets}
+use Rattle.theory_run.specs.KeptSecrets.{has_secret}
+use Rattle.theory_run.proofs.Facts.Secrets.{same_secret, secret-true, secret_refl, has_secret-append, different_secrets}
 
 -- ---- names of one precondition
 

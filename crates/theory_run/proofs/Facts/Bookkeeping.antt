@@ -12,25 +12,23 @@ use Rattle.spec_run.specs.Draft.{settled}
 use Rattle.spec_run.specs.Event.{draft, opening_world, opening_collision}
 use Rattle.spec_run.specs.Steps.{steps_of}
 use Rattle.spec_run.specs.Translation.{opening_configuration}
-use Rattle.theory_world.proofs.Hashed.{NoClash, no_clash}
+use Rattle.theory_world.specs.KeptApart.{NoClash}
+use Rattle.theory_world.proofs.Hashed.{no_clash}
 use Rattle.theory_run.proofs.Facts.Opening.{clear, opening_book}
-use Rattle.theory_run.proofs.Facts.Kept.{KeptBook}
+use Rattle.theory_run.specs.KeptBook.{KeptBook}
 use Rattle.theory_run.proofs.Accepted.Spending.{TransactionsFit, Checked}
 use Rattle.theory_run.proofs.Widths.Putting.{transactions_fit}
-use Rattle.theory_run.proofs.Facts.KeptCommitments.{KeptPromises, opening_promises, checked_now}
+use Rattle.theory_run.specs.KeptPromises.{KeptPromises}
+use Rattle.theory_run.proofs.Facts.KeptCommitments.{opening_promises, checked_now}
 use Rattle.theory_run.proofs.Facts.Undertakings.{promises_after}
-use Rattle.theory_run.proofs.Facts.OwnLabels.{KeptLabels, opening_labels, labels_after}
+use Rattle.theory_run.specs.KeptLabels.{KeptLabels}
+use Rattle.theory_run.proofs.Facts.OwnLabels.{opening_labels, labels_after}
 use Rattle.theory_run.proofs.Events.Quiet.{KeptAfter, endorse_after, init_after, authorise_after, reveal_after, posting_after, sign_after, mine_after}
 use Rattle.theory_run.proofs.Events.Given.{gift_after}
 use Rattle.theory_run.proofs.Events.Fired.{append_after, fire_init_after, fire_after}
 use Rattle.theory_run.proofs.Events.AfterAdvert.{advertise_after}
 use Rattle.theory_run.proofs.Events.AfterCommit.{commit_after}
-
-pub record KeptBooks (s : Setup) (g : Configuration) (w : World) : Type 0 where
-  pub book : KeptBook s g w
-  pub promises : KeptPromises s w
-  pub labels : KeptLabels s w
-  pub clear : NoClash s.hash w.hashed
+use Rattle.theory_run.specs.KeptRuns.{KeptBooks}
 
 -- its contracts have passed the check, and their transactions have numbers within their widths
 pub checks : (s : Setup) → IsSetup s → (g : Configuration) (w : World) → KeptBooks s g w → Checked s w

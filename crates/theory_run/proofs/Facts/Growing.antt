@@ -34,7 +34,7 @@ use Rattle.spec_run.specs.World as world
 use Rattle.spec_run.specs.Event.{append_read, mine_row, draft}
 use Rattle.theory_calculus.proofs.Names.{all_among}
 use Rattle.theory_world.proofs.Hashed.{all_more}
-use Rattle.theory_run.proofs.Facts.Kept.{KeptBook}
+use Rattle.theory_run.specs.KeptBook.{KeptBook}
 use Rattle.theory_world.proofs.Later.{Lasts, lasts_refl, lasts_spent, compiled_is, compiled_stays, bindings-more}
 use Rattle.theory_world.proofs.Book.{signed_more}
 

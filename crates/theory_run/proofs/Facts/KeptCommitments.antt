@@ -18,23 +18,17 @@ use Rattle.spec_run.specs.Conditions.{IsSetup}
 use Rattle.spec_run.specs.Advertising.{arranged}
 use Rattle.spec_run.specs.Committing.{secrets_at}
 use Rattle.theory_calculus.proofs.Names.{bytes-true, all_among, looked_in, named_looked}
-use Rattle.theory_calculus.proofs.Members.{Is_in}
+use Rattle.theory_calculus.specs.Members.{Is_in}
 use Rattle.theory_world.proofs.Tests.{any-append}
 use Rattle.theory_world.proofs.Later.{IsCompiledAt, compiled_is}
 use Rattle.theory_run.proofs.Steps.CommitSteps.{arranged-some, arranged-look, every}
 use Rattle.theory_run.proofs.Facts.Promised.{in_pushed, none_named, one_more_named}
-use Rattle.theory_run.proofs.Accepted.Tested.{PromisesNamed, secret_party, secret_among, look_append, digest_looked}
+use Rattle.theory_run.specs.KeptPromises.{PromisesNamed, KeptPromises}
+use Rattle.theory_run.proofs.Accepted.Tested.{secret_party, secret_among, look_append, digest_looked}
 use Rattle.theory_world.proofs.Hashed.{among_left}
 use Rattle.theory_run.proofs.Accepted.Spending.{Checked}
 use Rattle.theory_world.proofs.Contracts.Checking.{compiled_checked}
 use Rattle.theory_world.proofs.Contracts.Mentions.{added}
-
-pub record KeptPromises (s : Setup) (w : World) : Type 0 where
-  -- who has committed had the contract advertised before
-  pub told : (k : ℕ) (a : List ℕ) → has_promised w k a ≡ true → is_advertised w k ≡ true
-  pub named : PromisesNamed s w.promises
-  pub sized : (p : Promise) → Is_in p w.promises → (n d : List ℕ) → look_up n p.digests ≡ Some d → length d ≡ 32
-  pub full : (p : Promise) → Is_in p w.promises → (n : List ℕ) → is_among n (secrets_at s p.contract p.party) ≡ true → is_some (look_up n p.digests) ≡ true
 
 -- ---- digests of 32 bytes
 

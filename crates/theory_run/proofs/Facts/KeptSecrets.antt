@@ -18,9 +18,11 @@ use Rattle.spec_run.specs.Revealing.{fits, fitting}
 use Rattle.spec_run.specs.Secrets.{all_secrets, digest_at, is_shown, shown, newly_shown, secret_size, length_in_run, lengths_in_run}
 use Rattle.spec_run.specs.Steps.{reveals}
 use Rattle.theory_calculus.proofs.Names.{bytes-true}
-use Rattle.theory_world.proofs.Hashed.{NoClash, find_any, any_found}
-use Rattle.theory_run.proofs.Facts.Secrets.{has_secret, different_secrets, has_secret-append, filter-member, different-filter, all-filter, is_known_in, legal_reveals}
-use Rattle.theory_world.proofs.Once.{Once}
+use Rattle.theory_world.specs.KeptApart.{NoClash, Once}
+use Rattle.theory_world.proofs.Hashed.{find_any, any_found}
+use Rattle.theory_run.specs.KeptSecrets.{has_secret, committed_by, is_own}
+use Rattle.theory_run.proofs.Facts.Secrets.{different_secrets, has_secret-append, filter-member, different-filter, all-filter, is_known_in}
+use Rattle.theory_run.proofs.Facts.Secrets.{legal_reveals}
 
 -- the strings posted so far begin those of the run: the first that passes a test is the first of the run
 pub record Begins (z posted : List (List ℕ)) : Type 0 where
@@ -28,30 +30,6 @@ pub record Begins (z posted : List (List ℕ)) : Type 0 where
 
 pub begins_within : (z posted : List (List ℕ)) → Begins z posted → (p : List ℕ → Bool) → list_any p posted ≡ true → list_any p z ≡ true
 begins_within z posted b p h = any_found p z (ap is_some (b.first p h) ∙ find_any p posted h)
-
--- a commitment with its lengths by the strings z
-abbrev pub committed_by : Setup → List (List ℕ) → Promise → Committed
-committed_by s z p = record { contract = p.contract; party = p.party; lengths = lengths_in_run s z p.party p.digests }
-
--- an honest party's digest is that of its own secret, which was hashed
-abbrev pub is_own : Setup → List (List ℕ) → Option (List ℕ) → Option (List ℕ) → Bool
-is_own s hs o None = true
-is_own s hs None (Some d) = false
-is_own s hs (Some t) (Some d) = bytes_eq (s.hash t) d && is_secret_long t && is_among t hs
-
-pub record KeptSecrets (s : Setup) (z : List (List ℕ)) (g : Configuration) (w : World) : Type 0 where
-  pub lengths : g.committed ≡ map (committed_by s z) w.promises
-  pub revealed : (x : Revealed) → has_secret x g.revealed ≡ shown s w x
-  -- what is committed is a secret of the run's contracts
-  pub known : (x : Revealed) → is_some (digest_at w.promises x) ≡ true → has_secret x (all_secrets s) ≡ true
-  pub own : (x : Revealed) → is_honest s x.party ≡ true → is_own s w.hashed (held_secret s x.party x.secret) (digest_at w.promises x) ≡ true
-  pub clear : NoClash s.hash w.hashed
-  pub heard : (t : List ℕ) → is_among t w.posted ≡ true → is_among t w.hashed ≡ true
-  pub once : Once w.promises
-  -- an honest party's secret is posted only where its digest is committed
-  pub early : (a n t : List ℕ) → held_secret s a n ≡ Some t → is_among t w.posted ≡ true → is_among (s.hash t) (used_digests w.promises) ≡ true
-  -- who has committed to a contract has committed all its secrets
-  pub full : (x : Revealed) → has_promised w x.contract x.party ≡ true → is_among x.secret (secrets_at s x.contract x.party) ≡ true → is_some (digest_at w.promises x) ≡ true
 
 looked_by : (s : Setup) (z : List (List ℕ)) (a n : List ℕ) (ds : List (List ℕ × List ℕ)) → look_up n (lengths_in_run s z a ds) ≡ option_map (length_in_run s z a n) (look_up n ds)
 looked_by s z a n [] = refl

@@ -27,12 +27,12 @@ use Rattle.spec_run.specs.Ledger.{position_path}
 use Rattle.theory_bitcoin.proofs.Labels.{one_label}
 use Rattle.theory_calculus.proofs.Names.{bytes-true}
 use Rattle.theory_calculus.proofs.Members.{get_below}
-use Rattle.theory_world.proofs.Hashed.{NoClash}
+use Rattle.theory_world.specs.KeptApart.{NoClash}
 use Rattle.theory_world.proofs.Book.{key-apart}
 use Rattle.theory_world.proofs.Labels.{path_fine}
 use Rattle.theory_world.proofs.Later.{compiled_is}
 use Rattle.theory_world.proofs.Contracts.Standing.{stand_of_branch, unsigned_of_branch, view_at}
-use Rattle.theory_run.proofs.Facts.Kept.{KeptBook, HeldFine, BranchCause}
+use Rattle.theory_run.specs.KeptBook.{KeptBook, HeldFine, BranchCause}
 use Rattle.theory_run.proofs.Accepted.Spending.{Checked, label_heard}
 
 -- the one pair of a list of one

@@ -22,7 +22,7 @@ use Rattle.spec_run.specs.Conditions.{HashesBytes}
 use Rattle.theory_bitcoin.specs.Apart.{bare}
 use Rattle.theory_script.proofs.Scripts.Opened.{is_checked}
 use Rattle.theory_script.proofs.Listing.Stands.{position_stands}
-use Rattle.theory_world.proofs.Hashed.{NoClash}
+use Rattle.theory_world.specs.KeptApart.{NoClash}
 use Rattle.theory_world.proofs.Later.{compiled_is}
 use Rattle.theory_world.proofs.Contracts.Standing.{term_choice, root_position}
 use Rattle.theory_world.proofs.Contracts.Keyed.{ScriptKey, script_key, one_position}

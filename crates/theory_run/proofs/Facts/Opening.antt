@@ -31,12 +31,13 @@ use Rattle.theory_calculus.proofs.Names.{bytes-true, bytes_refl}
 use Rattle.theory_calculus.proofs.Members.{get_below}
 use Rattle.theory_world.proofs.Tests.{length_map}
 use Rattle.theory_world.proofs.Ledger.Outputs.{nothing_held, length-made_from, deposits-new, actives-new}
-use Rattle.theory_run.proofs.Steps.Moved.{AgreeOnMoney}
-use Rattle.theory_world.proofs.Hashed.{NoClash, no_clash, no_clash_none, among_left, among_right, among_head, among_tail, all_new}
-use Rattle.theory_run.proofs.Facts.KeptSecrets.{KeptSecrets}
+use Rattle.theory_run.specs.Tracks.{AgreeOnMoney}
+use Rattle.theory_world.specs.KeptApart.{NoClash}
+use Rattle.theory_world.proofs.Hashed.{no_clash, no_clash_none, among_left, among_right, among_head, among_tail, all_new}
+use Rattle.theory_run.specs.KeptSecrets.{KeptSecrets}
 use Rattle.theory_world.proofs.Book.{key-apart}
 use Rattle.theory_world.proofs.Later.{get-made}
-use Rattle.theory_run.proofs.Facts.Kept.{KeptBook}
+use Rattle.theory_run.specs.KeptBook.{KeptBook}
 
 -- ---- lists
 

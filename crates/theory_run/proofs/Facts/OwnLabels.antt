@@ -44,39 +44,25 @@ use Rattle.theory_bitcoin.proofs.Labels.{one_label}
 use Rattle.theory_calculus.proofs.Names.{bytes-true}
 use Rattle.theory_calculus.proofs.Members.{all_then, some_there}
 use Rattle.theory_world.proofs.Tests.{any-append}
-use Rattle.theory_world.proofs.Hashed.{NoClash, all_more, all_new, among_head}
+use Rattle.theory_world.specs.KeptApart.{NoClash}
+use Rattle.theory_world.proofs.Hashed.{all_more, all_new, among_head}
 use Rattle.theory_world.proofs.Book.{key-apart, signed_back}
 use Rattle.theory_world.proofs.Contracts.Standing.{term_branches, unsigned_of_branch}
 use Rattle.theory_world.proofs.Contracts.Mentions.{branch_named, asked_mentioned}
 use Rattle.theory_world.proofs.Later.{compiled_is, compiled_from}
-use Rattle.theory_run.proofs.Facts.Kept.{KeptBook, HeldFine}
+use Rattle.theory_run.specs.KeptBook.{KeptBook, HeldFine}
 use Rattle.theory_run.proofs.Accepted.Spending.{Checked}
 use Rattle.theory_run.proofs.Facts.Labelled.{IsHeard, deposit_label, heard_label, one_pair}
 use Rattle.theory_world.proofs.Contracts.Endorsed.{need_of_pair, NeedIs, branch_need, put_need, need_is}
 use Rattle.theory_run.proofs.Events.AfterSigning.{pair_of_deposit}
 use Rattle.theory_run.proofs.Events.Quiet.{IsActive, active, held_contract}
 use Rattle.theory_run.proofs.Events.Given.{key_given}
-
--- an honest party's label of a branch is of a compiled contract
-abbrev pub IsOwn : Setup → World → Label → Type 0
-IsOwn s w (labels.Deposit a) = Unit {0}
-IsOwn s w (labels.Branch k path a) = is_honest s a ≡ true → is_some (compiled_instance s w k) ≡ true
-
--- the label of a key that has signed
-pub record HasLabel (s : Setup) (w : World) (key : List ℕ) : Type 0 where
-  pub label : Label
-  pub fine : IsLabel label
-  pub heard : is_among (label_text label) w.hashed ≡ true
-  pub is : key_of s.hash label ≡ key
-  pub own : IsOwn s w label
+use Rattle.theory_run.specs.KeptLabels.{IsOwn, HasLabel, KeptLabels}
 
 -- the key of a label of the party that was hashed
 pub record IsKeyOf (s : Setup) (w : World) (party key : List ℕ) : Type 0 where
   pub known : HasLabel s w key
   pub whose : label_party known.label ≡ party
-
-pub record KeptLabels (s : Setup) (w : World) : Type 0 where
-  pub signed : (key digest : List ℕ) → has_signed w.book key digest ≡ true → HasLabel s w key
 
 pub opening_labels : (s : Setup) (w : World) → w.book ≡ [] → KeptLabels s w
 opening_labels s w e = record { signed = λ k d h. absurd (both_ways _ (ap (λ b. has_signed b k d) e) h) }

@@ -16,9 +16,9 @@ use Rattle.spec_run.specs.World.{World}
 use Rattle.spec_run.specs.Owners.{paid_to, owner_among, owner_by}
 use Rattle.theory_bitcoin.proofs.Labels.{one_label}
 use Rattle.theory_calculus.proofs.Names.{bytes-true, bytes_refl}
-use Rattle.theory_world.proofs.Hashed.{NoClash}
+use Rattle.theory_world.specs.KeptApart.{NoClash}
 use Rattle.theory_world.proofs.Book.{key-apart}
-use Rattle.theory_run.proofs.Facts.Kept.{KeptBook}
+use Rattle.theory_run.specs.KeptBook.{KeptBook}
 
 module _ (s : Setup) (g : Configuration) (w : World) (kept : KeptBook s g w) (hs : List (List ℕ)) (clear : NoClash s.hash hs) (sub : (t : List ℕ) → is_among t w.hashed ≡ true → is_among t hs ≡ true) where
   abbrev party_in : Label → List ℕ

@@ -19,9 +19,11 @@ use Rattle.spec_run.specs.Secrets.{all_secrets, digest_at, is_shown, shown, newl
 use Rattle.spec_run.specs.Steps.{reveals}
 use Rattle.theory_calculus.proofs.Names.{bytes-true, bytes_refl, among-append}
 use Rattle.theory_world.proofs.Tests.{any-append}
-use Rattle.theory_world.proofs.Hashed.{NoClash, no_clash, among_split, all_more, all_new, any_then, any_found, find_any}
-use Rattle.theory_run.proofs.Facts.Secrets.{has_secret, different_secrets, after-reveals}
-use Rattle.theory_run.proofs.Facts.KeptSecrets.{Begins, KeptSecrets, is_own, committed_by, reveals_legal, reveals_agree}
+use Rattle.theory_world.specs.KeptApart.{NoClash}
+use Rattle.theory_world.proofs.Hashed.{no_clash, among_split, all_more, all_new, any_then, any_found, find_any}
+use Rattle.theory_run.specs.KeptSecrets.{has_secret, KeptSecrets, is_own, committed_by}
+use Rattle.theory_run.proofs.Facts.Secrets.{different_secrets, after-reveals}
+use Rattle.theory_run.proofs.Facts.KeptSecrets.{Begins, reveals_legal, reveals_agree}
 
 -- ---- an honest party's committed digest is that of its own secret
 

@@ -7,8 +7,8 @@ use Rattle.spec_run.specs.Setup.{Setup}
 use Rattle.spec_run.specs.World.{Promise}
 use Rattle.spec_run.specs.Advertising.{arranged, or_else_this}
 use Rattle.spec_run.specs.Committing.{secrets_at}
-use Rattle.theory_calculus.proofs.Members.{Is_in}
-use Rattle.theory_run.proofs.Accepted.Tested.{PromisesNamed}
+use Rattle.theory_calculus.specs.Members.{Is_in}
+use Rattle.theory_run.specs.KeptPromises.{PromisesNamed}
 
 pub none_named : (s : Setup) → PromisesNamed s []
 none_named s = record { named = λ p i n d h. absurd i }

@@ -12,15 +12,12 @@ use Rattle.spec_run.specs.Steps.{reveal_step}
 use Rattle.theory_calculus.proofs.Names.{bytes-true, bytes_refl}
 use Rattle.theory_world.proofs.Tests.{any-append}
 use Rattle.theory_run.proofs.Steps.Legal.{passes}
+use Rattle.theory_run.specs.KeptSecrets.{has_secret}
 
 -- ---- secrets
 
 abbrev pub same_secret : Revealed → Revealed → Bool
 same_secret r x = (r.contract == x.contract) && bytes_eq r.party x.party && bytes_eq r.secret x.secret
-
--- whether a secret stands in the list
-abbrev pub has_secret : Revealed → List Revealed → Bool
-has_secret x xs = is_revealed xs x.contract x.party x.secret
 
 abbrev pub different_secrets : List Revealed → Bool
 different_secrets [] = true

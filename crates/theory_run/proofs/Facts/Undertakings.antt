@@ -31,7 +31,8 @@ use Rattle.spec_run.specs.Committing.{secrets_at, own_digests, committed_digests
 use Rattle.spec_run.specs.Event.{append_read, mine_row, draft}
 use Rattle.theory_world.proofs.Tests.{any-append}
 use Rattle.theory_run.proofs.Steps.CommitSteps.{digests_looked, own_looked}
-use Rattle.theory_run.proofs.Facts.KeptCommitments.{KeptPromises, promises_stay, one_more_promise}
+use Rattle.theory_run.specs.KeptPromises.{KeptPromises}
+use Rattle.theory_run.proofs.Facts.KeptCommitments.{promises_stay, one_more_promise}
 
 -- ---- where nothing is advertised or committed
 

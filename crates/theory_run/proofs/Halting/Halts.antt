@@ -16,7 +16,8 @@ use Rattle.spec_run.specs.Event.{draft}
 use Rattle.spec_run.specs.Halting.{AreApart, Collides, GivesAway, GivesNoneAway, Guesses, SameStrings}
 use Rattle.theory_calculus.proofs.Names.{bytes-true, bytes_refl, among-append}
 use Rattle.theory_run.proofs.Halting.Allowing.{allowed_own, own_allowed}
-use Rattle.theory_world.proofs.Hashed.{NoClash, no_clash, among_head}
+use Rattle.theory_world.specs.KeptApart.{NoClash}
+use Rattle.theory_world.proofs.Hashed.{no_clash, among_head}
 
 -- ---- the same strings
 

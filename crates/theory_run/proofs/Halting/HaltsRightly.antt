@@ -13,7 +13,8 @@ use Rattle.spec_run.specs.Translation.{turn_of, turns_from, world_after, course,
 use Rattle.spec_run.specs.Halting.{OpeningIs}
 use Rattle.spec_run.specs.Statements.{IsRun, EndsAs, went_on, HaltsRightly, HaltsTheorem}
 use Rattle.spec_run.proofs.Courses.{passing, last_left}
-use Rattle.theory_world.proofs.Hashed.{NoClash, no_clash_none, no_clash}
+use Rattle.theory_world.specs.KeptApart.{NoClash}
+use Rattle.theory_world.proofs.Hashed.{no_clash_none, no_clash}
 use Rattle.theory_run.proofs.Facts.Opening.{clear}
 use Rattle.theory_run.proofs.Following.{Keeps, run_posts, holds_throughout}
 use Rattle.theory_run.proofs.Halting.Halts.{all_noted, calm_is, collides, none_away, guesses}

@@ -32,15 +32,17 @@ use Rattle.spec_run.specs.Ledger.{is_initial, initial_of, first_position, Begins
 use Rattle.spec_run.specs.HonestDeposits.{is_init, is_endorse, was_done, is_number, is_bound_to, takes_persistent, is_put_of, takes_put, is_but_for_witnesses, is_of_path, by_contract}
 use Rattle.theory_bitcoin.specs.Apart.{bare}
 use Rattle.theory_calculus.proofs.Names.{bytes_refl, persistent_deposit, volatile_named}
-use Rattle.theory_calculus.proofs.Members.{Is_in, all_in}
+use Rattle.theory_calculus.specs.Members.{Is_in}
+use Rattle.theory_calculus.proofs.Members.{all_in}
 use Rattle.theory_script.proofs.Checked.{puts_known}
-use Rattle.theory_world.proofs.Hashed.{NoClash}
-use Rattle.theory_world.proofs.Ledger.Preimages.{IsNumbered, HeardLists}
-use Rattle.theory_world.proofs.Ledger.Bare.{same_from, NoScripts}
+use Rattle.theory_world.specs.KeptApart.{NoClash}
+use Rattle.theory_world.specs.Transactions.{IsNumbered, HeardLists, NoScripts}
+use Rattle.theory_world.proofs.Ledger.Bare.{same_from}
 use Rattle.theory_world.proofs.Contracts.Standing.{unsigned_of_branch, term_choice}
 use Rattle.theory_world.proofs.Later.{compiled_is}
 use Rattle.theory_world.proofs.Ledger.Accepting.{IsSpent, AllSpent, Accepting, HeardAll, heard_input, HeardInput}
-use Rattle.theory_run.proofs.Facts.Kept.{KeptBook, HeardDigest, AllDead, IsDead, Needed, Started}
+use Rattle.theory_run.specs.KeptBook.{KeptBook, HeardDigest, Needed, Started}
+use Rattle.theory_run.proofs.Facts.Kept.{AllDead, IsDead}
 use Rattle.theory_run.proofs.Accepted.Spending.{TransactionsFit, Checked, same_gift, same_put, same_start, deposit_signed}
 use Rattle.theory_run.proofs.Accepted.Accept.{scripts_none, lists, all_strings_of, bare_in, not_dead}
 use Rattle.theory_run.proofs.Accepted.WhatItIs.{First, first, initial_first, branch_first, initial_is, not_initial, at_bound}

@@ -38,12 +38,13 @@ use Rattle.spec_run.specs.HonestDeposits.{gives, by_transaction, SpendsWithLeave
 use Rattle.spec_run.specs.Event.{append_read, mine_row, draft, record_of}
 use Rattle.theory_calculus.proofs.Names.{bytes-true, bytes_refl}
 use Rattle.theory_run.proofs.Events.Advertised.{none_is}
-use Rattle.theory_world.proofs.Hashed.{NoClash, no_clash, among_left, all_more, all_new}
+use Rattle.theory_world.specs.KeptApart.{NoClash}
+use Rattle.theory_world.proofs.Hashed.{no_clash, among_left, all_more, all_new}
 use Rattle.theory_world.proofs.Ledger.Worth.{accepted_by}
 use Rattle.theory_world.proofs.Later.{get-spent, get-front}
-use Rattle.theory_world.proofs.Ledger.Preimages.{IsNumbered}
+use Rattle.theory_world.specs.Transactions.{IsNumbered}
 use Rattle.theory_world.proofs.Ledger.Accepting.{Accepting, accepting, HeardAll}
-use Rattle.theory_run.proofs.Facts.Kept.{KeptBook}
+use Rattle.theory_run.specs.KeptBook.{KeptBook}
 use Rattle.theory_run.proofs.Accepted.Spending.{TransactionsFit, Checked}
 use Rattle.theory_run.proofs.Events.Fired.{piece_numbered, started_numbered, taken_numbered}
 use Rattle.theory_run.proofs.Events.Given.{spent_is}

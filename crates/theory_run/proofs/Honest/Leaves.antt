@@ -19,7 +19,8 @@ use Rattle.spec_run.specs.Event.{opening_world, draft, record_of}
 use Rattle.spec_run.specs.Steps.{steps_of}
 use Rattle.theory_world.proofs.Tests.{any-append}
 use Rattle.theory_run.proofs.Facts.Growing.{Grows, grows}
-use Rattle.theory_run.proofs.Facts.Kept.{KeptBook, AdvertFine, AllDead, Gave, Needed, Started, Frame, all_dead_later, gave_later, needed_later, started_later}
+use Rattle.theory_run.specs.KeptBook.{KeptBook, AdvertFine, Gave, Needed, Started}
+use Rattle.theory_run.proofs.Facts.Kept.{AllDead, Frame, all_dead_later, gave_later, needed_later, started_later}
 use Rattle.theory_world.proofs.Staying.{inits_stay, asked_stay}
 
 -- why an honest party's signature of a deposit stands in the book

@@ -41,11 +41,13 @@ use Rattle.spec_run.specs.Ledger.{verdict_in, strings_of, items_of, reason_of, a
 use Rattle.spec_run.specs.Event.{append_read, mine_row, draft, record_of}
 use Rattle.spec_run.specs.Steps.{init_steps, steps_of}
 use Rattle.theory_calculus.proofs.Names.{bytes-true, bytes_refl}
-use Rattle.theory_world.proofs.Hashed.{NoClash, no_clash, among_head, all_more, all_new}
+use Rattle.theory_world.specs.KeptApart.{NoClash}
+use Rattle.theory_world.proofs.Hashed.{no_clash, among_head, all_more, all_new}
 use Rattle.theory_world.proofs.Book.{signed_back}
 use Rattle.theory_world.proofs.Contracts.Standing.{term_branches}
 use Rattle.theory_world.proofs.Contracts.Mentions.{branch_named, asked_mentioned}
-use Rattle.theory_run.proofs.Facts.Kept.{KeptBook, HeldFine, Frame, gave_later}
+use Rattle.theory_run.specs.KeptBook.{KeptBook, HeldFine}
+use Rattle.theory_run.proofs.Facts.Kept.{Frame, gave_later}
 use Rattle.theory_run.proofs.Accepted.Spending.{TransactionsFit, Checked}
 use Rattle.theory_run.proofs.Facts.Labelled.{lie_deposit, pairs_are, authorised_deposit}
 use Rattle.theory_run.proofs.Events.AfterSigning.{endorse_needed, start_started}

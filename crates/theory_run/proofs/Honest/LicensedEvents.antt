@@ -39,17 +39,21 @@ use Rattle.spec_run.specs.Event.{append_read, mine_row, draft}
 use Rattle.spec_run.specs.Steps.{parties_once, moved_output, move_of, auth_move, owners_of, reveals, kind_steps, is_of_party, is_bound_live, steps_of}
 use Rattle.spec_run.specs.Licence.{IsRevealOf, Licensed}
 use Rattle.theory_calculus.proofs.Names.{bytes-true}
-use Rattle.theory_calculus.proofs.Members.{Is_in, in_filter}
+use Rattle.theory_calculus.specs.Members.{Is_in}
+use Rattle.theory_calculus.proofs.Members.{in_filter}
 use Rattle.theory_run.proofs.Events.Advertised.{none_is}
-use Rattle.theory_world.proofs.Hashed.{NoClash, no_clash, among_left, among_right, all_more, all_new}
+use Rattle.theory_world.specs.KeptApart.{NoClash}
+use Rattle.theory_world.proofs.Hashed.{no_clash, among_left, among_right, all_more, all_new}
 use Rattle.theory_world.proofs.Ledger.Worth.{accepted_by}
-use Rattle.theory_world.proofs.Ledger.Preimages.{IsNumbered}
+use Rattle.theory_world.specs.Transactions.{IsNumbered}
 use Rattle.theory_world.proofs.Ledger.Accepting.{Accepting, accepting, HeardAll}
 use Rattle.theory_run.proofs.Facts.AllSecrets.{all_different}
-use Rattle.theory_run.proofs.Facts.KeptSecrets.{Begins, KeptSecrets}
+use Rattle.theory_run.specs.KeptSecrets.{KeptSecrets}
+use Rattle.theory_run.proofs.Facts.KeptSecrets.{Begins}
 use Rattle.theory_run.proofs.Facts.Posting.{allows, IsRevealer, is_own-some, revealed_by}
-use Rattle.theory_run.proofs.Steps.CommitSteps.{Constant, none_shown}
-use Rattle.theory_run.proofs.Facts.Kept.{KeptBook}
+use Rattle.theory_run.specs.Tracks.{Constant}
+use Rattle.theory_run.proofs.Steps.CommitSteps.{none_shown}
+use Rattle.theory_run.specs.KeptBook.{KeptBook}
 use Rattle.theory_run.proofs.Accepted.Spending.{TransactionsFit, Checked}
 use Rattle.theory_run.proofs.Accepted.WhatItIs.{initial_is}
 use Rattle.theory_run.proofs.Facts.Owned.{owner_paid}

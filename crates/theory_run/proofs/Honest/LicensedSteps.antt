@@ -34,14 +34,15 @@ use Rattle.spec_run.specs.Secrets.{all_secrets, shown}
 use Rattle.spec_run.specs.Ledger.{initial_of, first_position, Begins, Takes, Moves, kind_by, kind_of}
 use Rattle.spec_run.specs.Steps.{reveal_step, reveals, parties_once, move_of, auth_move, owners_of, move_steps, auth_inits, unauthorised, begin_steps, auth_branch, is_awaited, core_step, branch_steps, kind_steps, names_deposit, is_bound_live}
 use Rattle.spec_run.specs.Licence.{IsInitOf, IsAuthoriseOf, IsRevealOf, IsGiveOf, Licensed}
-use Rattle.theory_calculus.proofs.Members.{Is_in, in_filter}
+use Rattle.theory_calculus.specs.Members.{Is_in}
+use Rattle.theory_calculus.proofs.Members.{in_filter}
 use Rattle.theory_calculus.proofs.Names.{persistent_deposit}
 use Rattle.theory_run.proofs.Accepted.Unmade.{in_images}
 use Rattle.theory_run.proofs.Events.Advertised.{none_is}
-use Rattle.theory_world.proofs.Hashed.{NoClash}
-use Rattle.theory_world.proofs.Ledger.Preimages.{IsNumbered}
+use Rattle.theory_world.specs.KeptApart.{NoClash}
+use Rattle.theory_world.specs.Transactions.{IsNumbered}
 use Rattle.theory_world.proofs.Ledger.Accepting.{IsSpent, Accepting, HeardAll}
-use Rattle.theory_run.proofs.Facts.Kept.{KeptBook, HeldFine}
+use Rattle.theory_run.specs.KeptBook.{KeptBook, HeldFine}
 use Rattle.theory_world.proofs.Later.{compiled_is}
 use Rattle.theory_run.proofs.Accepted.Spending.{TransactionsFit, Checked}
 use Rattle.theory_run.proofs.Accepted.Accept.{spent_at, bare_in}

@@ -18,7 +18,8 @@ use Rattle.spec_run.specs.Statements.{IsRun, spends_with_leave, licensed, Honest
 use Rattle.theory_run.proofs.Facts.KeptSecrets.{Begins}
 use Rattle.theory_run.proofs.Following.{Keeps, run_posts, holds_throughout}
 use Rattle.theory_run.proofs.Facts.Bookkeeping.{checks, fits}
-use Rattle.theory_run.proofs.Simulated.{KeptRun, run_after, opening_run}
+use Rattle.theory_run.specs.KeptRuns.{KeptRun}
+use Rattle.theory_run.proofs.Simulated.{run_after, opening_run}
 use Rattle.theory_run.proofs.Honest.Leaves.{KeptLeave, opening_leave}
 use Rattle.theory_run.proofs.Honest.Left.{leave_after}
 use Rattle.theory_run.proofs.Honest.HonestSpends.{leave_of_event}

@@ -34,7 +34,7 @@ use Rattle.theory_calculus.proofs.Names.{bytes-true, bytes_refl}
 use Rattle.theory_world.proofs.Tests.{any-append}
 use Rattle.theory_world.proofs.Ledger.Outputs.{deposit_of, deposit-at, active-at}
 use Rattle.theory_run.proofs.Steps.Legal.{passes}
-use Rattle.theory_run.proofs.Steps.Moved.{AgreeOnMoney}
+use Rattle.theory_run.specs.Tracks.{AgreeOnMoney}
 use Rattle.theory_run.proofs.Steps.CommitSteps.{every}
 
 -- ---- authorisations of a branch

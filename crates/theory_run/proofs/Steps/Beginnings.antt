@@ -25,16 +25,16 @@ use Rattle.spec_run.specs.World.{ContractPosition, World, bindings_at, has_promi
 use Rattle.spec_run.specs.Ledger.{spend_from, made_from}
 use Rattle.spec_run.specs.Steps.{auth_inits, unauthorised, begin_steps, names_deposit}
 use Rattle.theory_calculus.proofs.Names.{bytes_refl, all_among, different_names, in_looked, persistent_different, persistent_deposit, in_named}
-use Rattle.theory_calculus.proofs.Members.{Is_in}
+use Rattle.theory_calculus.specs.Members.{Is_in}
 use Rattle.theory_world.proofs.Tests.{any-append, any_map, all_alike}
 use Rattle.theory_run.proofs.Steps.Legal.{passes, after-append, legal_append}
-use Rattle.theory_run.proofs.Steps.Moved.{AgreeOnMoney, live_there, actives-untouched}
-use Rattle.theory_run.proofs.Facts.KeptSecrets.{committed_by}
-use Rattle.theory_run.proofs.Steps.CommitSteps.{Constant}
+use Rattle.theory_run.specs.Tracks.{AgreeOnMoney, Constant}
+use Rattle.theory_run.proofs.Steps.Moved.{live_there, actives-untouched}
+use Rattle.theory_run.specs.KeptSecrets.{committed_by}
 use Rattle.theory_world.proofs.Ledger.Accepting.{Accepting}
 use Rattle.theory_world.proofs.Later.{compiled_is}
 use Rattle.theory_world.proofs.Staying.{init_new}
-use Rattle.theory_run.proofs.Facts.Kept.{KeptBook}
+use Rattle.theory_run.specs.KeptBook.{KeptBook}
 use Rattle.theory_run.proofs.Accepted.Spending.{Checked}
 use Rattle.theory_run.proofs.Accepted.WhatItIs.{IsInitial}
 use Rattle.theory_run.proofs.Steps.Gone.{gone_values, agree_by}

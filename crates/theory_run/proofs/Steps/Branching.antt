@@ -31,17 +31,16 @@ use Rattle.spec_run.specs.Conditions.{HashesBytes}
 use Rattle.spec_run.specs.Ledger.{spend_from, made_from, core_holds, position_branch}
 use Rattle.spec_run.specs.Steps.{auth_branch, is_awaited, core_step, branch_steps}
 use Rattle.theory_bitcoin.specs.Apart.{bare_input}
-use Rattle.theory_world.proofs.Ledger.Preimages.{IsNumbered}
+use Rattle.theory_world.specs.Transactions.{IsNumbered}
 use Rattle.theory_world.proofs.Tests.{all_alike}
-use Rattle.theory_world.proofs.Hashed.{NoClash}
+use Rattle.theory_world.specs.KeptApart.{NoClash}
 use Rattle.theory_run.proofs.Steps.Legal.{passes, after-append, legal_append}
-use Rattle.theory_run.proofs.Steps.Moved.{AgreeOnMoney}
-use Rattle.theory_run.proofs.Steps.CommitSteps.{Constant}
+use Rattle.theory_run.specs.Tracks.{AgreeOnMoney, Constant}
 use Rattle.theory_world.proofs.Ledger.Accepting.{Accepting, AllSpent, HeardAll}
 use Rattle.theory_world.proofs.Later.{compiled_is}
 use Rattle.theory_world.proofs.Contracts.Standing.{term_branches}
 use Rattle.theory_world.proofs.Contracts.Mentions.{branch_named, asked_mentioned}
-use Rattle.theory_run.proofs.Facts.Kept.{KeptBook}
+use Rattle.theory_run.specs.KeptBook.{KeptBook}
 use Rattle.theory_run.proofs.Accepted.Spending.{TransactionsFit, Checked}
 use Rattle.theory_run.proofs.Accepted.WhatItIs.{First, first}
 use Rattle.theory_run.proofs.Accepted.WhatItMakes.{Taking}

@@ -27,18 +27,16 @@ use Rattle.spec_run.specs.Steps.{reveals, commit_lengths}
 use Rattle.theory_calculus.proofs.Names.{bytes-true, bytes_refl, all_among}
 use Rattle.theory_world.proofs.Tests.{any-append, any_map, map_append}
 use Rattle.theory_run.proofs.Steps.Legal.{passes}
-use Rattle.theory_world.proofs.Hashed.{NoClash, no_clash, among_left, among_head, among_tail, all_more, all_new}
-use Rattle.theory_run.proofs.Facts.Secrets.{has_secret, same_secret, has_secret-append, different_secrets, after-reveals}
+use Rattle.theory_world.specs.KeptApart.{NoClash}
+use Rattle.theory_world.proofs.Hashed.{no_clash, among_left, among_head, among_tail, all_more, all_new}
+use Rattle.theory_run.specs.KeptSecrets.{has_secret, KeptSecrets, is_own, committed_by}
+use Rattle.theory_run.proofs.Facts.Secrets.{same_secret, has_secret-append, different_secrets, after-reveals}
 use Rattle.theory_world.proofs.Once.{once_push, at_push, new_at, not_before, used-append}
-use Rattle.theory_run.proofs.Facts.KeptSecrets.{Begins, KeptSecrets, is_own, committed_by, reveals_legal, reveals_agree}
+use Rattle.theory_run.proofs.Facts.KeptSecrets.{Begins, reveals_legal, reveals_agree}
 use Rattle.theory_run.proofs.Facts.Posting.{is_own-some, is_own-more, shown-is_some, posted_own}
+use Rattle.theory_run.specs.Tracks.{Constant}
 
 -- ---- what never changes
-
-pub record Constant (s : Setup) (g : Configuration) : Type 0 where
-  pub parties : g.parties ≡ s.header.parties
-  pub honest : g.honest ≡ s.header.honest
-  pub contracts : g.contracts ≡ s.contracts
 
 pub same_pre : (o : Option Advert) → calculus_pre o ≡ pre_of o
 same_pre None = refl

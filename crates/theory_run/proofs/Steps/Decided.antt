@@ -23,21 +23,23 @@ use Rattle.spec_run.specs.Conditions.{HashesBytes}
 use Rattle.spec_run.specs.Ledger.{spend_from, made_from, core_holds, position_branch}
 use Rattle.spec_run.specs.Steps.{branch_steps}
 use Rattle.theory_script.proofs.Checked.{puts_known, reveals_known}
-use Rattle.theory_world.proofs.Ledger.Preimages.{IsNumbered}
-use Rattle.theory_world.proofs.Hashed.{NoClash, among_left, among_right}
-use Rattle.theory_run.proofs.Steps.Moved.{AgreeOnMoney}
-use Rattle.theory_run.proofs.Facts.KeptSecrets.{KeptSecrets, Begins}
-use Rattle.theory_run.proofs.Steps.CommitSteps.{Constant}
+use Rattle.theory_world.specs.Transactions.{IsNumbered}
+use Rattle.theory_world.specs.KeptApart.{NoClash}
+use Rattle.theory_world.proofs.Hashed.{among_left, among_right}
+use Rattle.theory_run.specs.Tracks.{AgreeOnMoney, Constant}
+use Rattle.theory_run.specs.KeptSecrets.{KeptSecrets}
+use Rattle.theory_run.proofs.Facts.KeptSecrets.{Begins}
 use Rattle.theory_world.proofs.Ledger.Accepting.{Accepting, HeardAll}
 use Rattle.theory_world.proofs.Later.{compiled_is}
 use Rattle.theory_world.proofs.Contracts.Standing.{term_choice}
-use Rattle.theory_run.proofs.Facts.Kept.{KeptBook}
+use Rattle.theory_run.specs.KeptBook.{KeptBook}
 use Rattle.theory_run.proofs.Accepted.Spending.{TransactionsFit, Checked}
 use Rattle.theory_run.proofs.Accepted.WhatItIs.{First, first}
 use Rattle.theory_run.proofs.Accepted.WhatItMakes.{Taking}
 use Rattle.theory_run.proofs.Steps.Beginnings.{StepFrame}
 use Rattle.theory_run.proofs.Steps.Branching.{IsTested, legal_put, legal_withdraw, legal_split, frame_put, frame_withdraw, frame_split, agree_put, agree_withdraw, agree_split}
-use Rattle.theory_run.proofs.Accepted.Tested.{PromisesNamed, all_revealed}
+use Rattle.theory_run.specs.KeptPromises.{PromisesNamed}
+use Rattle.theory_run.proofs.Accepted.Tested.{all_revealed}
 
 module _ (s : Setup) (size : HashesBytes s.hash) (few_contracts : length s.contracts ≤ 16) (g : Configuration) (w : World) (kept : KeptBook s g w) (fit : TransactionsFit s w) (check : Checked s w) (hs : List (List ℕ)) (clear : NoClash s.hash hs) (sub : (t : List ℕ) → is_among t w.hashed ≡ true → is_among t hs ≡ true)
     (tx : Tx) (fits : IsNumbered tx) (spent : List ℕ) (acc : Accepting s w tx spent) (all : HeardAll s w hs tx) where

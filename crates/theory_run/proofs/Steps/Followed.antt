@@ -21,20 +21,20 @@ use Rattle.spec_run.specs.Ledger.{spend_from, made_from, position_branch, items_
 use Rattle.spec_run.specs.Secrets.{shown, newly_shown}
 use Rattle.spec_run.specs.Steps.{reveals, branch_steps, kind_steps, accepted_steps}
 use Rattle.spec_run.specs.Agreement.{committed_pair, compiled_outpoint, is_outpoint, is_placed, is_placed_by, Agree}
-use Rattle.theory_world.proofs.Ledger.Preimages.{IsNumbered}
+use Rattle.theory_world.specs.Transactions.{IsNumbered}
 use Rattle.theory_world.proofs.Same.{place_refl}
 use Rattle.theory_world.proofs.Tests.{map_map}
-use Rattle.theory_world.proofs.Hashed.{NoClash}
-use Rattle.theory_run.proofs.Facts.Secrets.{has_secret, after-reveals}
+use Rattle.theory_world.specs.KeptApart.{NoClash}
+use Rattle.theory_run.specs.KeptSecrets.{has_secret, KeptSecrets, committed_by}
+use Rattle.theory_run.proofs.Facts.Secrets.{after-reveals}
 use Rattle.theory_run.proofs.Steps.Legal.{after-append, legal_append}
-use Rattle.theory_run.proofs.Steps.Moved.{AgreeOnMoney}
-use Rattle.theory_run.proofs.Facts.KeptSecrets.{KeptSecrets, Begins as BeginsWith, committed_by}
-use Rattle.theory_run.proofs.Steps.CommitSteps.{Constant}
+use Rattle.theory_run.specs.Tracks.{AgreeOnMoney, Constant}
+use Rattle.theory_run.proofs.Facts.KeptSecrets.{Begins as BeginsWith}
 use Rattle.theory_world.proofs.Ledger.Accepting.{Accepting, HeardAll}
-use Rattle.theory_run.proofs.Facts.Kept.{KeptBook}
+use Rattle.theory_run.specs.KeptBook.{KeptBook}
 use Rattle.theory_run.proofs.Accepted.Spending.{TransactionsFit, Checked}
 use Rattle.theory_run.proofs.Steps.Beginnings.{StepFrame}
-use Rattle.theory_run.proofs.Accepted.Tested.{PromisesNamed}
+use Rattle.theory_run.specs.KeptPromises.{PromisesNamed}
 use Rattle.theory_run.proofs.Steps.Lawful.{IsLawful, lawful}
 
 -- ---- agreement

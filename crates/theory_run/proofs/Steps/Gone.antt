@@ -18,7 +18,7 @@ use Rattle.spec_run.specs.Owners.{owner_by, deposit_value}
 use Rattle.spec_run.specs.Ledger.{spend_from, made_from}
 use Rattle.spec_run.specs.Agreement.{deposits_from, actives_from}
 use Rattle.theory_world.proofs.Ledger.Outputs.{actives-append, actives-spent, deposits-append, deposits-spent, length-spend_from, length-made_from}
-use Rattle.theory_run.proofs.Steps.Moved.{AgreeOnMoney}
+use Rattle.theory_run.specs.Tracks.{AgreeOnMoney}
 
 -- ---- values of deposits
 

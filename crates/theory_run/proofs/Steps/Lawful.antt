@@ -22,21 +22,23 @@ use Rattle.spec_run.specs.Owners.{deposit_value}
 use Rattle.spec_run.specs.Conditions.{HashesBytes}
 use Rattle.spec_run.specs.Ledger.{spend_from, made_from, branch_holds, position_path, items_of, initial_of, first_position, Kind, Begins, Takes, Moves, kind_by, kind_of, new_position}
 use Rattle.spec_run.specs.Steps.{kind_steps}
-use Rattle.theory_calculus.proofs.Members.{Is_in}
-use Rattle.theory_world.proofs.Ledger.Preimages.{IsNumbered}
+use Rattle.theory_calculus.specs.Members.{Is_in}
+use Rattle.theory_world.specs.Transactions.{IsNumbered}
 use Rattle.theory_world.proofs.Ledger.Found.{values_at, value_or_zero}
-use Rattle.theory_world.proofs.Hashed.{NoClash}
-use Rattle.theory_run.proofs.Steps.Moved.{AgreeOnMoney, CanMove, legal_move, ends-move, agree_move}
-use Rattle.theory_run.proofs.Facts.KeptSecrets.{KeptSecrets, Begins as BeginsWith, committed_by}
-use Rattle.theory_run.proofs.Steps.CommitSteps.{Constant}
+use Rattle.theory_world.specs.KeptApart.{NoClash}
+use Rattle.theory_run.specs.Tracks.{AgreeOnMoney, Constant}
+use Rattle.theory_run.proofs.Steps.Moved.{CanMove, legal_move, ends-move, agree_move}
+use Rattle.theory_run.specs.KeptSecrets.{KeptSecrets, committed_by}
+use Rattle.theory_run.proofs.Facts.KeptSecrets.{Begins as BeginsWith}
 use Rattle.theory_world.proofs.Ledger.Accepting.{Accepting, AllSpent, IsSpent, HeardAll, first_strings}
-use Rattle.theory_run.proofs.Facts.Kept.{KeptBook}
+use Rattle.theory_run.specs.KeptBook.{KeptBook}
 use Rattle.theory_run.proofs.Accepted.Spending.{TransactionsFit, Checked}
 use Rattle.theory_run.proofs.Accepted.WhatItIs.{First, first, first_holds, held_is_first, initial_is}
 use Rattle.theory_run.proofs.Accepted.WhatItMakes.{Taking}
 use Rattle.theory_run.proofs.Accepted.Kinded.{looked_branch, first_taken, first_taking, kind_taken}
 use Rattle.theory_run.proofs.Steps.Beginnings.{StepFrame, legal_begin, frame_begin, agree_begin}
-use Rattle.theory_run.proofs.Accepted.Tested.{PromisesNamed, among_stack}
+use Rattle.theory_run.specs.KeptPromises.{PromisesNamed}
+use Rattle.theory_run.proofs.Accepted.Tested.{among_stack}
 use Rattle.theory_run.proofs.Steps.Decided.{tested_by, branch_taken}
 
 le_test : (a b : ℕ) → a ≤ b → nat_le a b ≡ true

@@ -29,6 +29,7 @@ use Rattle.theory_calculus.proofs.Members.{all_then, all_map, all_filter}
 use Rattle.theory_world.proofs.Tests.{all_has, all_alike, any_alike, any_map, sum_map, length_map}
 use Rattle.theory_world.proofs.Ledger.Outputs.{deposit_of, deposit-at, active-named, actives-append, actives-spent, actives-new, deposits-append, deposits-spent, deposits-new, nothing_held, length-spend_from, length-made_from}
 use Rattle.theory_run.proofs.Steps.Legal.{passes, after-append, legal_append, after-auths, auth_all, all_there, all_gone, legal_auths}
+use Rattle.theory_run.specs.Tracks.{AgreeOnMoney}
 
 -- ---- what a party owns
 
@@ -95,14 +96,6 @@ pub actives-untouched : (ns : List ℕ) (os : List Output) → list_all (λ n. i
 actives-untouched ns os h = untouched 0 ns os (λ n i. let e : n + 0 ≡ n = omega arith in all_has (λ m. is_deposit (slice_get os m)) ns n h (rw e at i))
 
 -- ---- what a number stands for on both sides
-
--- time, names, deposits and contracts agree, and no authorisation of a move stands
-pub record AgreeOnMoney (s : Setup) (g : Configuration) (w : World) : Type 0 where
-  pub time : g.time ≡ w.tip
-  pub next : g.next ≡ length w.outputs
-  pub deposits : g.deposits ≡ deposits_from s 0 w.outputs
-  pub active : g.active ≡ actives_from 0 w.outputs
-  pub moves : g.move_authorised ≡ []
 
 module _ (s : Setup) (g : Configuration) (w : World) (agree : AgreeOnMoney s g w) where
   at_number : (n : ℕ) → deposit_at g.deposits n ≡ deposit_of s n (output_at w n)

@@ -15,20 +15,22 @@ use Rattle.spec_bitcoin.specs.Digests.{txid}
 use Rattle.spec_run.specs.Ledger.{items_of, strings_of, accepted, kind_of, new_position, spend_from, made_from}
 use Rattle.spec_run.specs.Steps.{accepted_steps}
 use Rattle.spec_bitcoin.specs.Keys.{Pair}
-use Rattle.theory_world.proofs.Hashed.{NoClash, no_clash, among_left, among_right, all_new}
+use Rattle.theory_world.specs.KeptApart.{NoClash}
+use Rattle.theory_world.proofs.Hashed.{no_clash, among_left, among_right, all_new}
 use Rattle.theory_run.proofs.Facts.Secrets.{different_secrets, after-reveals}
 use Rattle.theory_world.proofs.Ledger.Worth.{IsAccepted}
-use Rattle.theory_world.proofs.Ledger.Preimages.{IsNumbered as Numbered}
+use Rattle.theory_world.specs.Transactions.{IsNumbered as Numbered}
 use Rattle.theory_world.proofs.Ledger.Accepting.{Accepting, accepting, HeardAll}
-use Rattle.theory_run.proofs.Facts.KeptSecrets.{KeptSecrets, Begins}
+use Rattle.theory_run.specs.KeptSecrets.{KeptSecrets}
+use Rattle.theory_run.proofs.Facts.KeptSecrets.{Begins}
 use Rattle.theory_run.proofs.Facts.Posting.{Posted, posted}
-use Rattle.theory_run.proofs.Accepted.Tested.{PromisesNamed}
-use Rattle.theory_run.proofs.Facts.Kept.{KeptBook}
+use Rattle.theory_run.specs.KeptPromises.{PromisesNamed}
+use Rattle.theory_run.specs.KeptBook.{KeptBook}
 use Rattle.theory_run.proofs.Accepted.Spending.{TransactionsFit, Checked}
 use Rattle.theory_run.proofs.Steps.Followed.{accepted_legal, accepted_frame, accepted_money, accepted_secrets, accepted_constant}
 use Rattle.theory_world.proofs.Bookless.{kind_same, steps_same}
-use Rattle.theory_run.proofs.Steps.Moved.{AgreeOnMoney}
-use Rattle.theory_run.proofs.Tracking.Tracked.{Tracks, IsTracked}
+use Rattle.theory_run.specs.Tracks.{AgreeOnMoney, Tracks}
+use Rattle.theory_run.proofs.Tracking.Tracked.{IsTracked}
 
 -- the book may have more pairs than before the event, and what is kept may rest on more messages
 module _ (s : Setup) (setup : IsSetup s) (z : List (List ℕ)) (apart : different_secrets (all_secrets s) ≡ true) (g : Configuration) (w : World) (tracks : Tracks s z g w) (book : List Pair) (known : List (List ℕ))

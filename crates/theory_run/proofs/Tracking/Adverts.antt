@@ -20,14 +20,15 @@ use Rattle.spec_run.specs.Draft.{done}
 use Rattle.spec_run.specs.Secrets.{all_secrets}
 use Rattle.spec_run.specs.Advertising.{or_else_this, arranged, repeated, unsuited, deposit_names, are_rearranged, advertise_row, advertise_draft}
 use Rattle.theory_calculus.proofs.Names.{bytes_refl, different_names, deposits_different}
-use Rattle.theory_calculus.proofs.Members.{Is_in}
+use Rattle.theory_calculus.specs.Members.{Is_in}
 use Rattle.theory_run.proofs.Facts.Secrets.{different_secrets}
 use Rattle.theory_world.proofs.Contracts.Checking.{contract_checked}
 use Rattle.theory_run.proofs.Steps.Legal.{passes}
-use Rattle.theory_run.proofs.Steps.Moved.{AgreeOnMoney, live_there, owner_there, value_there}
+use Rattle.theory_run.specs.Tracks.{AgreeOnMoney, Tracks}
+use Rattle.theory_run.proofs.Steps.Moved.{live_there, owner_there, value_there}
 use Rattle.theory_run.proofs.Steps.CommitSteps.{same_people}
 use Rattle.theory_run.proofs.Events.Advertised.{all_looked, suits_looked, one_name, deposit_looked}
-use Rattle.theory_run.proofs.Tracking.Tracked.{Tracks, Tracked, still, unless_tracked}
+use Rattle.theory_run.proofs.Tracking.Tracked.{Tracked, still, unless_tracked}
 
 -- a deposit that suits fits
 fits_where_suits : (s : Setup) (g : Configuration) (w : World) → AgreeOnMoney s g w → (n : ℕ) (h : Holding) → suits s (Some h) (output_at w n) ≡ true → fits_deposit g.deposits n h.owner h.value ≡ true

@@ -24,14 +24,15 @@ use Rattle.spec_run.specs.Ledger.{verdict_in, strings_of, items_of, reason_of, j
 use Rattle.spec_run.specs.Event.{append_read, draft}
 use Rattle.theory_world.proofs.Hashed.{all_more}
 use Rattle.theory_run.proofs.Facts.Secrets.{different_secrets}
-use Rattle.theory_world.proofs.Ledger.Preimages.{IsNumbered}
+use Rattle.theory_world.specs.Transactions.{IsNumbered}
 use Rattle.theory_world.proofs.Ledger.Worth.{accepted_by}
-use Rattle.theory_run.proofs.Accepted.Tested.{PromisesNamed}
-use Rattle.theory_run.proofs.Facts.Kept.{KeptBook}
+use Rattle.theory_run.specs.KeptPromises.{PromisesNamed}
+use Rattle.theory_run.specs.KeptBook.{KeptBook}
 use Rattle.theory_run.proofs.Accepted.Spending.{TransactionsFit, Checked}
 use Rattle.theory_run.proofs.Events.Fired.{piece_numbered, started_numbered, taken_numbered}
 use Rattle.theory_run.proofs.Events.Given.{gift_numbered, signed_kept}
-use Rattle.theory_run.proofs.Tracking.Tracked.{Tracks, Tracked, refused_tracked, unless_tracked, endorse_tracked, sign_tracked, mine_tracked}
+use Rattle.theory_run.specs.Tracks.{Tracks}
+use Rattle.theory_run.proofs.Tracking.Tracked.{Tracked, refused_tracked, unless_tracked, endorse_tracked, sign_tracked, mine_tracked}
 use Rattle.theory_run.proofs.Tracking.Signs.{authorise_tracked, init_tracked}
 use Rattle.theory_run.proofs.Tracking.Secrets.{post_tracked, reveal_tracked, commit_tracked}
 use Rattle.theory_run.proofs.Tracking.Adverts.{advertise_tracked}

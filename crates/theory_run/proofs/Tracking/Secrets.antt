@@ -24,11 +24,11 @@ use Rattle.theory_calculus.proofs.Names.{bytes-true}
 use Rattle.theory_world.proofs.Hashed.{among_left}
 use Rattle.theory_run.proofs.Facts.Secrets.{different_secrets, after-reveals}
 use Rattle.theory_world.proofs.Once.{at_used}
-use Rattle.theory_run.proofs.Steps.Moved.{AgreeOnMoney}
-use Rattle.theory_run.proofs.Facts.KeptSecrets.{KeptSecrets}
+use Rattle.theory_run.specs.Tracks.{AgreeOnMoney, Constant, Tracks}
+use Rattle.theory_run.specs.KeptSecrets.{KeptSecrets}
 use Rattle.theory_run.proofs.Facts.Posting.{allows, posted, is_own-some}
-use Rattle.theory_run.proofs.Steps.CommitSteps.{Constant, legal_all, kept_commit}
-use Rattle.theory_run.proofs.Tracking.Tracked.{Tracks, Tracked, unless_tracked}
+use Rattle.theory_run.proofs.Steps.CommitSteps.{legal_all, kept_commit}
+use Rattle.theory_run.proofs.Tracking.Tracked.{Tracked, unless_tracked}
 
 -- what secrets are revealed changes nothing else
 pub shown_tracks : (s : Setup) (z : List (List ℕ)) (g : Configuration) (next : World) (rs : List Revealed) → AgreeOnMoney s g next → KeptSecrets s z (after_steps g (map reveal_step rs)) next → Constant s g → g.advertised ≡ next.advertised

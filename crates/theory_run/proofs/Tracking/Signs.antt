@@ -27,14 +27,16 @@ use Rattle.spec_run.specs.Ledger.{position_branch}
 use Rattle.spec_run.specs.Signing.{with_pairs, initial_pairs, init_row, init_draft, asked_by, branch_if_live, authorising_pairs, authorise_row, authorise_draft}
 use Rattle.spec_run.specs.Steps.{auth_inits, is_of_party, is_bound_live, names_deposit, init_steps}
 use Rattle.theory_calculus.proofs.Names.{bytes_refl, different_names, in_looked, persistent_different}
-use Rattle.theory_calculus.proofs.Members.{Is_in, in_filter}
+use Rattle.theory_calculus.specs.Members.{Is_in}
+use Rattle.theory_calculus.proofs.Members.{in_filter}
 use Rattle.theory_run.proofs.Facts.Secrets.{different_secrets}
 use Rattle.theory_run.proofs.Steps.Legal.{passes}
 use Rattle.theory_world.proofs.Ledger.Outputs.{active-at}
 use Rattle.theory_world.proofs.Later.{compiled_is}
 use Rattle.theory_run.proofs.Accepted.Spending.{Checked}
 use Rattle.theory_run.proofs.Steps.Beginnings.{bindings_same, committed_same, there_same, after-inits, init_all, InitOk, legal_inits}
-use Rattle.theory_run.proofs.Tracking.Tracked.{Tracks, Tracked, still, unless_tracked}
+use Rattle.theory_run.specs.Tracks.{Tracks}
+use Rattle.theory_run.proofs.Tracking.Tracked.{Tracked, still, unless_tracked}
 
 -- what is held is active, with some balance
 seen_active : (n : ℕ) (held : ContractPosition) (o : Option Output) → live_position o ≡ Some held → (v : ℕ) × (option_and_then (active_in n) o ≡ Some (record { number = n; contract = held.contract; position = held.position; balance = v }))

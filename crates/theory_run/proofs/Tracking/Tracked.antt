@@ -26,17 +26,10 @@ use Rattle.spec_run.specs.Event.{mine_row, mine_draft}
 use Rattle.spec_run.specs.Steps.{steps_of}
 use Rattle.theory_run.proofs.Facts.Secrets.{different_secrets}
 use Rattle.theory_run.proofs.Steps.Legal.{passes}
-use Rattle.theory_run.proofs.Steps.Moved.{AgreeOnMoney}
-use Rattle.theory_run.proofs.Facts.KeptSecrets.{KeptSecrets, Begins}
+use Rattle.theory_run.specs.Tracks.{AgreeOnMoney, Constant, Tracks}
+use Rattle.theory_run.specs.KeptSecrets.{KeptSecrets}
+use Rattle.theory_run.proofs.Facts.KeptSecrets.{Begins}
 use Rattle.theory_run.proofs.Facts.Posting.{quiet}
-use Rattle.theory_run.proofs.Steps.CommitSteps.{Constant}
-
--- the configuration has the world's money, secrets and adverts, and the setup's parties and contracts
-pub record Tracks (s : Setup) (z : List (List ℕ)) (g : Configuration) (w : World) : Type 0 where
-  pub money : AgreeOnMoney s g w
-  pub secrets : KeptSecrets s z g w
-  pub constant : Constant s g
-  pub advertised : g.advertised ≡ w.advertised
 
 -- what an event does where nothing collides and nothing is guessed: its steps are legal, and the configuration still tracks the world
 pub record IsTracked (s : Setup) (z : List (List ℕ)) (g : Configuration) (w : World) (e : Event) (d : Draft) : Type 0 where

@@ -18,7 +18,7 @@ use Rattle.spec_compiler.specs.declared.unsigned.Spent.{Spent}
 use Rattle.spec_compiler.specs.Transactions.{Standing, input_of, tx_of, party_script, continued_value, put_deposits, part_position, part_outputs, core_outputs, branch_unsigned}
 use Rattle.spec_compiler.specs.ByPath.{position_at}
 use Rattle.spec_run.specs.Conditions.{HashesBytes}
-use Rattle.theory_calculus.proofs.Members.{Is_in}
+use Rattle.theory_calculus.specs.Members.{Is_in}
 use Rattle.theory_world.proofs.Tests.{length_map}
 use Rattle.theory_world.proofs.Contracts.Standing.{put_position}
 use Rattle.theory_script.proofs.Balances.{position_little}

@@ -26,13 +26,15 @@ use Rattle.spec_bitcoin.specs.Keys.{pay_to}
 use Rattle.std.proofs.lemmas.List.Concat.{flat_map-cons}
 use Rattle.theory_bitcoin.proofs.Formats.{wide64}
 use Rattle.theory_bitcoin.proofs.Exact.{bytes_cons, bytes_none}
-use Rattle.theory_calculus.proofs.Members.{Is_in, in_some}
+use Rattle.theory_calculus.specs.Members.{Is_in}
+use Rattle.theory_calculus.proofs.Members.{in_some}
 use Rattle.theory_calculus.proofs.Names.{persistent_deposit}
-use Rattle.theory_world.proofs.Ledger.Preimages.{IsNumbered, numbered}
+use Rattle.theory_world.specs.Transactions.{IsNumbered}
+use Rattle.theory_world.proofs.Ledger.Preimages.{numbered}
 use Rattle.theory_world.proofs.Ledger.Counts.{count_size}
 use Rattle.theory_world.proofs.Tests.{length_map}
 use Rattle.theory_world.proofs.Later.{compiled_is}
-use Rattle.theory_run.proofs.Facts.Kept.{AdvertFine}
+use Rattle.theory_run.specs.KeptBook.{AdvertFine}
 use Rattle.theory_world.proofs.Contracts.Mentions.{has_deposit}
 use Rattle.theory_run.proofs.Accepted.WhatItIs.{bound_at}
 use Rattle.theory_world.proofs.Contracts.Checking.{compiled_checked}

@@ -29,8 +29,8 @@ use Rattle.theory_world.proofs.Tests.{length_map}
 use Rattle.theory_world.proofs.Contracts.Standing.{term_choice}
 use Rattle.theory_calculus.proofs.Faultless.{no_fault}
 use Rattle.theory_calculus.proofs.Names.{bytes-true, volatile_named}
-use Rattle.theory_calculus.proofs.Members.{Is_in}
-use Rattle.theory_run.proofs.Facts.Kept.{KeptBook, AdvertFine}
+use Rattle.theory_calculus.specs.Members.{Is_in}
+use Rattle.theory_run.specs.KeptBook.{KeptBook, AdvertFine}
 use Rattle.theory_run.proofs.Accepted.Spending.{TransactionsFit}
 use Rattle.theory_world.proofs.Contracts.Checking.{compiled_checked}
 use Rattle.theory_run.proofs.Widths.Fitting.{bound_place, initial_numbered}

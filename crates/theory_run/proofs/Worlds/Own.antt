@@ -16,7 +16,8 @@ use Rattle.spec_run.specs.Event.{draft, opening_world}
 use Rattle.spec_run.specs.Translation.{Turn, record_in, opening_configuration, course, last_or, last_world}
 use Rattle.spec_run.specs.Statements.{Claim, IsRun, HoldsFrom}
 use Rattle.theory_run.specs.OwnSignatures.{own_pairs, own_pairs_from, own_pairs_in}
-use Rattle.theory_world.proofs.Hashed.{NoClash, all_more}
+use Rattle.theory_world.specs.KeptApart.{NoClash}
+use Rattle.theory_world.proofs.Hashed.{all_more}
 use Rattle.theory_world.proofs.Book.{signed-append}
 use Rattle.theory_run.proofs.Following.{Keeps, run_posts, holds_throughout}
 use Rattle.theory_run.proofs.Facts.Bookkeeping.{checks}

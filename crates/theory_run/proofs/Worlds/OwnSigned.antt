@@ -34,12 +34,14 @@ use Rattle.spec_run.specs.Event.{append_read, mine_row, draft}
 use Rattle.theory_run.specs.OwnSignatures.{is_signer, event_pairs, signed_pairs, own_pairs}
 use Rattle.theory_bitcoin.proofs.Labels.{one_label}
 use Rattle.theory_calculus.proofs.Names.{bytes-true, bytes_refl}
-use Rattle.theory_world.proofs.Hashed.{NoClash, all_new, among_head}
+use Rattle.theory_world.specs.KeptApart.{NoClash}
+use Rattle.theory_world.proofs.Hashed.{all_new, among_head}
 use Rattle.theory_world.proofs.Book.{key-apart, signed_more, signed_new, signed_back}
-use Rattle.theory_run.proofs.Facts.Kept.{KeptBook}
+use Rattle.theory_run.specs.KeptBook.{KeptBook}
 use Rattle.theory_run.proofs.Accepted.Spending.{Checked}
 use Rattle.theory_run.proofs.Facts.Labelled.{one_pair}
-use Rattle.theory_run.proofs.Facts.OwnLabels.{KeptLabels, IsKeyOf, endorsed_labels, started_labels, authorised_labels, given_labels}
+use Rattle.theory_run.specs.KeptLabels.{KeptLabels}
+use Rattle.theory_run.proofs.Facts.OwnLabels.{IsKeyOf, endorsed_labels, started_labels, authorised_labels, given_labels}
 
 -- ---- the book after an event
 

@@ -20,7 +20,7 @@ use Rattle.spec_run.specs.Agreement.{is_outpoint, compiled_outpoint}
 use Rattle.theory_run.specs.WorldsOfRuns.{is_position_of, is_of_contract, compiled_output, HasPlaces}
 use Rattle.theory_script.proofs.Listing.Transactions.{path_same}
 use Rattle.theory_world.proofs.Same.{place-true, place_refl}
-use Rattle.theory_run.proofs.Facts.Kept.{KeptBook, HeldFine}
+use Rattle.theory_run.specs.KeptBook.{KeptBook, HeldFine}
 
 -- what is held where the test is true
 held_is : (k : ℕ) (q : List PathStep) (o : Option ContractPosition) → is_position_of k q o ≡ true → o ≡ Some (record { contract = k; position = q })

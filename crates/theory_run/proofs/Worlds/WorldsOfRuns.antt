@@ -18,7 +18,8 @@ use Rattle.spec_run.proofs.Courses.{last_left}
 use Rattle.theory_run.specs.WorldsOfRuns.{HasMessages, HasCommitments, IsWorldOfRun, WorldsOfRuns, WorldsOfTurns}
 use Rattle.theory_world.proofs.Hashed.{among_head, among_tail}
 use Rattle.theory_run.proofs.Following.{run_posts, kept_at_end}
-use Rattle.theory_run.proofs.Simulated.{KeptRun, opening_run, kept_run, keeps_simulated}
+use Rattle.theory_run.specs.KeptRuns.{KeptRun}
+use Rattle.theory_run.proofs.Simulated.{opening_run, kept_run, keeps_simulated}
 use Rattle.theory_run.proofs.Worlds.AllPassed.{AllPassed, all_passed}
 use Rattle.theory_run.proofs.Worlds.Hashed.{noted-append, hashed_after, posted_after}
 use Rattle.theory_run.proofs.Worlds.Own.{own_signatures}

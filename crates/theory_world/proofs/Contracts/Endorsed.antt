@@ -25,7 +25,8 @@ use Rattle.spec_compiler.specs.ByPath as by_path
 use Rattle.spec_compiler.specs.ByPath.{PathEnd, end_at, as_unsigned, unsigned_at}
 use Rattle.spec_run.specs.Signing.{pairs_of_party}
 use Rattle.theory_calculus.proofs.Names.{bytes-true, bytes_refl}
-use Rattle.theory_calculus.proofs.Members.{Is_in, in_filter}
+use Rattle.theory_calculus.specs.Members.{Is_in}
+use Rattle.theory_calculus.proofs.Members.{in_filter}
 use Rattle.theory_script.proofs.Listing.Transactions.{AreRight, transactions_right}
 use Rattle.theory_world.proofs.Contracts.Standing.{term_branch}
 use Rattle.theory_world.proofs.Contracts.Made.{IsBranch, known}

@@ -22,7 +22,8 @@ use Rattle.theory_bitcoin.proofs.Labels.{one_label}
 use Rattle.theory_script.proofs.Scripts.Demanded.{IsWell, AllWell}
 use Rattle.theory_script.proofs.Scripts.Opened.{is_checked, cost_is}
 use Rattle.theory_script.proofs.Encoding.{encode_read}
-use Rattle.theory_world.proofs.Hashed.{NoClash, among_head}
+use Rattle.theory_world.specs.KeptApart.{NoClash}
+use Rattle.theory_world.proofs.Hashed.{among_head}
 use Rattle.theory_world.proofs.Contracts.FirstKey.{first_key, output_first}
 use Rattle.theory_world.proofs.Book.{key-apart}
 

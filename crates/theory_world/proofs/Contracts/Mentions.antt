@@ -23,7 +23,7 @@ use Rattle.spec_terms.specs.declared.place.Place.TheVariants as places
 use Rattle.theory_world.proofs.Hashed.{among_left, among_right, among_head, among_tail}
 use Rattle.theory_calculus.proofs.Faultless.{no_fault}
 use Rattle.theory_calculus.proofs.Names.{bytes-true, bytes_refl}
-use Rattle.theory_calculus.proofs.Members.{Is_in}
+use Rattle.theory_calculus.specs.Members.{Is_in}
 
 -- ---- participants
 

@@ -16,7 +16,8 @@ use Rattle.spec_compiler.specs.Compilation.{choice_transactions, branch_transact
 use Rattle.spec_compiler.specs.ByPath as by_path
 use Rattle.spec_compiler.specs.ByPath.{PathEnd, branch_end, continued_end, part_end, next_end, end_from, end_at}
 use Rattle.spec_compiler.specs.Hashed.{unsigned_strings, path_labels}
-use Rattle.theory_calculus.proofs.Members.{Is_in, in_left, in_right}
+use Rattle.theory_calculus.specs.Members.{Is_in}
+use Rattle.theory_calculus.proofs.Members.{in_left, in_right}
 use Rattle.theory_world.proofs.Hashed.{among_left, among_right}
 
 -- ---- from paths to the list

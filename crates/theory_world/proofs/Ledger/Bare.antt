@@ -14,12 +14,14 @@ use Rattle.spec_bitcoin.specs.Spelling.{word, long_word, sized, place_bytes, com
 use Rattle.spec_bitcoin.specs.Digests.{double, txid, places_list, sequences_list, outputs_list, preimage}
 use Rattle.spec_bitcoin.specs.Live.{same_outpoint}
 use Rattle.theory_bitcoin.proofs.Formats.{wide32}
-use Rattle.theory_bitcoin.proofs.Apart.{cut, AllPlaces, all_outputs, stripped_bare}
+use Rattle.theory_bitcoin.specs.Places.{AllPlaces}
+use Rattle.theory_bitcoin.proofs.Apart.{cut, all_outputs, stripped_bare}
 use Rattle.theory_bitcoin.specs.Apart.{bare_input, bare}
 use Rattle.theory_calculus.proofs.Names.{bytes-true, bytes_refl}
 use Rattle.spec_run.specs.Ledger.{same_input, same_output, same_bare}
 use Rattle.theory_world.proofs.Same.{place-true, place_refl}
-use Rattle.theory_world.proofs.Ledger.Preimages.{split_right, word-apart, place-size, place-apart, AllSequences, IsNumbered, few_outputs, SameSigned, HeardLists}
+use Rattle.theory_world.specs.Transactions.{AllSequences, IsNumbered, HeardLists, NoScripts}
+use Rattle.theory_world.proofs.Ledger.Preimages.{split_right, word-apart, place-size, place-apart, few_outputs, SameSigned}
 use Rattle.theory_world.proofs.Ledger.Counts.{count-apart, counts_apart, count_size, some_count}
 
 -- ---- sameness
@@ -114,11 +116,6 @@ pub preimage-bare : (hash : List ℕ → List ℕ) (tx : Tx) (i : TxIn) (s : Lis
 unfolding preimage
 preimage-bare hash tx i s v =
     λ j. word tx.version ++ double hash (places-bare tx j) ++ double hash (sequences-bare tx j) ++ place_bytes i.prev ++ sized s ++ long_word v ++ word i.sequence ++ double hash (outputs-bare tx j) ++ word tx.lock ++ word 1
-
--- where no script is given
-abbrev pub NoScripts : List TxIn → Type 0
-NoScripts [] = Unit {0}
-NoScripts (i ∷ is) = (i.script_sig ≡ []) × NoScripts is
 
 -- ---- one transaction of one id
 

@@ -11,9 +11,12 @@ use Rattle.spec_bitcoin.specs.declared.tx.Tx.{Tx}
 use Rattle.spec_bitcoin.specs.Spelling.{word, long_word, sized, place_bytes, output_bytes, IsPlace, IsInput, IsOutput, IsTransaction}
 use Rattle.spec_bitcoin.specs.Digests.{double, places_list, sequences_list, outputs_list, shared_strings, preimage}
 use Rattle.theory_bitcoin.proofs.Formats.{wide32, wide64}
-use Rattle.theory_bitcoin.proofs.Apart.{cut, AllPlaces, all_places, all_outputs, inputs_places, number_once, places}
+use Rattle.theory_bitcoin.specs.Places.{AllPlaces}
+use Rattle.theory_bitcoin.proofs.Apart.{cut, all_places, all_outputs, inputs_places, number_once, places}
 use Rattle.spec_run.specs.Conditions.{HashesBytes}
-use Rattle.theory_world.proofs.Hashed.{NoClash, among_left, among_right, among_head, among_tail}
+use Rattle.theory_world.specs.KeptApart.{NoClash}
+use Rattle.theory_world.proofs.Hashed.{among_left, among_right, among_head, among_tail}
+use Rattle.theory_world.specs.Transactions.{AllSequences, IsNumbered, HeardLists}
 
 -- ---- lists that are joined
 
@@ -34,10 +37,6 @@ pub place-apart : (p q : OutPoint) → IsPlace p → IsPlace q → place_bytes p
 place-apart p q h k e = (places p q [] [] h k (ap (λ t. t ++ []) e)).0
 
 -- ---- the three lists
-
-abbrev pub AllSequences : List TxIn → Type 0
-AllSequences [] = Unit {0}
-AllSequences (i ∷ is) = (i.sequence < 2 ^ 32) × AllSequences is
 
 abbrev sequence_text : TxIn → List ℕ
 sequence_text i = word i.sequence
@@ -62,15 +61,6 @@ sequences-apart (x ∷ xs) (y ∷ ys) h k e =
 pub inputs_sequences : (is : List TxIn) → AllByRecursion IsInput is → AllSequences is
 inputs_sequences [] h = tt
 inputs_sequences (i ∷ is) h = (h.0.sequence, inputs_sequences is h.1)
-
--- the numbers are within their widths, however many inputs there are, and the outputs aren't long
-pub record IsNumbered (tx : Tx) : Type 0 where
-  pub version : tx.version < 2 ^ 32
-  pub places : AllPlaces tx.inputs
-  pub sequences : AllSequences tx.inputs
-  pub outputs : AllByRecursion IsOutput tx.outputs
-  pub size : length (flat_map output_bytes tx.outputs) < 2 ^ 32
-  pub lock : tx.lock < 2 ^ 32
 
 -- each output has a byte at least
 pub few_outputs : (os : List TxOut) → length os ≤ length (flat_map output_bytes os)
@@ -97,15 +87,6 @@ pub record SameSigned (a b : Tx) : Type 0 where
   pub sequences : map (λ i. i.sequence) a.inputs ≡ map (λ i. i.sequence) b.inputs
   pub outputs : a.outputs ≡ b.outputs
   pub lock : a.lock ≡ b.lock
-
--- the three lists of a transaction, and their hashes, are among the messages
-pub record HeardLists (hash : List ℕ → List ℕ) (hs : List (List ℕ)) (tx : Tx) : Type 0 where
-  pub places : is_among (places_list tx) hs ≡ true
-  pub places_hash : is_among (hash (places_list tx)) hs ≡ true
-  pub sequences : is_among (sequences_list tx) hs ≡ true
-  pub sequences_hash : is_among (hash (sequences_list tx)) hs ≡ true
-  pub outputs : is_among (outputs_list tx) hs ≡ true
-  pub outputs_hash : is_among (hash (outputs_list tx)) hs ≡ true
 
 pub heard_lists : (hash : List ℕ → List ℕ) (hs : List (List ℕ)) (tx : Tx) → ((t : List ℕ) → is_among t (shared_strings hash tx) ≡ true → is_among t hs ≡ true) → HeardLists hash hs tx
 heard_lists hash hs tx h =

@@ -2,4 +2,10 @@ use Rattle.bitml_headline.proofs.Headlines.{headlines}
 use Rattle.bitml_headline.proofs.theorem.by_theorems.Goals as goal
 
 pub returns : goal.returns
-returns c = headlines (record { causes = c.requires.causes; statuses = c.requires.statuses; ends = c.requires.ends; headline = c.requires.headline; value = c.requires.value })
+returns c = headlines (record {
+  causes = c.requires.causes;
+  statuses = c.requires.statuses;
+  ends = c.requires.ends;
+  headline = c.requires.headline;
+  kept = c.requires.kept;
+})

@@ -1,7 +1,7 @@
 use Rattle.std.proofs.Common.{◌≡◌, ◌≤◌, drop, map, true}
 use Rattle.std.specs.VecDeque.{deque_len, deque_capacity}
 use Rattle.spec_calculus.specs.Moves.{kept}
-use Rattle.theory_calculus.specs.InOrder.{are_ascending}
+use Rattle.spec_calculus.specs.InOrder.{are_ascending}
 use Rattle.bm_calculus.proofs.deposits.edits.remove.Given as goal
 
 abbrev pub invariant-loop-number : goal.invariant-loop-number

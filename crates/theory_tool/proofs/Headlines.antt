@@ -1,5 +1,6 @@
 -- Valid texts make runs of which the theorems on runs speak, and so `play` shows a faithful run.
-use Rattle.std.proofs.Common.{◌≡◌, ℕ, suc, ◌+◌, Bool, true, false, List, [], ◌∷◌, length, map, Option, Some, None, Ok, Err, refl, sym, ap, subst, ◌∙◌, arith}
+use Rattle.std.proofs.Common.{◌≡◌, ℕ, suc, ◌+◌, Bool, true, false, List, [], ◌∷◌, length, map, Option, Some, None, Ok, Err, refl, sym, ap}
+use Rattle.std.proofs.Common.{subst, ◌∙◌, arith}
 use Rattle.std.specs.Prelude.{if◌then◌else◌, nat_lt, Result}
 use Rattle.std.specs.List.{AllByRecursion}
 use Rattle.spec_terms.specs.Advert.{Advert}
@@ -32,6 +33,7 @@ use Rattle.theory_run.proofs.Honest.Throughout.{licence}
 use Rattle.theory_run.proofs.Halting.HaltsRightly.{halts}
 use Rattle.theory_offers.proofs.Throughout.{kept_throughout_offers}
 use Rattle.theory_offers.proofs.WholeRun.{kept_offers}
+use Rattle.theory_offers.proofs.Complete.{complete}
 
 -- ---- one contract
 
@@ -80,7 +82,8 @@ answer_is (Ok a) b h =
       limit = subst (λ (x : Advert). first_limit x ≡ None) same f.limits.none;
     }
 
-not_long : (t : Bool) (why : List ℕ) (judged : Judged Advert) (b : Advert) → (if t then Err why else judged) ≡ accepted b → judged ≡ accepted b
+not_long : (t : Bool) (why : List ℕ) (judged : Judged Advert) (b : Advert)
+    → (if t then Err why else judged) ≡ accepted b → judged ≡ accepted b
 not_long true why judged b h = absurd (refused_accepted why b h)
 not_long false why judged b h = h
 
@@ -104,16 +107,21 @@ record AreWellFormed (n : ℕ) (adverts : List Advert) : Type 0 where
   all : AllByRecursion IsWellFormed adverts
   size : length adverts ≡ n
 
-onto_is : (k n : ℕ) (judged : Judged Advert) (later : JudgedAll) (bs : List Advert) → ((a : Advert) → judged ≡ accepted a → IsWellFormed a) → ((as' : List Advert) → later ≡ all_accepted as' → AreWellFormed n as') → onto_judged k judged later ≡ all_accepted bs → AreWellFormed (suc n) bs
+onto_is : (k n : ℕ) (judged : Judged Advert) (later : JudgedAll) (bs : List Advert)
+    → ((a : Advert) → judged ≡ accepted a → IsWellFormed a)
+    → ((as' : List Advert) → later ≡ all_accepted as' → AreWellFormed n as')
+    → onto_judged k judged later ≡ all_accepted bs → AreWellFormed (suc n) bs
 onto_is k n (Err why) later bs f g h = absurd (none_accepted _ bs h)
 onto_is k n (Ok a) (Ok as') bs f g h =
     let t = g as' refl in
     subst (AreWellFormed (suc n)) (all_eq (a ∷ as') bs h) (record { all = (f a refl, t.all); size = omega (arith, t.size) })
 onto_is k n (Ok a) (Err refusal) bs f g h = absurd (none_accepted _ bs h)
 
-contracts_are : (k : ℕ) (texts : List (List ℕ)) (bs : List Advert) → contracts_from k texts ≡ all_accepted bs → AreWellFormed (length texts) bs
+contracts_are : (k : ℕ) (texts : List (List ℕ)) (bs : List Advert)
+    → contracts_from k texts ≡ all_accepted bs → AreWellFormed (length texts) bs
 contracts_are k [] bs h = subst (AreWellFormed 0) (all_eq [] bs h) (record { all = tt; size = refl })
-contracts_are k (text ∷ texts) bs h = onto_is k (length texts) (contract_of text) (contracts_from (k + 1) texts) bs (contract_is text) (contracts_are (k + 1) texts) h
+contracts_are k (text ∷ texts) bs h =
+    onto_is k (length texts) (contract_of text) (contracts_from (k + 1) texts) bs (contract_is text) (contracts_are (k + 1) texts) h
 
 -- ---- the run
 
@@ -129,10 +137,14 @@ valid_runs_are hash bytes run_file contract_files run contracts r c few opens =
 
 -- ---- the headline
 
-answer_of_run : (hash : List ℕ → List ℕ) (run_file : List ℕ) (contract_files : List (List ℕ)) (judged : Judged Run) (run : Run) → judged ≡ Ok run → with_run play_text hash judged contract_files ≡ with_contracts play_text hash run (contracts_from 0 contract_files)
+answer_of_run : (hash : List ℕ → List ℕ) (run_file : List ℕ) (contract_files : List (List ℕ)) (judged : Judged Run) (run : Run)
+    → judged ≡ Ok run
+    → with_run play_text hash judged contract_files ≡ with_contracts play_text hash run (contracts_from 0 contract_files)
 answer_of_run hash run_file contract_files judged run h = ap (λ (j : Judged Run). with_run play_text hash j contract_files) h
 
-answer_of_contracts : (hash : List ℕ → List ℕ) (run : Run) (judged : JudgedAll) (contracts : List Advert) → judged ≡ Ok contracts → with_contracts play_text hash run judged ≡ run_answer play_text (setup_of hash run contracts) run.events
+answer_of_contracts : (hash : List ℕ → List ℕ) (run : Run) (judged : JudgedAll) (contracts : List Advert)
+    → judged ≡ Ok contracts
+    → with_contracts play_text hash run judged ≡ run_answer play_text (setup_of hash run contracts) run.events
 answer_of_contracts hash run judged contracts h = ap (λ (j : JudgedAll). with_contracts play_text hash run j) h
 
 -- an entry for each turn
@@ -158,7 +170,8 @@ shown_is s es opens simulates =
       ends = by_halt (in_order (map (λ (e : Entry). e.steps) (entries s es))) leads (opening_collision s) (first_halt s es) opens refl;
     }
   where
-    by_halt : (steps : List Step) → after_steps (opening_configuration s) steps ≡ last_configuration s es → (o : Option (List ℕ × List ℕ)) (h : Option (Event × Halt)) → o ≡ None → first_halt s es ≡ h
+    by_halt : (steps : List Step) → after_steps (opening_configuration s) steps ≡ last_configuration s es
+        → (o : Option (List ℕ × List ℕ)) (h : Option (Event × Halt)) → o ≡ None → first_halt s es ≡ h
         → EndsRun s es steps (ending_from (last_world s es) (last_configuration s es) o h)
     by_halt steps leads (Some p) h eo eh = cc
     by_halt steps leads None None eo eh = (eh, record { leads = leads; agrees = simulates.agrees; height = refl; outputs = refl }, refl)
@@ -172,7 +185,8 @@ text_is s es = refl
 
 pub headline : HeadlineTheorem
 headline hash bytes run_file contract_files run contracts r c few =
-    let answer = answer_of_run hash run_file contract_files (run_of run_file) run r ∙ answer_of_contracts hash run (contracts_from 0 contract_files) contracts c in
+    let answer = answer_of_run hash run_file contract_files (run_of run_file) run r
+    ∙ answer_of_contracts hash run (contracts_from 0 contract_files) contracts c in
     let s : Setup = setup_of hash run contracts in
     record {
       run = run;
@@ -183,7 +197,8 @@ headline hash bytes run_file contract_files run contracts r c few =
       status = ap (λ (p : Printed). p.status) answer;
       opening = halts.opening s;
       unopened = λ pair collides.
-          ap (λ (o : Option (List ℕ × List ℕ)). ending_from (last_world s run.events) (last_configuration s run.events) o (first_halt s run.events)) collides;
+          ap (λ (o : Option (List ℕ × List ℕ)).
+          ending_from (last_world s run.events) (last_configuration s run.events) o (first_halt s run.events)) collides;
       faithful = λ opens.
           let is = valid_runs_are hash bytes run_file contract_files run contracts r c few opens in
           let simulates = simulation s run.events is in
@@ -192,6 +207,7 @@ headline hash bytes run_file contract_files run contracts r c few =
             licensed = licence s run.events is;
             offers = kept_offers s run.events is;
             offers_throughout = kept_throughout_offers s run.events is;
+            offers_complete = complete s run.events is;
             halts = halts.runs s run.events is;
             shown = shown_is s run.events opens simulates;
           };

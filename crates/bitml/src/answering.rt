@@ -1,27 +1,23 @@
 //! What each command replies to the texts of its files.
 
 ghost use Rattle.std.specs.Prelude.{◌≡◌, true, length, Some, IfOk};
-ghost use Rattle.spec_tool.specs.Reads.{text_at};
-ghost use Rattle.spec_tool.specs.Commands.{files_of, check_judged};
-ghost use Rattle.spec_tool.specs.Answers.{contract_in, text_answer};
+ghost use Rattle.spec_tool.specs.Commands.{files_of};
+ghost use Rattle.spec_tool.specs.Answers.{text_answer};
 ghost use Rattle.bitml_command.specs.Seen.{command, printed};
 ghost use Rattle.bitml.specs.Served.{IsServed};
 
-use crate::further::{audit_texts, auto_texts};
-use crate::making::make_reply;
-use crate::partial::{joined_texts, shown_texts};
-use crate::running::{plan_texts, play_texts, psbt_texts, weigh_texts};
-use bitml_command::{Command, Reply, check_reply};
+use crate::audit::audit_texts;
+use crate::auto::auto_texts;
+use crate::check::check_texts;
+use crate::make::make_reply;
+use crate::plan::plan_texts;
+use crate::play::play_texts;
+use crate::psbt::{joined_texts, psbt_texts, shown_texts};
+use crate::weigh::weigh_texts;
+use bitml_command::{Command, Reply};
 use bm_hash::Hash32;
 use spec_data::{Bytes, OutOfMemory};
 use std::alloc::Global;
-
-fn check_texts(alloc: Global, texts: &[Option<Bytes>]) -> Result<Reply, OutOfMemory>
-    requires { length texts.now ≡ 1 }
-    ensures { IfOk result (λ reply. printed reply ≡ check_judged (contract_in (text_at texts.now 0))) }
-{
-    check_reply(alloc, &texts[0])
-}
 
 /// What a command replies to the texts of its files.
 pub(crate) fn text_reply<H: Hash32 + Drop>(

@@ -2,13 +2,18 @@
 #![tactic(auto)]
 
 mod answering;
-mod further;
-mod making;
-mod partial;
-mod running;
+mod audit;
+mod auto;
+mod check;
+mod make;
+mod plan;
+mod play;
+mod psbt;
 #[cfg(test)]
 mod tests;
+mod third;
 mod tool;
+mod weigh;
 
 use bm_hash::Sha;
 use bm_io::{StdFiles, StdSink};

@@ -3,3 +3,4 @@ pub mod Told
 pub mod FewEvents
 pub mod InOrder
 pub mod Taken
+mod JudgedTwo

@@ -1,6 +1,7 @@
 //! The run and the contracts of a command are judged, the run first.
 
-ghost use Rattle.std.specs.Prelude.{Ok, IfOk};
+ghost use Rattle.std.specs.Prelude.{◌≤◌, ◌∷◌, [], length, Ok, IfOk};
+ghost use Rattle.spec_tool.specs.Reads.{text_at};
 ghost use Rattle.spec_tool.specs.Answers.{run_in};
 ghost use Rattle.bitml_command.specs.Judges.{JudgesFiles, IsTakenIfAny};
 
@@ -59,4 +60,13 @@ pub fn judge_both(
         )?)),
         Err(JudgeError::Memory) => Err(AllocError),
     }
+}
+
+/// Judges the first two texts, those of a run and of its contract.
+pub fn judge_two(alloc: Global, texts: &[Option<Bytes>]) -> Result<Judgement, OutOfMemory>
+    requires { 2 ≤ length texts.now }
+    ensures files { IfOk result (JudgesFiles (run_in (text_at texts.now 0)) (text_at texts.now 1 ∷ [])) }
+    ensures taken { IfOk result IsTakenIfAny }
+{
+    judge_both(alloc, &texts[0], &texts[1..2])
 }

@@ -16,7 +16,7 @@ mod reply;
 mod run;
 mod words;
 
-pub use both::{Judgement, judge_both};
+pub use both::{Judgement, judge_both, judge_two};
 pub use command::Command;
 pub use contract::contract_in;
 pub use contracts::contracts_in;

@@ -1,4 +1,3 @@
-mod Judged
 mod Left
 mod Pictures
 mod Taken

@@ -1,19 +1,20 @@
-//! What the commands on files answer.
+//! What the commands on files with partially signed transactions reply.
 
 ghost use Rattle.std.specs.Prelude.{◌≡◌, option_map, Ok, IfOk};
 ghost use Rattle.spec_tool.specs.PsbtBytes as bytes;
 ghost use Rattle.spec_tool.specs.PsbtText as spec;
-ghost use Rattle.bm_psbt_text.specs.Answers.{printed};
+ghost use Rattle.bitml_command.specs.Seen.{printed};
 
-use crate::answer::{Answer, conflict_refused, file_refused, refused, shown};
 use crate::files::psbt_in;
+use crate::replies::{conflict_refused, file_refused, refused, shown};
+use bitml_command::Reply;
 use bm_psbt::{CombineError, Psbt, combine};
 use spec_data::OutOfMemory;
 use std::alloc::{AllocError, Global};
 
 /// What `psbt FILE` answers: what the file says, or why it is refused. A file that has too many
 /// bytes is given as `None`.
-pub fn psbt_shown(alloc: Global, text: Option<&[u8]>) -> Result<Answer, OutOfMemory>
+pub fn psbt_shown(alloc: Global, text: Option<&[u8]>) -> Result<Reply, OutOfMemory>
     ensures { IfOk result (λ a. printed a ≡ spec.shown_answer (option_map (λ t. t.now) text.entry)) }
 {
     match psbt_in(alloc, text)? {
@@ -23,7 +24,7 @@ pub fn psbt_shown(alloc: Global, text: Option<&[u8]>) -> Result<Answer, OutOfMem
 }
 
 // What both say together.
-fn combined(alloc: Global, first: &Psbt, second: &Psbt) -> Result<Answer, OutOfMemory>
+fn combined(alloc: Global, first: &Psbt, second: &Psbt) -> Result<Reply, OutOfMemory>
     ensures { IfOk result (λ a. printed a ≡ spec.combined_answer (bytes.combined first.now second.now)) }
 {
     match combine(alloc, first, second) {
@@ -35,7 +36,7 @@ fn combined(alloc: Global, first: &Psbt, second: &Psbt) -> Result<Answer, OutOfM
 }
 
 // What the first says together with the second file.
-fn with_second(alloc: Global, first: &Psbt, second: Option<&[u8]>) -> Result<Answer, OutOfMemory>
+fn with_second(alloc: Global, first: &Psbt, second: Option<&[u8]>) -> Result<Reply, OutOfMemory>
     ensures { IfOk result (λ a. printed a ≡ spec.joined_judged (Ok first.now) (spec.psbt_in (option_map (λ t. t.now) second.entry))) }
 {
     match psbt_in(alloc, second)? {
@@ -50,7 +51,7 @@ pub fn psbt_joined(
     alloc: Global,
     first: Option<&[u8]>,
     second: Option<&[u8]>,
-) -> Result<Answer, OutOfMemory>
+) -> Result<Reply, OutOfMemory>
     ensures { IfOk result (λ a. printed a
         ≡ spec.joined_answer (option_map (λ t. t.now) first.entry) (option_map (λ t. t.now) second.entry)) }
 {

@@ -1,14 +1,9 @@
--- What the code answers, as the definitions have it.
+-- Why the code refuses a file, as the definitions have it.
 use Rattle.std.specs.Prelude.{ℕ, List, Result, Ok, Err, codes}
 use Rattle.spec_text.specs.Refusals.{Judged}
-use Rattle.spec_tool.specs.Commands.{Printed, prints}
 use Rattle.spec_tool.specs.Psbt.{Psbt}
-use Rattle.bm_psbt_text.specs.declared.answer.Answer.{Answer}
 use Rattle.bm_psbt_text.specs.declared.files.FileRefusal.{FileRefusal}
 use Rattle.bm_psbt_text.specs.declared.files.FileRefusal.TheVariants.{Size, Base64, Form}
-
-abbrev pub printed : Answer → Printed
-printed a = prints a.status a.text
 
 -- why a file is refused, in a word
 abbrev pub word_of : FileRefusal → List ℕ

@@ -1,24 +1,19 @@
-//! A status and a text.
+//! What is replied of partially signed transactions: a status and a text.
 
 ghost use Rattle.std.specs.Prelude.{◌≡◌, ◌++◌, codes, Ok, IfOk, OnOk};
 ghost use Rattle.std.specs.Fmt.{decimal};
 ghost use Rattle.spec_text.specs.RunText.{newline};
 ghost use Rattle.spec_tool.specs.PsbtText as spec;
-ghost use Rattle.bm_psbt_text.specs.Answers.{printed, word_of};
+ghost use Rattle.bitml_command.specs.Seen.{printed};
+ghost use Rattle.bm_psbt_text.specs.Refusals.{word_of};
 
 use crate::files::FileRefusal;
 use crate::lines::shown_text;
+use bitml_command::Reply;
 use bm_psbt::Psbt;
 use bm_text::{put, put_decimal};
 use spec_data::{Bytes, OutOfMemory};
 use std::alloc::Global;
-
-/// What a command answers: its status, and the text that it prints.
-#[derive(Drop)]
-pub struct Answer {
-    pub status: u8,
-    pub text: Bytes,
-}
 
 // `psbt refused` and why.
 #[tactic(auto, using(std::proofs::Common::append_assoc))]
@@ -30,13 +25,13 @@ fn put_refused(out: &mut Vec<u8>, why: &[u8]) -> Result<(), OutOfMemory>
     put(out, b"\n")
 }
 
-/// The answer that refuses, and says why.
-pub(crate) fn refused(alloc: Global, why: &[u8]) -> Result<Answer, OutOfMemory>
+/// The reply that refuses, and says why.
+pub(crate) fn refused(alloc: Global, why: &[u8]) -> Result<Reply, OutOfMemory>
     ensures { IfOk result (λ a. printed a ≡ spec.psbt_refused why.now) }
 {
     let mut out = Vec::new(alloc);
     put_refused(&mut out, why)?;
-    Ok(Answer {
+    Ok(Reply {
         status: 9,
         text: Bytes::of(out),
     })
@@ -53,13 +48,13 @@ fn word_of(refusal: FileRefusal) -> &'static [u8]
     }
 }
 
-/// The answer that refuses the file of this number.
+/// The reply that refuses the file of this number.
 #[tactic(auto, using(std::proofs::Common::append_assoc))]
 pub(crate) fn file_refused(
     alloc: Global,
     number: u64,
     refusal: FileRefusal,
-) -> Result<Answer, OutOfMemory>
+) -> Result<Reply, OutOfMemory>
     ensures { IfOk result (λ a. printed a ≡ spec.file_refused number (word_of refusal)) }
 {
     let mut why = Vec::new(alloc);
@@ -69,8 +64,8 @@ pub(crate) fn file_refused(
     refused(alloc, &why)
 }
 
-/// The answer that refuses two that differ at this input.
-pub(crate) fn conflict_refused(alloc: Global, number: u64) -> Result<Answer, OutOfMemory>
+/// The reply that refuses two that differ at this input.
+pub(crate) fn conflict_refused(alloc: Global, number: u64) -> Result<Reply, OutOfMemory>
     ensures { IfOk result (λ a. printed a ≡ spec.psbt_refused (codes "conflict " ++ decimal number)) }
 {
     let mut why = Vec::new(alloc);
@@ -79,12 +74,12 @@ pub(crate) fn conflict_refused(alloc: Global, number: u64) -> Result<Answer, Out
     refused(alloc, &why)
 }
 
-/// The answer that shows what is said.
-pub(crate) fn shown(alloc: Global, psbt: &Psbt) -> Result<Answer, OutOfMemory>
+/// The reply that shows what is said.
+pub(crate) fn shown(alloc: Global, psbt: &Psbt) -> Result<Reply, OutOfMemory>
     ensures { IfOk result (λ a. printed a ≡ spec.shown_judged (Ok psbt.now)) }
 {
     let text = shown_text(alloc, psbt)?;
-    Ok(Answer {
+    Ok(Reply {
         status: 0,
         text: Bytes::of(text),
     })

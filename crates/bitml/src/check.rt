@@ -1,0 +1,19 @@
+//! What `check` replies.
+
+ghost use Rattle.std.specs.Prelude.{◌≡◌, length, IfOk};
+ghost use Rattle.spec_tool.specs.Reads.{text_at};
+ghost use Rattle.spec_tool.specs.Commands.{check_judged};
+ghost use Rattle.spec_tool.specs.Answers.{contract_in};
+ghost use Rattle.bitml_command.specs.Seen.{printed};
+
+use bitml_command::{Reply, check_reply};
+use spec_data::{Bytes, OutOfMemory};
+use std::alloc::Global;
+
+/// What `check` replies to the text of its file.
+pub(crate) fn check_texts(alloc: Global, texts: &[Option<Bytes>]) -> Result<Reply, OutOfMemory>
+    requires { length texts.now ≡ 1 }
+    ensures { IfOk result (λ reply. printed reply ≡ check_judged (contract_in (text_at texts.now 0))) }
+{
+    check_reply(alloc, &texts[0])
+}

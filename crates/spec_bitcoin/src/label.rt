@@ -7,7 +7,6 @@ use spec_terms::Path;
 use std::alloc::Global;
 
 /// What a key is for: the deposits of a party, or a party's consent to a branch of a contract.
-#[derive(Drop)]
 pub enum Label {
     Deposit {
         party: Name,
@@ -17,6 +16,19 @@ pub enum Label {
         path: Path,
         party: Name,
     },
+}
+
+impl Drop for Label {
+    fn drop(self) {
+        match self {
+            Label::Deposit { party: _ }
+            | Label::Branch {
+                contract: _,
+                path: _,
+                party: _,
+            } => {}
+        }
+    }
 }
 
 impl Label {

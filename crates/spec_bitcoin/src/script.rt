@@ -6,10 +6,17 @@ use spec_data::{Bytes, OutOfMemory};
 use std::alloc::Global;
 
 /// One operation: bytes that are pushed, or an opcode by its byte.
-#[derive(Drop)]
 pub enum Op {
     Push(Bytes),
     Code(u8),
+}
+
+impl Drop for Op {
+    fn drop(self) {
+        match self {
+            Op::Push(_) | Op::Code(_) => {}
+        }
+    }
 }
 
 impl Op {

@@ -13,7 +13,6 @@ pub struct OutPoint {
 }
 
 /// An input: the output that it spends, and what entitles it to.
-#[derive(Drop)]
 pub struct TxIn {
     pub prev: OutPoint,
     pub script_sig: Bytes,
@@ -21,20 +20,49 @@ pub struct TxIn {
     pub witness: Seq<Bytes>,
 }
 
+impl Drop for TxIn {
+    fn drop(self) {
+        let TxIn {
+            prev: _,
+            script_sig: _,
+            sequence: _,
+            witness: _,
+        } = self;
+    }
+}
+
 /// An output: a value in satoshi, and the script that guards it.
-#[derive(Drop)]
 pub struct TxOut {
     pub value: u64,
     pub script: Bytes,
 }
 
+impl Drop for TxOut {
+    fn drop(self) {
+        let TxOut {
+            value: _,
+            script: _,
+        } = self;
+    }
+}
+
 /// A transaction.
-#[derive(Drop)]
 pub struct Tx {
     pub version: u32,
     pub inputs: Seq<TxIn>,
     pub outputs: Seq<TxOut>,
     pub lock: u32,
+}
+
+impl Drop for Tx {
+    fn drop(self) {
+        let Tx {
+            version: _,
+            inputs: _,
+            outputs: _,
+            lock: _,
+        } = self;
+    }
 }
 
 impl TxIn {
@@ -74,6 +102,24 @@ impl Tx {
             outputs: copy_outputs(alloc, self.outputs.as_slice())?,
             lock: self.lock,
         })
+    }
+
+    /// The same transaction with these inputs in place of its own.
+    pub fn with_inputs(self, inputs: Seq<TxIn>) -> Tx
+        ensures { result ≡ record self { inputs = inputs } }
+    {
+        let Tx {
+            version,
+            inputs: _,
+            outputs,
+            lock,
+        } = self;
+        Tx {
+            version,
+            inputs,
+            outputs,
+            lock,
+        }
     }
 }
 

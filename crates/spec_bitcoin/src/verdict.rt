@@ -35,10 +35,17 @@ pub enum Refusal {
 }
 
 /// The answer to a transaction: the birth numbers of what it spent and made, or why it was refused.
-#[derive(Drop)]
 pub enum Verdict {
     Accepted { spent: Seq<u32>, made: Seq<u32> },
     Refused(Refusal),
+}
+
+impl Drop for Verdict {
+    fn drop(self) {
+        match self {
+            Verdict::Accepted { spent: _, made: _ } | Verdict::Refused(_) => {}
+        }
+    }
 }
 
 impl Verdict {

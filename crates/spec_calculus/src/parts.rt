@@ -17,7 +17,6 @@ pub struct Deposit {
 
 /// An active contract: the number that names it, the contract's place in the run, the position that
 /// it stands at, and its balance in satoshi.
-#[derive(Drop)]
 pub struct ActiveContract {
     pub number: u32,
     pub contract: u32,
@@ -25,19 +24,47 @@ pub struct ActiveContract {
     pub balance: u64,
 }
 
+impl Drop for ActiveContract {
+    fn drop(self) {
+        let ActiveContract {
+            number: _,
+            contract: _,
+            position: _,
+            balance: _,
+        } = self;
+    }
+}
+
 /// A contract that is advertised, and the deposit that each entry of its precondition is bound to.
-#[derive(Drop)]
 pub struct Advertised {
     pub contract: u32,
     pub bindings: Seq<(Name, u32)>,
 }
 
+impl Drop for Advertised {
+    fn drop(self) {
+        let Advertised {
+            contract: _,
+            bindings: _,
+        } = self;
+    }
+}
+
 /// What a participant has committed: for each of its secrets a length, where one is known.
-#[derive(Drop)]
 pub struct Committed {
     pub contract: u32,
     pub party: Name,
     pub lengths: Seq<(Name, Option<u32>)>,
+}
+
+impl Drop for Committed {
+    fn drop(self) {
+        let Committed {
+            contract: _,
+            party: _,
+            lengths: _,
+        } = self;
+    }
 }
 
 /// A revealed secret.
@@ -64,10 +91,18 @@ pub struct BranchAuthorisation {
 }
 
 /// A move that a party agrees to.
-#[derive(Drop)]
 pub struct MoveAuthorisation {
     pub party: Name,
     pub action: Move,
+}
+
+impl Drop for MoveAuthorisation {
+    fn drop(self) {
+        let MoveAuthorisation {
+            party: _,
+            action: _,
+        } = self;
+    }
 }
 
 impl ActiveContract {

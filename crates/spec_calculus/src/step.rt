@@ -15,15 +15,22 @@ pub enum Owner {
 }
 
 /// Deposits go, and others come. Inputs are numbers of deposits; outputs are owners with satoshi.
-#[derive(Drop)]
 pub struct Move {
     pub inputs: Seq<u32>,
     pub outputs: Seq<(Owner, u64)>,
 }
 
+impl Drop for Move {
+    fn drop(self) {
+        let Move {
+            inputs: _,
+            outputs: _,
+        } = self;
+    }
+}
+
 /// A step of the calculus. Contracts are named by their place, deposits and active contracts by
 /// their number, branches by their place among a position's branches.
-#[derive(Drop)]
 pub enum Step {
     /// Blocks pass.
     Delay {
@@ -86,6 +93,56 @@ pub enum Step {
         output: u32,
         branch: u32,
     },
+}
+
+impl Drop for Step {
+    fn drop(self) {
+        match self {
+            Step::Delay { blocks: _ }
+            | Step::AuthMove {
+                party: _,
+                action: _,
+            }
+            | Step::Move { action: _ }
+            | Step::Advertise {
+                contract: _,
+                bindings: _,
+            }
+            | Step::Commit {
+                contract: _,
+                party: _,
+                lengths: _,
+            }
+            | Step::AuthInit {
+                contract: _,
+                party: _,
+                deposit: _,
+            }
+            | Step::Init { contract: _ }
+            | Step::Reveal {
+                contract: _,
+                party: _,
+                secret: _,
+            }
+            | Step::AuthBranch {
+                party: _,
+                output: _,
+                branch: _,
+            }
+            | Step::PutReveal {
+                output: _,
+                branch: _,
+            }
+            | Step::Withdraw {
+                output: _,
+                branch: _,
+            }
+            | Step::Split {
+                output: _,
+                branch: _,
+            } => {}
+        }
+    }
 }
 
 impl Move {

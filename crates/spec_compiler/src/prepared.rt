@@ -7,11 +7,20 @@ use spec_data::{OutOfMemory, Seq};
 use std::alloc::Global;
 
 /// A transaction without witnesses, with its id, and for each input the digest that its signatures are of.
-#[derive(Drop)]
 pub struct Prepared {
     pub tx: Tx,
     pub txid: [u8; 32],
     pub digests: Seq<[u8; 32]>,
+}
+
+impl Drop for Prepared {
+    fn drop(self) {
+        let Prepared {
+            tx: _,
+            txid: _,
+            digests: _,
+        } = self;
+    }
 }
 
 impl Prepared {

@@ -8,19 +8,37 @@ use spec_data::{Bytes, OutOfMemory, Seq};
 use std::alloc::Global;
 
 /// An output that a transaction spends: where it lies, the script that its spender shows, and its value in satoshi.
-#[derive(Drop)]
 pub struct Spent {
     pub outpoint: OutPoint,
     pub script: Bytes,
     pub value: u64,
 }
 
+impl Drop for Spent {
+    fn drop(self) {
+        let Spent {
+            outpoint: _,
+            script: _,
+            value: _,
+        } = self;
+    }
+}
+
 /// A transaction without witnesses, by what it spends, what it makes and its lock.
-#[derive(Drop)]
 pub struct Unsigned {
     pub spends: Seq<Spent>,
     pub outputs: Seq<TxOut>,
     pub lock: u32,
+}
+
+impl Drop for Unsigned {
+    fn drop(self) {
+        let Unsigned {
+            spends: _,
+            outputs: _,
+            lock: _,
+        } = self;
+    }
 }
 
 impl Spent {

@@ -9,7 +9,7 @@ use std::marker::Model;
 pub type OutOfMemory = AllocError;
 
 /// A byte string, which contracts see as the list of its bytes.
-#[derive(Debug, Drop)]
+#[derive(Debug)]
 pub struct Bytes {
     list: Vec<u8>,
 }
@@ -18,6 +18,12 @@ impl Model for Bytes {
     ghost Value = { List ℕ };
 
     ghost view = { λ b. b.list.items };
+}
+
+impl Drop for Bytes {
+    fn drop(self) {
+        let Bytes { list: _ } = self;
+    }
 }
 
 impl Bytes {
@@ -46,7 +52,8 @@ impl Bytes {
     pub fn into_vec(self) -> Vec<u8>
         ensures { result.items ≡ self }
     {
-        self.list
+        let Bytes { list } = self;
+        list
     }
 
     /// An equal byte string.

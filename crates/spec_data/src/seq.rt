@@ -6,7 +6,6 @@ use std::alloc::{AllocError, Global};
 use std::marker::Model;
 
 /// A vector that contracts see as the list of its elements.
-#[derive(Drop)]
 pub struct Seq<T> {
     held: Vec<T>,
 }
@@ -17,6 +16,12 @@ impl<T> Model for Seq<T> {
     ghost Value = { List T };
 
     ghost view = { λ a. a.held.items };
+}
+
+impl<T: Drop> Drop for Seq<T> {
+    fn drop(self) {
+        let Seq { held: _ } = self;
+    }
 }
 
 impl<T> Seq<T> {
@@ -40,7 +45,8 @@ impl<T> Seq<T> {
     pub fn into_vec(self) -> Vec<T>
         ensures { result.items ≡ self }
     {
-        self.held
+        let Seq { held } = self;
+        held
     }
 
     /// The elements in order.

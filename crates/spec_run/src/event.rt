@@ -9,7 +9,6 @@ use std::alloc::Global;
 
 /// One atomic step of a run. Contracts have their number, outputs their birth number, counted
 /// from the header's deposits on; values are in satoshi.
-#[derive(Drop)]
 pub enum Event {
     /// The contract is posted with its deposits.
     Advertise {
@@ -79,11 +78,71 @@ pub enum Event {
     },
 }
 
+impl Drop for Event {
+    fn drop(self) {
+        match self {
+            Event::Advertise {
+                contract: _,
+                bindings: _,
+            }
+            | Event::Commit {
+                contract: _,
+                party: _,
+                digests: _,
+            }
+            | Event::Endorse {
+                contract: _,
+                party: _,
+            }
+            | Event::Init {
+                contract: _,
+                party: _,
+            }
+            | Event::Authorise {
+                party: _,
+                output: _,
+                branch: _,
+            }
+            | Event::Reveal {
+                contract: _,
+                party: _,
+                secret: _,
+            }
+            | Event::Post { bytes: _ }
+            | Event::Sign {
+                party: _,
+                label: _,
+                digest: _,
+            }
+            | Event::Give {
+                party: _,
+                inputs: _,
+                outputs: _,
+            }
+            | Event::Append { bytes: _ }
+            | Event::FireInit { contract: _ }
+            | Event::Fire {
+                output: _,
+                branch: _,
+            }
+            | Event::Mine { blocks: _ } => {}
+        }
+    }
+}
+
 /// A header and the events after it.
-#[derive(Drop)]
 pub struct Run {
     pub header: Header,
     pub events: Seq<Event>,
+}
+
+impl Drop for Run {
+    fn drop(self) {
+        let Run {
+            header: _,
+            events: _,
+        } = self;
+    }
 }
 
 impl Event {

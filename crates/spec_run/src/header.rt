@@ -6,21 +6,40 @@ use spec_data::{Bytes, Name, OutOfMemory, Seq};
 use std::alloc::Global;
 
 /// A secret of an honest party, held from the start.
-#[derive(Drop)]
 pub struct HeldSecret {
     pub party: Name,
     pub name: Name,
     pub bytes: Bytes,
 }
 
+impl Drop for HeldSecret {
+    fn drop(self) {
+        let HeldSecret {
+            party: _,
+            name: _,
+            bytes: _,
+        } = self;
+    }
+}
+
 /// What stands before the events of a run, each list in the order of its lines. A deposit has
 /// its owner and its value in satoshi.
-#[derive(Drop)]
 pub struct Header {
     pub parties: Seq<Name>,
     pub honest: Seq<Name>,
     pub secrets: Seq<HeldSecret>,
     pub deposits: Seq<(Name, u64)>,
+}
+
+impl Drop for Header {
+    fn drop(self) {
+        let Header {
+            parties: _,
+            honest: _,
+            secrets: _,
+            deposits: _,
+        } = self;
+    }
 }
 
 impl HeldSecret {

@@ -9,7 +9,6 @@ use spec_terms::Path;
 use std::alloc::Global;
 
 /// Why an event is refused, with the values that are shown. Places in lists count from 0.
-#[derive(Drop)]
 pub enum Reason {
     NoContract,
     AdvertFull,
@@ -55,8 +54,56 @@ pub enum Reason {
     ScriptFalse(u32),
 }
 
+impl Drop for Reason {
+    fn drop(self) {
+        match self {
+            Reason::NoContract
+            | Reason::AdvertFull
+            | Reason::WrongNames
+            | Reason::DepositRepeated(_)
+            | Reason::NotLive(_)
+            | Reason::WrongDeposit(_)
+            | Reason::NoHonest
+            | Reason::NotAdvertised
+            | Reason::NotParticipant
+            | Reason::AlreadyCommitted
+            | Reason::NoSecret(_)
+            | Reason::BadSecretLength(_)
+            | Reason::HashRepeated(_)
+            | Reason::NotAllCommitted
+            | Reason::NotEndorsed(_, _)
+            | Reason::NotActive
+            | Reason::NoBranch
+            | Reason::NotAsked
+            | Reason::NotHonest
+            | Reason::NotCommitted
+            | Reason::NotBegun
+            | Reason::AlreadyRevealed
+            | Reason::Honest
+            | Reason::NotOwner
+            | Reason::NotLiveOutput(_)
+            | Reason::NotOwnerOutput(_)
+            | Reason::BadTx(_)
+            | Reason::NotCompiled
+            | Reason::SecretUnknown(_)
+            | Reason::TimeLimit
+            | Reason::NoInput
+            | Reason::NoOutput
+            | Reason::InputRepeated
+            | Reason::MissingInput(_)
+            | Reason::ValueLimit
+            | Reason::InsufficientIn
+            | Reason::NotFinal
+            | Reason::ScriptSigNotEmpty(_)
+            | Reason::NotWitnessScript(_)
+            | Reason::ScriptMismatch(_)
+            | Reason::ItemTooLong(_)
+            | Reason::ScriptFalse(_) => {}
+        }
+    }
+}
+
 /// What an event came to.
-#[derive(Drop)]
 pub enum Outcome {
     Done,
     /// The spent outputs in the order of the inputs, the new ones with their values, and the
@@ -69,12 +116,35 @@ pub enum Outcome {
     Refused(Reason),
 }
 
+impl Drop for Outcome {
+    fn drop(self) {
+        match self {
+            Outcome::Done
+            | Outcome::Accepted {
+                spent: _,
+                made: _,
+                lock: _,
+            }
+            | Outcome::Refused(_) => {}
+        }
+    }
+}
+
 /// An event, what it came to, and the accepted transaction with its witnesses.
-#[derive(Drop)]
 pub struct Record {
     pub event: Event,
     pub outcome: Outcome,
     pub tx: Option<Tx>,
+}
+
+impl Drop for Record {
+    fn drop(self) {
+        let Record {
+            event: _,
+            outcome: _,
+            tx: _,
+        } = self;
+    }
 }
 
 impl Reason {

@@ -43,7 +43,6 @@ impl Eq for PathStep {
 
 /// A path from the root of a contract to a branch or a position, which contracts see as the list of its steps.
 /// The root's position has none.
-#[derive(Drop)]
 pub struct Path {
     steps: Vec<PathStep>,
 }
@@ -55,6 +54,12 @@ impl Model for Path {
     ghost Value = { List PathStep };
 
     ghost view = { λ p. p.steps.items };
+}
+
+impl Drop for Path {
+    fn drop(self) {
+        let Path { steps: _ } = self;
+    }
 }
 
 impl Path {

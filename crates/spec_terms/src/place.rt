@@ -7,7 +7,6 @@ use spec_data::{Name, OutOfMemory};
 use std::alloc::Global;
 
 /// Where an advert has a fault or exceeds a limit.
-#[derive(Drop)]
 pub enum Place {
     /// The entry of the precondition of this number, counted from 0.
     Pre(u32),
@@ -16,6 +15,18 @@ pub enum Place {
     Party(Name),
     /// How many there are.
     Count(u32),
+}
+
+impl Drop for Place {
+    fn drop(self) {
+        match self {
+            Place::Pre(_)
+            | Place::Branch(_)
+            | Place::Position(_)
+            | Place::Party(_)
+            | Place::Count(_) => {}
+        }
+    }
 }
 
 impl Place {

@@ -8,11 +8,20 @@ use spec_run::{Event, Outcome};
 use std::alloc::Global;
 
 /// An event, what it came to, and its steps.
-#[derive(Drop)]
 pub struct Entry {
     pub event: Event,
     pub outcome: Outcome,
     pub steps: Seq<Step>,
+}
+
+impl Drop for Entry {
+    fn drop(self) {
+        let Entry {
+            event: _,
+            outcome: _,
+            steps: _,
+        } = self;
+    }
 }
 
 impl Entry {

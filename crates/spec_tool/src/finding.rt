@@ -20,7 +20,6 @@ pub enum Now {
 }
 
 /// What a line is.
-#[derive(Drop)]
 pub enum Kind {
     /// It isn't one word of hexadecimal digits.
     NotHex,
@@ -30,21 +29,43 @@ pub enum Kind {
     Read { names: Seq<Which>, now: Now },
 }
 
+impl Drop for Kind {
+    fn drop(self) {
+        match self {
+            Kind::NotHex | Kind::Bad(_) | Kind::Read { names: _, now: _ } => {}
+        }
+    }
+}
+
 /// A line of the file that isn't empty, by its number, counted from 1.
-#[derive(Drop)]
 pub struct Finding {
     pub line: u32,
     pub kind: Kind,
 }
 
+impl Drop for Finding {
+    fn drop(self) {
+        let Finding { line: _, kind: _ } = self;
+    }
+}
+
 /// What an audit finds: of each line, the compiled transactions that no line names, and the
 /// signatures that are missing.
-#[derive(Drop)]
 pub struct AuditReport {
     pub findings: Seq<Finding>,
     pub absent: Seq<Which>,
     /// The transaction, its input, counted from 0, and the label of the key that hasn't signed there.
     pub missing: Seq<(Which, u32, Label)>,
+}
+
+impl Drop for AuditReport {
+    fn drop(self) {
+        let AuditReport {
+            findings: _,
+            absent: _,
+            missing: _,
+        } = self;
+    }
 }
 
 impl Kind {

@@ -8,7 +8,6 @@ use spec_data::{Bytes, OutOfMemory, Seq};
 use std::alloc::Global;
 
 /// What is known of an input.
-#[derive(Drop)]
 pub struct PsbtInput {
     /// The output that it spends.
     pub spent: Option<TxOut>,
@@ -20,6 +19,18 @@ pub struct PsbtInput {
     pub script: Option<Bytes>,
     /// The final witness.
     pub witness: Option<Seq<Bytes>>,
+}
+
+impl Drop for PsbtInput {
+    fn drop(self) {
+        let PsbtInput {
+            spent: _,
+            partial: _,
+            all: _,
+            script: _,
+            witness: _,
+        } = self;
+    }
 }
 
 impl PsbtInput {

@@ -7,7 +7,6 @@ use spec_terms::Path;
 use std::alloc::Global;
 
 /// What a rule does with contract 0, once it can be done.
-#[derive(Drop)]
 pub enum Act {
     Commit,
     Endorse,
@@ -21,11 +20,30 @@ pub enum Act {
     Fire(Path),
 }
 
+impl Drop for Act {
+    fn drop(self) {
+        match self {
+            Act::Commit
+            | Act::Endorse
+            | Act::Init
+            | Act::Authorise(_)
+            | Act::Reveal(_)
+            | Act::FireInit
+            | Act::Fire(_) => {}
+        }
+    }
+}
+
 /// A line of a strategy file: what an honest party does.
-#[derive(Drop)]
 pub struct Rule {
     pub party: Name,
     pub act: Act,
+}
+
+impl Drop for Rule {
+    fn drop(self) {
+        let Rule { party: _, act: _ } = self;
+    }
 }
 
 /// Why a text is no strategy, with the number of the line, counted from 1.

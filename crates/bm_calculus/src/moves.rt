@@ -7,22 +7,10 @@ ghost use Rattle.spec_calculus.specs.Steps as steps;
 
 use crate::deposits::Deposits;
 use crate::same::move_eq;
+use bm_repeats::are_distinct;
 use spec_calculus::{Deposit, Move, MoveAuthorisation, Owner};
 use spec_data::{Name, OutOfMemory};
 use std::alloc::Global;
-
-fn are_distinct(numbers: &[u32]) -> bool
-    ensures { result ≡ lists.are_distinct numbers.now }
-{
-    let mut rest = numbers;
-    while let [first, others @ ..] = rest {
-        if others.contains(first) {
-            return false;
-        }
-        rest = others;
-    }
-    true
-}
 
 fn are_live(deposits: &Deposits, inputs: &[u32]) -> bool
     ensures { result ≡ spec.are_live deposits.now inputs.now }
@@ -30,10 +18,10 @@ fn are_live(deposits: &Deposits, inputs: &[u32]) -> bool
     inputs.iter().all(|n| deposits.is_live(*n))
 }
 
-fn spends_live(deposits: &Deposits, inputs: &[u32]) -> bool
+fn spends_live(alloc: Global, deposits: &Deposits, inputs: &[u32]) -> bool
     ensures { result ≡ spec.spends_live deposits.now inputs.now }
 {
-    !inputs.is_empty() && are_distinct(inputs) && are_live(deposits, inputs)
+    !inputs.is_empty() && are_distinct(alloc, inputs) && are_live(deposits, inputs)
 }
 
 fn owns_one(deposits: &Deposits, inputs: &[u32], party: &Name) -> bool
@@ -93,11 +81,11 @@ fn all_agree(deposits: &Deposits, authorised: &[MoveAuthorisation], action: &Mov
 }
 
 /// The first premise of a party's agreement to a move that fails, or 0.
-pub fn auth_move_fails(deposits: &Deposits, party: &Name, action: &Move) -> u8
+pub fn auth_move_fails(alloc: Global, deposits: &Deposits, party: &Name, action: &Move) -> u8
     ensures { result ≡ lists.first_false 1 (steps.auth_move_premises deposits.now party.now action.now) }
 {
     let inputs = action.inputs.as_slice();
-    if !spends_live(deposits, inputs) {
+    if !spends_live(alloc, deposits, inputs) {
         return 1;
     }
     if !owns_one(deposits, inputs, party) {
@@ -107,10 +95,15 @@ pub fn auth_move_fails(deposits: &Deposits, party: &Name, action: &Move) -> u8
 }
 
 /// The first premise of a move that fails, or 0.
-pub fn move_fails(deposits: &Deposits, authorised: &[MoveAuthorisation], action: &Move) -> u8
+pub fn move_fails(
+    alloc: Global,
+    deposits: &Deposits,
+    authorised: &[MoveAuthorisation],
+    action: &Move,
+) -> u8
     ensures { result ≡ lists.first_false 1 (steps.move_premises deposits.now authorised.now action.now) }
 {
-    if !spends_live(deposits, action.inputs.as_slice()) {
+    if !spends_live(alloc, deposits, action.inputs.as_slice()) {
         return 1;
     }
     if !pays(deposits, action) {

@@ -131,8 +131,18 @@ impl State {
     {
         match step {
             Step::Delay { blocks } => delay_fails(self.time, *blocks),
-            Step::AuthMove { party, action } => auth_move_fails(&self.deposits, party, action),
-            Step::Move { action } => move_fails(&self.deposits, &self.move_authorised, action),
+            Step::AuthMove { party, action } => auth_move_fails(
+                self.alloc,
+                &self.deposits,
+                party,
+                action,
+            ),
+            Step::Move { action } => move_fails(
+                self.alloc,
+                &self.deposits,
+                &self.move_authorised,
+                action,
+            ),
             Step::Advertise { contract, bindings } => self.advertise_fails(*contract, bindings),
             Step::Commit {
                 contract,

@@ -107,7 +107,7 @@ pub(crate) fn examine<H: Hash32 + Drop>(
 {
     let id = txid(alloc, trail, tx)?;
     let lists = shared(alloc, trail, tx)?;
-    let whole = whole_refusal(tip, live, tx);
+    let whole = whole_refusal(alloc, tip, live, tx);
     let refusal = judge_inputs(alloc, trail, book, live, tx, &lists, whole)?;
     Ok(Judged { txid: id, refusal })
 }

@@ -1,36 +1,15 @@
 //! The conditions on a transaction as a whole.
 
 ghost use Rattle.std.specs.Prelude.{◌≡◌, ◌<◌, ◌^◌, length, nat_lt, is_none, IfSome};
-ghost use Rattle.std.specs.List.{list_any};
 ghost use Rattle.spec_data.specs.Lists.{first_reason};
 ghost use Rattle.spec_data.specs.Ranges.{max_money};
-ghost use Rattle.spec_bitcoin.specs.Live.{same_outpoint};
 ghost use Rattle.spec_bitcoin.specs.Verdict as spec;
 
 use crate::outputs::{Live, value_of};
-use spec_bitcoin::{OutPoint, Refusal, Tx, TxIn, TxOut};
+use bm_repeats::spend_twice;
+use spec_bitcoin::{Refusal, Tx, TxIn, TxOut};
 use spec_data::{LAST_HEIGHT, MAX_MONEY};
-
-// One of the inputs spends the output at a place.
-fn spends(inputs: &[TxIn], place: &OutPoint) -> bool
-    ensures { result ≡ list_any (λ i. same_outpoint i.prev place.now) inputs.now }
-{
-    inputs.iter().any(|input| input.prev == *place)
-}
-
-// Two inputs spend one output.
-fn repeats(inputs: &[TxIn]) -> bool
-    ensures { result ≡ spec.has_repeat inputs.now }
-{
-    let mut rest = inputs;
-    while let Some((first, others)) = rest.split_first() {
-        if spends(others, &first.prev) {
-            return true;
-        }
-        rest = others;
-    }
-    false
-}
+use std::alloc::Global;
 
 fn missing_at(live: &Live, inputs: &[TxIn]) -> Option<usize>
     ensures value { result ≡ spec.first_missing live.now inputs.now }
@@ -100,7 +79,7 @@ fn is_early(tip: u32, tx: &Tx) -> bool
 }
 
 /// What is wrong with a transaction as a whole, if anything is.
-pub(crate) fn whole_refusal(tip: u32, live: &Live, tx: &Tx) -> Option<Refusal>
+pub(crate) fn whole_refusal(alloc: Global, tip: u32, live: &Live, tx: &Tx) -> Option<Refusal>
     requires { length tx.now.inputs < 2 ^ 32 }
     ensures { result ≡ first_reason (spec.whole_row tip live.now tx.now) }
 {
@@ -110,7 +89,7 @@ pub(crate) fn whole_refusal(tip: u32, live: &Live, tx: &Tx) -> Option<Refusal>
     if tx.outputs.is_empty() {
         return Some(Refusal::NoOutput);
     }
-    if repeats(tx.inputs.as_slice()) {
+    if spend_twice(alloc, tx.inputs.as_slice()) {
         return Some(Refusal::InputRepeated);
     }
     if let Some(k) = missing(live, tx.inputs.as_slice()) {

@@ -144,7 +144,7 @@ pub fn draft_give<H: Hash32 + Drop>(
     ensures ok { IfOk result (Drafts (H.digest_of trail.old.hasher) (world_of board.new trail.old.messages) trail.old.messages trail.new.messages (spec.give_draft (setup_of (H.digest_of trail.old.hasher) board.old) (world_of board.old trail.old.messages) party.now inputs.now outputs.now)) }
     ensures err { IfErr result (StopsAlong H.digest_of trail.old trail.new ((spec.give_draft (setup_of (H.digest_of trail.old.hasher) board.old) (world_of board.old trail.old.messages) party.now inputs.now outputs.now).hashes)) }
 {
-    if let Some(reason) = give_refusal(board, party, inputs, outputs) {
+    if let Some(reason) = give_refusal(alloc, board, party, inputs, outputs) {
         return Ok(Drafted::refused(alloc, reason));
     }
     let drafted = draft_gift(alloc, trail, board, party, inputs, outputs)?;

@@ -13,11 +13,13 @@ ghost use Rattle.bm_world_board.specs.Accounts.{account_of};
 ghost use Rattle.bm_world_board.specs.Drafts.{setup_of, world_of};
 ghost use Rattle.bm_world_spend.specs.Gifts as by;
 
+use bm_repeats::are_distinct;
 use bm_world_board::{Board, owner_of_script};
 use bm_world_coins::Coins;
 use spec_calculus::Owner;
 use spec_data::{MAX_MONEY, Name};
 use spec_run::Reason;
+use std::alloc::Global;
 
 // Whether the output of this number is a live deposit.
 fn is_live_deposit(board: &Board, number: u32) -> bool
@@ -79,20 +81,6 @@ fn first_foreign(board: &Board, party: &Name, inputs: &[u32]) -> Option<u32>
     None
 }
 
-// Whether all numbers differ.
-fn are_distinct(numbers: &[u32]) -> bool
-    ensures { result ≡ lists.are_distinct numbers.now }
-{
-    let mut rest = numbers;
-    while let [first, others @ ..] = rest {
-        if others.contains(first) {
-            return false;
-        }
-        rest = others;
-    }
-    true
-}
-
 // What the outputs are worth, unless it is more than there can be. One output of more makes it so.
 fn value_out(outputs: &[(Name, u64)]) -> Option<u64>
     ensures none { is_none result ≡ nat_lt max_money (spec.value_out outputs.now) }
@@ -137,6 +125,7 @@ fn is_short(board: &Board, inputs: &[u32], total: u64) -> bool
 
 /// Why a gift is refused, if it is.
 pub(crate) fn give_refusal(
+    alloc: Global,
     board: &Board,
     party: &Name,
     inputs: &[u32],
@@ -151,7 +140,7 @@ pub(crate) fn give_refusal(
     if let Some(number) = first_foreign(board, party, inputs) {
         return Some(Reason::NotOwnerOutput(number));
     }
-    if !are_distinct(inputs) {
+    if !are_distinct(alloc, inputs) {
         return Some(Reason::InputRepeated);
     }
     let Some(total) = value_out(outputs) else {

@@ -1,0 +1,9 @@
+pub mod Gathered
+pub mod LineWords
+pub mod LinesRead
+pub mod Paths
+pub mod Reasons
+pub mod Reports
+pub mod StepsRead
+pub mod Texts
+pub mod WordsBack

@@ -15,6 +15,7 @@ use Rattle.spec_bitcoin.specs.Meaning.{outcome}
 use Rattle.spec_bitcoin.specs.Opcodes.{op_1, op_16, op_if, op_else, op_endif, op_drop}
 use Rattle.spec_bitcoin.specs.declared.script.Op.TheVariants.{Push, Code}
 use Rattle.spec_compiler.specs.Scripts.{branch_ops, choice_ops, reveal_ops, push_521, demands, output_ops}
+use Rattle.spec_compiler.specs.Keyed.Instance as keyed
 use Rattle.spec_compiler.specs.Instance.{Instance, branch_label, branch_keys, position_demands, position_script}
 use Rattle.spec_compiler.specs.Witness.{witness_of, chosen_by}
 use Rattle.spec_compiler.specs.declared.unsigned.Unsigned.{Unsigned}
@@ -52,7 +53,7 @@ abbrev tells : Instance
 tells = instance (Persistent A 1 (codes "x") ∷ Secret A (codes "a") ∷ []) told
 
 tells_bytes : length (position_script weigh tells [] told) ≡ 83
-unfolding position_script item_of_number signed_bytes
+unfolding keyed.position_script item_of_number signed_bytes
 tells_bytes = refl
 
 tells_operations : counted (output_ops (position_demands weigh tells [] told)) ≡ 11
@@ -68,7 +69,7 @@ abbrev times : Instance
 times = instance (Persistent A 100000000 (codes "x") ∷ Persistent B 0 (codes "y") ∷ Secret A (codes "a") ∷ []) timed
 
 timed_bytes : length (position_script weigh times [] timed) ≡ 191
-unfolding position_script item_of_number signed_bytes
+unfolding keyed.position_script item_of_number signed_bytes
 timed_bytes = refl
 
 timed_operations : counted (output_ops (position_demands weigh times [] timed)) ≡ 17

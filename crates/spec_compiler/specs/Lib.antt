@@ -1,4 +1,5 @@
 pub mod Scripts
+pub mod Keyed
 pub mod Instance
 pub mod Witness
 pub mod Transactions

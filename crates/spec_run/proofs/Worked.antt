@@ -9,7 +9,7 @@ use Rattle.spec_bitcoin.specs.Spelling.{compact, stripped}
 use Rattle.spec_bitcoin.specs.Digests.{places_list, sequences_list, outputs_list, preimage}
 use Rattle.spec_bitcoin.specs.Keys.{label_text}
 use Rattle.spec_bitcoin.specs.Numbers.{number_of_item, signed_bytes, item_of_number}
-use Rattle.spec_compiler.specs.Instance.{position_script}
+use Rattle.spec_compiler.specs.Keyed.Instance.{position_script}
 use Rattle.spec_bitcoin.specs.Scripts.{ops_of}
 use Rattle.spec_bitcoin.specs.Meaning.{script_meaning}
 use Rattle.spec_calculus.specs.declared.step.Owner.TheVariants.{Party}

@@ -8,7 +8,7 @@ use Rattle.spec_bitcoin.specs.Digests.{places_list, sequences_list, outputs_list
 use Rattle.spec_bitcoin.specs.Spelling.{stripped, marked, compact}
 use Rattle.spec_bitcoin.specs.Reading.{many, wide_at, compact_at, string_at, input_at, inputs_at, output_at, outputs_at, witness_at}
 use Rattle.spec_bitcoin.specs.Reading.{witnesses_at, plain_at, marked_at, transaction_at, all_at}
-use Rattle.spec_compiler.specs.Instance.{position_script}
+use Rattle.spec_compiler.specs.Keyed.Instance.{position_script}
 use Rattle.spec_text.specs.Lexis.{word_front, number_front, symbol_front}
 use Rattle.spec_text.specs.ReadAdvert.{read_answer as read_contract, advert_of_all, advert_at, entries_at, entry_at, head_at, deposit_at}
 use Rattle.spec_text.specs.ReadAdvert.{secret_at, fee_at}

@@ -6,7 +6,7 @@ use Rattle.std.specs.Fmt.{digits}
 use Rattle.spec_bitcoin.specs.Keys.{label_text}
 use Rattle.spec_bitcoin.specs.Digests.{places_list, sequences_list, outputs_list, preimage}
 use Rattle.spec_bitcoin.specs.Spelling.{stripped, marked, compact}
-use Rattle.spec_compiler.specs.Instance.{position_script}
+use Rattle.spec_compiler.specs.Keyed.Instance.{position_script}
 use Rattle.spec_text.specs.Lexis.{word_front, number_front, symbol_front}
 use Rattle.spec_text.specs.ReadAdvert.{read_answer as read_contract, advert_of_all, advert_at, entries_at, entry_at, head_at, deposit_at}
 use Rattle.spec_text.specs.ReadAdvert.{secret_at, fee_at}

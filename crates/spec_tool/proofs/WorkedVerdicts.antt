@@ -12,7 +12,7 @@ use Rattle.spec_bitcoin.specs.Reading.{witnesses_at, plain_at, marked_at, transa
 use Rattle.spec_bitcoin.specs.Meaning.{script_meaning}
 use Rattle.spec_bitcoin.specs.Numbers.{number_of_item, signed_bytes, item_of_number}
 use Rattle.spec_bitcoin.specs.Scripts.{ops_of}
-use Rattle.spec_compiler.specs.Instance.{position_script}
+use Rattle.spec_compiler.specs.Keyed.Instance.{position_script}
 use Rattle.spec_text.specs.Lexis.{word_front, number_front, symbol_front}
 use Rattle.spec_text.specs.ReadAdvert.{read_answer as read_contract, advert_of_all, advert_at, entries_at, entry_at, head_at, deposit_at}
 use Rattle.spec_text.specs.ReadAdvert.{secret_at, fee_at}

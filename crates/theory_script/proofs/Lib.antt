@@ -1,11 +1,11 @@
-mod InOrder
 mod Items
-mod Money
 mod Once
 mod Unlimited
 pub mod Balances
 pub mod Checked
 pub mod Encoding
+pub mod KeyPlan
+pub mod Keyed
 pub mod Listing
 pub mod Missing
 pub mod NumberLemmas

@@ -1,22 +1,13 @@
--- What is claimed of the answer whether a contract is endorsed: none is missing, or the first that is.
-use Rattle.std.specs.Prelude.{◌≡◌, ℕ, List, ◌∷◌, ◌++◌, true, false, Some}
-use Rattle.std.specs.Option.{is_none}
-use Rattle.spec_bitcoin.specs.Keys.{Pair}
+-- What is claimed of the answer whether a contract is endorsed, by the key plan: none is missing, or the first that is.
+use Rattle.std.specs.Prelude.{ℕ, List}
+use Rattle.spec_bitcoin.specs.Keys.{Pair, key_of}
 use Rattle.spec_compiler.specs.Instance.{Instance}
-use Rattle.spec_compiler.specs.Endorsements.{Need, needed, is_met, all_met, is_endorsed, missing_endorsement}
-
--- the book misses this one of what is wanted, and has all that stands before it
-pub record IsFirstMissing (book : List Pair) (wanted : List Need) (need : Need) : Type 0 where
-  pub earlier : List Need
-  pub later : List Need
-  pub stands : wanted ≡ earlier ++ need ∷ later
-  pub missing : is_met book need ≡ false
-  pub met : all_met book earlier ≡ true
+use Rattle.theory_script.specs.Keyed.Endorsed as keyed
+pub use Rattle.theory_script.specs.Keyed.Endorsed.{IsFirstMissing}
 
 -- no endorsement is missing exactly where the contract is endorsed, and the one that is answered is the first that is missing
-pub record TellsMissing (hash : List ℕ → List ℕ) (s : Instance) (book : List Pair) : Type 0 where
-  pub none : is_none (missing_endorsement hash s book) ≡ is_endorsed hash s book
-  pub first : (need : Need) → missing_endorsement hash s book ≡ Some need → IsFirstMissing book (needed hash s) need
+abbrev pub TellsMissing : (List ℕ → List ℕ) → Instance → List Pair → Type 0
+TellsMissing hash = keyed.TellsMissing hash (key_of hash)
 
 abbrev pub MissingIsFirst : Type 0
 MissingIsFirst = (hash : List ℕ → List ℕ) (s : Instance) (book : List Pair) → TellsMissing hash s book

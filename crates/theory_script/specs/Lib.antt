@@ -1,3 +1,4 @@
+pub mod Keyed
 pub mod Listed
 pub mod Choices
 pub mod Endorsed

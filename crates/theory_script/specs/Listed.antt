@@ -1,19 +1,15 @@
--- What is claimed of the lists of a contract's transactions and scripts: each path and each position once, with what stands there.
-use Rattle.std.specs.Prelude.{◌≡◌, ℕ, List, [], ◌∷◌, map, Bool, true, ◌&&◌, not, Option, Some, None, option_map, if◌then◌else◌}
-use Rattle.std.specs.List.{list_any}
+-- What is claimed of the lists of a contract's transactions and scripts, by the key plan: each path and each position once, with what
+-- stands there.
+use Rattle.std.specs.Prelude.{◌≡◌, ℕ, List, Some, option_map}
 use Rattle.spec_terms.specs.Term.{Contract}
-use Rattle.spec_terms.specs.Paths.{contract_under, path_eq}
-use Rattle.spec_terms.specs.Order.{branch_paths, position_paths}
 use Rattle.spec_terms.specs.declared.path.PathStep.{PathStep}
-use Rattle.spec_compiler.specs.Instance.{Instance, position_script}
+use Rattle.spec_bitcoin.specs.Keys.{key_of}
+use Rattle.spec_compiler.specs.Instance.{Instance}
 use Rattle.spec_compiler.specs.Transactions.{Standing}
 use Rattle.spec_compiler.specs.Compilation.{compilation}
 use Rattle.spec_compiler.specs.ByPath.{position_at, prepared_at}
-
--- what a list has for a path
-abbrev pub at_path : {V : Type 0} → List PathStep → List (List PathStep × V) → Option V
-at_path path [] = None
-at_path path (e ∷ es) = if path_eq e.0 path then Some (e.1) else at_path path es
+use Rattle.theory_script.specs.Keyed.Listed as keyed
+pub use Rattle.theory_script.specs.Keyed.Listed.{at_path, is_path_among, are_once}
 
 -- the list of transactions has for each path the transaction of the branch there, and for no other path one
 abbrev pub PathsAreListed : Type 0
@@ -26,32 +22,17 @@ ScriptsAreListed = (hash : List ℕ → List ℕ) (s : Instance) (position : Lis
     → at_path position (compilation hash s).scripts ≡ option_map (λ p. p.0.output.script) (position_at hash s position)
 
 -- a position of a contract, as it stands on the chain: its path, its branches, and its script
-pub record StandsAt (hash : List ℕ → List ℕ) (s : Instance) (position : List PathStep) (here : Standing)
-    (contract : Contract) : Type 0 where
-  pub path : here.position ≡ position
-  pub branches : contract_under s.advert.root position ≡ Some contract
-  pub script : here.output.script ≡ position_script hash s position contract
+abbrev pub StandsAt : (List ℕ → List ℕ) → Instance → List PathStep → Standing → Contract → Type 0
+StandsAt hash = keyed.StandsAt hash (key_of hash)
 
 -- what is found by a path stands there
 abbrev pub PositionsStand : Type 0
 PositionsStand = (hash : List ℕ → List ℕ) (s : Instance) (position : List PathStep) (here : Standing) (contract : Contract)
     → position_at hash s position ≡ Some (here, contract) → StandsAt hash s position here contract
 
--- whether a path is one of these
-abbrev pub is_path_among : List PathStep → List (List PathStep) → Bool
-is_path_among path paths = list_any (path_eq path) paths
-
--- whether each of these paths stands there once
-abbrev pub are_once : List (List PathStep) → Bool
-are_once [] = true
-are_once (path ∷ paths) = not (is_path_among path paths) && are_once paths
-
 -- the transactions are those of the contract's branches, and the scripts those of its positions, in the order of the text, each once
-pub record IsInOrder (hash : List ℕ → List ℕ) (s : Instance) : Type 0 where
-  pub paths : map (λ p. p.0) (compilation hash s).paths ≡ branch_paths s.advert.root
-  pub paths_once : are_once (branch_paths s.advert.root) ≡ true
-  pub scripts : map (λ p. p.0) (compilation hash s).scripts ≡ position_paths s.advert.root
-  pub scripts_once : are_once (position_paths s.advert.root) ≡ true
+abbrev pub IsInOrder : (List ℕ → List ℕ) → Instance → Type 0
+IsInOrder hash = keyed.IsInOrder hash (key_of hash)
 
 abbrev pub PathsInOrder : Type 0
 PathsInOrder = (hash : List ℕ → List ℕ) (s : Instance) → IsInOrder hash s

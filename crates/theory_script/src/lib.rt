@@ -1,4 +1,5 @@
 //! What follows of the scripts and the transactions of contracts: each theorem is the contract of a function that does nothing.
+//! Those of `any_keys` hold whatever the keys are; here they speak of the key plan.
 #![tactic(auto)]
 
 ghost use Rattle.spec_bitcoin.specs.Statements.{WrittenIsRead};
@@ -9,6 +10,8 @@ ghost use Rattle.theory_script.specs.Listed.{PathsAreListed, ScriptsAreListed, P
 ghost use Rattle.theory_script.specs.Limits.{NoLimitIsMet, LimitOnItems};
 ghost use Rattle.theory_script.specs.Money.{MoneyIsKept};
 ghost use Rattle.theory_script.specs.Items.{NumbersAreReadBack, ItemsAreShortest};
+
+pub mod any_keys;
 
 /// The script of a position of a checked contract is true exactly on the stacks that open one of its branches.
 pub fn script_theorem()

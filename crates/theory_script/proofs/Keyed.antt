@@ -1,0 +1,10 @@
+pub mod Balances
+pub mod Chosen
+pub mod InOrder
+pub mod Missing
+pub mod Money
+pub mod Opened
+pub mod OutputScripts
+pub mod Stands
+pub mod Transactions
+pub mod Witnesses

@@ -1,0 +1,4 @@
+pub mod Listed
+pub mod Endorsed
+pub mod Money
+pub mod Limits

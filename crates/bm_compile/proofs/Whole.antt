@@ -10,6 +10,7 @@ use Rattle.spec_compiler.specs.Transactions.{prepared, initial_unsigned}
 use Rattle.spec_compiler.specs.Compilation.{compilation, path_transactions, scripts}
 use Rattle.spec_compiler.specs.Hashed.{path_labels}
 use Rattle.spec_nodes.specs.Nodes.{Node, choice_node, branch_node, nodes_of}
+use Rattle.theory_nodes.specs.Keyed.Walk as keyed
 use Rattle.theory_nodes.specs.Walk.{node_script, script_of, walk, node_paths, listed_scripts, NodesGiveTransactions, NodesGivePaths, NodesGiveScripts}
 use Rattle.theory_nodes.proofs.Begins.{Begins, begins_get, begins_right}
 use Rattle.theory_script.specs.Listed.{are_once, PathsInOrder}
@@ -51,14 +52,14 @@ module _ (hash : List ℕ → List ℕ) (s : Instance) where
     script_or_none (Some (branch_node path asked height deed)) = refl
 
     listed_is : (n : ℕ) → listed_script (map (script_of_node hash s all) all) n ≡ script_of hash s all n
-    unfolding script_of
+    unfolding keyed.script_of
     listed_is n =
         sym (unwrap_or-slice_get (map (script_of_node hash s all) all) n [])
         ∙ ap (λ o. unwrap_or o []) (slice_get-map (script_of_node hash s all) all n)
         ∙ script_or_none (slice_get all n)
 
     script_here : (n : ℕ) (node : Node) → slice_get all n ≡ Some node → script_of hash s all n ≡ node_script hash s all (Some node)
-    unfolding script_of
+    unfolding keyed.script_of
     script_here n node e = ap (node_script hash s all) e
 
     -- the choices' scripts are the listed ones

@@ -18,6 +18,7 @@ use Rattle.spec_bitcoin.specs.Meaning.{is_short_push}
 use Rattle.spec_bitcoin.specs.Numbers.{signed_bytes, item_of_number}
 use Rattle.spec_bitcoin.specs.Scripts.{encode_op, encode, push_number}
 use Rattle.spec_bitcoin.specs.Opcodes.{op_drop, op_fromaltstack}
+use Rattle.spec_compiler.specs.Keyed.Instance as keyed
 use Rattle.spec_compiler.specs.Instance.{Instance, people, branch_path, branch_label, branch_keys, position_demands, position_script}
 use Rattle.spec_compiler.specs.Scripts.{formula_ops, test_ops, reveal_ops, reveals_ops, secrets_ops, signed_ops}
 use Rattle.spec_compiler.specs.Scripts.{Demands, branch_ops, digest_of, output_ops, demands_from}
@@ -196,7 +197,7 @@ module _ (hash : List ℕ → List ℕ) (size : HashesBytes hash) (st : Instance
   -- the script of a checked contract's position is of at most 10,000 bytes
   pub script_bytes : BytesIn st.hashes → (q : List PathStep) (choice : Contract) → IsCompiled st q choice
       → IsBytes (position_script hash st q choice)
-  unfolding position_script
+  unfolding keyed.position_script
   script_bytes h q choice is =
       let ops = output_ops (position_demands hash st q choice) in
       let keys = λ (i : ℕ). keys_bytes (branch_path q i) (people st) in

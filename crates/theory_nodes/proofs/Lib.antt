@@ -1,4 +1,5 @@
 pub mod Begins
 mod Few
 mod Found
+pub mod Keyed
 pub mod Walking

@@ -4,6 +4,7 @@
 ghost use Rattle.theory_nodes.specs.Found.{BranchesAreFound, ChoicesAreFound, FewNodes};
 ghost use Rattle.theory_nodes.specs.Walk.{NodesGiveTransactions, NodesGivePaths, NodesGiveScripts};
 
+pub mod any_keys;
 pub mod waiting;
 
 pub use waiting::Waiting;

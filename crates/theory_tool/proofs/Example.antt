@@ -14,7 +14,7 @@ use Rattle.spec_bitcoin.specs.Spelling.{stripped, compact}
 use Rattle.spec_bitcoin.specs.Meaning.{script_meaning}
 use Rattle.spec_bitcoin.specs.Numbers.{number_of_item, signed_bytes, item_of_number}
 use Rattle.spec_bitcoin.specs.Scripts.{ops_of}
-use Rattle.spec_compiler.specs.Instance.{position_script}
+use Rattle.spec_compiler.specs.Keyed.Instance.{position_script}
 use Rattle.spec_run.specs.declared.event.Event.TheVariants as events
 use Rattle.spec_run.specs.declared.event.Run.{Run}
 use Rattle.spec_run.specs.Setup.{Setup}

@@ -4,6 +4,7 @@ pub mod Statements
 pub mod Reads
 pub mod Base64
 pub mod Sizes
+pub mod Keyed
 pub mod Listed
 pub mod Psbt
 pub mod PsbtBytes

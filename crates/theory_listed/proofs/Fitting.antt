@@ -220,7 +220,7 @@ module _ (s : Setup) (setup : IsSetup s) (g : Configuration) (w : World) (kept :
   initial_fits_all = record {
     tx = initial_fits s setup w kept.book.adverts kept.book.placed_fine k st c;
     spends = persistent_spent (persistent st.advert.pre) (persistent_deposit st.advert.pre);
-    each_input = signers_for_each s.hash st names.Init (initial_listed s.hash st) refl;
+    each_input = signers_for_each s.hash (key_of s.hash) st names.Init (initial_listed s.hash st) refl;
     keys = owners_apart s.hash (persistent st.advert.pre);
   }
 
@@ -308,7 +308,7 @@ module _ (s : Setup) (setup : IsSetup s) (g : Configuration) (w : World) (kept :
     branch_fits_all = record {
       tx = tx_fits;
       spends = (here_spent, puts_spent (puts_of (core b)) puts_are);
-      each_input = signers_for_each s.hash st (names.At path) (path_listed st path (branch_unsigned s.hash st here i b))
+      each_input = signers_for_each s.hash (key_of s.hash) st (names.At path) (path_listed st path (branch_unsigned s.hash st here i b))
           (ap (λ (o : Option PathEnd). option_map (path_listed st path) (option_and_then (as_unsigned s.hash st) o)) ends);
       keys = keys_apart;
     }

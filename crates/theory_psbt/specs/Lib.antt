@@ -1,3 +1,4 @@
+pub mod Keyed
 pub mod Again
 pub mod Fitting
 pub mod Joined

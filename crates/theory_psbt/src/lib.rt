@@ -6,6 +6,8 @@ ghost use Rattle.theory_psbt.specs.Joined.{CombinedIsJoined, CombinedBothWays, O
 ghost use Rattle.theory_psbt.specs.Listed.{KeysDiffer, ListedIsFitting, ListedIsRead, ParticipantsDiffer, SignersForEach};
 ghost use Rattle.theory_psbt.specs.Spelled.{SpelledIsRead, ReadIsSpelled, OnePsbt, SpelledIsPsbt, WrittenIsSpelled, WrittenIsRead};
 
+pub mod any_keys;
+
 /// What bytes spell is read of them, foreign records or not.
 pub fn spelled_is_read()
     ensures { SpelledIsRead }

@@ -1,7 +1,6 @@
 //! Why a gift is refused.
 
 ghost use Rattle.std.specs.Prelude.{◌≡◌, ◌≤◌, ℕ, List, None, map, not, nat_lt, slice_get, IfSome, IfNone, is_none};
-ghost use Rattle.spec_data.specs.Lists as lists;
 ghost use Rattle.spec_data.specs.Lists.{first_reason};
 ghost use Rattle.spec_data.specs.Ranges.{max_money};
 ghost use Rattle.spec_calculus.specs.declared.step.Owner.TheVariants.{Party};

@@ -1,0 +1,4 @@
+pub mod HeaderLines
+pub mod EventLines
+pub mod RunFiles
+pub mod ContractFiles

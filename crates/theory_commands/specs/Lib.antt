@@ -1,0 +1,2 @@
+pub mod ContractFiles
+pub mod RunFiles

@@ -1,2 +1,5 @@
 pub mod ContractFiles
 pub mod RunFiles
+pub mod PsbtFiles
+pub mod Files
+pub mod Shown

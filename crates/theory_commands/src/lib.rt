@@ -3,6 +3,7 @@
 #![tactic(auto)]
 
 ghost use Rattle.theory_commands.specs.ContractFiles.{ContractsAreRead};
+ghost use Rattle.theory_commands.specs.PsbtFiles.{PsbtFilesAreRead};
 ghost use Rattle.theory_commands.specs.RunFiles.{RunFilesAreRead};
 
 /// A run file is read as the run that its lines spell, and is refused for its size, or for its first
@@ -17,3 +18,13 @@ pub fn run_files_are_read()
 pub fn contract_files_are_read()
     ensures { ContractsAreRead }
 {}
+
+/// A file is taken for the partially signed transaction that the bytes of its base64 spell, and is
+/// refused for its size, where it is the base64 of no bytes, or where these spell none.
+pub fn psbt_files_are_read()
+    ensures { PsbtFilesAreRead }
+{}
+
+ghost use Rattle.theory_commands.specs.Shown.Check.{ShowsCheck};
+ghost use Rattle.theory_commands.specs.Shown.PsbtFiles.{ShowsFile, ShowsFiles};
+

@@ -11,14 +11,14 @@ use Rattle.spec_text.specs.PlanText.{unless_halted}
 use Rattle.spec_text.specs.Refusals.{Judged}
 use Rattle.spec_tool.specs.Reads.{Text, text_at}
 use Rattle.spec_tool.specs.Commands.{Printed, prints, JudgedAll, onto_judged, contract_refused, run_refused, setup_of, ending_status}
-use Rattle.spec_tool.specs.Commands.{run_answer, contracts_judged, both_judged}
-use Rattle.spec_tool.specs.Answers.{contract_in, run_in, contracts_in, with_contract, unless_stopped, if_whole, printed_of}
+use Rattle.spec_tool.specs.Commands.{contracts_judged, both_judged}
+use Rattle.spec_tool.specs.Answers.{contract_in, run_in, contracts_in, with_contract, unless_stopped, if_whole}
 use Rattle.theory_tool.specs.Auto.{HaltIsAnswered}
 use Rattle.theory_tool.specs.Runs.{IsUnhalted}
 use Rattle.theory_tool.proofs.Runs.{runs_halt}
 use Rattle.theory_commands.specs.Files.{Judges, ShowsContract, ShowsRun, ShowsPlayed, IfWhole}
-use Rattle.theory_commands.specs.ContractFiles.{Refusal, HoldsContract, IsRefusedContract, refusal_text}
-use Rattle.theory_commands.specs.RunFiles.{RunRefusal, HoldsRun, IsRefusedRun, run_refusal_text}
+use Rattle.theory_commands.specs.ContractFiles.{HoldsContract, IsRefusedContract, refusal_text}
+use Rattle.theory_commands.specs.RunFiles.{HoldsRun, IsRefusedRun, run_refusal_text}
 use Rattle.theory_commands.proofs.ContractFiles.{contracts_read}
 use Rattle.theory_commands.proofs.RunFiles.{run_files_read}
 

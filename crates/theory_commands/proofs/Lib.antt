@@ -5,3 +5,7 @@ pub mod ContractFiles
 pub mod PsbtFiles
 pub mod Files
 pub mod ShownFiles
+pub mod Played
+pub mod ShownPlan
+pub mod ShownAudit
+pub mod ShownMake

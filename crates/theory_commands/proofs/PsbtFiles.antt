@@ -3,7 +3,7 @@ use Rattle.std.proofs.Common.{◌≡◌, ℕ, List, Option, Some, None, Ok, Err,
 use Rattle.std.specs.Prelude.{◌↔◌, codes}
 use Rattle.spec_bitcoin.specs.Spelling.{IsBytes}
 use Rattle.spec_text.specs.Refusals.{Judged}
-use Rattle.spec_tool.specs.Base64.{base64_text, base64_bytes}
+use Rattle.spec_tool.specs.Base64.{base64_bytes}
 use Rattle.spec_tool.specs.Psbt.{Psbt, Spells}
 use Rattle.spec_tool.specs.PsbtBytes.{psbt_of}
 use Rattle.spec_tool.specs.PsbtText.{without_feed, formed, decoded, psbt_in}

@@ -1,15 +1,15 @@
 -- What `check` shows of a contract file, and `psbt` of one or two files with partially signed transactions.
 use Rattle.std.proofs.Common.{◌≡◌, ℕ, List, Some, None, Ok, Err, refl, sym, ap, subst, ◌∙◌, inl, inr}
-use Rattle.std.specs.Prelude.{◌⊎◌, Result, codes}
+use Rattle.std.specs.Prelude.{◌⊎◌, Result}
 use Rattle.spec_terms.specs.Advert.{Advert}
 use Rattle.spec_text.specs.Canonical.{advert_text}
 use Rattle.spec_text.specs.Refusals.{Judged}
 use Rattle.spec_text.specs.Statements.{IsSpelledBy}
 use Rattle.spec_tool.specs.Answers.{contract_in}
 use Rattle.spec_tool.specs.Commands.{Printed, prints, check_judged}
-use Rattle.spec_tool.specs.Psbt.{Psbt, is_psbt}
+use Rattle.spec_tool.specs.Psbt.{Psbt}
 use Rattle.spec_tool.specs.PsbtBytes.{Discord, other_tx, conflict, combined}
-use Rattle.spec_tool.specs.PsbtText.{psbt_in, shown_text, file_refused, shown_judged, shown_answer, psbt_refused, combined_answer, joined_judged}
+use Rattle.spec_tool.specs.PsbtText.{psbt_in, shown_text, file_refused, shown_judged, shown_answer, combined_answer, joined_judged}
 use Rattle.spec_tool.specs.PsbtText.{joined_answer}
 use Rattle.spec_tool.specs.Reads.{Text}
 use Rattle.theory_text.proofs.Reader.{reader_is}

@@ -1,5 +1,6 @@
 pub mod ContractFiles
 pub mod RunFiles
 pub mod PsbtFiles
+pub mod Strategies
 pub mod Files
 pub mod Shown

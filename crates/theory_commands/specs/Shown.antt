@@ -1,2 +1,7 @@
 pub mod Check
 pub mod PsbtFiles
+pub mod Plan
+pub mod Audit
+pub mod Psbt
+pub mod Make
+pub mod Auto

@@ -1,0 +1,34 @@
+-- What `make` shows are the counts of the run that it makes.
+use Rattle.std.proofs.Common.{◌≡◌, ℕ, List, [], ◌∷◌, length, refl, sym, subst}
+use Rattle.spec_run.specs.Conditions.{HashesBytes}
+use Rattle.spec_run.specs.Translation.{translated, last_configuration, last_world}
+use Rattle.spec_text.specs.Generator.{made_contract, made_run}
+use Rattle.spec_text.specs.PlanText.{counts_text, step_count, make_text}
+use Rattle.spec_text.specs.Played.{ending}
+use Rattle.spec_tool.specs.Commands.{make_answer}
+use Rattle.theory_generator.proofs.ContractText.{contract_taken}
+use Rattle.theory_generator.proofs.RunTexts.{run_taken}
+use Rattle.theory_generator.proofs.RunsPlay.{run_plays}
+use Rattle.theory_run.proofs.Simulated.{simulation}
+use Rattle.theory_commands.specs.Files.{IfWhole}
+use Rattle.theory_commands.specs.Shown.Make.{made_setup, Counts, ShowsMake}
+use Rattle.theory_commands.proofs.Files.{unhalted, text_halted, text_whole}
+
+module _ (hash : List ℕ → List ℕ) (number size : ℕ) where
+  counts_shown : IfWhole (made_setup hash number size) (made_run number size).events (make_answer hash number size)
+      (Counts (made_setup hash number size) (made_run number size).events (make_answer hash number size))
+  unfolding make_text
+  counts_shown =
+      let s = made_setup hash number size in
+      let es = (made_run number size).events in
+      let text = counts_text (length es) (step_count (translated s es)) (last_configuration s es) (last_world s es) in
+      record { whole = λ u. text_whole (ending s es) text (unhalted s es u); halted = text_halted (ending s es) text }
+
+pub make_shown : (hash : List ℕ → List ℕ) → HashesBytes hash → (number size : ℕ) → ShowsMake hash number size (make_answer hash number size)
+make_shown hash bytes number size few = record {
+  contract = contract_taken number size few;
+  run = run_taken number size few;
+  is_run = λ opens. run_plays hash bytes number size few opens;
+  simulates = λ opens. simulation (made_setup hash number size) (made_run number size).events (run_plays hash bytes number size few opens);
+  counts = counts_shown hash number size;
+}

@@ -9,3 +9,8 @@ pub mod Played
 pub mod ShownPlan
 pub mod ShownAudit
 pub mod ShownMake
+pub mod Signatures
+pub mod Strategies
+pub mod ShownAuto
+pub mod ShownPsbt
+pub mod Commands

@@ -1,5 +1,5 @@
 -- A run file with a contract is a run of which the theorems on runs speak, where nothing halts it.
-use Rattle.std.proofs.Common.{◌≡◌, ℕ, zero, suc, Bool, true, false, List, [], ◌∷◌, Option, Some, None, Ok, Err, refl, sym, ap, subst, ◌∙◌, arith}
+use Rattle.std.proofs.Common.{◌≡◌, ℕ, Bool, true, false, List, [], ◌∷◌, Option, Some, None, refl, sym, ap, arith}
 use Rattle.std.specs.Prelude.{if◌then◌else◌}
 use Rattle.spec_calculus.specs.Configuration.{Configuration}
 use Rattle.spec_terms.specs.Advert.{Advert}
@@ -7,17 +7,15 @@ use Rattle.spec_terms.specs.Faults.{IsWellFormed}
 use Rattle.spec_compiler.specs.Instance.{Instance}
 use Rattle.spec_run.specs.declared.event.Event.{Event}
 use Rattle.spec_run.specs.declared.event.Run.{Run}
-use Rattle.spec_run.specs.Compiled.{compiled_instance, instance_if_complete, instance_of, is_complete}
+use Rattle.spec_run.specs.Compiled.{compiled_instance, instance_of, is_complete}
 use Rattle.spec_run.specs.Conditions.{HashesBytes}
 use Rattle.spec_run.specs.Draft.{Halt, Collided, Guessed}
 use Rattle.spec_run.specs.Event.{opening_collision}
-use Rattle.spec_run.specs.Setup.{Setup, contract_at}
+use Rattle.spec_run.specs.Setup.{Setup}
 use Rattle.spec_run.specs.Statements.{IsRun}
 use Rattle.spec_run.specs.Translation.{course, end_world, end_configuration, first_halt}
 use Rattle.spec_run.specs.World.{World}
-use Rattle.spec_text.specs.Played.{ending, ending_from}
-use Rattle.spec_text.specs.Refusals.{run_of}
-use Rattle.spec_tool.specs.Answers.{run_in}
+use Rattle.spec_text.specs.Played.{ending_from}
 use Rattle.spec_tool.specs.Commands.{setup_of, ending_status}
 use Rattle.spec_tool.specs.Reads.{Text}
 use Rattle.theory_text.proofs.Lines.ValidRuns.{run_file_is}

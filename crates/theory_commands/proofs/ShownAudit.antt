@@ -1,5 +1,5 @@
 -- What `audit` shows is an audit of the file in the run's last world.
-use Rattle.std.proofs.Common.{◌≡◌, ℕ, List, [], ◌∷◌, Option, Some, None, refl, sym, ap, subst, ◌∙◌, inl, inr}
+use Rattle.std.proofs.Common.{◌≡◌, ℕ, List, [], ◌∷◌, Option, Some, None, refl, sym, subst, inl, inr}
 use Rattle.std.specs.Prelude.{◌⊎◌}
 use Rattle.spec_terms.specs.Advert.{Advert}
 use Rattle.spec_run.specs.declared.event.Event.{Event}
@@ -14,7 +14,6 @@ use Rattle.spec_tool.specs.Commands.{Printed, setup_of}
 use Rattle.spec_tool.specs.Reads.{Text, text_at}
 use Rattle.theory_audit.specs.Audited.{HaltsAs}
 use Rattle.theory_audit.proofs.Audited.{audits_find}
-use Rattle.theory_tool.specs.Runs.{IsUnhalted}
 use Rattle.theory_commands.specs.ContractFiles.{HoldsContract}
 use Rattle.theory_commands.specs.Files.{ShowsPlayed}
 use Rattle.theory_commands.specs.RunFiles.{HoldsRun}

@@ -1,8 +1,8 @@
 -- What `make` shows are the counts of the run that it makes.
-use Rattle.std.proofs.Common.{◌≡◌, ℕ, List, [], ◌∷◌, length, refl, sym, subst}
+use Rattle.std.proofs.Common.{ℕ, List, length}
 use Rattle.spec_run.specs.Conditions.{HashesBytes}
 use Rattle.spec_run.specs.Translation.{translated, last_configuration, last_world}
-use Rattle.spec_text.specs.Generator.{made_contract, made_run}
+use Rattle.spec_text.specs.Generator.{made_run}
 use Rattle.spec_text.specs.PlanText.{counts_text, step_count, make_text}
 use Rattle.spec_text.specs.Played.{ending}
 use Rattle.spec_tool.specs.Commands.{make_answer}

@@ -1,5 +1,5 @@
 -- What `plan` and `weigh` show are the transactions of the contract in the run's last world.
-use Rattle.std.proofs.Common.{◌≡◌, ℕ, List, [], ◌∷◌, ◌++◌, Option, Some, None, refl, sym, ap, subst, ◌∙◌}
+use Rattle.std.proofs.Common.{◌≡◌, ℕ, List, [], ◌∷◌, ◌++◌, Option, Some, None, refl, sym, ap, subst}
 use Rattle.spec_terms.specs.Advert.{Advert}
 use Rattle.spec_terms.specs.Faults.{IsWellFormed}
 use Rattle.spec_compiler.specs.Instance.{Instance}
@@ -13,7 +13,7 @@ use Rattle.spec_text.specs.PlanText.{plan_text, setting_text}
 use Rattle.spec_text.specs.Played.{ending}
 use Rattle.spec_text.specs.RunText.{newline}
 use Rattle.spec_tool.specs.Answers.{with_contract, if_whole, printed_of}
-use Rattle.spec_tool.specs.Commands.{Printed, prints, setup_of, ending_status, run_answer}
+use Rattle.spec_tool.specs.Commands.{prints, setup_of, run_answer}
 use Rattle.spec_tool.specs.Reads.{Text, text_at}
 use Rattle.spec_tool.specs.WeighText.{plan_value, weigh_text}
 use Rattle.theory_script.specs.Listed.{PathsInOrder}

@@ -4,3 +4,4 @@ pub mod PsbtFiles
 pub mod Strategies
 pub mod Files
 pub mod Shown
+pub mod Commands

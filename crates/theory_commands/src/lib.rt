@@ -2,9 +2,19 @@
 //! the contract of a function that does nothing.
 #![tactic(auto)]
 
+ghost use Rattle.theory_commands.specs.Commands.{CommandsShow};
 ghost use Rattle.theory_commands.specs.ContractFiles.{ContractsAreRead};
 ghost use Rattle.theory_commands.specs.PsbtFiles.{PsbtFilesAreRead};
 ghost use Rattle.theory_commands.specs.RunFiles.{RunFilesAreRead};
+ghost use Rattle.theory_commands.specs.Strategies.{StrategyFilesAreRead};
+ghost use Rattle.theory_script.specs.Listed.{PathsInOrder};
+ghost use Rattle.theory_script.specs.Money.{MoneyIsKept};
+ghost use Rattle.theory_weights.specs.Bounds.{WeightsAreBounds};
+ghost use Rattle.theory_weights.specs.Runs.{TotalsBoundRuns, WeightsAddUp};
+ghost use Rattle.theory_weights.specs.Sizes.{WeightsBySizes};
+
+use theory_script::{money_is_kept, paths_in_order};
+use theory_weights::{totals_bound_runs, weights_add_up, weights_are_bounds, weights_by_sizes};
 
 /// A run file is read as the run that its lines spell, and is refused for its size, or for its first
 /// line that is bad or exceeds a limit.
@@ -25,6 +35,38 @@ pub fn psbt_files_are_read()
     ensures { PsbtFilesAreRead }
 {}
 
-ghost use Rattle.theory_commands.specs.Shown.Check.{ShowsCheck};
-ghost use Rattle.theory_commands.specs.Shown.PsbtFiles.{ShowsFile, ShowsFiles};
+/// A strategy file is taken for the rules that its lines spell, where these stay within the limits
+/// of the run file beside it, and is refused for its size, for its first line that spells none or
+/// one too many, or for the events or bytes that the run would have.
+pub fn strategy_files_are_read()
+    ensures { StrategyFilesAreRead }
+{}
 
+// Each command shows what is said of it, where the theorems on a contract's transactions hold.
+fn by_theorems()
+    requires in_order { PathsInOrder }
+    requires money { MoneyIsKept }
+    requires bounds { WeightsAreBounds }
+    requires sums { WeightsAddUp }
+    requires totals { TotalsBoundRuns }
+    requires sizes { WeightsBySizes }
+    ensures { CommandsShow }
+{}
+
+/// What each command answers to the texts of its files shows what the theorems say: of a contract
+/// file its advert, of a run and a contract the transactions and weights of the contract in the
+/// run's last world, one of them with the signatures that are there, an audit of a file, or the run
+/// that goes on by a strategy; of files with partially signed transactions what these say, alone and
+/// combined; of a number the counts of the run that is made from it. A file that is refused is told
+/// with its first fault.
+pub fn commands_show()
+    ensures { CommandsShow }
+{
+    paths_in_order();
+    money_is_kept();
+    weights_are_bounds();
+    weights_add_up();
+    totals_bound_runs();
+    weights_by_sizes();
+    by_theorems();
+}

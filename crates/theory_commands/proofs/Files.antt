@@ -45,7 +45,8 @@ pub of_contract : (text : Text) (printed : Printed) (shown : Advert → Type 0)
     → ((advert : Advert) → HoldsContract text advert → contract_in text ≡ Ok advert → shown advert)
     → ((why : List ℕ) → contract_in text ≡ Err why → printed ≡ contract_refused 0 why) → ShowsContract text printed shown
 of_contract text printed shown f g =
-    judges (contract_in text) (HoldsContract text) (IsRefusedContract text) refusal_text (contracts_read.read text) (contracts_read.refused text)
+    judges (contract_in text) (HoldsContract text) (IsRefusedContract text) refusal_text (contracts_read.read text)
+    (contracts_read.refused text)
     shown (λ r. printed ≡ contract_refused 0 (refusal_text r)) f (λ r e. g (refusal_text r) e)
 
 -- of a run file

@@ -42,7 +42,8 @@ calm_from w g None (Some (event, Guessed party secret)) e = absurd (cc)
 
 pub calm : (s : Setup) (es : List Event) → IsUnhalted s es → IsCalm s es
 calm s es u =
-    let c = calm_from (end_world s (course s es)) (end_configuration s (course s es)) (opening_collision s) (first_halt s es) (unhalted s es u) in
+    let c =
+    calm_from (end_world s (course s es)) (end_configuration s (course s es)) (opening_collision s) (first_halt s es) (unhalted s es u) in
     record { opens = c.0; goes = c.1 }
 
 -- ---- runs

@@ -41,7 +41,8 @@ module _ (s : Setup) (es : List Event) (text : List ℕ) where
   by_collision (Some pair) c = inr (record { earlier = pair.0; later = pair.1; collide = c; answer = refl })
 
 module _ (hash : List ℕ → List ℕ) (bytes : HashesBytes hash) where
-  module _ (run_text contract_text : Text) (run : Run) (advert : Advert) (h : HoldsRun run_text run) (k : HoldsContract contract_text advert) where
+  module _ (run_text contract_text : Text) (run : Run) (advert : Advert)
+      (h : HoldsRun run_text run) (k : HoldsContract contract_text advert) where
     abbrev s : Setup
     s = setup_of hash run (advert ∷ [])
 

@@ -41,7 +41,8 @@ unfolding auto_answer
 answer_is rules s es = refl
 
 module _ (hash : List ℕ → List ℕ) (bytes : HashesBytes hash) where
-  module _ (run_file contract_text : Text) (run : Run) (advert : Advert) (h : HoldsRun run_file run) (k : HoldsContract contract_text advert) where
+  module _ (run_file contract_text : Text) (run : Run) (advert : Advert)
+      (h : HoldsRun run_file run) (k : HoldsContract contract_text advert) where
     abbrev s : Setup
     s = setup_of hash run (advert ∷ [])
 

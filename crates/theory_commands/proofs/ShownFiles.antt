@@ -47,7 +47,8 @@ of_psbt n text printed shown f g =
 
 pub file_shown : (text : Text) → ShowsFile text (shown_answer text)
 file_shown text =
-    of_psbt 0 text (shown_answer text) (λ p. shown_answer text ≡ prints 0 (shown_text p)) (λ p h e. ap shown_judged e) (λ why e. ap shown_judged e)
+    of_psbt 0 text (shown_answer text) (λ p. shown_answer text ≡ prints 0 (shown_text p)) (λ p h e. ap shown_judged e)
+    (λ why e. ap shown_judged e)
 
 -- ---- two files
 

@@ -49,7 +49,8 @@ module _ (t : Theorems) (hash : List ℕ → List ℕ) (bytes : HashesBytes hash
     money = t.money hash instance well;
   }
 
-  module _ (run_text contract_text : Text) (run : Run) (advert : Advert) (h : HoldsRun run_text run) (k : HoldsContract contract_text advert) where
+  module _ (run_text contract_text : Text) (run : Run) (advert : Advert)
+      (h : HoldsRun run_text run) (k : HoldsContract contract_text advert) where
     abbrev s : Setup
     s = setup_of hash run (advert ∷ [])
 

@@ -56,17 +56,20 @@ module _ (which : Which) (s : Setup) (es : List Event) where
   no_path_is : has_transaction (contract_at s 0) which ≡ false → psbt_text which s es ≡ no_path_line which
   unfolding psbt_text
   no_path_is e =
-      ap (λ (b : Bool). if b then setting_psbt s.hash (last_world s es).book which (compiled_instance s (last_world s es) 0) else no_path_line which) e
+      ap (λ (b : Bool). if b then setting_psbt s.hash (last_world s es).book which
+      (compiled_instance s (last_world s es) 0) else no_path_line which) e
 
   not_compiled_is : has_transaction (contract_at s 0) which ≡ true → compiled_instance s (last_world s es) 0 ≡ None
       → psbt_text which s es ≡ not_compiled_line
   unfolding psbt_text
   not_compiled_is e c =
-      ap (λ (b : Bool). if b then setting_psbt s.hash (last_world s es).book which (compiled_instance s (last_world s es) 0) else no_path_line which) e
+      ap (λ (b : Bool). if b then setting_psbt s.hash (last_world s es).book which
+      (compiled_instance s (last_world s es) 0) else no_path_line which) e
       ∙ ap (setting_psbt s.hash (last_world s es).book which) c
 
 module _ (hash : List ℕ → List ℕ) (bytes : HashesBytes hash) (which : Which) where
-  module _ (run_text contract_text : Text) (run : Run) (advert : Advert) (h : HoldsRun run_text run) (k : HoldsContract contract_text advert) where
+  module _ (run_text contract_text : Text) (run : Run) (advert : Advert)
+      (h : HoldsRun run_text run) (k : HoldsContract contract_text advert) where
     abbrev s : Setup
     s = setup_of hash run (advert ∷ [])
 

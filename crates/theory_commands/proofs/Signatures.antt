@@ -85,7 +85,8 @@ module _ (hash : List ℕ → List ℕ) (book : List Pair) (digest : List ℕ) w
       (if has_signed book (key_of hash l) digest then insert_signature (by_label l) (signatures_there hash book labels digest)
       else signatures_there hash book labels digest)) e
       (subst (λ (b : Bool). Is_in (by_label label)
-      (if b then insert_signature (by_label label) (signatures_there hash book labels digest) else signatures_there hash book labels digest))
+      (if b then insert_signature (by_label label) (signatures_there hash book labels digest)
+      else signatures_there hash book labels digest))
       (sym h) (put_in (by_label label) (by_label label) (signatures_there hash book labels digest) (inl refl)))
   in_there (first ∷ labels) label (inr i) h = by_test (has_signed book (key_of hash first) digest) (in_there labels label i h)
     where

@@ -18,7 +18,8 @@ made_setup hash number size = setup_of hash (made_run number size) (made_contrac
 
 -- the counts are those of the events, steps, deposits, contracts and live value of this run
 abbrev pub Counts : Setup → List Event → Printed → Type 0
-Counts s es printed = printed ≡ prints 0 (counts_text (length es) (step_count (translated s es)) (last_configuration s es) (last_world s es))
+Counts s es printed =
+    printed ≡ prints 0 (counts_text (length es) (step_count (translated s es)) (last_configuration s es) (last_world s es))
 
 pub record ShowsMade (hash : List ℕ → List ℕ) (number size : ℕ) (printed : Printed) : Type 0 where
   -- the contract is well-formed, and the text of the run is taken as that run

@@ -14,3 +14,4 @@ pub mod Strategies
 pub mod ShownAuto
 pub mod ShownPsbt
 pub mod Commands
+pub mod Causes

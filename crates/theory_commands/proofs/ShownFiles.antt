@@ -52,7 +52,7 @@ file_shown text =
 
 -- ---- two files
 
-fits : (text : Text) (p : Psbt) → HoldsPsbt text p → IsFitting p
+pub fits : (text : Text) (p : Psbt) → HoldsPsbt text p → IsFitting p
 fits None p h = absurd h
 fits (Some text) p h = read_fits h.bytes p h.coded.each (spelled_is_read h.bytes p h.spelled)
 

@@ -26,10 +26,10 @@ judged_ok rules = Ok rules
 abbrev judged_err : List ℕ → Judged (List Rule)
 judged_err why = Err why
 
-le_is : (a b : ℕ) (t : Bool) → nat_le a b ≡ t → t ≡ true → a ≤ b
+pub le_is : (a b : ℕ) (t : Bool) → nat_le a b ≡ t → t ≡ true → a ≤ b
 le_is a b t e h = let few : nat_le a b ≡ true = e ∙ h in grind (arith, nat_tests, few)
 
-gt_is : (a b : ℕ) (t : Bool) → nat_le a b ≡ t → t ≡ false → b < a
+pub gt_is : (a b : ℕ) (t : Bool) → nat_le a b ≡ t → t ≡ false → b < a
 gt_is a b t e h = let many : nat_le a b ≡ false = e ∙ h in grind (arith, nat_tests, many)
 
 is_le : (a b : ℕ) → a ≤ b → nat_le a b ≡ true

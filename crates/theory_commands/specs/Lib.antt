@@ -5,3 +5,4 @@ pub mod Strategies
 pub mod Files
 pub mod Shown
 pub mod Commands
+pub mod Causes

@@ -2,6 +2,7 @@
 //! the contract of a function that does nothing.
 #![tactic(auto)]
 
+ghost use Rattle.theory_commands.specs.Causes.{CausesInFiles};
 ghost use Rattle.theory_commands.specs.Commands.{CommandsShow};
 ghost use Rattle.theory_commands.specs.ContractFiles.{ContractsAreRead};
 ghost use Rattle.theory_commands.specs.PsbtFiles.{PsbtFilesAreRead};
@@ -70,3 +71,12 @@ pub fn commands_show()
     weights_by_sizes();
     by_theorems();
 }
+
+/// Each status comes exactly by its cause in the command's files: 0 where every file holds what it
+/// should and nothing halts, 6 where the run file is refused, 1 where it isn't and a contract file
+/// is, 9 where a file with a partially signed transaction is or two can't be combined, 10 and 11
+/// where the file of an audit or a strategy is, and 7 and 8 where the run that they hold is halted,
+/// or what is judged or tried after it.
+pub fn causes_are_in_files()
+    ensures { CausesInFiles }
+{}

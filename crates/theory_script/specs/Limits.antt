@@ -1,6 +1,6 @@
 -- What is claimed of the limits that Bitcoin's consensus sets to scripts: that of a position meets none of them, whether it opens or not,
 -- by the key plan.
-use Rattle.std.specs.Prelude.{◌≡◌, ℕ, ◌+◌, ◌≤◌, List, [], ◌∷◌, length, Bool, true, not, if◌then◌else◌, Option, Some, None, reverse}
+use Rattle.std.specs.Prelude.{◌≡◌, ℕ, ◌+◌, ◌≤◌, List, [], ◌∷◌, length, Bool, not, if◌then◌else◌, Option, Some, None}
 use Rattle.std.specs.Option.{option_and_then}
 use Rattle.spec_terms.specs.Term.{Contract}
 use Rattle.spec_terms.specs.declared.path.PathStep.{PathStep}
@@ -9,8 +9,7 @@ use Rattle.spec_bitcoin.specs.declared.script.Op.TheVariants.{Push, Code}
 use Rattle.spec_bitcoin.specs.Opcodes.{opcode_of}
 use Rattle.spec_bitcoin.specs.Effects.{Item, Stacks, truth, effect}
 use Rattle.spec_bitcoin.specs.Trees.{Items, End, Plain, Block, Sections, NoMore, Section, tree_of}
-use Rattle.spec_bitcoin.specs.Scripts.{script_ops}
-use Rattle.spec_bitcoin.specs.Meaning.{within_limits, outcome, meaning, script_meaning}
+use Rattle.spec_bitcoin.specs.Meaning.{outcome}
 use Rattle.spec_bitcoin.specs.Keys.{key_of}
 use Rattle.spec_compiler.specs.Instance.{Instance}
 use Rattle.spec_compiler.specs.Statements.{IsHash, IsCompiled}

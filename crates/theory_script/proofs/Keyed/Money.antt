@@ -24,7 +24,7 @@ use Rattle.spec_compiler.specs.Keyed.Instance.{Instance, branch_path, position_s
 use Rattle.spec_compiler.specs.Keyed.Transactions.{Standing, pays, deposit, holding_or_none, put_deposits, part_position, part_outputs}
 use Rattle.spec_compiler.specs.Keyed.Transactions.{core_unsigned, branch_unsigned, initial_unsigned}
 use Rattle.spec_compiler.specs.Keyed.ByPath as by_path
-use Rattle.spec_compiler.specs.Keyed.ByPath.{PathEnd, branch_end, end_at, as_position, position_at, as_unsigned, unsigned_at}
+use Rattle.spec_compiler.specs.Keyed.ByPath.{PathEnd, branch_end, end_at, position_at, as_unsigned, unsigned_at}
 use Rattle.theory_calculus.specs.Money.{Pays}
 use Rattle.theory_script.specs.Keyed.Money.{IsKept}
 use Rattle.theory_script.proofs.Keyed.Balances.{Fine, root_enough, stand_fine, put_enough, position_fine, position_static, branch_fine}

@@ -1,17 +1,13 @@
--- What is claimed of the limits that Bitcoin's consensus sets to scripts: that of a position meets none of them, whether it opens or not.
-use Rattle.std.specs.Prelude.{◌≡◌, ℕ, ◌+◌, ◌≤◌, List, [], ◌∷◌, length, Bool, true, not, if◌then◌else◌, Option, Some, None, reverse}
-use Rattle.std.specs.Option.{option_and_then}
+-- What is claimed of the limits that Bitcoin's consensus sets to scripts: that of a position meets none of them, whether it opens or
+-- not, whatever the keys are.
+use Rattle.std.specs.Prelude.{◌≡◌, ℕ, ◌≤◌, List, length, Bool, true, Some, reverse}
 use Rattle.spec_data.specs.Ranges.{most_script_bytes}
 use Rattle.spec_terms.specs.Term.{Contract}
 use Rattle.spec_terms.specs.declared.path.PathStep.{PathStep}
 use Rattle.spec_bitcoin.specs.declared.label.Label.{Label}
 use Rattle.spec_bitcoin.specs.declared.script.Op.{Op}
-use Rattle.spec_bitcoin.specs.declared.script.Op.TheVariants.{Push, Code}
-use Rattle.spec_bitcoin.specs.Opcodes.{opcode_of}
-use Rattle.spec_bitcoin.specs.Effects.{Item, Stacks, truth, effect}
-use Rattle.spec_bitcoin.specs.Trees.{Items, End, Plain, Block, Sections, NoMore, Section, tree_of}
 use Rattle.spec_bitcoin.specs.Scripts.{script_ops}
-use Rattle.spec_bitcoin.specs.Meaning.{within_limits, outcome, meaning, script_meaning}
+use Rattle.spec_bitcoin.specs.Meaning.{within_limits, meaning, script_meaning}
 use Rattle.spec_compiler.specs.Scripts.{output_ops}
 use Rattle.spec_compiler.specs.Keyed.Instance.{Instance, position_demands, position_script}
 use Rattle.spec_compiler.specs.Keyed.Statements.{AreKeys, IsCompiled}
@@ -21,7 +17,8 @@ abbrev pub ops_at : (Label → List ℕ) → Instance → List PathStep → Cont
 ops_at keys s position contract = output_ops (position_demands keys s position contract)
 
 -- few bytes, which are read as operations; no push is too long, few operations count, and there are few of them in all
-pub record MeetsNoLimit (hash : List ℕ → List ℕ) (keys : Label → List ℕ) (s : Instance) (position : List PathStep) (contract : Contract) : Type 0 where
+pub record MeetsNoLimit (hash : List ℕ → List ℕ) (keys : Label → List ℕ) (s : Instance) (position : List PathStep)
+    (contract : Contract) : Type 0 where
   pub bytes : length (position_script keys s position contract) ≤ most_script_bytes
   pub reads : script_ops (position_script keys s position contract) ≡ Some (ops_at keys s position contract)
   pub limits : within_limits (ops_at keys s position contract) ≡ true

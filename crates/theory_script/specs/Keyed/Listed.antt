@@ -19,7 +19,8 @@ at_path path (e ∷ es) = if path_eq e.0 path then Some (e.1) else at_path path 
 -- the list of transactions has for each path the transaction of the branch there, and for no other path one
 abbrev pub PathsAreListed : Type 0
 PathsAreListed =
-    (hash : List ℕ → List ℕ) (keys : Label → List ℕ) (s : Instance) (path : List PathStep) → at_path path (compilation hash keys s).paths ≡ prepared_at hash keys s path
+    (hash : List ℕ → List ℕ) (keys : Label → List ℕ) (s : Instance) (path : List PathStep)
+    → at_path path (compilation hash keys s).paths ≡ prepared_at hash keys s path
 
 -- the list of scripts has for each position the script of its output, and for no other path one
 abbrev pub ScriptsAreListed : Type 0
@@ -35,7 +36,8 @@ pub record StandsAt (hash : List ℕ → List ℕ) (keys : Label → List ℕ) (
 
 -- what is found by a path stands there
 abbrev pub PositionsStand : Type 0
-PositionsStand = (hash : List ℕ → List ℕ) (keys : Label → List ℕ) (s : Instance) (position : List PathStep) (here : Standing) (contract : Contract)
+PositionsStand =
+    (hash : List ℕ → List ℕ) (keys : Label → List ℕ) (s : Instance) (position : List PathStep) (here : Standing) (contract : Contract)
     → position_at hash keys s position ≡ Some (here, contract) → StandsAt hash keys s position here contract
 
 -- whether a path is one of these

@@ -17,6 +17,7 @@ pub mod Authorised
 pub mod Basis
 pub mod Beginning
 pub mod BegunInRun
+pub mod BoundDeposits
 pub mod Complete
 pub mod OffersKept
 pub mod Throughout

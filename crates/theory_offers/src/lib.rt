@@ -5,6 +5,7 @@ ghost use Rattle.spec_run.specs.Statements.{OffersTheorem, OffersThroughoutTheor
 ghost use Rattle.spec_run.specs.HaveEvents.{OffersHaveEvents, OffersAreCompleteTheorem};
 ghost use Rattle.theory_offers.specs.Authorised.{AuthorisationsHaveSignatures};
 ghost use Rattle.theory_offers.specs.Begun.{EndorsedBeforeStart};
+ghost use Rattle.theory_offers.specs.BoundDeposits.{BoundDepositsTheorem};
 
 /// Every enabled and authorised contract step after a run has a compiled transaction that the
 /// ledger accepts, and its event leads to the step.
@@ -39,4 +40,10 @@ pub fn endorsed_before_start()
 /// the book, and an honest party's signature of a branch that asks it stands for its authorisation.
 pub fn authorisations_have_signatures()
     ensures { AuthorisationsHaveSignatures }
+{}
+
+/// While a contract isn't compiled, which it is once it is advertised and all its participants have
+/// committed, it takes no honest party's deposit.
+pub fn bound_deposits_stay()
+    ensures { BoundDepositsTheorem }
 {}

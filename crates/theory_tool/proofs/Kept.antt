@@ -18,6 +18,7 @@ use Rattle.theory_run.proofs.Worlds.WorldsOfRuns.{worlds_of_runs, worlds_of_turn
 use Rattle.theory_run.proofs.Soundness.{sound_runs}
 use Rattle.theory_offers.proofs.Authorised.{authorisations_signed}
 use Rattle.theory_offers.proofs.BegunInRun.{endorsed_before_start}
+use Rattle.theory_offers.proofs.BoundDeposits.{deposits_stay}
 use Rattle.theory_tool.specs.Kept.{value_kept, refusals_kept, IsSafe, RunsAreKept}
 use Rattle.theory_tool.proofs.Headlines.{valid_runs_are}
 
@@ -62,6 +63,7 @@ keeps_refused s es =
 safe : (s : Setup) (es : List Event) → IsRun s es → IsSafe s es
 safe s es is = record {
   honest_deposits = honest_deposits s es is;
+  bound = deposits_stay s es is;
   endorsed = endorsed_before_start s es is;
   signed = authorisations_signed s es is;
   world = worlds_of_runs s es is;

@@ -16,6 +16,7 @@ use Rattle.theory_run.specs.Sound.{IsSoundThroughout}
 use Rattle.theory_run.specs.WorldsOfRuns.{IsWorldOfRun}
 use Rattle.theory_offers.specs.Authorised.{SignedThroughout}
 use Rattle.theory_offers.specs.Begun.{EndorsedThroughout}
+use Rattle.theory_offers.specs.BoundDeposits.{bound_deposits}
 
 -- ---- any run
 
@@ -37,6 +38,8 @@ EveryWorldIsOfRun s es =
 pub record IsSafe (s : Setup) (es : List Event) : Type 0 where
   -- an honest party's live deposit goes only by its own gift, or by a transaction of a contract that it endorsed or started
   pub honest_deposits : HoldsThroughout s (spends_with_leave s) es
+  -- and never by a transaction of a contract that isn't compiled yet, though it is bound to it
+  pub bound : HoldsThroughout s (bound_deposits s) es
   -- a contract begins only where it is endorsed, and stays endorsed
   pub endorsed : EndorsedThroughout s es
   -- each authorisation has its signature, and an honest party's signature of a branch that asks it stands for its authorisation

@@ -1,3 +1,4 @@
+pub mod Keys
 pub mod Instance
 pub mod Transactions
 pub mod Compilation

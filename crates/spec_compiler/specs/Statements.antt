@@ -5,8 +5,8 @@ use Rattle.std.specs.List.{list_all}
 pub use Rattle.spec_data.specs.Hashes.{IsHash}
 use Rattle.spec_terms.specs.Term.{Contract, branches}
 use Rattle.spec_terms.specs.declared.path.PathStep.{PathStep}
-use Rattle.spec_bitcoin.specs.Keys.{key_of}
 use Rattle.spec_bitcoin.specs.Meaning.{script_meaning}
+use Rattle.spec_compiler.specs.Keyed.Keys.{by_plan}
 use Rattle.spec_compiler.specs.Instance.{Instance, position_script}
 use Rattle.spec_compiler.specs.Witness.{witness_stack, chosen}
 use Rattle.spec_compiler.specs.Keyed.Statements as keyed
@@ -15,11 +15,11 @@ pub use Rattle.spec_compiler.specs.Keyed.Statements.{has_size, is_short, IsCompi
 
 -- the stack, from its top, is selectors of a branch of the position, its secrets and its signatures
 abbrev pub Opens : (List ℕ → List ℕ) → (List ℕ → List ℕ → Bool) → Instance → List PathStep → Contract → List (List ℕ) → Type 0
-Opens hash = keyed.Opens hash (key_of hash)
+Opens hash = keyed.Opens hash by_plan
 
 -- the script of a position is true on a stack, given from its bottom, exactly where the stack opens a branch of the position
 abbrev pub OpensExactly : (List ℕ → List ℕ) → (List ℕ → List ℕ → Bool) → Instance → List PathStep → Contract → List (List ℕ) → Type 0
-OpensExactly hash = keyed.OpensExactly hash (key_of hash)
+OpensExactly hash = keyed.OpensExactly hash by_plan
 
 -- for every hash, every judge of signatures, every position of a checked contract and every stack of short items
 abbrev pub ScriptTheorem : Type 0
@@ -37,7 +37,7 @@ OpenedIsChosen =
 
 -- a script has the bytes and counted operations of its cost, meets no limit of scripts, and its bytes spell its operations
 abbrev pub HasCost : (List ℕ → List ℕ) → Instance → List PathStep → Contract → Type 0
-HasCost hash = keyed.HasCost (key_of hash)
+HasCost hash = keyed.HasCost hash by_plan
 
 abbrev pub SizeTheorem : Type 0
 SizeTheorem =
@@ -47,7 +47,7 @@ SizeTheorem =
 -- what is handed to a witness of branch i: its signatures by participant, and its secrets by reveal
 abbrev pub Fills : (List ℕ → List ℕ) → (List ℕ → List ℕ → Bool) → Instance → List PathStep → Contract
     → ℕ → List (List ℕ) → List (List ℕ) → Type 0
-Fills hash = keyed.Fills hash (key_of hash)
+Fills hash = keyed.Fills hash by_plan
 
 -- a witness that is filled so makes its script true
 abbrev pub WitnessOpens : Type 0

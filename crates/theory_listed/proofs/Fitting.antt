@@ -25,6 +25,7 @@ use Rattle.spec_bitcoin.specs.declared.label.Label.{Label}
 use Rattle.spec_bitcoin.specs.declared.label.Label.TheVariants as labels
 use Rattle.spec_bitcoin.specs.Keys.{IsLabel, key_of, label_text, checksig_byte}
 use Rattle.spec_bitcoin.specs.Spelling.{IsString, IsPlace, IsTransaction}
+use Rattle.spec_compiler.specs.Keyed.Keys.{by_plan}
 use Rattle.spec_compiler.specs.Instance.{Instance, branch_label, deposit_key}
 use Rattle.spec_compiler.specs.Endorsements.{put_owner}
 use Rattle.spec_compiler.specs.Statements.{IsCompiled}
@@ -220,7 +221,7 @@ module _ (s : Setup) (setup : IsSetup s) (g : Configuration) (w : World) (kept :
   initial_fits_all = record {
     tx = initial_fits s setup w kept.book.adverts kept.book.placed_fine k st c;
     spends = persistent_spent (persistent st.advert.pre) (persistent_deposit st.advert.pre);
-    each_input = signers_for_each s.hash (key_of s.hash) st names.Init (initial_listed s.hash st) refl;
+    each_input = signers_for_each s.hash by_plan st names.Init (initial_listed s.hash st) refl;
     keys = owners_apart s.hash (persistent st.advert.pre);
   }
 
@@ -308,7 +309,7 @@ module _ (s : Setup) (setup : IsSetup s) (g : Configuration) (w : World) (kept :
     branch_fits_all = record {
       tx = tx_fits;
       spends = (here_spent, puts_spent (puts_of (core b)) puts_are);
-      each_input = signers_for_each s.hash (key_of s.hash) st (names.At path) (path_listed st path (branch_unsigned s.hash st here i b))
+      each_input = signers_for_each s.hash by_plan st (names.At path) (path_listed st path (branch_unsigned s.hash st here i b))
           (ap (λ (o : Option PathEnd). option_map (path_listed st path) (option_and_then (as_unsigned s.hash st) o)) ends);
       keys = keys_apart;
     }

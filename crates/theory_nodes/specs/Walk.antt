@@ -2,7 +2,7 @@
 use Rattle.std.specs.Prelude.{◌≡◌, ℕ, List, [], ◌∷◌, map, Option}
 use Rattle.spec_terms.specs.declared.path.PathStep.{PathStep}
 use Rattle.spec_bitcoin.specs.declared.tx.TxOut.{TxOut}
-use Rattle.spec_bitcoin.specs.Keys.{key_of}
+use Rattle.spec_compiler.specs.Keyed.Keys.{by_plan}
 use Rattle.spec_compiler.specs.Scripts.{Demands}
 use Rattle.spec_compiler.specs.declared.unsigned.Unsigned.{Unsigned}
 use Rattle.spec_compiler.specs.Instance.{Instance}
@@ -15,33 +15,33 @@ pub use Rattle.theory_nodes.specs.Keyed.Walk.{deed_demands, spent_of, deed_puts,
 -- ---- the script of a choice, by its number
 
 abbrev pub node_demands : (List ℕ → List ℕ) → Instance → Option Node → Demands
-node_demands hash = keyed.node_demands (key_of hash)
+node_demands hash = keyed.node_demands hash by_plan
 
 abbrev pub node_script : (List ℕ → List ℕ) → Instance → List Node → Option Node → List ℕ
-node_script hash = keyed.node_script (key_of hash)
+node_script hash = keyed.node_script hash by_plan
 
 abbrev pub script_of : (List ℕ → List ℕ) → Instance → List Node → ℕ → List ℕ
-script_of hash = keyed.script_of (key_of hash)
+script_of hash = keyed.script_of hash by_plan
 
 -- ---- the walk
 
 abbrev pub deed_outputs : (List ℕ → List ℕ) → Instance → (ℕ → List ℕ) → ℕ → Deed → List TxOut
-deed_outputs hash = keyed.deed_outputs hash (key_of hash)
+deed_outputs hash = keyed.deed_outputs hash by_plan
 
 abbrev pub node_unsigned : (List ℕ → List ℕ) → Instance → (ℕ → List ℕ) → Waiting → ℕ → Deed → Unsigned
-node_unsigned hash = keyed.node_unsigned hash (key_of hash)
+node_unsigned hash = keyed.node_unsigned hash by_plan
 
 abbrev pub walk : (List ℕ → List ℕ) → Instance → (ℕ → List ℕ) → List Node → List Waiting → List (List PathStep × Unsigned)
-walk hash = keyed.walk hash (key_of hash)
+walk hash = keyed.walk hash by_plan
 
 abbrev pub next_stack : (List ℕ → List ℕ) → Instance → (ℕ → List ℕ) → Node → List Waiting → List Waiting
-next_stack hash = keyed.next_stack hash (key_of hash)
+next_stack hash = keyed.next_stack hash by_plan
 
 abbrev pub made_by : (List ℕ → List ℕ) → Instance → (ℕ → List ℕ) → Node → List Waiting → List (List PathStep × Unsigned)
-made_by hash = keyed.made_by hash (key_of hash)
+made_by hash = keyed.made_by hash by_plan
 
 abbrev pub root_waits : (List ℕ → List ℕ) → Instance → Waiting
-root_waits hash = keyed.root_waits hash (key_of hash)
+root_waits hash = keyed.root_waits hash by_plan
 
 -- ---- the statements
 

@@ -7,7 +7,7 @@ use Rattle.spec_terms.specs.Paths as paths
 use Rattle.spec_terms.specs.Paths.{Subterm, as_branch, subterm_from}
 use Rattle.spec_terms.specs.Precondition.{persistent}
 use Rattle.spec_terms.specs.declared.path.PathStep.{PathStep}
-use Rattle.spec_bitcoin.specs.declared.label.Label.{Label}
+use Rattle.spec_compiler.specs.Keyed.Keys.{Keys}
 use Rattle.spec_compiler.specs.Keyed.Instance.{Instance}
 use Rattle.spec_compiler.specs.Keyed.ByPath as by_path
 use Rattle.spec_compiler.specs.Keyed.ByPath.{PathEnd, end_at, as_unsigned}
@@ -25,7 +25,7 @@ as_long f g (x ∷ xs) = ap suc (as_long f g xs)
 abbrev HasSigners : Listed → Type 0
 HasSigners l = length l.signers ≡ length l.draft.spends
 
-module _ (hash : List ℕ → List ℕ) (keys : Label → List ℕ) (instance : Instance) (path : List PathStep) where
+module _ (hash : List ℕ → List ℕ) (keys : Keys) (instance : Instance) (path : List PathStep) where
   by_ends : (o : Option PathEnd) (q : Option Subterm) → subterm_from (paths.position instance.advert.root) path ≡ q
       → IfAgrees hash keys instance path o q → (l : Listed)
       → option_map (path_listed instance path) (option_and_then (as_unsigned hash keys instance) o) ≡ Some l → HasSigners l

@@ -10,18 +10,18 @@ use Rattle.spec_bitcoin.specs.Opcodes.{opcode_of}
 use Rattle.spec_bitcoin.specs.Effects.{Item, Stacks, truth, effect}
 use Rattle.spec_bitcoin.specs.Trees.{Items, End, Plain, Block, Sections, NoMore, Section, tree_of}
 use Rattle.spec_bitcoin.specs.Meaning.{outcome}
-use Rattle.spec_bitcoin.specs.Keys.{key_of}
+use Rattle.spec_compiler.specs.Keyed.Keys.{by_plan}
 use Rattle.spec_compiler.specs.Instance.{Instance}
 use Rattle.spec_compiler.specs.Statements.{IsHash, IsCompiled}
 use Rattle.theory_script.specs.Keyed.Limits as keyed
 
 -- the operations of a position's script
 abbrev pub ops_at : (List ℕ → List ℕ) → Instance → List PathStep → Contract → List Op
-ops_at hash = keyed.ops_at (key_of hash)
+ops_at hash = keyed.ops_at hash by_plan
 
 -- few bytes, which are read as operations; no push is too long, few operations count, and there are few of them in all
 abbrev pub MeetsNoLimit : (List ℕ → List ℕ) → Instance → List PathStep → Contract → Type 0
-MeetsNoLimit hash = keyed.MeetsNoLimit hash (key_of hash)
+MeetsNoLimit hash = keyed.MeetsNoLimit hash by_plan
 
 -- of every position of a checked contract
 abbrev pub NoLimitIsMet : Type 0

@@ -3,7 +3,7 @@
 use Rattle.std.specs.Prelude.{◌≡◌, ℕ, List, Some, option_map}
 use Rattle.spec_terms.specs.Term.{Contract}
 use Rattle.spec_terms.specs.declared.path.PathStep.{PathStep}
-use Rattle.spec_bitcoin.specs.Keys.{key_of}
+use Rattle.spec_compiler.specs.Keyed.Keys.{by_plan}
 use Rattle.spec_compiler.specs.Instance.{Instance}
 use Rattle.spec_compiler.specs.Transactions.{Standing}
 use Rattle.spec_compiler.specs.Compilation.{compilation}
@@ -23,7 +23,7 @@ ScriptsAreListed = (hash : List ℕ → List ℕ) (s : Instance) (position : Lis
 
 -- a position of a contract, as it stands on the chain: its path, its branches, and its script
 abbrev pub StandsAt : (List ℕ → List ℕ) → Instance → List PathStep → Standing → Contract → Type 0
-StandsAt hash = keyed.StandsAt hash (key_of hash)
+StandsAt hash = keyed.StandsAt hash by_plan
 
 -- what is found by a path stands there
 abbrev pub PositionsStand : Type 0
@@ -32,7 +32,7 @@ PositionsStand = (hash : List ℕ → List ℕ) (s : Instance) (position : List 
 
 -- the transactions are those of the contract's branches, and the scripts those of its positions, in the order of the text, each once
 abbrev pub IsInOrder : (List ℕ → List ℕ) → Instance → Type 0
-IsInOrder hash = keyed.IsInOrder hash (key_of hash)
+IsInOrder hash = keyed.IsInOrder hash by_plan
 
 abbrev pub PathsInOrder : Type 0
 PathsInOrder = (hash : List ℕ → List ℕ) (s : Instance) → IsInOrder hash s

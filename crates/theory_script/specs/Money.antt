@@ -2,14 +2,14 @@
 -- cut off at zero.
 use Rattle.std.specs.Prelude.{ℕ, List}
 use Rattle.spec_terms.specs.Faults.{IsWellFormed}
-use Rattle.spec_bitcoin.specs.Keys.{key_of}
+use Rattle.spec_compiler.specs.Keyed.Keys.{by_plan}
 use Rattle.spec_compiler.specs.Instance.{Instance}
 use Rattle.theory_script.specs.Keyed.Money as keyed
 pub use Rattle.theory_script.specs.Keyed.Money.{paid_out, paid_in, IsKept}
 
 -- every transaction of the contract keeps its money; every position holds exactly its static balance, and pays for each of its branches
 abbrev pub KeepsMoney : (List ℕ → List ℕ) → Instance → Type 0
-KeepsMoney hash = keyed.KeepsMoney hash (key_of hash)
+KeepsMoney hash = keyed.KeepsMoney hash by_plan
 
 -- of every contract that passed the check
 abbrev pub MoneyIsKept : Type 0

@@ -9,6 +9,7 @@ use Rattle.spec_bitcoin.specs.declared.tx.OutPoint.{OutPoint}
 use Rattle.spec_bitcoin.specs.declared.label.Label.{Label}
 use Rattle.spec_bitcoin.specs.declared.label.Label.TheVariants as labels
 use Rattle.spec_bitcoin.specs.Scripts.{encode}
+use Rattle.spec_compiler.specs.Keyed.Keys.{Keys, key_in}
 use Rattle.spec_compiler.specs.Scripts.{Demands, output_ops, demands_from}
 
 pub record Instance : Type 0 where
@@ -33,18 +34,18 @@ abbrev pub branch_label : ℕ → List PathStep → List ℕ → Label
 branch_label contract path party = labels.Branch contract path party
 
 -- each participant's key of the branch at a path
-abbrev pub branch_keys : (Label → List ℕ) → Instance → List PathStep → List (List ℕ)
-branch_keys keys s path = map (λ party. keys (branch_label s.contract path party)) (people s)
+abbrev pub branch_keys : (List ℕ → List ℕ) → Keys → Instance → List PathStep → List (List ℕ)
+branch_keys hash keys s path = map (λ party. key_in hash keys (branch_label s.contract path party)) (people s)
 
 -- a party's key of its deposits
-abbrev pub deposit_key : (Label → List ℕ) → List ℕ → List ℕ
-deposit_key keys party = keys (labels.Deposit party)
+abbrev pub deposit_key : (List ℕ → List ℕ) → Keys → List ℕ → List ℕ
+deposit_key hash keys party = key_in hash keys (labels.Deposit party)
 
 -- what the script of each branch of a position asks for
-abbrev pub position_demands : (Label → List ℕ) → Instance → List PathStep → Contract → List Demands
-position_demands keys s position contract =
-    demands_from (λ i. branch_keys keys s (branch_path position i)) s.hashes 0 (branches contract)
+abbrev pub position_demands : (List ℕ → List ℕ) → Keys → Instance → List PathStep → Contract → List Demands
+position_demands hash keys s position contract =
+    demands_from (λ i. branch_keys hash keys s (branch_path position i)) s.hashes 0 (branches contract)
 
 -- the script of a position
-unfoldable pub position_script : (Label → List ℕ) → Instance → List PathStep → Contract → List ℕ
-position_script keys s position contract = encode (output_ops (position_demands keys s position contract))
+unfoldable pub position_script : (List ℕ → List ℕ) → Keys → Instance → List PathStep → Contract → List ℕ
+position_script hash keys s position contract = encode (output_ops (position_demands hash keys s position contract))

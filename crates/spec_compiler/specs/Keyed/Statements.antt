@@ -19,6 +19,7 @@ use Rattle.spec_bitcoin.specs.Effects.{truth}
 use Rattle.spec_bitcoin.specs.Scripts.{script_ops, counted}
 use Rattle.spec_bitcoin.specs.Meaning.{script_meaning}
 use Rattle.spec_bitcoin.specs.Keys.{key_bytes, deposit_script}
+use Rattle.spec_compiler.specs.Keyed.Keys.{Keys, key_in}
 use Rattle.spec_compiler.specs.Scripts.{digest_of, output_ops}
 use Rattle.spec_compiler.specs.Keyed.Instance.{Instance, people, branch_path, branch_keys, position_demands, position_script}
 use Rattle.spec_compiler.specs.Witness.{selection, witness_stack, chosen}
@@ -57,7 +58,7 @@ secret_lengths names strings = lengths_of names (map length strings)
 -- ---- what opens a position
 
 -- the stack, from its top, is selectors of a branch of the position, its secrets and its signatures
-pub record Opens (hash : List ℕ → List ℕ) (keys : Label → List ℕ) (valid : List ℕ → List ℕ → Bool)
+pub record Opens (hash : List ℕ → List ℕ) (keys : Keys) (valid : List ℕ → List ℕ → Bool)
     (s : Instance) (position : List PathStep) (contract : Contract) (stack : List (List ℕ)) : Type 0 where
   -- the branch and its number
   pub i : ℕ
@@ -74,13 +75,13 @@ pub record Opens (hash : List ℕ → List ℕ) (keys : Label → List ℕ) (val
   pub fits : are_secrets hash strings (map (digest_of s.hashes) (reveals_of (core b))) ≡ true
   pub predicate : holds (secret_lengths (reveals_of (core b)) strings) (test_of (core b)) ≡ true
   -- each participant has signed by its key of the branch
-  pub signed : are_valid valid signatures (branch_keys keys s (branch_path position i)) ≡ true
+  pub signed : are_valid valid signatures (branch_keys hash keys s (branch_path position i)) ≡ true
 
 -- ---- where the theorems hold
 
 -- the key of each label has 33 bytes
-abbrev pub AreKeys : (Label → List ℕ) → Type 0
-AreKeys keys = (label : Label) → length (keys label) ≡ key_bytes
+abbrev pub AreKeys : (List ℕ → List ℕ) → Keys → Type 0
+AreKeys hash keys = (label : Label) → length (key_in hash keys label) ≡ key_bytes
 
 -- whether a string has so many bytes
 abbrev pub has_size : ℕ → List ℕ → Bool
@@ -99,58 +100,61 @@ pub record IsCompiled (s : Instance) (position : List PathStep) (contract : Cont
 -- ---- the theorems
 
 -- the script of a position is true on a stack, given from its bottom, exactly where the stack opens a branch of the position
-pub record OpensExactly (hash : List ℕ → List ℕ) (keys : Label → List ℕ) (valid : List ℕ → List ℕ → Bool)
+pub record OpensExactly (hash : List ℕ → List ℕ) (keys : Keys) (valid : List ℕ → List ℕ → Bool)
     (s : Instance) (position : List PathStep) (contract : Contract) (stack : List (List ℕ)) : Type 0 where
-  pub true_opens : script_meaning hash valid (position_script keys s position contract) stack ≡ true
+  pub true_opens : script_meaning hash valid (position_script hash keys s position contract) stack ≡ true
       → Opens hash keys valid s position contract (reverse stack)
   pub opens_true : Opens hash keys valid s position contract (reverse stack)
-      → script_meaning hash valid (position_script keys s position contract) stack ≡ true
+      → script_meaning hash valid (position_script hash keys s position contract) stack ≡ true
 
 -- for every hash, all keys, every judge of signatures, every position of a checked contract and every stack of short items
 abbrev pub ScriptTheorem : Type 0
 ScriptTheorem =
-    (hash : List ℕ → List ℕ) (keys : Label → List ℕ) (valid : List ℕ → List ℕ → Bool)
+    (hash : List ℕ → List ℕ) (keys : Keys) (valid : List ℕ → List ℕ → Bool)
     (s : Instance) (position : List PathStep) (contract : Contract) (stack : List (List ℕ))
-    → AreKeys keys → IsCompiled s position contract → list_all is_short stack ≡ true
+    → AreKeys hash keys → IsCompiled s position contract → list_all is_short stack ≡ true
     → OpensExactly hash keys valid s position contract stack
 
 -- the branch that a stack chooses is the branch that it opens
 abbrev pub OpenedIsChosen : Type 0
 OpenedIsChosen =
-    (hash : List ℕ → List ℕ) (keys : Label → List ℕ) (valid : List ℕ → List ℕ → Bool)
+    (hash : List ℕ → List ℕ) (keys : Keys) (valid : List ℕ → List ℕ → Bool)
     (s : Instance) (position : List PathStep) (contract : Contract) (stack : List (List ℕ))
     → (opened : Opens hash keys valid s position contract stack) → chosen (length (branches contract)) stack ≡ opened.i
 
 -- a script has the bytes and counted operations of its cost, meets no limit of scripts, and its bytes spell its operations
-pub record HasCost (keys : Label → List ℕ) (s : Instance) (position : List PathStep) (contract : Contract) : Type 0 where
-  pub bytes : length (position_script keys s position contract) ≡ (cost (length (people s)) contract).bytes
-  pub operations : counted (output_ops (position_demands keys s position contract)) ≡ (cost (length (people s)) contract).operations
-  pub few_bytes : length (position_script keys s position contract) ≤ most_script_bytes
-  pub few_operations : counted (output_ops (position_demands keys s position contract)) ≤ most_operations
-  pub spells : script_ops (position_script keys s position contract) ≡ Some (output_ops (position_demands keys s position contract))
+pub record HasCost (hash : List ℕ → List ℕ) (keys : Keys) (s : Instance) (position : List PathStep)
+    (contract : Contract) : Type 0 where
+  pub bytes : length (position_script hash keys s position contract) ≡ (cost (length (people s)) contract).bytes
+  pub operations : counted (output_ops (position_demands hash keys s position contract))
+      ≡ (cost (length (people s)) contract).operations
+  pub few_bytes : length (position_script hash keys s position contract) ≤ most_script_bytes
+  pub few_operations : counted (output_ops (position_demands hash keys s position contract)) ≤ most_operations
+  pub spells : script_ops (position_script hash keys s position contract)
+      ≡ Some (output_ops (position_demands hash keys s position contract))
 
 abbrev pub SizeTheorem : Type 0
 SizeTheorem =
-    (keys : Label → List ℕ) (s : Instance) (position : List PathStep) (contract : Contract) → AreKeys keys → IsCompiled s position contract
-    → HasCost keys s position contract
+    (hash : List ℕ → List ℕ) (keys : Keys) (s : Instance) (position : List PathStep) (contract : Contract)
+    → AreKeys hash keys → IsCompiled s position contract → HasCost hash keys s position contract
 
 -- what is handed to a witness of branch i: its signatures by participant, and its secrets by reveal
-pub record Fills (hash : List ℕ → List ℕ) (keys : Label → List ℕ) (valid : List ℕ → List ℕ → Bool)
+pub record Fills (hash : List ℕ → List ℕ) (keys : Keys) (valid : List ℕ → List ℕ → Bool)
     (s : Instance) (position : List PathStep) (contract : Contract) (i : ℕ) (signatures strings : List (List ℕ)) : Type 0 where
   pub b : term.Guarded
   pub is_branch : slice_get (branches contract) i ≡ Some b
   pub fits : are_secrets hash strings (map (digest_of s.hashes) (reveals_of (core b))) ≡ true
   pub predicate : holds (secret_lengths (reveals_of (core b)) strings) (test_of (core b)) ≡ true
-  pub signed : are_valid valid signatures (branch_keys keys s (branch_path position i)) ≡ true
+  pub signed : are_valid valid signatures (branch_keys hash keys s (branch_path position i)) ≡ true
   pub short : list_all is_short signatures ≡ true
 
 -- a witness that is filled so makes its script true
 abbrev pub WitnessOpens : Type 0
 WitnessOpens =
-    (hash : List ℕ → List ℕ) (keys : Label → List ℕ) (valid : List ℕ → List ℕ → Bool)
+    (hash : List ℕ → List ℕ) (keys : Keys) (valid : List ℕ → List ℕ → Bool)
     (s : Instance) (position : List PathStep) (contract : Contract) (i : ℕ) (signatures strings : List (List ℕ))
-    → AreKeys keys → IsCompiled s position contract → Fills hash keys valid s position contract i signatures strings
-    → script_meaning hash valid (position_script keys s position contract)
+    → AreKeys hash keys → IsCompiled s position contract → Fills hash keys valid s position contract i signatures strings
+    → script_meaning hash valid (position_script hash keys s position contract)
     (witness_stack signatures strings i (length (branches contract))) ≡ true
 
 -- the script of a deposit is true on a stack exactly where the stack is one signature that is valid for its key

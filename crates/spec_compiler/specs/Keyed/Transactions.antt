@@ -11,9 +11,9 @@ use Rattle.spec_bitcoin.specs.declared.tx.OutPoint.{OutPoint}
 use Rattle.spec_bitcoin.specs.declared.tx.TxIn.{TxIn}
 use Rattle.spec_bitcoin.specs.declared.tx.TxOut.{TxOut}
 use Rattle.spec_bitcoin.specs.declared.tx.Tx.{Tx}
-use Rattle.spec_bitcoin.specs.declared.label.Label.{Label}
 use Rattle.spec_bitcoin.specs.Digests.{txid, digest}
 use Rattle.spec_bitcoin.specs.Keys.{pay_to, deposit_script}
+use Rattle.spec_compiler.specs.Keyed.Keys.{Keys}
 use Rattle.spec_compiler.specs.declared.prepared.Prepared.{Prepared}
 use Rattle.spec_compiler.specs.declared.unsigned.Spent.{Spent}
 use Rattle.spec_compiler.specs.declared.unsigned.Unsigned.{Unsigned}
@@ -47,8 +47,8 @@ pays hash script value = record { value = value; script = pay_to (hash script) }
 -- ---- deposits
 
 -- the script of a party's deposits
-abbrev pub party_script : (Label → List ℕ) → List ℕ → List ℕ
-party_script keys party = deposit_script (deposit_key keys party)
+abbrev pub party_script : (List ℕ → List ℕ) → Keys → List ℕ → List ℕ
+party_script hash keys party = deposit_script (deposit_key hash keys party)
 
 -- where a deposit that was looked up lies
 abbrev pub outpoint_or_none : Option OutPoint → OutPoint
@@ -56,8 +56,9 @@ outpoint_or_none None = record { txid = []; vout = 0 }
 outpoint_or_none (Some outpoint) = outpoint
 
 -- the output of a bound deposit
-abbrev pub deposit : (Label → List ℕ) → Instance → List ℕ → Holding → Spent
-deposit keys s name h = record { outpoint = outpoint_or_none (look_up name s.bound); script = party_script keys h.owner; value = h.value }
+abbrev pub deposit : (List ℕ → List ℕ) → Keys → Instance → List ℕ → Holding → Spent
+deposit hash keys s name h =
+    record { outpoint = outpoint_or_none (look_up name s.bound); script = party_script hash keys h.owner; value = h.value }
 
 -- a deposit that was looked up
 abbrev pub holding_or_none : Option Holding → Holding
@@ -65,12 +66,12 @@ holding_or_none None = holding [] 0
 holding_or_none (Some h) = h
 
 -- the outputs of the volatile deposits of these names
-abbrev pub put_deposits : (Label → List ℕ) → Instance → List (List ℕ) → List Spent
-put_deposits keys s puts = map (λ name. deposit keys s name (holding_or_none (look_up name (volatile s.advert.pre)))) puts
+abbrev pub put_deposits : (List ℕ → List ℕ) → Keys → Instance → List (List ℕ) → List Spent
+put_deposits hash keys s puts = map (λ name. deposit hash keys s name (holding_or_none (look_up name (volatile s.advert.pre)))) puts
 
 -- the outputs of the persistent deposits
-abbrev pub persistent_deposits : (Label → List ℕ) → Instance → List Spent
-persistent_deposits keys s = map (λ d. deposit keys s d.0 d.1) (persistent s.advert.pre)
+abbrev pub persistent_deposits : (List ℕ → List ℕ) → Keys → Instance → List Spent
+persistent_deposits hash keys s = map (λ d. deposit hash keys s d.0 d.1) (persistent s.advert.pre)
 
 -- ---- positions, and what the transaction of a branch does
 
@@ -88,44 +89,48 @@ abbrev pub part_position : List PathStep → ℕ → List PathStep
 part_position path k = path ++ Into k ∷ []
 
 -- the outputs of the parts from number k on of the split at a path
-abbrev pub part_outputs : (List ℕ → List ℕ) → (Label → List ℕ) → Instance → List PathStep → ℕ → Parts → List TxOut
+abbrev pub part_outputs : (List ℕ → List ℕ) → Keys → Instance → List PathStep → ℕ → Parts → List TxOut
 part_outputs hash keys s path k no_part = []
 part_outputs hash keys s path k (part v c ps) =
-    pays hash (position_script keys s (part_position path k) c) v ∷ part_outputs hash keys s path (k + 1) ps
+    pays hash (position_script hash keys s (part_position path k) c) v ∷ part_outputs hash keys s path (k + 1) ps
 
 -- the outputs of a core's transaction, where the branch has this path and its position this balance
-abbrev pub core_outputs : (List ℕ → List ℕ) → (Label → List ℕ) → Instance → List PathStep → ℕ → term.Guarded → List TxOut
+abbrev pub core_outputs : (List ℕ → List ℕ) → Keys → Instance → List PathStep → ℕ → term.Guarded → List TxOut
 core_outputs hash keys s path balance (put_reveal puts reveals test next) =
-    pays hash (position_script keys s path next) (continued_value s balance puts) ∷ []
-core_outputs hash keys s path balance (withdraw party) = pays hash (party_script keys party) (balance - s.advert.fee) ∷ []
+    pays hash (position_script hash keys s path next) (continued_value s balance puts) ∷ []
+core_outputs hash keys s path balance (withdraw party) = pays hash (party_script hash keys party) (balance - s.advert.fee) ∷ []
 core_outputs hash keys s path balance (split parts) = part_outputs hash keys s path 0 parts
 core_outputs hash keys s path balance (auth party body) = []
 core_outputs hash keys s path balance (after height body) = []
 
 -- the transaction of branch i of a position, by its lock and its core: the output of the position, and then the deposits that are put
-abbrev pub core_unsigned : (List ℕ → List ℕ) → (Label → List ℕ) → Instance → Standing → ℕ → ℕ → term.Guarded → Unsigned
+abbrev pub core_unsigned : (List ℕ → List ℕ) → Keys → Instance → Standing → ℕ → ℕ → term.Guarded → Unsigned
 core_unsigned hash keys s here i height b = record {
-  spends = here.output ∷ put_deposits keys s (puts_of b);
+  spends = here.output ∷ put_deposits hash keys s (puts_of b);
   outputs = core_outputs hash keys s (branch_path here.position i) here.output.value b;
   lock = height;
 }
 
 -- the transaction of branch i of a position
-abbrev pub branch_unsigned : (List ℕ → List ℕ) → (Label → List ℕ) → Instance → Standing → ℕ → term.Guarded → Unsigned
+abbrev pub branch_unsigned : (List ℕ → List ℕ) → Keys → Instance → Standing → ℕ → term.Guarded → Unsigned
 branch_unsigned hash keys s here i b = core_unsigned hash keys s here i (lock b) (core b)
 
 -- the position at which a put goes on, at the path of its branch
-abbrev pub continued : (List ℕ → List ℕ) → (Label → List ℕ) → Instance → List PathStep → Unsigned → ℕ → Contract → Standing
+abbrev pub continued : (List ℕ → List ℕ) → Keys → Instance → List PathStep → Unsigned → ℕ → Contract → Standing
 continued hash keys s path made value next = record {
   position = path;
-  output = record { outpoint = output_outpoint hash made 0; script = position_script keys s path next; value = value };
+  output = record { outpoint = output_outpoint hash made 0; script = position_script hash keys s path next; value = value };
 }
 
 -- the position of part k of the split at a path
-abbrev pub part_standing : (List ℕ → List ℕ) → (Label → List ℕ) → Instance → List PathStep → Unsigned → ℕ → ℕ → Contract → Standing
+abbrev pub part_standing : (List ℕ → List ℕ) → Keys → Instance → List PathStep → Unsigned → ℕ → ℕ → Contract → Standing
 part_standing hash keys s path made k value next = record {
   position = part_position path k;
-  output = record { outpoint = output_outpoint hash made k; script = position_script keys s (part_position path k) next; value = value };
+  output = record {
+    outpoint = output_outpoint hash made k;
+    script = position_script hash keys s (part_position path k) next;
+    value = value;
+  };
 }
 
 -- ---- the initial transaction
@@ -134,22 +139,22 @@ part_standing hash keys s path made k value next = record {
 abbrev pub root_value : Instance → ℕ
 root_value s = total_of (persistent s.advert.pre) - s.advert.fee
 
-abbrev pub initial_unsigned : (List ℕ → List ℕ) → (Label → List ℕ) → Instance → Unsigned
+abbrev pub initial_unsigned : (List ℕ → List ℕ) → Keys → Instance → Unsigned
 initial_unsigned hash keys s = record {
-  spends = persistent_deposits keys s;
-  outputs = pays hash (position_script keys s [] s.advert.root) (root_value s) ∷ [];
+  spends = persistent_deposits hash keys s;
+  outputs = pays hash (position_script hash keys s [] s.advert.root) (root_value s) ∷ [];
   lock = 0;
 }
 
 -- the root
-abbrev pub root_standing : (List ℕ → List ℕ) → (Label → List ℕ) → Instance → Standing
+abbrev pub root_standing : (List ℕ → List ℕ) → Keys → Instance → Standing
 root_standing hash keys s = record {
   position = [];
   output =
       record {
         outpoint =
             output_outpoint hash (initial_unsigned hash keys s) 0;
-        script = position_script keys s [] s.advert.root;
+        script = position_script hash keys s [] s.advert.root;
         value = root_value s;
       };
 }

@@ -9,9 +9,9 @@ use Rattle.spec_terms.specs.Parties.{participants}
 use Rattle.spec_terms.specs.Paths.{at, path_eq}
 use Rattle.spec_terms.specs.Precondition.{persistent}
 use Rattle.spec_terms.specs.declared.path.PathStep.{PathStep}
-use Rattle.spec_bitcoin.specs.declared.label.Label.{Label}
 use Rattle.spec_bitcoin.specs.declared.label.Label.TheVariants as labels
 use Rattle.spec_bitcoin.specs.Keys.{path_text}
+use Rattle.spec_compiler.specs.Keyed.Keys.{Keys}
 use Rattle.spec_compiler.specs.Keyed.Instance.{Instance, branch_label}
 use Rattle.spec_compiler.specs.declared.unsigned.Unsigned.{Unsigned}
 use Rattle.spec_compiler.specs.Keyed.Transactions.{initial_unsigned}
@@ -49,7 +49,7 @@ path_signers instance path = option_map_or (branch_signers instance.contract ins
 
 -- ---- the transactions
 
-abbrev pub initial_listed : (List ℕ → List ℕ) → (Label → List ℕ) → Instance → Listed
+abbrev pub initial_listed : (List ℕ → List ℕ) → Keys → Instance → Listed
 initial_listed hash keys instance =
     record { which = names.Init; draft = initial_unsigned hash keys instance; signers = initial_signers instance.advert }
 
@@ -57,12 +57,12 @@ abbrev pub path_listed : Instance → List PathStep → Unsigned → Listed
 path_listed instance path draft = record { which = names.At path; draft = draft; signers = path_signers instance path }
 
 -- all of them: the initial one, and then those of the paths in the order of the text
-abbrev pub listed : (List ℕ → List ℕ) → (Label → List ℕ) → Instance → List Listed
+abbrev pub listed : (List ℕ → List ℕ) → Keys → Instance → List Listed
 listed hash keys instance =
     initial_listed hash keys instance ∷ map (λ p. path_listed instance (p.0) (p.1)) (path_transactions hash keys instance)
 
 -- the one of this name
-abbrev pub listed_at : (List ℕ → List ℕ) → (Label → List ℕ) → Instance → Which → Option Listed
+abbrev pub listed_at : (List ℕ → List ℕ) → Keys → Instance → Which → Option Listed
 listed_at hash keys instance names.Init = Some (initial_listed hash keys instance)
 listed_at hash keys instance (names.At path) = option_map (path_listed instance path) (unsigned_at hash keys instance path)
 

@@ -6,8 +6,8 @@ use Rattle.spec_terms.specs.Term as term
 use Rattle.spec_terms.specs.Term.{auth, after, put_reveal, withdraw, split, Contract, no_branch, branch, branches, Parts, no_part, part}
 use Rattle.spec_terms.specs.Core.{core, lock}
 use Rattle.spec_terms.specs.declared.path.PathStep.{PathStep}
-use Rattle.spec_bitcoin.specs.declared.label.Label.{Label}
 use Rattle.spec_bitcoin.specs.Scripts.{encode}
+use Rattle.spec_compiler.specs.Keyed.Keys.{Keys}
 use Rattle.spec_compiler.specs.Scripts.{demands_of, demands_from, output_ops}
 use Rattle.spec_compiler.specs.declared.unsigned.Unsigned.{Unsigned}
 use Rattle.spec_compiler.specs.Keyed.Instance.{Instance, branch_keys, branch_path, position_script}
@@ -18,9 +18,9 @@ use Rattle.theory_nodes.proofs.Begins.{Begins, begins_left, begins_right, begins
 use Rattle.theory_nodes.specs.declared.waiting.Waiting.{Waiting}
 use Rattle.theory_nodes.specs.Keyed.Walk.{spent_of, node_demands, deed_demands, node_script, script_of, node_unsigned, parts_wait, walk, next_stack, made_by, root_waits, node_paths, listed_scripts, NodesGiveTransactions, NodesGivePaths, NodesGiveScripts}
 
-module _ (hash : List ℕ → List ℕ) (keys : Label → List ℕ) (s : Instance) (ns : List Node) where
+module _ (hash : List ℕ → List ℕ) (keys : Keys) (s : Instance) (ns : List Node) where
   abbrev pub script : ℕ → List ℕ
-  script = script_of keys s ns
+  script = script_of hash keys s ns
 
   -- ---- the script of a choice by its number is that of its position
 
@@ -32,7 +32,7 @@ module _ (hash : List ℕ → List ℕ) (keys : Label → List ℕ) (s : Instanc
   core_demands n (after h body) own = refl
 
   demands_right : (position : List PathStep) (i n : ℕ) (c : Contract) → Begins ns n (branches_nodes position i n c)
-      → map (λ m. node_demands keys s (slice_get ns m)) (branch_numbers n c) ≡ demands_from (λ k. branch_keys keys s (branch_path position k)) s.hashes i (branches c)
+      → map (λ m. node_demands hash keys s (slice_get ns m)) (branch_numbers n c) ≡ demands_from (λ k. branch_keys hash keys s (branch_path position k)) s.hashes i (branches c)
   demands_right position i n no_branch b = refl
   demands_right position i n (branch x xs) b =
       let path = branch_path position i in
@@ -42,14 +42,14 @@ module _ (hash : List ℕ → List ℕ) (keys : Label → List ℕ) (s : Instanc
       let whole : Begins ns n (head ∷ below_nodes path (n + 1) (core x)) = rw branch_nodes-core at (begins_left ns n here others b) in
       let got = begins_get ns n head (below_nodes path (n + 1) (core x)) whole in
       let rest = demands_right position (i + 1) (n + branch_count x) xs (begins_right ns n (branch_count x) here others (length-branch_nodes path n (asks_once x) (lock x) x) b) in
-      λ j. (ap (node_demands keys s) got ∙ core_demands (n + 1) (core x) (branch_keys keys s path)) j ∷ rest j
+      λ j. (ap (node_demands hash keys s) got ∙ core_demands (n + 1) (core x) (branch_keys hash keys s path)) j ∷ rest j
 
-  pub script_right : (position : List PathStep) (n : ℕ) (c : Contract) → Begins ns n (choice_nodes position n c) → script_of keys s ns n ≡ position_script keys s position c
+  pub script_right : (position : List PathStep) (n : ℕ) (c : Contract) → Begins ns n (choice_nodes position n c) → script_of hash keys s ns n ≡ position_script hash keys s position c
   unfolding script_of position_script
   script_right position n c b =
       let got = begins_get ns n (choice_head position n c) (branches_nodes position 0 (n + 1) c) b in
       let under = begins_right ns n 1 (choice_head position n c ∷ []) (branches_nodes position 0 (n + 1) c) refl b in
-      ap (node_script keys s ns) got ∙ ap (λ ds. encode (output_ops ds)) (demands_right position 0 (n + 1) c under)
+      ap (node_script hash keys s ns) got ∙ ap (λ ds. encode (output_ops ds)) (demands_right position 0 (n + 1) c under)
 
   -- ---- the walk
 
@@ -57,11 +57,11 @@ module _ (hash : List ℕ → List ℕ) (keys : Label → List ℕ) (s : Instanc
   abbrev pub standing : List PathStep → Waiting → Standing
   standing position w = record { position = position; output = spent_of script w }
 
-  pays_right : (path : List PathStep) (n v : ℕ) (c : Contract) → Begins ns n (choice_nodes path n c) → pays hash (script_of keys s ns n) v ≡ pays hash (position_script keys s path c) v
+  pays_right : (path : List PathStep) (n v : ℕ) (c : Contract) → Begins ns n (choice_nodes path n c) → pays hash (script_of hash keys s ns n) v ≡ pays hash (position_script hash keys s path c) v
   pays_right path n v c b = ap (λ x. pays hash x v) (script_right path n c b)
 
   outputs_right : (path : List PathStep) (k n : ℕ) (ps : Parts) → Begins ns n (parts_nodes path k n ps)
-      → map (λ p. pays hash (script_of keys s ns p.1) p.0) (part_numbers n ps) ≡ part_outputs hash keys s path k ps
+      → map (λ p. pays hash (script_of hash keys s ns p.1) p.0) (part_numbers n ps) ≡ part_outputs hash keys s path k ps
   outputs_right path k n no_part b = refl
   outputs_right path k n (part v c ps) b =
       let here = choice_nodes (part_position path k) n c in
@@ -100,7 +100,7 @@ module _ (hash : List ℕ → List ℕ) (keys : Label → List ℕ) (s : Instanc
         let below = begins_right ns n 1 (branch_node path asked height deed ∷ []) (choice_nodes path (n + 1) next) refl b in
         let value = continued_value s w.value puts in
         let made : node_unsigned hash keys s script w height deed ≡ core_unsigned hash keys s (standing position w) i height (put_reveal puts reveals test next) =
-        λ j. record { spends = spent_of script w ∷ put_deposits keys s puts; outputs = pays_right path (n + 1) value next below j ∷ []; lock = height } in
+        λ j. record { spends = spent_of script w ∷ put_deposits hash keys s puts; outputs = pays_right path (n + 1) value next below j ∷ []; lock = height } in
         let here : standing path (record { outpoint = output_outpoint hash (node_unsigned hash keys s script w height deed) 0; choice = n + 1; value = value })
         ≡ continued hash keys s path (core_unsigned hash keys s (standing position w) i height (put_reveal puts reveals test next)) value next =
         λ j. record { position = path; output = record { outpoint = output_outpoint hash (made j) 0; script = script_right path (n + 1) next below j; value = value } } in
@@ -181,7 +181,7 @@ module _ (hash : List ℕ → List ℕ) (keys : Label → List ℕ) (s : Instanc
 
   mutual
     scripts_of_branches : (position : List PathStep) (i n m : ℕ) (c : Contract) (ys : List Node) → m ≡ n + branches_count c → Begins ns n (branches_nodes position i n c)
-        → listed_scripts script n (branches_nodes position i n c ++ ys) ≡ choice_scripts keys s position i c ++ listed_scripts script m ys
+        → listed_scripts script n (branches_nodes position i n c ++ ys) ≡ choice_scripts hash keys s position i c ++ listed_scripts script m ys
     scripts_of_branches position i n m no_branch ys e b = let z : n ≡ m = omega (arith, e) in ap (λ k. listed_scripts script k ys) z
     scripts_of_branches position i n m (branch x xs) ys e b =
         let path = branch_path position i in
@@ -190,11 +190,11 @@ module _ (hash : List ℕ → List ℕ) (keys : Label → List ℕ) (s : Instanc
         let under = begins_right ns n (branch_count x) nodes others (length-branch_nodes path n (asks_once x) (lock x) x) b in
         ap (listed_scripts script n) (append_assoc nodes others ys)
         ∙ scripts_of_branch path n (n + branch_count x) (asks_once x) (lock x) x (others ++ ys) refl (begins_left ns n nodes others b)
-        ∙ ap (λ l. branch_scripts keys s path x ++ l) (scripts_of_branches position (i + 1) (n + branch_count x) m xs ys (omega (arith, e)) under)
-        ∙ sym (append_assoc (branch_scripts keys s path x) (choice_scripts keys s position (i + 1) xs) (listed_scripts script m ys))
+        ∙ ap (λ l. branch_scripts hash keys s path x ++ l) (scripts_of_branches position (i + 1) (n + branch_count x) m xs ys (omega (arith, e)) under)
+        ∙ sym (append_assoc (branch_scripts hash keys s path x) (choice_scripts hash keys s position (i + 1) xs) (listed_scripts script m ys))
 
     scripts_of_branch : (path : List PathStep) (n m : ℕ) (asked : List (List ℕ)) (height : ℕ) (x : term.Guarded) (ys : List Node) → m ≡ n + branch_count x → Begins ns n (branch_nodes path n asked height x)
-        → listed_scripts script n (branch_nodes path n asked height x ++ ys) ≡ branch_scripts keys s path x ++ listed_scripts script m ys
+        → listed_scripts script n (branch_nodes path n asked height x ++ ys) ≡ branch_scripts hash keys s path x ++ listed_scripts script m ys
     scripts_of_branch path n m asked height (auth party body) ys e b = scripts_of_branch path n m asked height body ys e b
     scripts_of_branch path n m asked height (after h body) ys e b = scripts_of_branch path n m asked height body ys e b
     scripts_of_branch path n m asked height (withdraw party) ys e b = ap (λ k. listed_scripts script k ys) (sym e)
@@ -207,7 +207,7 @@ module _ (hash : List ℕ → List ℕ) (keys : Label → List ℕ) (s : Instanc
         (begins_right ns n 1 (branch_node path asked height (deed_of (n + 1) (split parts)) ∷ []) (parts_nodes path 0 (n + 1) parts) refl b)
 
     scripts_of_parts : (path : List PathStep) (k n m : ℕ) (ps : Parts) (ys : List Node) → m ≡ n + parts_count ps → Begins ns n (parts_nodes path k n ps)
-        → listed_scripts script n (parts_nodes path k n ps ++ ys) ≡ parts_scripts keys s path k ps ++ listed_scripts script m ys
+        → listed_scripts script n (parts_nodes path k n ps ++ ys) ≡ parts_scripts hash keys s path k ps ++ listed_scripts script m ys
     scripts_of_parts path k n m no_part ys e b = let z : n ≡ m = omega (arith, e) in ap (λ j. listed_scripts script j ys) z
     scripts_of_parts path k n m (part v c ps) ys e b =
         let position = part_position path k in
@@ -218,8 +218,8 @@ module _ (hash : List ℕ → List ℕ) (keys : Label → List ℕ) (s : Instanc
         let rest = scripts_of_branches position 0 (n + 1) (n + choice_count c) c (others ++ ys) (omega arith) (choice_under position n c first) in
         ap (listed_scripts script n) (append_assoc nodes others ys)
         ∙ (λ j. (position, script_right position n c first j) ∷ rest j)
-        ∙ ap (λ l. ((position, position_script keys s position c) ∷ choice_scripts keys s position 0 c) ++ l) (scripts_of_parts path (k + 1) (n + choice_count c) m ps ys (omega (arith, e)) under)
-        ∙ sym (append_assoc ((position, position_script keys s position c) ∷ choice_scripts keys s position 0 c) (parts_scripts keys s path (k + 1) ps) (listed_scripts script m ys))
+        ∙ ap (λ l. ((position, position_script hash keys s position c) ∷ choice_scripts hash keys s position 0 c) ++ l) (scripts_of_parts path (k + 1) (n + choice_count c) m ps ys (omega (arith, e)) under)
+        ∙ sym (append_assoc ((position, position_script hash keys s position c) ∷ choice_scripts hash keys s position 0 c) (parts_scripts hash keys s path (k + 1) ps) (listed_scripts script m ys))
 
 -- ---- the whole
 
@@ -232,7 +232,7 @@ transactions_walked hash keys s =
     let ns = nodes_of root in
     let here : standing hash keys s ns [] (root_waits hash keys s) ≡ root_standing hash keys s =
     λ j. record { position = []; output = record { outpoint = output_outpoint hash (initial_unsigned hash keys s) 0; script = script_right hash keys s ns [] 0 root (whole root) j; value = root_value s } } in
-    ap (λ l. walk hash keys s (script_of keys s ns) l (root_waits hash keys s ∷ [])) (sym (append-nil ns))
+    ap (λ l. walk hash keys s (script_of hash keys s ns) l (root_waits hash keys s ∷ [])) (sym (append-nil ns))
     ∙ choice_walk hash keys s ns [] 0 root (root_waits hash keys s) [] [] (whole root)
     ∙ append-nil (choice_transactions hash keys s (standing hash keys s ns [] (root_waits hash keys s)) 0 root)
     ∙ ap (λ x. choice_transactions hash keys s x 0 root) here
@@ -249,18 +249,18 @@ scripts_listed hash keys s =
     let root = s.advert.root in
     let ns = nodes_of root in
     let rest = scripts_of_branches hash keys s ns [] 0 1 (1 + branches_count root) root [] refl (choice_under hash keys s ns [] 0 root (whole root)) in
-    ap (listed_scripts (script_of keys s ns) 0) (sym (append-nil ns))
+    ap (listed_scripts (script_of hash keys s ns) 0) (sym (append-nil ns))
     ∙ (λ j. ([], script_right hash keys s ns [] 0 root (whole root) j) ∷ rest j)
-    ∙ ap (λ l. ([], position_script keys s [] root) ∷ l) (append-nil (choice_scripts keys s [] 0 root))
+    ∙ ap (λ l. ([], position_script hash keys s [] root) ∷ l) (append-nil (choice_scripts hash keys s [] 0 root))
 
 -- ---- one node, and then the others
 
-walk-empty : (hash : List ℕ → List ℕ) (keys : Label → List ℕ) (s : Instance) (script : ℕ → List ℕ) (ns : List Node) → walk hash keys s script ns [] ≡ []
+walk-empty : (hash : List ℕ → List ℕ) (keys : Keys) (s : Instance) (script : ℕ → List ℕ) (ns : List Node) → walk hash keys s script ns [] ≡ []
 walk-empty hash keys s script [] = refl
 walk-empty hash keys s script (choice_node position branches ∷ ns) = refl
 walk-empty hash keys s script (branch_node path asked height deed ∷ ns) = refl
 
-pub walk-step : (hash : List ℕ → List ℕ) (keys : Label → List ℕ) (s : Instance) (script : ℕ → List ℕ) (n : Node) (ns : List Node) (stack : List Waiting)
+pub walk-step : (hash : List ℕ → List ℕ) (keys : Keys) (s : Instance) (script : ℕ → List ℕ) (n : Node) (ns : List Node) (stack : List Waiting)
     → walk hash keys s script (n ∷ ns) stack ≡ made_by hash keys s script n stack ++ walk hash keys s script ns (next_stack hash keys s script n stack)
 walk-step hash keys s script n ns [] = sym (walk-empty hash keys s script ns)
 walk-step hash keys s script (choice_node position branches) ns (w ∷ stack) = refl

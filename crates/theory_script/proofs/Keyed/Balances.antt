@@ -19,7 +19,7 @@ use Rattle.spec_data.specs.Ranges.{max_money}
 use Rattle.spec_terms.specs.Faults.{IsWellFormed, place_of, place_if, first_place, at_core, at_position, is_short, is_uneven, is_too_much}
 use Rattle.spec_terms.specs.declared.path.PathStep.{PathStep}
 use Rattle.spec_terms.specs.declared.path.PathStep.TheVariants.{Branch as To, Part as Into}
-use Rattle.spec_bitcoin.specs.declared.label.Label.{Label}
+use Rattle.spec_compiler.specs.Keyed.Keys.{Keys}
 use Rattle.spec_compiler.specs.Keyed.Instance.{Instance, branch_path}
 use Rattle.spec_compiler.specs.Keyed.Transactions.{Standing, continued_value, part_position, branch_unsigned, continued, part_standing}
 use Rattle.spec_compiler.specs.Keyed.Transactions.{root_value, root_standing}
@@ -75,7 +75,7 @@ position_kept fee q m f c h =
 
 -- ---- what stands below
 
-module _ (hash : List ℕ → List ℕ) (keys : Label → List ℕ) (s : Instance) where
+module _ (hash : List ℕ → List ℕ) (keys : Keys) (s : Instance) where
   -- a stand of the contract, where the check saw nothing wrong
   abbrev Good : balance.Funded → Type 0
   Good x = (is_kept s.advert.fee x ≡ true) × Contains (all_funded s.advert) x

@@ -3,8 +3,8 @@ use Rattle.std.proofs.Common.{◌≡◌, ℕ, zero, suc, ◌+◌, ◌-◌, ◌<�
 use Rattle.std.specs.Prelude.{if◌then◌else◌, nat_lt}
 use Rattle.spec_terms.specs.Term.{Contract, branches}
 use Rattle.spec_terms.specs.declared.path.PathStep.{PathStep}
-use Rattle.spec_bitcoin.specs.declared.label.Label.{Label}
 use Rattle.spec_bitcoin.specs.Effects.{truth}
+use Rattle.spec_compiler.specs.Keyed.Keys.{Keys}
 use Rattle.spec_compiler.specs.Keyed.Instance.{Instance}
 use Rattle.spec_compiler.specs.Witness.{selection, first_true, chosen}
 use Rattle.spec_compiler.specs.Keyed.Statements.{Opens}
@@ -44,7 +44,7 @@ chosen_from (suc m) i selectors rest below s =
     ∙ ap (λ (k : ℕ). first_true 0 k (take m (selectors ++ rest))) (sym z)
     ∙ chosen_of m i 0 selectors rest below s ∙ omega arith
 
-pub opened_is_chosen : (hash : List ℕ → List ℕ) (keys : Label → List ℕ) (valid : List ℕ → List ℕ → Bool) (s : Instance) (position : List PathStep) (choice : Contract) (stack : List (List ℕ)) (opened : Opens hash keys valid s position choice stack) → chosen (length (branches choice)) stack ≡ opened.i
+pub opened_is_chosen : (hash : List ℕ → List ℕ) (keys : Keys) (valid : List ℕ → List ℕ → Bool) (s : Instance) (position : List PathStep) (choice : Contract) (stack : List (List ℕ)) (opened : Opens hash keys valid s position choice stack) → chosen (length (branches choice)) stack ≡ opened.i
 opened_is_chosen hash keys valid s position choice stack o =
     ap (chosen (length (branches choice))) o.is_stack
     ∙ chosen_from (length (branches choice)) o.i o.selectors (o.strings ++ o.signatures) (get_below (branches choice) o.i o.b o.is_branch) o.selects

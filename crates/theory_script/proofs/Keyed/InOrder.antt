@@ -8,7 +8,7 @@ use Rattle.spec_terms.specs.Paths as terms
 use Rattle.spec_terms.specs.Order.{Located, branches_from, under, parts_from, if_branch, if_position}
 use Rattle.spec_terms.specs.Order.{branch_paths_of, position_paths_of, branch_paths, position_paths}
 use Rattle.spec_terms.specs.declared.path.PathStep.{PathStep}
-use Rattle.spec_bitcoin.specs.declared.label.Label.{Label}
+use Rattle.spec_compiler.specs.Keyed.Keys.{Keys}
 use Rattle.spec_compiler.specs.declared.prepared.Prepared.{Prepared}
 use Rattle.spec_compiler.specs.declared.unsigned.Unsigned.{Unsigned}
 use Rattle.spec_compiler.specs.Keyed.Instance.{Instance, branch_path}
@@ -38,7 +38,7 @@ position_paths_of-append (x ∷ xs) ys = by_spot x.subterm (position_paths_of-ap
     by_spot (terms.position c) h = ap (λ (ps : List (List PathStep)). x.path ∷ ps) h
     by_spot (terms.at_branch b) h = h
 
-module _ (hash : List ℕ → List ℕ) (keys : Label → List ℕ) (s : Instance) where
+module _ (hash : List ℕ → List ℕ) (keys : Keys) (s : Instance) where
   -- ---- the transactions
 
   mutual
@@ -85,15 +85,15 @@ module _ (hash : List ℕ → List ℕ) (keys : Label → List ℕ) (s : Instanc
 
   mutual
     choice_positions : (position : List PathStep) (i : ℕ) (c : Contract)
-        → paths_of (choice_scripts keys s position i c) ≡ position_paths_of (branches_from position i c)
+        → paths_of (choice_scripts hash keys s position i c) ≡ position_paths_of (branches_from position i c)
     choice_positions position i no_branch = refl
     choice_positions position i (branch b bs) =
         let p = branch_path position i in
-        map-append (λ (e : List PathStep × List ℕ). e.0) (branch_scripts keys s p b) (choice_scripts keys s position (i + 1) bs)
+        map-append (λ (e : List PathStep × List ℕ). e.0) (branch_scripts hash keys s p b) (choice_scripts hash keys s position (i + 1) bs)
         ∙ (λ j. one_positions p b j ++ choice_positions position (i + 1) bs j)
         ∙ sym (position_paths_of-append (under p b) (branches_from position (i + 1) bs))
 
-    one_positions : (path : List PathStep) (b : term.Guarded) → paths_of (branch_scripts keys s path b) ≡ position_paths_of (under path b)
+    one_positions : (path : List PathStep) (b : term.Guarded) → paths_of (branch_scripts hash keys s path b) ≡ position_paths_of (under path b)
     one_positions path (auth party body) = one_positions path body
     one_positions path (after height body) = one_positions path body
     one_positions path (put_reveal puts reveals test next) = ap (λ (ps : List (List PathStep)). path ∷ ps) (choice_positions path 0 next)
@@ -101,12 +101,12 @@ module _ (hash : List ℕ → List ℕ) (keys : Label → List ℕ) (s : Instanc
     one_positions path (split parts) = parts_positions path 0 parts
 
     parts_positions : (path : List PathStep) (k : ℕ) (ps : Parts)
-        → paths_of (parts_scripts keys s path k ps) ≡ position_paths_of (parts_from path k ps)
+        → paths_of (parts_scripts hash keys s path k ps) ≡ position_paths_of (parts_from path k ps)
     parts_positions path k no_part = refl
     parts_positions path k (part v c ps) =
         let q = part_position path k in
         ap (λ (ps : List (List PathStep)). q ∷ ps)
-        (map-append (λ (e : List PathStep × List ℕ). e.0) (choice_scripts keys s q 0 c) (parts_scripts keys s path (k + 1) ps)
+        (map-append (λ (e : List PathStep × List ℕ). e.0) (choice_scripts hash keys s q 0 c) (parts_scripts hash keys s path (k + 1) ps)
         ∙ (λ j. choice_positions q 0 c j ++ parts_positions path (k + 1) ps j)
         ∙ sym (position_paths_of-append (branches_from q 0 c) (parts_from path (k + 1) ps)))
 

@@ -16,8 +16,8 @@ use Rattle.spec_terms.specs.Precondition.{Holding, persistent, volatile, total_o
 use Rattle.spec_terms.specs.Paths as terms
 use Rattle.spec_terms.specs.Faults.{IsWellFormed, is_short, is_uneven, is_withdraw, sum_of_parts}
 use Rattle.spec_terms.specs.declared.path.PathStep.{PathStep}
-use Rattle.spec_bitcoin.specs.declared.label.Label.{Label}
 use Rattle.spec_bitcoin.specs.declared.tx.TxOut.{TxOut}
+use Rattle.spec_compiler.specs.Keyed.Keys.{Keys}
 use Rattle.spec_compiler.specs.declared.unsigned.Spent.{Spent}
 use Rattle.spec_compiler.specs.declared.unsigned.Unsigned.{Unsigned}
 use Rattle.spec_compiler.specs.Keyed.Instance.{Instance, branch_path, position_script}
@@ -42,23 +42,23 @@ held : (o : Option Holding) → (holding_or_none o).value ≡ value_of o
 held None = refl
 held (Some h) = refl
 
-module _ (hash : List ℕ → List ℕ) (keys : Label → List ℕ) (s : Instance) where
-  sum_of_puts : (puts : List (List ℕ)) → sum_by worth (put_deposits keys s puts) ≡ value_of_puts (volatile s.advert.pre) puts
+module _ (hash : List ℕ → List ℕ) (keys : Keys) (s : Instance) where
+  sum_of_puts : (puts : List (List ℕ)) → sum_by worth (put_deposits hash keys s puts) ≡ value_of_puts (volatile s.advert.pre) puts
   sum_of_puts [] = refl
   sum_of_puts (x ∷ puts) =
       let h = holding_or_none (look_up x (volatile s.advert.pre)) in
-      sum_by-cons worth (deposit keys s x h) (put_deposits keys s puts)
+      sum_by-cons worth (deposit hash keys s x h) (put_deposits hash keys s puts)
       ∙ (λ i. held (look_up x (volatile s.advert.pre)) i + sum_of_puts puts i)
 
-  sum_of_deposits : (ds : List (List ℕ × Holding)) → sum_by worth (map (λ d. deposit keys s d.0 d.1) ds) ≡ total_of ds
+  sum_of_deposits : (ds : List (List ℕ × Holding)) → sum_by worth (map (λ d. deposit hash keys s d.0 d.1) ds) ≡ total_of ds
   sum_of_deposits [] = refl
   sum_of_deposits (d ∷ ds) =
-      sum_by-cons worth (deposit keys s d.0 d.1) (map (λ d. deposit keys s d.0 d.1) ds) ∙ ap (λ n. d.1.value + n) (sum_of_deposits ds)
+      sum_by-cons worth (deposit hash keys s d.0 d.1) (map (λ d. deposit hash keys s d.0 d.1) ds) ∙ ap (λ n. d.1.value + n) (sum_of_deposits ds)
 
   sum_of_outputs : (path : List PathStep) (k : ℕ) (ps : Parts) → sum_by amount (part_outputs hash keys s path k ps) ≡ sum_of_parts ps
   sum_of_outputs path k no_part = refl
   sum_of_outputs path k (part v c ps) =
-      let first = pays hash (position_script keys s (part_position path k) c) v in
+      let first = pays hash (position_script hash keys s (part_position path k) c) v in
       sum_by-cons amount first (part_outputs hash keys s path (k + 1) ps) ∙ ap (λ n. v + n) (sum_of_outputs path (k + 1) ps)
 
   -- ---- a branch that its position pays for
@@ -68,7 +68,7 @@ module _ (hash : List ℕ → List ℕ) (keys : Label → List ℕ) (s : Instanc
   core_kept here i l (auth party body) h = core_kept here i l body h
   core_kept here i l (after height body) h = core_kept here i l body h
   core_kept here i l (put_reveal puts reveals test next) h =
-      let e = sum_by-cons worth here.output (put_deposits keys s puts) in
+      let e = sum_by-cons worth here.output (put_deposits hash keys s puts) in
       let f = sum_of_puts puts in
       omega (arith, e, f, h)
   core_kept here i l (withdraw party) h = omega (arith, h)

@@ -11,7 +11,7 @@ use Rattle.spec_terms.specs.Core.{core, reveals_of, test_of}
 use Rattle.spec_terms.specs.Value.{holds}
 use Rattle.spec_terms.specs.Cost.{cost}
 use Rattle.spec_terms.specs.declared.path.PathStep.{PathStep}
-use Rattle.spec_bitcoin.specs.declared.label.Label.{Label}
+use Rattle.spec_compiler.specs.Keyed.Keys.{Keys, key_in}
 use Rattle.spec_compiler.specs.Witness.{selection}
 use Rattle.spec_compiler.specs.Scripts.{Demands, digest_of, demands_of, demands_from}
 use Rattle.spec_compiler.specs.Keyed.Instance.{Instance, people, branch_path, branch_label, branch_keys, position_demands, position_script}
@@ -28,12 +28,12 @@ use Rattle.theory_script.proofs.ScriptTheorem.{says, has_cost, keeps_limits}
 
 -- ---- a position's demands
 
-key_sizes : (keys : Label → List ℕ) (contract : ℕ) (path : List PathStep) (parties : List (List ℕ)) → AreKeys keys
-    → list_all (has_size 33) (map (λ party. keys (branch_label contract path party)) parties) ≡ true
-key_sizes keys contract path [] are_keys = refl
-key_sizes keys contract path (party ∷ parties) are_keys =
-    let size : has_size 33 (keys (branch_label contract path party)) ≡ true = rw (are_keys (branch_label contract path party)) refl in
-    and_from (has_size 33 (keys (branch_label contract path party))) _ size (key_sizes keys contract path parties are_keys)
+key_sizes : (hash : List ℕ → List ℕ) (keys : Keys) (contract : ℕ) (path : List PathStep) (parties : List (List ℕ)) → AreKeys hash keys
+    → list_all (has_size 33) (map (λ party. key_in hash keys (branch_label contract path party)) parties) ≡ true
+key_sizes hash keys contract path [] are_keys = refl
+key_sizes hash keys contract path (party ∷ parties) are_keys =
+    let size : has_size 33 (key_in hash keys (branch_label contract path party)) ≡ true = rw (are_keys (branch_label contract path party)) refl in
+    and_from (has_size 33 (key_in hash keys (branch_label contract path party))) _ size (key_sizes hash keys contract path parties are_keys)
 
 core_well : (c : term.Guarded) (keys : List (List ℕ)) (hashes : List (List ℕ × List ℕ)) → 0 < length keys → list_all (has_size 33) keys ≡ true → IsSound hashes c → IsWell (demands_of c keys hashes)
 core_well c keys hashes some sizes s =
@@ -58,24 +58,24 @@ demands_at keys hashes k i [] = refl
 demands_at keys hashes k zero (b ∷ bs) = let e : k + 0 ≡ k = omega arith in rw e
 demands_at keys hashes k (suc i) (b ∷ bs) = let e : k + suc i ≡ k + 1 + i = omega arith in rw e (demands_at keys hashes (k + 1) i bs)
 
-module _ (keys : Label → List ℕ) (s : Instance) (position : List PathStep) where
+module _ (hash : List ℕ → List ℕ) (keys : Keys) (s : Instance) (position : List PathStep) where
   abbrev keys_at : ℕ → List (List ℕ)
-  keys_at i = branch_keys keys s (branch_path position i)
+  keys_at i = branch_keys hash keys s (branch_path position i)
 
   one_each : (i : ℕ) → length (keys_at i) ≡ length (people s)
-  one_each i = length-map (people s) (λ party. keys (branch_label s.contract (branch_path position i) party))
+  one_each i = length-map (people s) (λ party. key_in hash keys (branch_label s.contract (branch_path position i) party))
 
-  all_well : (i : ℕ) (bs : List term.Guarded) → AreKeys keys → 0 < length (people s) → AllSound s.hashes bs → AllWell (demands_from keys_at s.hashes i bs)
+  all_well : (i : ℕ) (bs : List term.Guarded) → AreKeys hash keys → 0 < length (people s) → AllSound s.hashes bs → AllWell (demands_from keys_at s.hashes i bs)
   all_well i [] are_keys some sound = tt
   all_well i (b ∷ bs) are_keys some sound = (
-    core_well (core b) (keys_at i) s.hashes (omega (arith, some, one_each i)) (key_sizes keys s.contract (branch_path position i) (people s) are_keys) sound.0,
+    core_well (core b) (keys_at i) s.hashes (omega (arith, some, one_each i)) (key_sizes hash keys s.contract (branch_path position i) (people s) are_keys) sound.0,
     all_well (i + 1) bs are_keys some sound.1,
   )
 
-  branch_demands : (choice : Contract) (i : ℕ) → slice_get (position_demands keys s position choice) i ≡ option_map (λ (b : term.Guarded). demands_of (core b) (keys_at i) s.hashes) (slice_get (branches choice) i)
-  branch_demands choice i = let e : 0 + i ≡ i = omega arith in subst (λ (j : ℕ). slice_get (position_demands keys s position choice) i ≡ option_map (λ (b : term.Guarded). demands_of (core b) (keys_at j) s.hashes) (slice_get (branches choice) i)) e (demands_at keys_at s.hashes 0 i (branches choice))
+  branch_demands : (choice : Contract) (i : ℕ) → slice_get (position_demands hash keys s position choice) i ≡ option_map (λ (b : term.Guarded). demands_of (core b) (keys_at i) s.hashes) (slice_get (branches choice) i)
+  branch_demands choice i = let e : 0 + i ≡ i = omega arith in subst (λ (j : ℕ). slice_get (position_demands hash keys s position choice) i ≡ option_map (λ (b : term.Guarded). demands_of (core b) (keys_at j) s.hashes) (slice_get (branches choice) i)) e (demands_at keys_at s.hashes 0 i (branches choice))
 
-  pub is_checked : (choice : Contract) → AreKeys keys → IsCompiled s position choice → IsChecked (position_demands keys s position choice)
+  pub is_checked : (choice : Contract) → AreKeys hash keys → IsCompiled s position choice → IsChecked (position_demands hash keys s position choice)
   is_checked choice are_keys c =
       let good = is_good s position choice c in
       let fits = and_parts (nat_le (cost (length (people s)) choice).bytes 10000) (nat_le (cost (length (people s)) choice).operations 201) good.fits in
@@ -88,8 +88,8 @@ module _ (keys : Label → List ℕ) (s : Instance) (position : List PathStep) w
 
   -- ---- what opens it
 
-  module _ (hash : List ℕ → List ℕ) (valid : List ℕ → List ℕ → Bool) (choice : Contract) where
-    opens_with : (stack : List (List ℕ)) (u : Unlocks hash valid (position_demands keys s position choice) stack) (o : Option term.Guarded) → slice_get (branches choice) u.i ≡ o → Some u.b ≡ option_map (λ (b : term.Guarded). demands_of (core b) (keys_at u.i) s.hashes) o → Opens hash keys valid s position choice stack
+  module _ (valid : List ℕ → List ℕ → Bool) (choice : Contract) where
+    opens_with : (stack : List (List ℕ)) (u : Unlocks hash valid (position_demands hash keys s position choice) stack) (o : Option term.Guarded) → slice_get (branches choice) u.i ≡ o → Some u.b ≡ option_map (λ (b : term.Guarded). demands_of (core b) (keys_at u.i) s.hashes) o → Opens hash keys valid s position choice stack
     opens_with stack u None at e = cc
     opens_with stack u (Some b) at e =
         let same : u.b ≡ demands_of (core b) (keys_at u.i) s.hashes = cc in
@@ -107,10 +107,10 @@ module _ (keys : Label → List ℕ) (s : Instance) (position : List PathStep) w
           signed = subst (λ (d : Demands). are_valid valid u.signatures d.keys ≡ true) same u.signed;
         }
 
-    pub opens_of : (stack : List (List ℕ)) → Unlocks hash valid (position_demands keys s position choice) stack → Opens hash keys valid s position choice stack
+    pub opens_of : (stack : List (List ℕ)) → Unlocks hash valid (position_demands hash keys s position choice) stack → Opens hash keys valid s position choice stack
     opens_of stack u = opens_with stack u (slice_get (branches choice) u.i) refl (sym u.is_branch ∙ branch_demands choice u.i)
 
-    pub unlocks_of : (stack : List (List ℕ)) → Opens hash keys valid s position choice stack → Unlocks hash valid (position_demands keys s position choice) stack
+    pub unlocks_of : (stack : List (List ℕ)) → Opens hash keys valid s position choice stack → Unlocks hash valid (position_demands hash keys s position choice) stack
     unlocks_of stack o =
         record {
           i = o.i;
@@ -126,17 +126,17 @@ module _ (keys : Label → List ℕ) (s : Instance) (position : List PathStep) w
           signed = o.signed;
         }
 
-    pub opens_exactly : (stack : List (List ℕ)) → AreKeys keys → IsCompiled s position choice → list_all is_short stack ≡ true → OpensExactly hash keys valid s position choice stack
+    pub opens_exactly : (stack : List (List ℕ)) → AreKeys hash keys → IsCompiled s position choice → list_all is_short stack ≡ true → OpensExactly hash keys valid s position choice stack
     unfolding position_script
     opens_exactly stack are_keys c short =
-        let u = says hash valid (position_demands keys s position choice) stack (is_checked choice are_keys c) short in
+        let u = says hash valid (position_demands hash keys s position choice) stack (is_checked choice are_keys c) short in
         record { true_opens = λ h. opens_of (reverse stack) (u.true_unlocks h); opens_true = λ o. u.unlocks_true (unlocks_of (reverse stack) o) }
 
-  pub cost_is : (choice : Contract) → AreKeys keys → IsCompiled s position choice → HasCost keys s position choice
+  pub cost_is : (choice : Contract) → AreKeys hash keys → IsCompiled s position choice → HasCost hash keys s position choice
   unfolding position_script
   cost_is choice are_keys c =
       let checked = is_checked choice are_keys c in
-      let size = has_cost (position_demands keys s position choice) checked in
+      let size = has_cost (position_demands hash keys s position choice) checked in
       record {
         bytes = size.bytes ∙ bytes_are (length (people s)) keys_at s.hashes one_each choice;
         operations = size.operations ∙ operations_are (length (people s)) keys_at s.hashes one_each choice;
@@ -145,17 +145,17 @@ module _ (keys : Label → List ℕ) (s : Instance) (position : List PathStep) w
         spells = size.spells;
       }
 
-  pub no_limit_met : (hash : List ℕ → List ℕ) (choice : Contract) → AreKeys keys → IsCompiled s position choice → MeetsNoLimit hash keys s position choice
+  pub no_limit_met : (choice : Contract) → AreKeys hash keys → IsCompiled s position choice → MeetsNoLimit hash keys s position choice
   unfolding position_script
-  no_limit_met hash choice are_keys c =
+  no_limit_met choice are_keys c =
       let checked = is_checked choice are_keys c in
       let size = cost_is choice are_keys c in
-      let kept = keeps_limits (position_demands keys s position choice) checked in
+      let kept = keeps_limits (position_demands hash keys s position choice) checked in
       record {
         bytes = size.few_bytes;
         reads = size.spells;
         limits = kept.limits;
         few = kept.few;
-        means = λ valid stack. script_means hash valid (position_script keys s position choice) (ops_at keys s position choice) stack
+        means = λ valid stack. script_means hash valid (position_script hash keys s position choice) (ops_at hash keys s position choice) stack
             size.few_bytes size.spells kept.limits;
       }

@@ -9,7 +9,7 @@ use Rattle.spec_terms.specs.Paths as paths
 use Rattle.spec_terms.specs.Paths.{Subterm, below, next_subterm, subterm_from, as_contract}
 use Rattle.spec_terms.specs.declared.path.PathStep.{PathStep}
 use Rattle.spec_terms.specs.declared.path.PathStep.TheVariants.{Branch as To, Part as Into}
-use Rattle.spec_bitcoin.specs.declared.label.Label.{Label}
+use Rattle.spec_compiler.specs.Keyed.Keys.{Keys}
 use Rattle.spec_compiler.specs.Keyed.Instance.{Instance, branch_path, position_script}
 use Rattle.spec_compiler.specs.declared.unsigned.Unsigned.{Unsigned}
 use Rattle.spec_compiler.specs.Keyed.Transactions.{Standing, branch_unsigned, part_position, part_standing, root_standing}
@@ -19,7 +19,7 @@ use Rattle.theory_script.specs.Keyed.Listed.{StandsAt}
 pub some_same : {X : Type 0} {x y : X} → Some x ≡ Some y → x ≡ y
 some_same e = cc
 
-module _ (hash : List ℕ → List ℕ) (keys : Label → List ℕ) (s : Instance) where
+module _ (hash : List ℕ → List ℕ) (keys : Keys) (s : Instance) where
   -- ---- one more step at the end
 
   pub last_step : (o : Option PathEnd) → option_and_then (λ (q : PathEnd). end_from hash keys s q []) o ≡ o
@@ -38,7 +38,7 @@ module _ (hash : List ℕ → List ℕ) (keys : Label → List ℕ) (s : Instanc
 
   -- what stands there agrees with the term, and lies at the path
   abbrev pub Agrees : List PathStep → PathEnd → Subterm → Type 0
-  Agrees path (at_position here choice) (paths.position c) = (here.position ≡ path) × (choice ≡ c) × (here.output.script ≡ position_script keys s path choice)
+  Agrees path (at_position here choice) (paths.position c) = (here.position ≡ path) × (choice ≡ c) × (here.output.script ≡ position_script hash keys s path choice)
   Agrees path (at_position here choice) (paths.at_branch b) = ⊥
   Agrees path (at_branch here i d) (paths.position c) = ⊥
   Agrees path (at_branch here i d) (paths.at_branch b) = (branch_path here.position i ≡ path) × (d ≡ b)
@@ -106,23 +106,23 @@ module _ (hash : List ℕ → List ℕ) (keys : Label → List ℕ) (s : Instanc
 
   -- ---- positions
 
-  stands_on : (path : List PathStep) (h here : Standing) (i : ℕ) (d c : term.Guarded) (choice : Contract) → branch_path h.position i ≡ path → continued_end hash keys s h i d c ≡ Some (here, choice) → (here.position ≡ path) × (continuation c ≡ Some choice) × (here.output.script ≡ position_script keys s path choice)
+  stands_on : (path : List PathStep) (h here : Standing) (i : ℕ) (d c : term.Guarded) (choice : Contract) → branch_path h.position i ≡ path → continued_end hash keys s h i d c ≡ Some (here, choice) → (here.position ≡ path) × (continuation c ≡ Some choice) × (here.output.script ≡ position_script hash keys s path choice)
   stands_on path h here i d (put_reveal puts reveals test next) choice e k =
       let p = some_same k in
-      (ap (λ (x : Standing × Contract). x.0.position) (sym p) ∙ e, ap (λ (x : Standing × Contract). Some (x.1)) p, ap (λ (x : Standing × Contract). x.0.output.script) (sym p) ∙ ap (λ (q : List PathStep). position_script keys s q next) e ∙ ap (λ (x : Standing × Contract). position_script keys s path (x.1)) p)
+      (ap (λ (x : Standing × Contract). x.0.position) (sym p) ∙ e, ap (λ (x : Standing × Contract). Some (x.1)) p, ap (λ (x : Standing × Contract). x.0.output.script) (sym p) ∙ ap (λ (q : List PathStep). position_script hash keys s q next) e ∙ ap (λ (x : Standing × Contract). position_script hash keys s path (x.1)) p)
   stands_on path h here i d (withdraw party) choice e k = cc
   stands_on path h here i d (split parts) choice e k = cc
   stands_on path h here i d (auth party body) choice e k = cc
   stands_on path h here i d (after height body) choice e k = cc
 
-  stands_if : (path : List PathStep) (here : Standing) (choice : Contract) (o : Option PathEnd) (u : Option Subterm) → IfAgrees path o u → option_and_then (as_position hash keys s) o ≡ Some (here, choice) → (here.position ≡ path) × (option_and_then as_contract u ≡ Some choice) × (here.output.script ≡ position_script keys s path choice)
+  stands_if : (path : List PathStep) (here : Standing) (choice : Contract) (o : Option PathEnd) (u : Option Subterm) → IfAgrees path o u → option_and_then (as_position hash keys s) o ≡ Some (here, choice) → (here.position ≡ path) × (option_and_then as_contract u ≡ Some choice) × (here.output.script ≡ position_script hash keys s path choice)
   stands_if path here choice None u h e = cc
   stands_if path here choice (Some p) None h e = absurd h
   stands_if path here choice (Some (at_position x c)) (Some (paths.position y)) h e =
       let p = some_same e in (
         ap (λ (z : Standing × Contract). z.0.position) (sym p) ∙ h.0,
         ap Some (sym h.1 ∙ ap (λ (z : Standing × Contract). z.1) p),
-        ap (λ (z : Standing × Contract). z.0.output.script) (sym p) ∙ h.2 ∙ ap (λ (z : Standing × Contract). position_script keys s path (z.1)) p,
+        ap (λ (z : Standing × Contract). z.0.output.script) (sym p) ∙ h.2 ∙ ap (λ (z : Standing × Contract). position_script hash keys s path (z.1)) p,
       )
   stands_if path here choice (Some (at_position x c)) (Some (paths.at_branch b)) h e = absurd h
   stands_if path here choice (Some (at_branch x i d)) (Some (paths.position y)) h e = absurd h

@@ -11,7 +11,7 @@ use Rattle.spec_terms.specs.Paths.{path_eq}
 use Rattle.spec_terms.specs.PathSameness.{path_eq-Decides}
 use Rattle.spec_terms.specs.declared.path.PathStep.{PathStep}
 use Rattle.spec_terms.specs.declared.path.PathStep.TheVariants.{Branch as To, Part as Into}
-use Rattle.spec_bitcoin.specs.declared.label.Label.{Label}
+use Rattle.spec_compiler.specs.Keyed.Keys.{Keys}
 use Rattle.spec_compiler.specs.declared.prepared.Prepared.{Prepared}
 use Rattle.spec_compiler.specs.Keyed.Instance.{Instance, branch_path}
 use Rattle.spec_compiler.specs.declared.unsigned.Unsigned.{Unsigned}
@@ -81,7 +81,7 @@ within_same xs = record { has = λ path h. h }
 
 -- ---- each transaction of the list is right
 
-module _ (hash : List ℕ → List ℕ) (keys : Label → List ℕ) (s : Instance) where
+module _ (hash : List ℕ → List ℕ) (keys : Keys) (s : Instance) where
   one_further : (path : List PathStep) (step : PathStep) (here : PathEnd) → end_at hash keys s path ≡ Some here → end_at hash keys s (path ++ step ∷ []) ≡ next_end hash keys s step here
   one_further path step here h = end_from-step hash keys s (at_position (root_standing hash keys s) s.advert.root) path step ∙ ap (option_and_then (next_end hash keys s step)) h
 

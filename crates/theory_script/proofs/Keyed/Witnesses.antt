@@ -6,8 +6,8 @@ use Rattle.std.proofs.lemmas.Bool.{and_parts, and_from}
 use Rattle.std.proofs.lemmas.List.{reverse-append, reverse-reverse}
 use Rattle.spec_terms.specs.Term.{Contract, branches}
 use Rattle.spec_terms.specs.declared.path.PathStep.{PathStep}
-use Rattle.spec_bitcoin.specs.declared.label.Label.{Label}
 use Rattle.spec_bitcoin.specs.Meaning.{script_meaning}
+use Rattle.spec_compiler.specs.Keyed.Keys.{Keys}
 use Rattle.spec_compiler.specs.Keyed.Instance.{Instance, position_script}
 use Rattle.spec_compiler.specs.Witness.{selectors, witness_stack}
 use Rattle.spec_compiler.specs.Keyed.Statements.{is_secret, are_secrets, is_short, AreKeys, IsCompiled, Opens, Fills}
@@ -50,7 +50,7 @@ stack_short signatures strings i n h k =
 
 -- ---- it opens
 
-pub witness_opens : (hash : List ℕ → List ℕ) (keys : Label → List ℕ) (valid : List ℕ → List ℕ → Bool) (s : Instance) (position : List PathStep) (choice : Contract) (i : ℕ) (signatures strings : List (List ℕ)) → AreKeys keys → IsCompiled s position choice → Fills hash keys valid s position choice i signatures strings → script_meaning hash valid (position_script keys s position choice) (witness_stack signatures strings i (length (branches choice))) ≡ true
+pub witness_opens : (hash : List ℕ → List ℕ) (keys : Keys) (valid : List ℕ → List ℕ → Bool) (s : Instance) (position : List PathStep) (choice : Contract) (i : ℕ) (signatures strings : List (List ℕ)) → AreKeys hash keys → IsCompiled s position choice → Fills hash keys valid s position choice i signatures strings → script_meaning hash valid (position_script hash keys s position choice) (witness_stack signatures strings i (length (branches choice))) ≡ true
 witness_opens hash keys valid s position choice i signatures strings are_keys c f =
     let short = stack_short signatures strings i (length (branches choice)) f.short (secrets_short hash strings _ f.fits) in
     let opens : Opens hash keys valid s position choice (reverse (witness_stack signatures strings i (length (branches choice)))) = record {
@@ -66,4 +66,4 @@ witness_opens hash keys valid s position choice i signatures strings are_keys c 
       predicate = f.predicate;
       signed = f.signed;
     } in
-    (opens_exactly keys s position hash valid choice (witness_stack signatures strings i (length (branches choice))) are_keys c short).opens_true opens
+    (opens_exactly hash keys s position valid choice (witness_stack signatures strings i (length (branches choice))) are_keys c short).opens_true opens

@@ -2,7 +2,7 @@
 use Rattle.std.proofs.Common.{◌≡◌, ℕ, List}
 use Rattle.std.specs.Option.{option_map}
 use Rattle.spec_terms.specs.declared.path.PathStep.{PathStep}
-use Rattle.spec_bitcoin.specs.Keys.{key_of}
+use Rattle.spec_compiler.specs.Keyed.Keys.{by_plan}
 use Rattle.spec_compiler.specs.Instance.{Instance}
 use Rattle.spec_compiler.specs.Compilation.{scripts}
 use Rattle.spec_compiler.specs.ByPath.{position_at}
@@ -11,4 +11,4 @@ use Rattle.theory_script.proofs.Keyed.OutputScripts as keyed
 
 pub scripts_are_listed : (hash : List ℕ → List ℕ) (s : Instance) (position : List PathStep)
     → at_path position (scripts hash s) ≡ option_map (λ p. p.0.output.script) (position_at hash s position)
-scripts_are_listed hash = keyed.scripts_are_listed hash (key_of hash)
+scripts_are_listed hash = keyed.scripts_are_listed hash by_plan

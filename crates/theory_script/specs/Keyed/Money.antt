@@ -8,7 +8,7 @@ use Rattle.spec_terms.specs.Advert.{Advert}
 use Rattle.spec_terms.specs.Core.{core}
 use Rattle.spec_terms.specs.Faults.{IsWellFormed}
 use Rattle.spec_terms.specs.declared.path.PathStep.{PathStep}
-use Rattle.spec_bitcoin.specs.declared.label.Label.{Label}
+use Rattle.spec_compiler.specs.Keyed.Keys.{Keys}
 use Rattle.spec_compiler.specs.declared.unsigned.Unsigned.{Unsigned}
 use Rattle.spec_compiler.specs.Keyed.Instance.{Instance}
 use Rattle.spec_compiler.specs.Keyed.Transactions.{Standing, initial_unsigned}
@@ -28,7 +28,7 @@ abbrev pub IsKept : Advert → Unsigned → Type 0
 IsKept advert d = paid_out d + advert.fee ≡ paid_in d
 
 -- every transaction of the contract keeps its money; every position holds exactly its static balance, and pays for each of its branches
-pub record KeepsMoney (hash : List ℕ → List ℕ) (keys : Label → List ℕ) (s : Instance) : Type 0 where
+pub record KeepsMoney (hash : List ℕ → List ℕ) (keys : Keys) (s : Instance) : Type 0 where
   pub initial : IsKept s.advert (initial_unsigned hash keys s)
   pub paths : (path : List PathStep) (d : Unsigned) → unsigned_at hash keys s path ≡ Some d → IsKept s.advert d
   pub static : (position : List PathStep) (here : Standing) (contract : Contract) → position_at hash keys s position ≡ Some (here, contract)
@@ -39,4 +39,4 @@ pub record KeepsMoney (hash : List ℕ → List ℕ) (keys : Label → List ℕ)
 
 -- of every contract that passed the check
 abbrev pub MoneyIsKept : Type 0
-MoneyIsKept = (hash : List ℕ → List ℕ) (keys : Label → List ℕ) (s : Instance) → IsWellFormed s.advert → KeepsMoney hash keys s
+MoneyIsKept = (hash : List ℕ → List ℕ) (keys : Keys) (s : Instance) → IsWellFormed s.advert → KeepsMoney hash keys s

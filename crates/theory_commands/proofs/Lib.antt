@@ -15,3 +15,4 @@ pub mod ShownAuto
 pub mod ShownPsbt
 pub mod Commands
 pub mod Causes
+pub mod Words

@@ -1,8 +1,10 @@
 -- What `psbt` shows of a contract's transaction holds it with the signatures that are there.
-use Rattle.std.proofs.Common.{◌≡◌, ℕ, ◌≤◌, Bool, true, false, List, [], ◌∷◌, length, Some, None, refl, ap, ◌∙◌, arith}
+use Rattle.std.proofs.Common.{◌≡◌, ℕ, ◌≤◌, Bool, true, false, List, [], ◌∷◌, length, Option, Some, None, refl, ap, ◌∙◌, arith}
 use Rattle.std.specs.Prelude.{if◌then◌else◌, nat_le}
+use Rattle.std.specs.Option.{option_map_or}
 use Rattle.std.proofs.lemmas.Bool.Decides.{nat_tests}
 use Rattle.spec_terms.specs.Advert.{Advert}
+use Rattle.spec_bitcoin.specs.Keys.{key_of}
 use Rattle.spec_compiler.specs.Instance.{Instance}
 use Rattle.spec_run.specs.declared.event.Event.{Event}
 use Rattle.spec_run.specs.declared.event.Run.{Run}
@@ -14,8 +16,9 @@ use Rattle.spec_run.specs.World.{World}
 use Rattle.spec_tool.specs.declared.which.Which.{Which}
 use Rattle.spec_tool.specs.Answers.{with_contract, if_whole, printed_of}
 use Rattle.spec_tool.specs.Commands.{prints, setup_of}
-use Rattle.spec_tool.specs.Listed.{Listed}
-use Rattle.spec_tool.specs.PsbtText.{has_transaction, no_path_line, not_compiled_line, setting_psbt, psbt_text, listed_psbt}
+use Rattle.spec_tool.specs.Listed.{Listed, listed_at}
+use Rattle.spec_tool.specs.PsbtText.{has_transaction, no_path_line, not_compiled_line, setting_psbt, psbt_line, psbt_text}
+use Rattle.spec_tool.specs.PsbtText.{listed_psbt}
 use Rattle.spec_tool.specs.Reads.{Text, text_at}
 use Rattle.spec_tool.specs.Sizes.{most_psbt_bytes}
 use Rattle.theory_listed.specs.InRuns.{IsReadBack}
@@ -67,6 +70,20 @@ module _ (which : Which) (s : Setup) (es : List Event) where
       (compiled_instance s (last_world s es) 0) else no_path_line which) e
       ∙ ap (setting_psbt s.hash (last_world s es).book which) c
 
+  unlisted_is : (instance : Instance) → compiled_instance s (last_world s es) 0 ≡ Some instance → listed_at s.hash instance which ≡ None
+      → psbt_text which s es ≡ no_path_line which
+  unfolding psbt_text
+  unlisted_is instance c e = by_path (has_transaction (contract_at s 0) which)
+    where
+      by_path : (b : Bool)
+          → (if b then setting_psbt s.hash (last_world s es).book which (compiled_instance s (last_world s es) 0) else no_path_line which)
+          ≡ no_path_line which
+      by_path false = refl
+      by_path true =
+          ap (setting_psbt s.hash (last_world s es).book which) c
+          ∙ ap (λ (o : Option Listed). option_map_or (λ l. psbt_line (listed_psbt s.hash (last_world s es).book l))
+          o (no_path_line which)) e
+
 module _ (hash : List ℕ → List ℕ) (bytes : HashesBytes hash) (which : Which) where
   module _ (run_text contract_text : Text) (run : Run) (advert : Advert)
       (h : HoldsRun run_text run) (k : HoldsContract contract_text advert) where
@@ -80,10 +97,11 @@ module _ (hash : List ℕ → List ℕ) (bytes : HashesBytes hash) (which : Whic
     which_shown u = record {
       compiled = λ l c.
           prints_listed s (last_world s es) c.instance which l (psbt_text which s es)
-          (signers_for_each hash c.instance which l c.named)
+          (signers_for_each hash (key_of hash) c.instance which l c.named)
           ((listed_read s es (is_run hash bytes run_text contract_text run advert h k (calm s es u).opens)).last
           c.instance which l c.compiled c.named);
       no_path = λ e. ap (prints 0) (no_path_is which s es e);
+      unlisted = λ instance c e. ap (prints 0) (unlisted_is which s es instance c e);
       not_compiled = λ e c. ap (prints 0) (not_compiled_is which s es e c);
     }
 

@@ -13,7 +13,8 @@ use Rattle.spec_tool.specs.declared.psbt.PsbtInput.{PsbtInput}
 use Rattle.spec_tool.specs.Listed.{Listed}
 use Rattle.spec_tool.specs.Psbt.{Pairing, is_before, insert_signature, is_psbt}
 use Rattle.spec_tool.specs.PsbtText.{signatures_there, signed_input, signed_inputs, listed_psbt}
-use Rattle.theory_calculus.proofs.Members.{Is_in, in_from_contains, contains_from_in}
+use Rattle.theory_calculus.specs.Members.{Is_in}
+use Rattle.theory_calculus.proofs.Members.{in_from_contains, contains_from_in}
 use Rattle.theory_commands.specs.Shown.Psbt.{signature_by, AreSigned, SpendsOutput}
 
 -- ---- signatures among others

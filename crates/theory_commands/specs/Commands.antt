@@ -1,8 +1,9 @@
 -- What each command shows, from the texts of its files to what it prints.
-use Rattle.std.specs.Prelude.{ℕ, List}
+use Rattle.std.specs.Prelude.{◌≡◌, ℕ, ◌≤◌, List, Some}
 use Rattle.spec_run.specs.Conditions.{HashesBytes}
 use Rattle.spec_tool.specs.Answers.{text_answer}
 use Rattle.spec_tool.specs.Commands.{Command, check, play, plan, make, psbt_of, psbt_shown, psbt_joined, weigh, audit, auto, Printed}
+use Rattle.spec_tool.specs.Commands.{most_size, command_of}
 use Rattle.spec_tool.specs.Reads.{Text, text_at}
 use Rattle.theory_commands.specs.Files.{ShowsPlayed}
 use Rattle.theory_commands.specs.Shown.Audit.{ShowsAudit}
@@ -32,3 +33,7 @@ ShowsCommand hash (auto run contract strategy) texts printed =
 abbrev pub CommandsShow : Type 0
 CommandsShow = (hash : List ℕ → List ℕ) → HashesBytes hash → (command : Command) (texts : List Text)
     → ShowsCommand hash command texts (text_answer hash command texts)
+
+-- the size of `make` in words that are a command is one that it takes
+abbrev pub MadeSizesAreTaken : Type 0
+MadeSizesAreTaken = (words : List (List ℕ)) (number size : ℕ) → command_of words ≡ Some (make number size) → size ≤ most_size

@@ -3,7 +3,7 @@
 #![tactic(auto)]
 
 ghost use Rattle.theory_commands.specs.Causes.{CausesInFiles};
-ghost use Rattle.theory_commands.specs.Commands.{CommandsShow};
+ghost use Rattle.theory_commands.specs.Commands.{CommandsShow, MadeSizesAreTaken};
 ghost use Rattle.theory_commands.specs.ContractFiles.{ContractsAreRead};
 ghost use Rattle.theory_commands.specs.PsbtFiles.{PsbtFilesAreRead};
 ghost use Rattle.theory_commands.specs.RunFiles.{RunFilesAreRead};
@@ -79,4 +79,9 @@ pub fn commands_show()
 /// or what is judged or tried after it.
 pub fn causes_are_in_files()
     ensures { CausesInFiles }
+{}
+
+/// The size of `make` in words that are a command is one for which the theorems on made runs hold.
+pub fn made_sizes_are_taken()
+    ensures { MadeSizesAreTaken }
 {}

@@ -3,6 +3,7 @@ use Rattle.std.specs.Prelude.{◌≡◌, ℕ, ◌≤◌, List, length, true, fal
 use Rattle.std.specs.List.{Contains}
 use Rattle.spec_bitcoin.specs.declared.label.Label.{Label}
 use Rattle.spec_bitcoin.specs.Keys.{key_of, signature_of, has_signed}
+use Rattle.spec_compiler.specs.Instance.{Instance}
 use Rattle.spec_compiler.specs.declared.unsigned.Spent.{Spent}
 use Rattle.spec_compiler.specs.Transactions.{tx_of, digest_of_spent, pays}
 use Rattle.spec_run.specs.declared.event.Event.{Event}
@@ -13,7 +14,7 @@ use Rattle.spec_run.specs.World.{World}
 use Rattle.spec_tool.specs.declared.psbt.PsbtInput.{PsbtInput}
 use Rattle.spec_tool.specs.declared.which.Which.{Which}
 use Rattle.spec_tool.specs.Commands.{Printed, prints}
-use Rattle.spec_tool.specs.Listed.{Listed}
+use Rattle.spec_tool.specs.Listed.{Listed, listed_at}
 use Rattle.spec_tool.specs.Psbt.{Psbt, Pairing, is_psbt}
 use Rattle.spec_tool.specs.PsbtText.{has_transaction, no_path_line, not_compiled_line}
 use Rattle.spec_tool.specs.Sizes.{most_psbt_bytes}
@@ -86,8 +87,10 @@ pub record PrintsPsbt (s : Setup) (w : World) (l : Listed) (printed : Printed) :
 pub record ShowsWhich (which : Which) (s : Setup) (w : World) (printed : Printed) : Type 0 where
   -- the compiled one
   pub compiled : (l : Listed) → IsCompiled s w 0 which l → PrintsPsbt s w l printed
-  -- none, where the contract has no such path
+  -- none, where the contract has no such path, compiled or not
   pub no_path : has_transaction (contract_at s 0) which ≡ false → printed ≡ prints 0 (no_path_line which)
+  pub unlisted : (instance : Instance) → compiled_instance s w 0 ≡ Some instance → listed_at s.hash instance which ≡ None
+      → printed ≡ prints 0 (no_path_line which)
   -- none yet
   pub not_compiled : has_transaction (contract_at s 0) which ≡ true → compiled_instance s w 0 ≡ None
       → printed ≡ prints 0 not_compiled_line

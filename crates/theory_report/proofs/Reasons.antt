@@ -14,6 +14,7 @@ use Rattle.spec_text.specs.Words.{◌>>=◌, a_name, all_of}
 use Rattle.spec_text.specs.RunText.{output_text, outputs_text}
 use Rattle.spec_text.specs.OutcomeText.{reason_text, with_name, with_number, accepted_text}
 use Rattle.theory_text.proofs.Options.{some}
+use Rattle.theory_report.specs.Lines.{a_party}
 use Rattle.theory_report.specs.Lines.{Words, number, an_output, pairs_of, cut_at, one_number}
 use Rattle.theory_report.specs.Lines.{plain_reasons, named_reasons, numbered_reasons, reason_of, accepted_of}
 use Rattle.theory_report.specs.Printable.{IsWide, IsNamed, IsReason}
@@ -21,7 +22,7 @@ use Rattle.theory_report.proofs.LineWords.{ArePlain, known_word, is_plain_word, 
 use Rattle.theory_report.proofs.LineWords.{plain_append, plain_map, plain_pairs}
 use Rattle.theory_report.proofs.Paths.{path_back, path_plain}
 use Rattle.theory_report.proofs.WordsBack.{number_back, number_plain, number_begins, output_back, output_plain, no_number}
-use Rattle.theory_report.proofs.WordsBack.{name_back, name_plain, name_begins, all_back, pairs_back, NoneIs, cut_back}
+use Rattle.theory_report.proofs.WordsBack.{party_back, party_plain, name_plain, name_begins, all_back, pairs_back, NoneIs, cut_back}
 
 -- ---- reasons
 
@@ -79,9 +80,9 @@ reason_read (reason.NotEndorsed place party) h = record {
   word = codes "NotEndorsed";
   words = path_text place ∷ party ∷ [];
   are = refl;
-  plain = (known_word (codes "NotEndorsed") refl, (path_plain place h.0, (name_plain party h.1, tt)));
-  back = ap (λ o. o >>= λ q. a_name party >>= λ a. some (reason.NotEndorsed q a)) (path_back place h.0)
-      ∙ ap (λ o. o >>= λ a. some (reason.NotEndorsed place a)) (name_back party h.1);
+  plain = (known_word (codes "NotEndorsed") refl, (path_plain place h.0, (party_plain party h.1, tt)));
+  back = ap (λ o. o >>= λ q. a_party party >>= λ a. some (reason.NotEndorsed q a)) (path_back place h.0)
+      ∙ ap (λ o. o >>= λ a. some (reason.NotEndorsed place a)) (party_back party h.1);
 }
 reason_read reason.NotActive h = plain_reason _ (codes "NotActive") refl refl refl
 reason_read reason.NoBranch h = plain_reason _ (codes "NoBranch") refl refl refl

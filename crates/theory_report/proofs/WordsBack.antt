@@ -24,7 +24,8 @@ use Rattle.theory_text.proofs.Lines.PrintedWords.{same_bytes}
 use Rattle.theory_text.proofs.Lines.Separated.{Lacks, lacks_append, part_last, part_more}
 use Rattle.theory_generator.proofs.NumberWords.{amount_back}
 use Rattle.theory_report.specs.Lines.{number, an_output, begins_number, an_owner, a_length, pairs_of, cut_at, digit_value, by_digits, Words}
-use Rattle.theory_report.specs.Printable.{IsWide, IsNamed, IsOwner, IsLength}
+use Rattle.theory_report.specs.Lines.{a_party}
+use Rattle.theory_report.specs.Printable.{IsParty, IsWide, IsNamed, IsOwner, IsLength}
 use Rattle.theory_report.proofs.LineWords.{is_blank, IsPlain, plain_word, known_word, pair_words}
 
 -- ---- numbers and outputs
@@ -63,6 +64,14 @@ name_back name h = rw h refl
 
 pub name_plain : (name : List ℕ) → IsNamed name → IsPlain name
 name_plain name h = plain_word name (name_line name h)
+
+pub party_back : (party : List ℕ) → IsParty party → a_party party ≡ some party
+party_back [] h = refl
+party_back (b ∷ bytes) h = name_back (b ∷ bytes) h
+
+pub party_plain : (party : List ℕ) → IsParty party → IsPlain party
+party_plain [] h = record { spaces = tt; ends = tt }
+party_plain (b ∷ bytes) h = name_plain (b ∷ bytes) h
 
 letter_no_digit : (b : ℕ) → is_letter b ≡ true → is_digit b ≡ false
 letter_no_digit b h = grind (arith, nat_tests)

@@ -81,6 +81,11 @@ abbrev pub one_number : Words → Option ℕ
 one_number (word ∷ []) = number word
 one_number _ = None
 
+-- a party, or nobody
+abbrev pub a_party : List ℕ → Option (List ℕ)
+a_party [] = Some []
+a_party (b ∷ bytes) = a_name (b ∷ bytes)
+
 -- two words at a time
 abbrev pub pairs_of : {A B : Type 0} → (List ℕ → Option A) → (List ℕ → Option B) → Words → Option (List (A × B))
 pairs_of first second [] = Some []
@@ -140,7 +145,7 @@ reason_of (word ∷ shown ∷ []) =
     if begins_number shown then (look_up word numbered_reasons >>= λ make. number shown >>= λ n. Some (make n))
     else (look_up word named_reasons >>= λ make. a_name shown >>= λ x. Some (make x))
 reason_of (word ∷ place ∷ party ∷ []) =
-    if bytes_eq word (codes "NotEndorsed") then (path place >>= λ q. a_name party >>= λ a. Some (reason.NotEndorsed q a)) else None
+    if bytes_eq word (codes "NotEndorsed") then (path place >>= λ q. a_party party >>= λ a. Some (reason.NotEndorsed q a)) else None
 reason_of _ = None
 
 -- ---- outcomes

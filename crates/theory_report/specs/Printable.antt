@@ -94,6 +94,11 @@ abbrev pub IsLength : Option ℕ → Type 0
 IsLength None = Unit {0}
 IsLength (Some n) = IsWide n
 
+-- a party, or nobody
+abbrev pub IsParty : List ℕ → Type 0
+IsParty [] = Unit {0}
+IsParty (b ∷ bytes) = IsNamed (b ∷ bytes)
+
 abbrev pub IsReason : Reason → Type 0
 IsReason (reason.DepositRepeated x) = IsNamed x
 IsReason (reason.NotLive x) = IsNamed x
@@ -101,7 +106,7 @@ IsReason (reason.WrongDeposit x) = IsNamed x
 IsReason (reason.NoSecret a) = IsNamed a
 IsReason (reason.BadSecretLength a) = IsNamed a
 IsReason (reason.HashRepeated a) = IsNamed a
-IsReason (reason.NotEndorsed path party) = AllByRecursion IsStep path × IsNamed party
+IsReason (reason.NotEndorsed path party) = AllByRecursion IsStep path × IsParty party
 IsReason (reason.NotLiveOutput n) = IsWide n
 IsReason (reason.NotOwnerOutput n) = IsWide n
 IsReason (reason.BadTx place) = IsWide place

@@ -1,6 +1,6 @@
 -- The transactions of a compiled contract, each with what it spends and the labels whose keys sign its inputs, input by input. The keys
 -- are any.
-use Rattle.std.specs.Prelude.{ℕ, List, [], ◌∷◌, map, Bool, true, false, Option, Some}
+use Rattle.std.specs.Prelude.{ℕ, List, [], ◌∷◌, map, Bool, true, false, Option, Some, codes}
 use Rattle.std.specs.Option.{option_map, option_map_or}
 use Rattle.spec_terms.specs.Term as term
 use Rattle.spec_terms.specs.Advert.{Advert}
@@ -9,6 +9,7 @@ use Rattle.spec_terms.specs.Parties.{participants}
 use Rattle.spec_terms.specs.Paths.{at, path_eq}
 use Rattle.spec_terms.specs.Precondition.{persistent}
 use Rattle.spec_terms.specs.declared.path.PathStep.{PathStep}
+use Rattle.spec_bitcoin.specs.declared.label.Label.{Label}
 use Rattle.spec_bitcoin.specs.declared.label.Label.TheVariants as labels
 use Rattle.spec_bitcoin.specs.Keys.{path_text}
 use Rattle.spec_compiler.specs.Keyed.Keys.{Keys}
@@ -20,7 +21,6 @@ use Rattle.spec_compiler.specs.Keyed.ByPath.{unsigned_at}
 use Rattle.spec_compiler.specs.Keyed.Endorsements.{put_owner}
 use Rattle.spec_tool.specs.declared.which.Which.{Which}
 use Rattle.spec_tool.specs.declared.which.Which.TheVariants as names
-use Rattle.std.specs.Prelude.{codes}
 
 -- a transaction by its name, what it does, and for each of its inputs the labels whose keys sign it
 pub record Listed : Type 0 where

@@ -5,10 +5,12 @@ use Rattle.spec_tool.specs.Commands.{Command}
 use Rattle.spec_tool.specs.Answers.{tool_answer, read_answer, text_answer}
 use Rattle.spec_tool.specs.Causes.{CausesTheorem}
 use Rattle.theory_tool.specs.Statuses.{StatusesTheorem}
+use Rattle.theory_commands.specs.Causes.{CausesInFiles}
 use Rattle.bitml_headline.specs.Headline.{HasCauses, CausedByTexts, Caused}
 
-has_causes : CausesTheorem → StatusesTheorem → (hash : List ℕ → List ℕ) (command : Command) (texts : List Text) → HasCauses hash command texts (text_answer hash command texts).status
-has_causes causes statuses hash command texts = record {
+has_causes : CausesTheorem → StatusesTheorem → CausesInFiles → (hash : List ℕ → List ℕ) (command : Command) (texts : List Text)
+    → HasCauses hash command texts (text_answer hash command texts).status
+has_causes causes statuses files hash command texts = record {
   whole = statuses.whole hash command texts;
   contract_refused = causes.contract_refused hash command texts;
   run_refused = causes.run_refused hash command texts;
@@ -17,12 +19,15 @@ has_causes causes statuses hash command texts = record {
   psbt_refused = causes.psbt_refused hash command texts;
   audit_refused = statuses.audit_refused hash command texts;
   strategy_refused = statuses.strategy_refused hash command texts;
+  in_files = files hash command texts;
 }
 
-by_texts : CausesTheorem → StatusesTheorem → (hash : List ℕ → List ℕ) (command : Command) (o : Option (List Text)) → CausedByTexts hash command o (read_answer hash command o)
-by_texts causes statuses hash command None = (refl, refl)
-by_texts causes statuses hash command (Some texts) = has_causes causes statuses hash command texts
+by_texts : CausesTheorem → StatusesTheorem → CausesInFiles → (hash : List ℕ → List ℕ) (command : Command) (o : Option (List Text))
+    → CausedByTexts hash command o (read_answer hash command o)
+by_texts causes statuses files hash command None = (refl, refl)
+by_texts causes statuses files hash command (Some texts) = has_causes causes statuses files hash command texts
 
-pub caused : CausesTheorem → StatusesTheorem → (hash : List ℕ → List ℕ) (command : Option Command) (reads : List Read) → Caused hash command reads (tool_answer hash command reads)
-caused causes statuses hash None reads = refl
-caused causes statuses hash (Some command) reads = by_texts causes statuses hash command (texts_read reads)
+pub caused : CausesTheorem → StatusesTheorem → CausesInFiles → (hash : List ℕ → List ℕ) (command : Option Command) (reads : List Read)
+    → Caused hash command reads (tool_answer hash command reads)
+caused causes statuses files hash None reads = refl
+caused causes statuses files hash (Some command) reads = by_texts causes statuses files hash command (texts_read reads)

@@ -9,6 +9,8 @@ use Rattle.spec_tool.specs.Headline.{HeadlineTheorem}
 use Rattle.theory_tool.specs.Ended.{CallsEnd}
 use Rattle.theory_tool.specs.Kept.{RunsAreKept}
 use Rattle.theory_tool.specs.Statuses.{StatusesTheorem}
+use Rattle.theory_commands.specs.Causes.{CausesInFiles}
+use Rattle.theory_commands.specs.Commands.{CommandsShow}
 use Rattle.bitml_command.specs.Seen.{HasFew}
 use Rattle.bitml_headline.specs.Headline.{Around, Answers, GivesUp, AnswersOrGivesUp, Headline, HeadlineOfAnswers}
 use Rattle.bitml_headline.proofs.Caused.{caused}
@@ -32,6 +34,8 @@ pub record Theorems : Type 0 where
   pub ends : CallsEnd
   pub headline : HeadlineTheorem
   pub kept : RunsAreKept
+  pub commands : CommandsShow
+  pub files : CausesInFiles
 
 module _ (t : Theorems) (hash : List ℕ → List ℕ) (bytes : HashesBytes hash) (command : Option Command) (before now : Around) where
   usage_is : (reads : List Read) → (tool_answer hash command reads).status ≡ 2 → command ≡ None
@@ -51,8 +55,8 @@ module _ (t : Theorems) (hash : List ℕ → List ℕ) (bytes : HashesBytes hash
   of_answer status few a = record {
     serves = inl (record {
       answers = a;
-      caused = caused t.causes t.statuses hash command a.reads;
-      shows = shows t.headline t.kept hash bytes command a.reads few a.made;
+      caused = caused t.causes t.statuses t.files hash command a.reads;
+      shows = shows t.headline t.kept t.commands hash bytes command a.reads few a.made;
     });
     usage = λ e. usage_is a.reads (ended_with (tool_answer hash command a.reads) a.ends.went 2 (λ f. absurd (cc)) (sym e ∙ a.ends.status_is));
     unread = λ e. a.unread (unread_is command a.reads (ended_with (tool_answer hash command a.reads) a.ends.went 3 (λ f. absurd (cc)) (sym e ∙ a.ends.status_is)));

@@ -1,4 +1,5 @@
--- What `play` answers to a run and contracts that are taken is a faithful run: the headline theorem, at one command and its reads.
+-- What `play` answers to a run and contracts that are taken is a faithful run, and every other command shows what is said of it: the
+-- theorems at one command and its reads.
 use Rattle.std.proofs.Common.{◌≡◌, ℕ, suc, ◌+◌, ◌≤◌, true, List, [], ◌∷◌, length, Option, Some, None, refl, sym, ap, subst, ◌∙◌, arith}
 use Rattle.std.proofs.lemmas.List.{length-map}
 use Rattle.spec_run.specs.Conditions.{HashesBytes}
@@ -13,7 +14,8 @@ use Rattle.spec_tool.specs.Answers.{tool_answer, tool_reads, read_answer, text_a
 use Rattle.spec_tool.specs.Headline as shown
 use Rattle.spec_tool.specs.Headline.{HeadlineTheorem}
 use Rattle.theory_tool.specs.Kept.{RunsAreKept}
-use Rattle.bitml_headline.specs.Headline.{texts_of, ShowsRun, ShowsTexts, Shows}
+use Rattle.theory_commands.specs.Commands.{CommandsShow}
+use Rattle.bitml_headline.specs.Headline.{texts_of, ShowsRun, ShowsTexts, ShowsFiles, Shows}
 use Rattle.bitml_command.specs.Seen.{HasFew}
 
 contracts_in_texts : (k : ℕ) (texts : List (List ℕ)) → contracts_in k (texts_of texts) ≡ contracts_from k texts
@@ -62,17 +64,31 @@ module _ (theorem : HeadlineTheorem) (kept : RunsAreKept) (hash : List ℕ → L
   pub of_play : (reads : List Read) → are_made (files_of (play run contracts)) reads ≡ true → ShowsTexts hash (texts_read reads) (tool_answer hash (Some (play run contracts)) reads)
   of_play reads made = of_read (texts_read reads) (texts_count (files_of (play run contracts)) reads made)
 
-pub shows : HeadlineTheorem → RunsAreKept → (hash : List ℕ → List ℕ) → HashesBytes hash
+module _ (commands : CommandsShow) (hash : List ℕ → List ℕ) (bytes : HashesBytes hash) where
+  of_files : (command : Command) (o : Option (List Text)) → ShowsFiles hash command o (read_answer hash command o)
+  of_files command None = tt
+  of_files command (Some texts) = commands hash bytes command texts
+
+  of_command : (command : Command) (reads : List Read)
+      → ShowsFiles hash command (texts_read reads) (tool_answer hash (Some command) reads)
+  of_command command reads = of_files command (texts_read reads)
+
+pub shows : HeadlineTheorem → RunsAreKept → CommandsShow → (hash : List ℕ → List ℕ) → HashesBytes hash
     → (command : Option Command) (reads : List Read) → HasFew command → tool_reads command reads ≡ true
     → Shows hash command reads (tool_answer hash command reads)
-shows theorem kept hash bytes None reads few made = tt
-shows theorem kept hash bytes (Some (check contract)) reads few made = tt
-shows theorem kept hash bytes (Some (play run contracts)) reads few made = of_play theorem kept hash bytes run contracts few reads made
-shows theorem kept hash bytes (Some (plan run contract)) reads few made = tt
-shows theorem kept hash bytes (Some (make number size)) reads few made = tt
-shows theorem kept hash bytes (Some (psbt_of run contract which)) reads few made = tt
-shows theorem kept hash bytes (Some (psbt_shown file)) reads few made = tt
-shows theorem kept hash bytes (Some (psbt_joined first second)) reads few made = tt
-shows theorem kept hash bytes (Some (weigh run contract)) reads few made = tt
-shows theorem kept hash bytes (Some (audit run contract file)) reads few made = tt
-shows theorem kept hash bytes (Some (auto run contract strategy)) reads few made = tt
+shows theorem kept commands hash bytes None reads few made = tt
+shows theorem kept commands hash bytes (Some (play run contracts)) reads few made =
+    of_play theorem kept hash bytes run contracts few reads made
+shows theorem kept commands hash bytes (Some (check contract)) reads few made = of_command commands hash bytes (check contract) reads
+shows theorem kept commands hash bytes (Some (plan run contract)) reads few made = of_command commands hash bytes (plan run contract) reads
+shows theorem kept commands hash bytes (Some (make number size)) reads few made = of_command commands hash bytes (make number size) reads
+shows theorem kept commands hash bytes (Some (psbt_of run contract which)) reads few made =
+    of_command commands hash bytes (psbt_of run contract which) reads
+shows theorem kept commands hash bytes (Some (psbt_shown file)) reads few made = of_command commands hash bytes (psbt_shown file) reads
+shows theorem kept commands hash bytes (Some (psbt_joined first second)) reads few made =
+    of_command commands hash bytes (psbt_joined first second) reads
+shows theorem kept commands hash bytes (Some (weigh run contract)) reads few made = of_command commands hash bytes (weigh run contract) reads
+shows theorem kept commands hash bytes (Some (audit run contract file)) reads few made =
+    of_command commands hash bytes (audit run contract file) reads
+shows theorem kept commands hash bytes (Some (auto run contract strategy)) reads few made =
+    of_command commands hash bytes (auto run contract strategy) reads

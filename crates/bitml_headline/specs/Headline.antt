@@ -10,6 +10,8 @@ use Rattle.spec_tool.specs.Causes.{is_run_refused, is_contract_refused, is_psbt_
 use Rattle.spec_tool.specs.Headline as shown
 use Rattle.theory_tool.specs.Statuses.{Plays, Guess, Collision, AuditRefused, StrategyRefused, AllIsWell}
 use Rattle.theory_tool.specs.Kept.{KeepsRun}
+use Rattle.theory_commands.specs.Causes.{HasCausesInFiles}
+use Rattle.theory_commands.specs.Commands.{ShowsCommand}
 use Rattle.bm_io.specs.Counts.{RoseBy}
 use Rattle.bm_io.specs.Files.{Told}
 use Rattle.spec_run.specs.Conditions.{HashesBytes}
@@ -106,6 +108,8 @@ pub record HasCauses (hash : List ℕ → List ℕ) (command : Command) (texts :
   pub audit_refused : (status ≡ 10) ↔ Plays hash (AuditRefused command texts) command texts
   -- the strategy is refused
   pub strategy_refused : (status ≡ 11) ↔ Plays hash (StrategyRefused command texts) command texts
+  -- the same by what the files hold, token by token and line by line, and not by how they are read
+  pub in_files : HasCausesInFiles hash command texts status
 
 -- of what was read; a read that failed is answered by 3 and nothing
 abbrev pub CausedByTexts : (List ℕ → List ℕ) → Command → Option (List Text) → Printed → Type 0
@@ -136,9 +140,15 @@ abbrev pub ShowsTexts : (List ℕ → List ℕ) → Option (List Text) → Print
 ShowsTexts hash None printed = Unit {0}
 ShowsTexts hash (Some texts) printed = ShowsRun hash texts printed
 
+-- what every other command shows of the texts of its files
+abbrev pub ShowsFiles : (List ℕ → List ℕ) → Command → Option (List Text) → Printed → Type 0
+ShowsFiles hash command None printed = Unit {0}
+ShowsFiles hash command (Some texts) printed = ShowsCommand hash command texts printed
+
 abbrev pub Shows : (List ℕ → List ℕ) → Option Command → List Read → Printed → Type 0
+Shows hash None reads printed = Unit {0}
 Shows hash (Some (play run contracts)) reads printed = ShowsTexts hash (texts_read reads) printed
-Shows hash _ reads printed = Unit {0}
+Shows hash (Some command) reads printed = ShowsFiles hash command (texts_read reads) printed
 
 -- ---- the headline
 
@@ -147,7 +157,7 @@ pub record Serves (hash : List ℕ → List ℕ) (command : Option Command) (bef
   pub answers : Answers hash command before now status
   -- the answer's status comes exactly by its cause
   pub caused : Caused hash command answers.reads (tool_answer hash command answers.reads)
-  -- what `play` writes is a faithful run
+  -- what `play` writes is a faithful run, and what every other command writes shows what the theorems say of it
   pub shows : Shows hash command answers.reads (tool_answer hash command answers.reads)
 
 -- The headline: what a call with this command does to what stands around it, and its status.

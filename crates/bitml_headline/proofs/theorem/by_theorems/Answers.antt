@@ -8,4 +8,6 @@ returns c = headlines (record {
   ends = c.requires.ends;
   headline = c.requires.headline;
   kept = c.requires.kept;
+  commands = c.requires.commands;
+  files = c.requires.files;
 })

@@ -1,14 +1,15 @@
 -- Files that tell of themselves fix the reads, and so the answer.
-use Rattle.std.proofs.Common.{◌≡◌, ℕ, Bool, true, false, List, [], ◌∷◌, length, Option, Some, None, refl, sym, ap, subst, ◌∙◌, arith, cond}
+use Rattle.std.proofs.Common.{◌≡◌, ℕ, Bool, true, false, List, [], ◌∷◌, length, Option, Some, refl, sym, ap, subst, ◌∙◌, arith, cond}
 use Rattle.std.proofs.Common.{◌==◌}
 use Rattle.std.specs.Prelude.{take}
+use Rattle.std.proofs.Math.Seq.{take-nil}
 use Rattle.spec_tool.specs.Reads.{Asked, Read}
-use Rattle.spec_tool.specs.Commands.{Command, Printed}
+use Rattle.spec_tool.specs.Commands.{Printed}
 use Rattle.spec_tool.specs.Answers.{ended}
 use Rattle.bm_io.specs.Files.{Told}
 use Rattle.bitml_command.specs.Files.{Tells}
-use Rattle.bitml_headline.specs.Headline.{Around, asked_by, with_text, IsWritten, Ends, AnswersBy}
-use Rattle.bitml_headline.specs.Determined.{AnswersAlike, FilesDetermineAnswers}
+use Rattle.bitml_headline.specs.Headline.{asked_by, with_text, IsWritten, Ends}
+use Rattle.bitml_headline.specs.Determined.{FilesDetermineAnswers}
 
 -- the reads of files that tell the same
 same_reads : (told : Told) (one other one_now other_now : Option Told) (files : List Asked) (reads more : List Read) → one ≡ Some told
@@ -24,10 +25,7 @@ record Whole (printed : Printed) (before now : Option (List ℕ)) (status : ℕ)
   written : now ≡ with_text printed.text before
 
 nothing_taken : (text : List ℕ) (n : ℕ) → length text ≡ 0 → take n text ≡ text
-nothing_taken [] n h = take_none n
-  where
-    take_none : (n : ℕ) → take n [] ≡ []
-    take_none n = grind arith
+nothing_taken [] n h = take-nil n
 nothing_taken (x ∷ xs) n h = absurd (omega (arith, h))
 
 -- a call that ends with another status than 4 wrote all of its text

@@ -9,7 +9,7 @@ use Rattle.spec_text.specs.Refusals.{contract_of, run_of}
 use Rattle.spec_text.specs.Played.{play_text}
 use Rattle.spec_tool.specs.Reads.{Asked, Read, got, too_long, failed, Text, texts_read, are_made}
 use Rattle.spec_tool.specs.Commands.{Command, check, play, plan, make, psbt_of, psbt_shown, psbt_joined, weigh, audit, auto}
-use Rattle.spec_tool.specs.Commands.{Printed, setup_of, onto_judged, contracts_from, both_judged, run_answer, play_answer, files_of, contract_file}
+use Rattle.spec_tool.specs.Commands.{Printed, onto_judged, contracts_from, both_judged, run_answer, play_answer, files_of, contract_file}
 use Rattle.spec_tool.specs.Answers.{tool_answer, tool_reads, read_answer, text_answer, contracts_in}
 use Rattle.spec_tool.specs.Headline as shown
 use Rattle.spec_tool.specs.Headline.{HeadlineTheorem}

@@ -1,7 +1,6 @@
 -- Authorisations have their signatures, by what every run keeps.
-use Rattle.std.proofs.Common.{◌≡◌, ℕ, List, [], ◌∷◌, ◌++◌, Some}
+use Rattle.std.proofs.Common.{ℕ, List, [], ◌∷◌, ◌++◌}
 use Rattle.spec_calculus.specs.Configuration.{Configuration}
-use Rattle.spec_run.specs.declared.event.Event.{Event}
 use Rattle.spec_run.specs.declared.outcome.Record.{Record}
 use Rattle.spec_run.specs.Setup.{Setup}
 use Rattle.spec_run.specs.World.{World}

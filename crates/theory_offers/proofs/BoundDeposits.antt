@@ -67,5 +67,5 @@ pub deposits_stay : BoundDepositsTheorem
 deposits_stay s es run =
     holds-map (spends_with_leave s) (bound_deposits s)
     (λ before g w t leave contract number party uncompiled honest owner gone.
-        by_outcome s w before party number contract uncompiled t.event t.tx t.outcome (leave party number honest owner gone))
+    by_outcome s w before party number contract uncompiled t.event t.tx t.outcome (leave party number honest owner gone))
     (course s es).turns [] (opening_configuration s) (opening_world s) (honest_deposits s es run)

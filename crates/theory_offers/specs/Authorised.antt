@@ -5,7 +5,6 @@ use Rattle.spec_terms.specs.Core.{is_asked}
 use Rattle.spec_terms.specs.Term as term
 use Rattle.spec_terms.specs.Term.{Contract, branches}
 use Rattle.spec_terms.specs.Precondition.{Holding, persistent}
-use Rattle.spec_terms.specs.declared.path.PathStep.{PathStep}
 use Rattle.spec_terms.specs.declared.path.PathStep.TheVariants.{Branch as To}
 use Rattle.spec_bitcoin.specs.Keys.{key_of, has_signed}
 use Rattle.spec_calculus.specs.Configuration.{Configuration}

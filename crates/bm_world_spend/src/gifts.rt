@@ -246,10 +246,5 @@ pub(crate) fn signed_gift<H: Hash32 + Drop>(
     txid(alloc, trail, &bare)?;
     let lists = shared(alloc, trail, &bare)?;
     let inputs = signed_inputs(alloc, trail, coins, book, account, &bare, &lists, numbers)?;
-    Ok(Tx {
-        version: bare.version,
-        inputs,
-        outputs: bare.outputs,
-        lock: bare.lock,
-    })
+    Ok(bare.with_inputs(inputs))
 }

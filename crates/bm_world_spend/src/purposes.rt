@@ -144,7 +144,7 @@ fn positions_of_taken(
     ensures { IfOk result (λ p. (k : ℕ) → position_by p k
         ≡ by.branch_holds board.now.compiled branch (live_position (slice_get board.now.coins.outputs output)) k) }
 {
-    match held_at(board, output) {
+    match board.coins.held_at(output) {
         Some(held) => positions_of_held(alloc, board, held, branch),
         None => Ok(NewPositions::Deposits),
     }

@@ -1,11 +1,11 @@
 mod Added
-mod FewOutputs
+pub mod FewOutputs
 mod HashlessRules
-mod EventEnds
+pub mod EventEnds
 mod Longer
 mod Reread
 mod Rounds
-mod Shorter
+pub mod Shorter
 mod Tries
 pub mod Continued
 pub mod Honest

@@ -6,6 +6,7 @@ pub mod LineWords
 pub mod LinesRead
 pub mod Named
 pub mod Paths
+pub mod Plays
 pub mod ReadEvents
 pub mod ReadRuns
 pub mod Reasons

@@ -15,7 +15,7 @@ use Rattle.spec_text.specs.declared.run_fault.RunLimit.TheVariants as limits
 use Rattle.spec_text.specs.Limits.{most_events, most_run_bytes}
 use Rattle.spec_text.specs.Lines.{lines_of, words_of}
 use Rattle.spec_text.specs.EventLines.{event_of}
-use Rattle.spec_text.specs.RunFile.{Line, bad, over, empty, rule, says, is_long, is_taken, no_header, Headed, read_header, event_within, event_words}
+use Rattle.spec_text.specs.RunFile.{Line, bad, over, empty, rule, says, spelled_within, is_long, is_taken, no_header, Headed, read_header, event_within, event_words}
 use Rattle.spec_text.specs.RunFile.{event_of_line, with_event, counted, event_step, read_events, with_header, read_rest, read_run}
 use Rattle.spec_text.specs.RunText.{event_text}
 use Rattle.spec_text.specs.Refusals.{Judged, judged_run, run_of}
@@ -61,7 +61,7 @@ module _ (parties : List (List ℕ)) (names : AllNamed parties) where
   room_within count None e h = absurd (bad_says e h)
   room_within count (Some d) e h = by_room (nat_lt count most_events) h
     where
-      by_room : (t : Bool) → (elim t [ true ↦ says d | false ↦ over limits.Events ]) ≡ an_event e → t ≡ true
+      by_room : (t : Bool) → spelled_within true t limits.Events d ≡ an_event e → t ≡ true
       by_room true q = refl
       by_room false q = absurd (over_says e q)
 

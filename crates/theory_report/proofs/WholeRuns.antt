@@ -81,7 +81,8 @@ abbrev HaltsFine : (Event → Type 0) → Option (Event × Halt) → Type 0
 HaltsFine P None = Unit {0}
 HaltsFine P (Some h) = P (h.0) × HaltFine (h.1)
 
-module _ (s : Setup) (P : Event → Type 0) (named : AllByRecursion (λ (x : HeldSecret). IsNamed x.party × IsNamed x.name) s.header.secrets) where
+module _ (s : Setup) (P : Event → Type 0)
+    (named : AllByRecursion (λ (x : HeldSecret). IsNamed x.party × IsNamed x.name) s.header.secrets) where
   halts_fine : (es : List Event) (w : World) → AllByRecursion P es → HaltsFine P (played_from s w es).halt
   halts_fine [] w h = tt
   halts_fine (e ∷ es) w h =

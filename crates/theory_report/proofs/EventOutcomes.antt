@@ -1,11 +1,12 @@
 -- What each event of a run comes to may be printed.
-use Rattle.std.proofs.Common.{◌≡◌, ℕ, suc, ◌+◌, ◌*◌, ◌<◌, ◌≤◌, ◌^◌, List, [], ◌∷◌, ◌++◌, map, length, Bool, true, false, Option, Some, None, Result, Ok, Err}
+use Rattle.std.proofs.Common.{◌≡◌, ℕ, suc, ◌≤◌, ◌^◌, List, [], ◌∷◌, ◌++◌, map, length, Option, Some}
+use Rattle.std.proofs.Common.{None, Result, Ok, Err}
 use Rattle.std.proofs.Common.{refl, sym, ap, subst, ◌∙◌, arith}
 use Rattle.std.specs.Prelude.{slice_get, option_map, nat_le, ◌&&◌}
-use Rattle.std.specs.List.{list_all, AllByRecursion}
+use Rattle.std.specs.List.{list_all}
 use Rattle.std.proofs.lemmas.Bool.{and_parts}
 use Rattle.std.proofs.lemmas.Bool.Decides.{nat_tests}
-use Rattle.spec_data.specs.Lists.{is_among, look_up, first_reason, are_different}
+use Rattle.spec_data.specs.Lists.{look_up, first_reason, are_different}
 use Rattle.spec_data.specs.Ranges.{max_money}
 use Rattle.spec_terms.specs.Advert.{Advert}
 use Rattle.spec_terms.specs.Term as term
@@ -23,23 +24,23 @@ use Rattle.spec_bitcoin.specs.declared.tx.Tx.{Tx}
 use Rattle.spec_bitcoin.specs.Reading.{transaction_of}
 use Rattle.spec_calculus.specs.Configuration.{Configuration}
 use Rattle.spec_compiler.specs.Instance.{Instance}
-use Rattle.spec_compiler.specs.Transactions.{tx_of, input_of, prepared, deposit, put_deposits, persistent_deposits, holding_or_none, branch_unsigned, initial_unsigned}
+use Rattle.spec_compiler.specs.Transactions.{input_of, prepared, deposit, holding_or_none}
+use Rattle.spec_compiler.specs.Transactions.{branch_unsigned, initial_unsigned}
 use Rattle.spec_compiler.specs.ByPath.{prepared_at}
 use Rattle.spec_run.specs.declared.event.Event.{Event}
 use Rattle.spec_run.specs.declared.event.Event.TheVariants as events
-use Rattle.spec_run.specs.declared.outcome.Reason.TheVariants as reason
 use Rattle.spec_run.specs.Setup.{Setup, contract_at}
 use Rattle.spec_run.specs.World.{ContractPosition, World, live_position_at}
 use Rattle.spec_run.specs.Compiled.{compiled_instance}
 use Rattle.spec_run.specs.Conditions.{IsSetup, IsPiece, IsEvent}
-use Rattle.spec_run.specs.Draft.{Draft}
 use Rattle.spec_run.specs.Ledger.{contract_in, position_path, position_branch, branch_in, reaches}
 use Rattle.spec_run.specs.Advertising.{advertise_row}
 use Rattle.spec_run.specs.Committing.{commit_row, digest_row, committed_strings}
 use Rattle.spec_run.specs.Signing.{with_pairs, endorse_row, init_row, authorise_row, sign_row, prepared_if_compiled}
 use Rattle.spec_run.specs.Revealing.{reveal_row}
 use Rattle.spec_run.specs.Giving.{given_output, unsigned_gift, signed_input, given_pairs, gift, give_row}
-use Rattle.spec_run.specs.Firing.{witnessed, initial_by, initial_witnesses, initial_transaction, taking_of_parts, taking_witnesses, taking_transaction}
+use Rattle.spec_run.specs.Firing.{witnessed, initial_by, initial_witnesses, initial_transaction, taking_of_parts, taking_witnesses}
+use Rattle.spec_run.specs.Firing.{taking_transaction}
 use Rattle.spec_run.specs.Firing.{taking_of_position, reaches_if, fire_init_row, fire_row}
 use Rattle.spec_run.specs.Event.{append_read, mine_row, draft}
 use Rattle.theory_bitcoin.proofs.Top.{fault_is_first}
@@ -51,17 +52,18 @@ use Rattle.theory_world.proofs.Ledger.Preimages.{numbered_few}
 use Rattle.theory_world.proofs.Contracts.Checking.{compiled_checked}
 use Rattle.theory_world.proofs.Contracts.Standing.{term_choice, term_branches, unsigned_of_branch}
 use Rattle.theory_run.specs.KeptRuns.{KeptRun}
-use Rattle.theory_run.specs.KeptBook.{KeptBook, HeldFine}
+use Rattle.theory_run.specs.KeptBook.{HeldFine}
 use Rattle.theory_run.proofs.Sizes.{piece_bounds}
-use Rattle.theory_run.proofs.Accepted.Spending.{TransactionsFit, Checked}
+use Rattle.theory_run.proofs.Accepted.Spending.{TransactionsFit}
 use Rattle.theory_run.proofs.Facts.Bookkeeping.{checks, fits}
 use Rattle.theory_run.proofs.Widths.Putting.{no_more}
 use Rattle.theory_run.proofs.Events.Quiet.{IsActive, active, held_contract}
 use Rattle.theory_run.proofs.Events.Fired.{piece_numbered, started_numbered, taken_numbered}
-use Rattle.theory_report.specs.Printable.{IsWide, IsNamed, IsReason, IsOutcome}
+use Rattle.theory_report.specs.Printable.{IsReason, IsOutcome}
 use Rattle.theory_report.proofs.LedgerAnswers.{first_has, IsHanded, judged_shown}
 use Rattle.theory_report.proofs.ReadEvents.{IsReadEvent}
-use Rattle.theory_report.proofs.Refusals.{unless_shown, advertise_shown, commit_shown, digest_shown, init_shown, give_shown, reveal_shown, fire_shown}
+use Rattle.theory_report.proofs.Refusals.{unless_shown, advertise_shown, commit_shown, digest_shown, init_shown, give_shown, reveal_shown}
+use Rattle.theory_report.proofs.Refusals.{fire_shown}
 
 -- ---- how many inputs there are
 
@@ -85,7 +87,8 @@ fewer_volatile (Secret party name ∷ pre) = fewer_volatile pre
 few_deposits : (a : Advert) → IsWellFormed a → length (deposits a.pre) ≤ 32
 few_deposits a h =
     let r = (and_parts (is_readable_pre a.pre) (nat_le a.fee max_money && is_readable_contract a.root) h.readable).0 in
-    let p = (and_parts (is_some_list a.pre && list_all is_readable_entry a.pre) (nat_le (length (deposits a.pre)) most_deposits && nat_le (length (secrets a.pre)) most_secrets) r).1 in
+    let p = (and_parts (is_some_list a.pre && list_all is_readable_entry a.pre)
+    (nat_le (length (deposits a.pre)) most_deposits && nat_le (length (secrets a.pre)) most_secrets) r).1 in
     let q = (and_parts (nat_le (length (deposits a.pre)) most_deposits) (nat_le (length (secrets a.pre)) most_secrets) p).0 in
     grind (arith, nat_tests, q)
 
@@ -153,25 +156,34 @@ module _ (s : Setup) (is : IsSetup s) (z : List (List ℕ)) (g : Configuration) 
               (position_branch s held j) (prepared_if_compiled s (compiled_instance s w held.contract) (position_path held j)) ≡ Some tx
               → length tx.inputs ≤ 2 ^ 40
           by_branch None b x =
-              let y = sym (λ i. taking_of_parts s w held j (compiled i) (chosen i) (b i) (prepared_if_compiled s (compiled i) (position_path held j))) ∙ x in
+              let y = sym (λ i. taking_of_parts s w held j (compiled i) (chosen i) (b i)
+              (prepared_if_compiled s (compiled i) (position_path held j))) ∙ x in
               cc
           by_branch (Some c) b x =
-              let text : at hf.instance.advert.root (held.position ++ To j ∷ []) ≡ Some c = ap (λ o. branch_in o (position_path held j)) (sym (held_contract s w held act.output hf)) ∙ b in
-              let there : slice_get (branches hf.choice) j ≡ Some c = sym (term_branches s.hash hf.instance held.position hf.here hf.choice j hf.stands) ∙ text in
+              let text : at hf.instance.advert.root (held.position ++ To j ∷ []) ≡ Some c = ap (λ o. branch_in o (position_path held j))
+              (sym (held_contract s w held act.output hf)) ∙ b in
+              let there : slice_get (branches hf.choice) j ≡ Some c = sym
+              (term_branches s.hash hf.instance held.position hf.here hf.choice j hf.stands) ∙ text in
               let d = branch_unsigned s.hash hf.instance hf.here j c in
-              let made : prepared_at s.hash hf.instance (position_path held j) ≡ Some (prepared s.hash d) = ap (option_map (prepared s.hash)) (unsigned_of_branch s.hash hf.instance held.position hf.here hf.choice j c hf.stands there) in
-              let y : (let o : Option Tx = Some (taking_transaction s w hf.instance held j hf.choice c (prepared s.hash d)) in o) ≡ Some tx =
-              sym (λ i. taking_of_parts s w held j (compiled i) (chosen i) (b i) ((ap (λ o. prepared_if_compiled s o (position_path held j)) compiled ∙ made) i)) ∙ x in
+              let made : prepared_at s.hash hf.instance (position_path held j) ≡ Some (prepared s.hash d) = ap
+              (option_map (prepared s.hash)) (unsigned_of_branch s.hash hf.instance held.position hf.here hf.choice j c hf.stands there) in
+              let y : (let o : Option Tx = Some (taking_transaction s w hf.instance held j hf.choice c (prepared s.hash d)) in
+              o) ≡ Some tx =
+              sym (λ i. taking_of_parts s w held j (compiled i) (chosen i) (b i)
+              ((ap (λ o. prepared_if_compiled s o (position_path held j)) compiled ∙ made) i)) ∙ x in
               let same : taking_transaction s w hf.instance held j hf.choice c (prepared s.hash d) ≡ tx = cc in
               let well = compiled_checked s is w held.contract hf.instance compiled in
               let ch = term_choice s.hash hf.instance held.position hf.here hf.choice hf.stands in
               let f = no_fault hf.instance.advert well in
               let known = puts_known hf.instance.advert well held.position hf.choice ch j c there in
-              let once = (and_parts (are_different (puts_of (core c))) (are_different (reveals_of (core c))) (core_fact (λ y. are_different (puts_of y) && are_different (reveals_of y)) hf.instance.advert held.position hf.choice j c f.1.1.1.0 ch there)).0 in
+              let once = (and_parts (are_different (puts_of (core c))) (are_different (reveals_of (core c)))
+              (core_fact (λ y. are_different (puts_of y) && are_different
+              (reveals_of y)) hf.instance.advert held.position hf.choice j c f.1.1.1.0 ch there)).0 in
               let m = no_more (puts_of (core c)) (names_of (volatile hf.instance.advert.pre)) once known in
               let v = fewer_volatile hf.instance.advert.pre in
               let l = few_deposits hf.instance.advert well in
-              let p = length_map (λ name. deposit s.hash hf.instance name (holding_or_none (look_up name (volatile hf.instance.advert.pre)))) (puts_of (core c)) in
+              let p = length_map (λ name. deposit s.hash hf.instance name
+              (holding_or_none (look_up name (volatile hf.instance.advert.pre)))) (puts_of (core c)) in
               let a = witnessed_length (map input_of d.spends) (taking_witnesses s w hf.instance held j hf.choice c (prepared s.hash d)) in
               let r = length_map input_of d.spends in
               let short : length (taking_transaction s w hf.instance held j hf.choice c (prepared s.hash d)).inputs ≤ 2 ^ 40 =

@@ -1,26 +1,25 @@
 -- What the ledger answers may be printed.
-use Rattle.std.proofs.Common.{◌≡◌, ℕ, suc, ◌+◌, ◌<◌, ◌≤◌, ◌^◌, List, [], ◌∷◌, ◌++◌, map, length, Bool, true, false, Option, Some, None, refl, sym, ap, subst, ◌∙◌, arith, cond}
-use Rattle.std.specs.Prelude.{if◌then◌else◌, is_some, sum_by, nat_lt, nat_le, not, ◌&&◌, ◌==◌}
-use Rattle.std.specs.List.{AllByRecursion, position_from, list_any}
+use Rattle.std.proofs.Common.{◌≡◌, ℕ, suc, ◌+◌, ◌<◌, ◌≤◌, ◌^◌, List, [], ◌∷◌, map, length, Bool, true, false, Option, Some, None}
+use Rattle.std.proofs.Common.{refl, subst, arith, cond}
+use Rattle.std.specs.Prelude.{if◌then◌else◌, is_some, nat_lt, not}
+use Rattle.std.specs.List.{AllByRecursion, position_from}
 use Rattle.std.specs.Option.{option_and_then, option_map_or}
 use Rattle.std.proofs.lemmas.Bool.Decides.{nat_tests}
 use Rattle.std.proofs.lemmas.List.Sums.{sum_by-cons}
-use Rattle.spec_data.specs.Lists.{first_reason, or_else, NoneTrue}
+use Rattle.spec_data.specs.Lists.{first_reason, or_else}
 use Rattle.spec_data.specs.Ranges.{max_money}
 use Rattle.spec_data.proofs.ListLemmas.{no_reason-none_true, or_else-none}
 use Rattle.spec_bitcoin.specs.declared.tx.TxIn.{TxIn}
 use Rattle.spec_bitcoin.specs.declared.tx.TxOut.{TxOut}
 use Rattle.spec_bitcoin.specs.declared.tx.Tx.{Tx}
 use Rattle.spec_bitcoin.specs.declared.verdict.Refusal.{Refusal}
-use Rattle.spec_bitcoin.specs.declared.verdict.Refusal.TheVariants as refusal
-use Rattle.spec_bitcoin.specs.declared.verdict.Verdict.{Verdict}
-use Rattle.spec_bitcoin.specs.declared.verdict.Verdict.TheVariants as verdicts
 use Rattle.spec_bitcoin.specs.Keys.{Pair}
 use Rattle.spec_bitcoin.specs.Live.{Entry, at_place}
-use Rattle.spec_bitcoin.specs.Verdict.{first_missing, number_or_zero, total_of, whole_row, input_row, input_refusal, inputs_refusal, refusal_of, spent_number, verdict_for}
+use Rattle.spec_bitcoin.specs.Verdict.{first_missing, number_or_zero, total_of, whole_row, input_row, input_refusal, inputs_refusal}
+use Rattle.spec_bitcoin.specs.Verdict.{refusal_of, spent_number, verdict_for}
 use Rattle.spec_run.specs.Setup.{Setup}
-use Rattle.spec_run.specs.World.{Output, World}
-use Rattle.spec_run.specs.Ledger.{live_from, chain_of, verdict_in, made_with_values, reason_of, judged, reaches}
+use Rattle.spec_run.specs.World.{World}
+use Rattle.spec_run.specs.Ledger.{live_from, chain_of, made_with_values, reason_of, judged, reaches}
 use Rattle.theory_calculus.proofs.Members.{get_below}
 use Rattle.theory_world.proofs.Ledger.Found.{found}
 use Rattle.theory_report.specs.Printable.{IsWide, IsReason, IsOutcome}
@@ -62,27 +61,42 @@ pub record IsHanded (tx : Tx) : Type 0 where
   pub lock : tx.lock < 2 ^ 40
 
 module _ (hash : List ℕ → List ℕ) (book : List Pair) (live : List Entry) (tx : Tx) where
-  whole_shown : (tip : ℕ) → length tx.inputs ≤ 2 ^ 40 → AllByRecursion (λ (p : Bool × Refusal). p.0 ≡ true → IsRefusal (p.1)) (whole_row tip live tx)
+  whole_shown : (tip : ℕ) → length tx.inputs ≤ 2 ^ 40
+      → AllByRecursion (λ (p : Bool × Refusal). p.0 ≡ true → IsRefusal (p.1)) (whole_row tip live tx)
   whole_shown tip few = (
     λ h. tt,
-    (λ h. tt,
-    (λ h. tt,
-    (λ h. number_some (λ n. IsWide n) (first_missing live tx.inputs)
-        (λ n e. let l = placed (λ i. not (is_some (at_place live i.prev))) 0 tx.inputs n e in omega (arith, l, few)) h,
-    (λ h. tt,
-    (λ h. tt,
-    (λ h. tt,
-    tt)))))),
+    (
+      λ h. tt,
+      (
+        λ h. tt,
+        (
+          λ h. number_some (λ n. IsWide n) (first_missing live tx.inputs)
+              (λ n e. let l = placed (λ i. not (is_some (at_place live i.prev))) 0 tx.inputs n e in omega (arith, l, few)) h,
+          (
+            λ h. tt,
+            (
+              λ h. tt,
+              (
+                λ h. tt,
+                tt,
+              ),
+            ),
+          ),
+        ),
+      ),
+    ),
   )
 
   input_shown : (k : ℕ) (i : TxIn) (r : Refusal) → IsWide k → input_refusal hash book live tx k i ≡ Some r → IsRefusal r
   input_shown k i r h e = by_place (at_place live i.prev) e
     where
-      by_place : (o : Option (ℕ × TxOut)) → option_and_then (λ (p : ℕ × TxOut). first_reason (input_row hash book tx k i (p.1))) o ≡ Some r → IsRefusal r
+      by_place : (o : Option (ℕ × TxOut))
+          → option_and_then (λ (p : ℕ × TxOut). first_reason (input_row hash book tx k i (p.1))) o ≡ Some r → IsRefusal r
       by_place None q = cc
       by_place (Some p) q = first_has IsRefusal (input_row hash book tx k i (p.1)) (λ x. h, (λ x. h, (λ x. h, (λ x. h, (λ x. h, tt))))) r q
 
-  inputs_shown : (k : ℕ) (is : List TxIn) (r : Refusal) → k + length is ≤ 2 ^ 40 → inputs_refusal hash book live tx k is ≡ Some r → IsRefusal r
+  inputs_shown : (k : ℕ) (is : List TxIn) (r : Refusal) → k + length is ≤ 2 ^ 40 → inputs_refusal hash book live tx k is ≡ Some r
+      → IsRefusal r
   inputs_shown k [] r few e = cc
   inputs_shown k (i ∷ is) r few e =
       by_first (input_refusal hash book live tx k i) refl e (inputs_shown (k + 1) is r (omega (arith, few)))
@@ -98,7 +112,8 @@ module _ (hash : List ℕ → List ℕ) (book : List Pair) (live : List Entry) (
     where
       by_whole : (o : Option Refusal) → first_reason (whole_row tip live tx) ≡ o
           → or_else o (inputs_refusal hash book live tx 0 tx.inputs) ≡ Some r → IsRefusal r
-      by_whole (Some q) j x = let same : q ≡ r = cc in subst IsRefusal same (first_has IsRefusal (whole_row tip live tx) (whole_shown tip few) q j)
+      by_whole (Some q) j x =
+          let same : q ≡ r = cc in subst IsRefusal same (first_has IsRefusal (whole_row tip live tx) (whole_shown tip few) q j)
       by_whole None j x = inputs_shown 0 tx.inputs r (omega (arith, few)) x
 
 -- ---- what is accepted
@@ -110,7 +125,8 @@ module _ (s : Setup) (w signed : World) (few : length signed.outputs ≤ 2 ^ 40)
   spent_wide : (i : TxIn) → IsWide (spent_number (live_from 0 signed.outputs) i)
   spent_wide i = by_place (at_place (live_from 0 signed.outputs) i.prev) refl
     where
-      by_place : (o : Option (ℕ × TxOut)) → at_place (live_from 0 signed.outputs) i.prev ≡ o → IsWide (option_map_or (λ (p : ℕ × TxOut). p.0) o 0)
+      by_place : (o : Option (ℕ × TxOut)) → at_place (live_from 0 signed.outputs) i.prev ≡ o
+          → IsWide (option_map_or (λ (p : ℕ × TxOut). p.0) o 0)
       by_place None e = omega arith
       by_place (Some q) e =
           let f = found signed.outputs i.prev 0 q e in
@@ -139,5 +155,9 @@ module _ (s : Setup) (w signed : World) (few : length signed.outputs ≤ 2 ^ 40)
       by_refusal (Some r) e = refusal_shown s.hash signed.book (live_from 0 signed.outputs) tx signed.tip r handed.inputs e
       by_refusal None e =
           let row = no_reason-none_true (whole_row signed.tip (live_from 0 signed.outputs) tx) (or_else-none _ _ e).0 in
-          let money = not_more max_money (total_of tx.outputs) row.1.1.1.1.0 in
-          (each_spent tx.inputs, each_made (length signed.outputs) tx.outputs (omega (arith, few, handed.outputs)) money, omega (arith, handed.lock))
+          let money = not_more max_money (total_of tx.outputs) row.1.1.1.1.0 in (
+            each_spent tx.inputs,
+            each_made (length signed.outputs) tx.outputs (omega (arith, few, handed.outputs)) money,
+            omega
+                (arith, handed.lock),
+          )

@@ -1,13 +1,14 @@
 -- The steps of a legal run show numbers within eight bytes, and names as text may have them.
-use Rattle.std.proofs.Common.{◌≡◌, ℕ, zero, suc, ◌+◌, ◌<◌, ◌≤◌, ◌^◌, List, [], ◌∷◌, ◌++◌, map, length, Bool, true, false, Option, Some, None, refl, sym, ap, subst, ◌∙◌}
+use Rattle.std.proofs.Common.{◌≡◌, ℕ, zero, suc, ◌+◌, ◌<◌, ◌≤◌, ◌^◌, List, [], ◌∷◌, ◌++◌, map, length, Bool, true, false, Option, Some}
+use Rattle.std.proofs.Common.{None, refl, sym, ap, subst, ◌∙◌}
 use Rattle.std.proofs.Common.{arith, inl, inr, cond}
-use Rattle.std.specs.Prelude.{◌&&◌, ◌||◌, ◌==◌, nat_le, nat_lt, slice_get, is_some, find, filter, not, if◌then◌else◌, sum_by}
-use Rattle.std.specs.List.{list_all, list_any, AllByRecursion, Contains}
+use Rattle.std.specs.Prelude.{◌&&◌, ◌||◌, ◌==◌, nat_le, nat_lt, slice_get, is_some, filter, if◌then◌else◌}
+use Rattle.std.specs.List.{list_all, AllByRecursion}
 use Rattle.std.specs.Str.{bytes_eq}
-use Rattle.std.proofs.lemmas.Bool.{and_parts, and_from}
+use Rattle.std.proofs.lemmas.Bool.{and_parts}
 use Rattle.std.proofs.lemmas.Bool.Decides.{nat_tests}
 use Rattle.std.proofs.lemmas.List.Sums.{sum_by-cons}
-use Rattle.spec_data.specs.Lists.{is_among, look_up, AllTrue, are_distinct}
+use Rattle.spec_data.specs.Lists.{is_among, look_up, are_distinct}
 use Rattle.spec_data.specs.Ranges.{max_money, last_height, most_contracts}
 use Rattle.spec_terms.specs.Advert.{Advert}
 use Rattle.spec_terms.specs.Term as term
@@ -15,11 +16,8 @@ use Rattle.spec_terms.specs.Term.{auth, after, put_reveal, withdraw, split}
 use Rattle.spec_terms.specs.Core.{core, asks}
 use Rattle.spec_terms.specs.Faults.{IsWellFormed}
 use Rattle.spec_terms.specs.Readable.{is_name, is_readable_branch}
-use Rattle.spec_terms.specs.Precondition.{Holding, deposits, persistent, secrets, secrets_of}
-use Rattle.spec_terms.specs.declared.pre.Pre.{Pre}
-use Rattle.spec_terms.specs.declared.path.PathStep.{PathStep}
+use Rattle.spec_terms.specs.Precondition.{Holding, deposits, persistent, secrets_of}
 use Rattle.spec_terms.specs.declared.path.PathStep.TheVariants.{Branch as To}
-use Rattle.spec_bitcoin.specs.Keys.{IsStep}
 use Rattle.spec_calculus.specs.declared.parts.Deposit.{Deposit}
 use Rattle.spec_calculus.specs.declared.parts.ActiveContract.{ActiveContract}
 use Rattle.spec_calculus.specs.declared.parts.Committed.{Committed}
@@ -30,10 +28,12 @@ use Rattle.spec_calculus.specs.declared.step.Step.{Step}
 use Rattle.spec_calculus.specs.declared.step.Step.TheVariants as steps
 use Rattle.spec_calculus.specs.Same.{owner_eq}
 use Rattle.spec_calculus.specs.Configuration.{Configuration}
-use Rattle.spec_calculus.specs.Moves.{deposit_at, is_live, owner_of, owner_at, owns_one, spends_live, are_live, pays, value_in, value_out, kept, made}
+use Rattle.spec_calculus.specs.Moves.{deposit_at, is_live, owner_of, owner_at, owns_one, spends_live, are_live, pays, value_in, value_out}
+use Rattle.spec_calculus.specs.Moves.{kept, made}
 use Rattle.spec_calculus.specs.Beginning.{contract_at, pre_of, participants_of, binds_one, binds_each, fits_deposit, lists_each, is_fair}
 use Rattle.spec_calculus.specs.Beginning.{has_persistent, is_own}
-use Rattle.spec_calculus.specs.Branches.{active_at, branch_in, branch_of, advert_of, is_withdraw_core, position_of, length_at, asks_of, payee_of, payee_in, is_put, is_withdraw, is_split}
+use Rattle.spec_calculus.specs.Branches.{active_at, branch_in, branch_of, is_withdraw_core, length_at, asks_of}
+use Rattle.spec_calculus.specs.Branches.{payee_of, payee_in, is_put, is_withdraw, is_split}
 use Rattle.spec_calculus.specs.Steps.{fails, premises, effect, branch_at}
 use Rattle.theory_calculus.specs.Money.{IsFunded, IsWithinAllMoney}
 use Rattle.theory_calculus.specs.Numbered.{IsNumbered}
@@ -44,14 +44,14 @@ use Rattle.theory_world.proofs.Labels.{core_readable}
 use Rattle.theory_calculus.proofs.Names.{bytes-true, all_among, looked_in}
 use Rattle.theory_report.specs.Report.{shown_step}
 use Rattle.theory_report.specs.Printable.{IsWide, IsNamed, IsOwner, IsLength, IsShownStep}
-use Rattle.theory_report.proofs.Named.{AllNamed, IsHeld, IsOwned, HasNames, has_names, deposits_named, persistent_named, own_named}
-use Rattle.theory_report.proofs.Named.{asks_named, FineBranch, branch_fine, last_step}
+use Rattle.theory_report.proofs.Named.{AllNamed, IsHeld, HasNames, has_names, deposits_named, persistent_named, own_named}
+use Rattle.theory_report.proofs.Named.{asks_named, branch_fine, last_step}
 
 -- ---- lists
 
 pub all_by_in : {X : Type 0} (P : X → Type 0) (xs : List X) → AllByRecursion P xs → (x : X) → Is_in x xs → P x
 all_by_in P [] h x i = absurd i
-all_by_in P (y ∷ ys) h x i = elim i [ | inl e ↦ subst P (sym e) h.0 | inr j ↦ all_by_in P ys h.1 x j ]
+all_by_in P (y ∷ ys) h x i = elim i [ inl e ↦ subst P (sym e) h.0 | inr j ↦ all_by_in P ys h.1 x j ]
 
 pub by_get : {X : Type 0} (P : X → Type 0) (xs : List X) (n : ℕ) (x : X) → AllByRecursion P xs → slice_get xs n ≡ Some x → P x
 by_get P [] n x h e = cc
@@ -252,8 +252,12 @@ module _ (g : Configuration) (fine : IsFine g) (numbered : IsNumbered g) (funded
       → is_among a (participants_of o) ≡ true → lists_each (secrets_of a (pre_of o)) ls ≡ true → IsShownStep (steps.Commit k a ls)
   commit_shown k a ls None e h j = cc
   commit_shown k a ls (Some advert) e h j =
-      let n = names_at k advert e in
-      (few_contracts k advert e, all_among is_name _ a n.people h, lengths_shown (secrets_of a advert.pre) ls (own_named a advert.pre n.pre) j)
+      let n = names_at k advert e in (
+        few_contracts k advert e,
+        all_among is_name _ a n.people h,
+        lengths_shown (secrets_of a advert.pre) ls
+            (own_named a advert.pre n.pre) j,
+      )
 
   auth_init_shown : (k : ℕ) (a x : List ℕ) (o : Option Advert) → contract_at g.contracts k ≡ o → has_persistent (pre_of o) a x ≡ true
       → IsShownStep (steps.AuthInit k a x)
@@ -387,7 +391,8 @@ module _ (g : Configuration) (fine : IsFine g) (numbered : IsNumbered g) (funded
     time = time;
   }
 
-  as_before : (h : Configuration) → h.contracts ≡ g.contracts → h.deposits ≡ g.deposits → h.committed ≡ g.committed → h.time ≡ g.time → IsFine h
+  as_before : (h : Configuration) → h.contracts ≡ g.contracts → h.deposits ≡ g.deposits → h.committed ≡ g.committed → h.time ≡ g.time
+      → IsFine h
   as_before h same ds cs t =
       fine_next h same (subst (AllByRecursion (λ (d : Deposit). IsOwner d.owner)) (sym ds) fine.owners)
       (subst (AllByRecursion IsPledge) (sym cs) fine.pledges) (omega (arith, t, fine.time))

@@ -26,7 +26,8 @@ use Rattle.theory_text.proofs.Lines.Separated.{Lacks, lacks_append, part_more, p
 use Rattle.theory_report.specs.Lines.{Said, ShownSecret, Words, number, an_output, an_owner, a_length, is_shown, said, said_by}
 use Rattle.theory_report.specs.Lines.{accepted_of, reason_of, step_of, Stepped, offered, by_digits}
 use Rattle.theory_report.specs.Lines as line
-use Rattle.theory_report.specs.Printable.{IsWide, IsNamed, IsOwner, IsSpelledEvent, IsOutcome, IsOffered, IsSecret, IsSaid, IsShownStep, made_beside}
+use Rattle.theory_report.specs.Printable.{IsWide, IsNamed, IsOwner, IsSpelledEvent, IsOutcome, IsOffered, IsSecret, IsSaid, IsShownStep}
+use Rattle.theory_report.specs.Printable.{made_beside}
 use Rattle.theory_report.proofs.LineWords.{is_blank, IsPlain, ArePlain, known_word, lacks_where, line_of, cut_line, line_ends}
 use Rattle.theory_report.proofs.Paths.{path_back, path_plain}
 use Rattle.theory_report.proofs.Reasons.{IsRead, reason_read, accepted_read, accepted_is}
@@ -93,7 +94,8 @@ module _ (parties : List (List ℕ)) where
   step_back : (s : Step) (made : List ℕ) → IsShownStep s → made_beside made s ≡ made → AllByRecursion IsWide made
       → ReadsBack (line.step s made)
   step_back s made h same all =
-      by_read step_of (step_words made s) (s, made) (λ (p : Stepped). line.step (p.0) (p.1)) (codes "step") (step_read s made h same all) refl
+      by_read step_of (step_words made s) (s, made) (λ (p : Stepped). line.step (p.0) (p.1)) (codes "step")
+      (step_read s made h same all) refl
       (known_word (codes "step") refl) (λ w ws. refl)
 
   -- ---- the end
@@ -101,7 +103,8 @@ module _ (parties : List (List ℕ)) where
   one_back : (make : ℕ → Said) (word : List ℕ) (n : ℕ) → said_line (make n) ≡ word ++ (32 ∷ decimal n) → IsPlain word
       → said parties (word ∷ decimal n ∷ []) ≡ (number (decimal n) >>= λ m. says (make m)) → IsWide n → ReadsBack (make n)
   one_back make word n are plain by h =
-      by_words (make n) word (decimal n ∷ []) are (plain, (number_plain n h, tt)) (by ∙ ap (λ o. o >>= λ m. says (make m)) (number_back n h))
+      by_words (make n) word (decimal n ∷ []) are (plain, (number_plain n h, tt))
+      (by ∙ ap (λ o. o >>= λ m. says (make m)) (number_back n h))
 
   start_back : (n : ℕ) (a : List ℕ) (v : ℕ) → IsWide n → IsNamed a → IsWide v → ReadsBack (line.start n a v)
   start_back n a v h i j =
@@ -130,9 +133,10 @@ module _ (parties : List (List ℕ)) where
 
   contract_back : (a : ActiveContract) → IsSaid parties (line.contract a) → ReadsBack (line.contract a)
   contract_back a h =
-      by_words _ (codes "contract") (output_text a.number ∷ decimal a.contract ∷ path_text a.position ∷ decimal a.balance ∷ []) refl
-      (known_word (codes "contract") refl,
-      (output_plain a.number h.0, (number_plain a.contract h.1, (path_plain a.position h.2, (number_plain a.balance h.3, tt)))))
+      by_words _ (codes "contract") (output_text a.number ∷ decimal a.contract ∷ path_text a.position ∷ decimal a.balance ∷ []) refl (
+        known_word (codes "contract") refl,
+        (output_plain a.number h.0, (number_plain a.contract h.1, (path_plain a.position h.2, (number_plain a.balance h.3, tt)))),
+      )
       (ap (λ p. p >>= λ n. number (decimal a.contract) >>= λ k. path (path_text a.position) >>= λ q. number (decimal a.balance) >>= λ v.
       says (line.contract (record { number = n; contract = k; position = q; balance = v }))) (output_back a.number h.0)
       ∙ (ap (λ p. p >>= λ k. path (path_text a.position) >>= λ q. number (decimal a.balance) >>= λ v.
@@ -161,9 +165,16 @@ module _ (parties : List (List ℕ)) where
   secret_back x h =
       let shows : ℕ → List ℕ → List ℕ → Option ℕ → Bool → Option Said =
       λ k a y n b. says (line.secret (record { contract = k; party = a; name = y; length = n; revealed = b })) in
-      by_words _ (codes "secret") (decimal x.contract ∷ x.party ∷ x.name ∷ length_text x.length ∷ shown_word x.revealed ∷ []) refl
-      (known_word (codes "secret") refl,
-      (number_plain x.contract h.0, (name_plain x.party h.1, (name_plain x.name h.2, (length_plain x.length h.3, (shown_plain x.revealed, tt))))))
+      by_words _ (codes "secret") (decimal x.contract ∷ x.party ∷ x.name ∷ length_text x.length ∷ shown_word x.revealed ∷ []) refl (
+        known_word (codes "secret") refl,
+        (
+          number_plain x.contract h.0,
+          (
+            name_plain x.party h.1,
+            (name_plain x.name h.2, (length_plain x.length h.3, (shown_plain x.revealed, tt))),
+          ),
+        ),
+      )
       (ap (λ p. p >>= λ k. a_name x.party >>= λ a. a_name x.name >>= λ y. a_length (length_text x.length) >>= λ n.
       is_shown (shown_word x.revealed) >>= λ b. shows k a y n b) (number_back x.contract h.0)
       ∙ (ap (λ p. p >>= λ a. a_name x.name >>= λ y. a_length (length_text x.length) >>= λ n.

@@ -1,14 +1,16 @@
 -- The names that a contract has are such as text may have.
-use Rattle.std.proofs.Common.{◌≡◌, ℕ, suc, ◌<◌, ◌^◌, List, [], ◌∷◌, ◌++◌, map, length, Bool, true, false, Option, Some, None, refl, sym, ap, subst, ◌∙◌}
-use Rattle.std.specs.Prelude.{◌&&◌, nat_le, slice_get, option_map, option_and_then, fold, if◌then◌else◌}
+use Rattle.std.proofs.Common.{◌≡◌, ℕ, ◌<◌, ◌^◌, List, [], ◌∷◌, ◌++◌, map, Bool, true, false, Option, Some, None, refl}
+use Rattle.std.proofs.Common.{subst}
+use Rattle.std.specs.Prelude.{◌&&◌, nat_le, slice_get, option_map, option_and_then, if◌then◌else◌}
 use Rattle.std.specs.List.{list_all, AllByRecursion}
 use Rattle.std.specs.Str.{bytes_eq}
 use Rattle.std.proofs.lemmas.Bool.{and_parts, and_from}
-use Rattle.spec_data.specs.Lists.{is_among, look_up}
+use Rattle.spec_data.specs.Lists.{is_among}
 use Rattle.spec_data.specs.Ranges.{max_money}
 use Rattle.spec_terms.specs.Advert.{Advert}
 use Rattle.spec_terms.specs.Term as term
-use Rattle.spec_terms.specs.Term.{Contract, no_branch, branch, branches, Parts, no_part, part, parts_list, auth, after, put_reveal, withdraw, split}
+use Rattle.spec_terms.specs.Term.{Contract, no_branch, branch, branches, Parts, no_part, part, parts_list, auth, after, put_reveal}
+use Rattle.spec_terms.specs.Term.{withdraw, split}
 use Rattle.spec_terms.specs.Core.{core, asks, reveals_of}
 use Rattle.spec_terms.specs.Parties.{mentions, choice_mentions, parts_mentions, add_new, add_all, participants}
 use Rattle.spec_terms.specs.Paths.{Subterm, position, at_branch, below, next_subterm, subterm_from, as_branch, at}
@@ -17,12 +19,11 @@ use Rattle.spec_terms.specs.declared.pre.Pre.{Pre}
 use Rattle.spec_terms.specs.declared.pre.Pre.TheVariants.{Persistent, Volatile, Secret}
 use Rattle.spec_terms.specs.declared.path.PathStep.{PathStep}
 use Rattle.spec_terms.specs.declared.path.PathStep.TheVariants.{Branch as To, Part as Into}
-use Rattle.spec_terms.specs.Readable.{is_name, is_readable_entry, is_readable_pre, is_readable_contract, is_readable_branch, is_readable_count, are_readable}
-use Rattle.spec_terms.specs.Readable.{are_readable_parts, is_readable_split, is_readable_test, is_whole_prefix, is_some_list, most_deposits, most_secrets}
+use Rattle.spec_terms.specs.Readable.{is_name, is_readable_entry, is_readable_pre, is_readable_contract, is_readable_branch}
+use Rattle.spec_terms.specs.Readable.{is_readable_count, are_readable}
+use Rattle.spec_terms.specs.Readable.{are_readable_parts, is_readable_split, is_readable_test, is_whole_prefix, is_some_list}
 use Rattle.spec_terms.specs.Faults.{IsWellFormed}
 use Rattle.spec_bitcoin.specs.Keys.{IsStep}
-use Rattle.spec_calculus.specs.Branches.{payee_in}
-use Rattle.theory_calculus.proofs.Names.{all_among}
 use Rattle.theory_calculus.proofs.Members.{all_append}
 use Rattle.theory_world.proofs.Labels.{branch_readable, part_fine, core_readable, is_fine, path_fine}
 use Rattle.theory_report.specs.Printable.{IsNamed}
@@ -39,7 +40,8 @@ IsReadable pre = list_all is_readable_entry pre ≡ true
 abbrev pub IsHeld : List ℕ × Holding → Type 0
 IsHeld d = IsNamed (d.0) × IsNamed (d.1).owner
 
-valued : (party name : List ℕ) (value : ℕ) → (is_name party && (nat_le value max_money && is_name name)) ≡ true → IsNamed party × IsNamed name
+valued : (party name : List ℕ) (value : ℕ) → (is_name party && (nat_le value max_money && is_name name)) ≡ true
+    → IsNamed party × IsNamed name
 valued party name value h =
     let p = and_parts (is_name party) _ h in
     (p.0, (and_parts (nat_le value max_money) (is_name name) p.1).1)
@@ -150,7 +152,7 @@ has_names a h =
     let p = (and_parts (is_some_list a.pre && list_all is_readable_entry a.pre) _ r.0).0 in
     let entries = (and_parts (is_some_list a.pre) (list_all is_readable_entry a.pre) p).1 in
     let named = all_append is_name (map party_of a.pre) (choice_mentions a.root) (parties_named a.pre entries)
-        (choice_mentioned a.root (and_parts (is_readable_count a.root) (are_readable a.root) f).1) in
+    (choice_mentioned a.root (and_parts (is_readable_count a.root) (are_readable a.root) f).1) in
     record { pre = entries; root = f; people = added (map party_of a.pre ++ choice_mentions a.root) [] refl named }
 
 -- ---- branches
@@ -181,7 +183,8 @@ abbrev FineSpot : Subterm → Type 0
 FineSpot (position c) = is_fine c ≡ true
 FineSpot (at_branch b) = is_readable_branch b ≡ true
 
-choice_spot : (c : Contract) (i : ℕ) (sp : Subterm) → is_fine c ≡ true → option_map at_branch (slice_get (branches c) i) ≡ Some sp → FineSpot sp
+choice_spot : (c : Contract) (i : ℕ) (sp : Subterm) → is_fine c ≡ true → option_map at_branch (slice_get (branches c) i) ≡ Some sp
+    → FineSpot sp
 choice_spot c i sp h e = by_branch (slice_get (branches c) i) refl e
   where
     by_branch : (o : Option term.Guarded) → slice_get (branches c) i ≡ o → option_map at_branch o ≡ Some sp → FineSpot sp

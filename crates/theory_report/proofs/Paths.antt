@@ -77,8 +77,10 @@ number_plain n h = plain_word (decimal n) (decimal_line n (omega (arith, h)))
 steps_lack : (test : ℕ → Bool) → test 46 ≡ false → test 47 ≡ false → ((n : ℕ) → n < 2 ^ 32 → Lacks test (decimal n))
     → (q : List PathStep) → AllByRecursion IsStep q → Lacks test (flat_map step_text q)
 steps_lack test dot slash f [] h = tt
-steps_lack test dot slash f (To n ∷ q) h = (dot, lacks_append test (decimal n) (flat_map step_text q) (f n h.0) (steps_lack test dot slash f q h.1))
-steps_lack test dot slash f (Into n ∷ q) h = (slash, lacks_append test (decimal n) (flat_map step_text q) (f n h.0) (steps_lack test dot slash f q h.1))
+steps_lack test dot slash f (To n ∷ q) h =
+    (dot, lacks_append test (decimal n) (flat_map step_text q) (f n h.0) (steps_lack test dot slash f q h.1))
+steps_lack test dot slash f (Into n ∷ q) h =
+    (slash, lacks_append test (decimal n) (flat_map step_text q) (f n h.0) (steps_lack test dot slash f q h.1))
 
 pub path_plain : (q : List PathStep) → AllByRecursion IsStep q → IsPlain (path_text q)
 path_plain q h = record {

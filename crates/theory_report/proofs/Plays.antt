@@ -1,17 +1,16 @@
 -- What `play` prints is read as what its run shows.
-use Rattle.std.proofs.Common.{◌≡◌, ◌≤◌, ℕ, List, length, Option, Some, None, Ok, refl, sym, ap, subst, ◌∙◌}
+use Rattle.std.proofs.Common.{◌≡◌, ℕ, List, Option, Some, None, Ok, refl, sym, ap, subst, ◌∙◌}
 use Rattle.spec_terms.specs.Advert.{Advert}
 use Rattle.spec_run.specs.declared.event.Event.{Event}
 use Rattle.spec_run.specs.declared.event.Run.{Run}
 use Rattle.spec_run.specs.Setup.{Setup}
 use Rattle.spec_run.specs.Event.{opening_collision}
 use Rattle.spec_run.specs.Translation.{last_world, last_configuration, first_halt}
-use Rattle.spec_run.specs.Conditions.{HashesBytes}
 use Rattle.spec_run.specs.Statements.{IsRun}
 use Rattle.spec_text.specs.Played.{entries, ending_from, ending, play_text}
 use Rattle.spec_text.specs.PlayText.{report_text}
 use Rattle.spec_text.specs.Refusals.{Judged, run_of}
-use Rattle.spec_tool.specs.Commands.{Printed, JudgedAll, contracts_from, setup_of, run_answer, with_contracts, with_run, play_answer}
+use Rattle.spec_tool.specs.Commands.{JudgedAll, contracts_from, setup_of, with_contracts, with_run, play_answer}
 use Rattle.theory_text.proofs.Options.{some_is}
 use Rattle.theory_tool.proofs.Headlines.{valid_runs_are}
 use Rattle.theory_report.specs.Report.{report_of}
@@ -31,7 +30,8 @@ any_printable s es known f = by_opening (opening_collision s) refl
     by_opening None e = run_printable s es (f e) known
     by_opening (Some p) e =
         subst (λ (o : Option (List ℕ × List ℕ)).
-        IsPrintable s.header.parties s.header.deposits (entries s es) (ending_from (last_world s es) (last_configuration s es) o (first_halt s es)))
+        IsPrintable s.header.parties s.header.deposits (entries s es)
+        (ending_from (last_world s es) (last_configuration s es) o (first_halt s es)))
         (sym e) (tt, tt)
 
 run_printed : (hash : List ℕ → List ℕ) (run_file : List ℕ) (contract_files : List (List ℕ)) (run : Run) (contracts : List Advert)
@@ -49,7 +49,7 @@ pub plays : PlaysAreRead
 plays hash bytes run_file contract_files run contracts r c few =
     let s : Setup = setup_of hash run contracts in
     let printable = any_printable s run.events (run_known run_file run r)
-        (λ opens. valid_runs_are hash bytes run_file contract_files run contracts r c few opens) in
+    (λ opens. valid_runs_are hash bytes run_file contract_files run contracts r c few opens) in
     ap (report_of run.header.parties) (run_printed hash run_file contract_files run contracts r c ∙ text_is s run.events)
     ∙ reports_back run.header.parties run.header.deposits (entries s run.events) (ending s run.events) printable
 

@@ -1,16 +1,17 @@
 -- The names and the numbers of an event that some line spells.
-use Rattle.std.proofs.Common.{◌≡◌, ℕ, suc, ◌+◌, ◌*◌, ◌<◌, ◌≤◌, ◌^◌, Bool, true, false, List, [], ◌∷◌, length, Option, Some, None, refl, sym, ap, subst, ◌∙◌, arith}
-use Rattle.std.specs.Prelude.{◌&&◌, ◌==◌, nat_le, codes, if◌then◌else◌}
+use Rattle.std.proofs.Common.{◌≡◌, ℕ, suc, ◌≤◌, ◌^◌, Bool, true, false, List, [], ◌∷◌, length, Option, Some, None, refl}
+use Rattle.std.proofs.Common.{sym, ap, subst, arith}
+use Rattle.std.specs.Prelude.{◌&&◌, ◌==◌, nat_le, codes}
 use Rattle.std.specs.List.{AllByRecursion}
 use Rattle.std.specs.Str.{bytes_eq}
-use Rattle.spec_data.specs.Lists.{is_among}
-use Rattle.spec_data.specs.Digits.{read_hex, onto}
+use Rattle.spec_data.specs.Digits.{read_hex}
 use Rattle.spec_terms.specs.Readable.{is_name}
 use Rattle.spec_run.specs.declared.event.Event.{Event}
 use Rattle.spec_run.specs.declared.event.Event.TheVariants as events
 use Rattle.spec_text.specs.Lines.{parts_of}
-use Rattle.spec_text.specs.Words.{◌>>=◌, given, small, amount, output, a_name, one_of, digest, named, two_parts, all_of, label}
-use Rattle.spec_text.specs.EventLines.{advertise, commit, contract_and_party, authorise, reveal, bytes_event, sign, before_arrow, at_arrow, shares}
+use Rattle.spec_text.specs.Words.{◌>>=◌, given, small, output, a_name, one_of, digest, named, two_parts, all_of, label}
+use Rattle.spec_text.specs.EventLines.{advertise, commit, contract_and_party, authorise, reveal, bytes_event, sign, before_arrow}
+use Rattle.spec_text.specs.EventLines.{at_arrow, shares}
 use Rattle.spec_text.specs.EventLines.{is_some_list, give, fire, mine, event_by, event_of}
 use Rattle.theory_text.proofs.ListFacts.{by_test}
 use Rattle.theory_text.proofs.Options.{some, some_is, none_some, came, onto_all, onto_is, given_is}
@@ -157,7 +158,8 @@ module _ (parties : List (List ℕ)) where
   fire_read (w ∷ []) e h = absurd (none_some e h)
   fire_read (w ∷ n ∷ []) e h =
       by_test (bytes_eq w (codes "init")) _ _ (some e) (IsReadEvent e) h
-      (λ same h1. let c = came (small n) (λ k. some (events.FireInit k)) e h1 in subst IsReadEvent (some_is (events.FireInit c.first) e c.then') tt)
+      (λ same h1. let c = came (small n) (λ k. some (events.FireInit k)) e h1 in
+      subst IsReadEvent (some_is (events.FireInit c.first) e c.then') tt)
       (λ h1.
       let c = came (output w) (λ o. small n >>= λ i. some (events.Fire o i)) e h1 in
       let d = came (small n) (λ i. some (events.Fire c.first i)) e c.then' in
@@ -175,16 +177,22 @@ module _ (parties : List (List ℕ)) where
   give_read : (words : List (List ℕ)) (e : Event) → length words ≤ 2 ^ 32 → give parties words ≡ some e → IsReadEvent e
   give_read [] e few h = absurd (none_some e h)
   give_read (a ∷ ws) e few h =
-      let c = came (one_of parties a) (λ p. at_arrow ws >>= λ q. all_of output (q.0) >>= λ is. shares parties (q.1) >>= λ os. given (is_some_list is && is_some_list os) (events.Give p is os)) e h in
-      let d = came (at_arrow ws) (λ q. all_of output (q.0) >>= λ is. shares parties (q.1) >>= λ os. given (is_some_list is && is_some_list os) (events.Give c.first is os)) e c.then' in
-      let f = came (all_of output (d.first.0)) (λ is. shares parties (d.first.1) >>= λ os. given (is_some_list is && is_some_list os) (events.Give c.first is os)) e d.then' in
-      let g = came (shares parties (d.first.1)) (λ os. given (is_some_list f.first && is_some_list os) (events.Give c.first f.first os)) e f.then' in
+      let c = came (one_of parties a)
+      (λ p. at_arrow ws >>= λ q. all_of output (q.0) >>= λ is. shares parties (q.1) >>= λ os. given (is_some_list is && is_some_list os)
+      (events.Give p is os)) e h in
+      let d = came (at_arrow ws) (λ q. all_of output (q.0) >>= λ is. shares parties (q.1) >>= λ os. given
+      (is_some_list is && is_some_list os) (events.Give c.first is os)) e c.then' in
+      let f = came (all_of output (d.first.0))
+      (λ is. shares parties (d.first.1) >>= λ os. given (is_some_list is && is_some_list os) (events.Give c.first is os)) e d.then' in
+      let g = came (shares parties (d.first.1))
+      (λ os. given (is_some_list f.first && is_some_list os) (events.Give c.first f.first os)) e f.then' in
       let t = given_is (is_some_list f.first && is_some_list g.first) (events.Give c.first f.first g.first) e g.then' in
       let w = outputs_wide (d.first.0) f.first f.is in
       let n = front_few ws d.first d.is in
       subst IsReadEvent t.same (w.wide, omega (arith, w.size, n, few))
 
-  by_word : (word : List ℕ) (words : List (List ℕ)) (e : Event) → length words ≤ 2 ^ 32 → event_by word parties words ≡ some e → IsReadEvent e
+  by_word : (word : List ℕ) (words : List (List ℕ)) (e : Event) → length words ≤ 2 ^ 32 → event_by word parties words ≡ some e
+      → IsReadEvent e
   by_word word words e few h =
       by_test (bytes_eq word (codes "advertise")) _ _ (some e) (IsReadEvent e) h (λ same. advertise_read words e) (λ h1.
       by_test (bytes_eq word (codes "commit")) _ _ (some e) (IsReadEvent e) h1 (λ same. commit_read words e) (λ h2.
@@ -195,9 +203,11 @@ module _ (parties : List (List ℕ)) where
       by_test (bytes_eq word (codes "post")) _ _ (some e) (IsReadEvent e) h6 (λ same. bytes_read events.Post (λ bytes. tt) words e) (λ h7.
       by_test (bytes_eq word (codes "sign")) _ _ (some e) (IsReadEvent e) h7 (λ same. sign_read words e) (λ h8.
       by_test (bytes_eq word (codes "give")) _ _ (some e) (IsReadEvent e) h8 (λ same. give_read words e few) (λ h9.
-      by_test (bytes_eq word (codes "append")) _ _ (some e) (IsReadEvent e) h9 (λ same. bytes_read events.Append (λ bytes. tt) words e) (λ h10.
+      by_test (bytes_eq word (codes "append")) _ _ (some e) (IsReadEvent e) h9 (λ same. bytes_read events.Append (λ bytes. tt) words e)
+      (λ h10.
       by_test (bytes_eq word (codes "fire")) _ _ (some e) (IsReadEvent e) h10 (λ same. fire_read words e) (λ h11.
-      by_test (bytes_eq word (codes "mine")) _ _ (some e) (IsReadEvent e) h11 (λ same. mine_read words e) (λ h12. absurd (none_some e h12)))))))))))))
+      by_test (bytes_eq word (codes "mine")) _ _ (some e) (IsReadEvent e) h11 (λ same. mine_read words e)
+      (λ h12. absurd (none_some e h12)))))))))))))
 
   -- the event of words that aren't too many
   pub read_event : (words : List (List ℕ)) (e : Event) → length words ≤ 2 ^ 32 → event_of parties words ≡ some e → IsReadEvent e

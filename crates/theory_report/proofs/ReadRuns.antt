@@ -1,8 +1,8 @@
 -- What is known of a run that a run file spells: its names, and each event by its canonical line.
-use Rattle.std.proofs.Common.{◌≡◌, ℕ, suc, ◌+◌, ◌*◌, ◌≤◌, ◌^◌, Bool, true, false, List, [], ◌∷◌, ◌++◌, length, Option, Some, None, Ok, Err, refl, sym, ap, subst, ◌∙◌, arith}
-use Rattle.std.specs.Prelude.{if◌then◌else◌, nat_lt, not, ◌&&◌, Result, codes}
-use Rattle.std.specs.List.{list_all, list_any, AllByRecursion}
-use Rattle.std.proofs.lemmas.Bool.{and_from}
+use Rattle.std.proofs.Common.{◌≡◌, ℕ, ◌+◌, ◌≤◌, Bool, true, false, List, [], ◌∷◌, ◌++◌, length, Option, Some, None, Ok}
+use Rattle.std.proofs.Common.{Err, refl, subst, arith}
+use Rattle.std.specs.Prelude.{if◌then◌else◌, nat_lt, not, Result, codes}
+use Rattle.std.specs.List.{list_all, AllByRecursion}
 use Rattle.std.proofs.lemmas.Bool.Decides.{nat_tests}
 use Rattle.spec_data.specs.Lists.{is_among}
 use Rattle.spec_terms.specs.Readable.{is_name}
@@ -15,17 +15,19 @@ use Rattle.spec_text.specs.declared.run_fault.RunLimit.TheVariants as limits
 use Rattle.spec_text.specs.Limits.{most_events, most_run_bytes}
 use Rattle.spec_text.specs.Lines.{lines_of, words_of}
 use Rattle.spec_text.specs.EventLines.{event_of}
-use Rattle.spec_text.specs.RunFile.{Line, bad, over, empty, rule, says, spelled_within, is_long, is_taken, no_header, Headed, read_header, event_within, event_words}
+use Rattle.spec_text.specs.RunFile.{Line, bad, over, empty, rule, says, spelled_within, is_long, no_header, Headed, read_header}
+use Rattle.spec_text.specs.RunFile.{event_within, event_words}
 use Rattle.spec_text.specs.RunFile.{event_of_line, with_event, counted, event_step, read_events, with_header, read_rest, read_run}
 use Rattle.spec_text.specs.RunText.{event_text}
-use Rattle.spec_text.specs.Refusals.{Judged, judged_run, run_of}
+use Rattle.spec_text.specs.Refusals.{judged_run, run_of}
 use Rattle.theory_text.proofs.ListFacts.{and_left, and_right}
 use Rattle.theory_text.proofs.Lines.EventLines.{printed_event}
 use Rattle.theory_text.proofs.Lines.LineBytes.{ends_line}
 use Rattle.theory_text.proofs.Lines.ReadHeaders.{AllNew, NewSecret, NewDeposit, IsRead, line_keeps, no_header_read}
 use Rattle.theory_text.proofs.Lines.Separated.{Lacks}
 use Rattle.theory_text.proofs.Lines.ValidHeaders.{header_keeps}
-use Rattle.theory_text.proofs.Lines.ValidRuns.{an_event, event_eq, over_says, bad_says, empty_says, not_long, short_line, a_run, run_eq, fault_run}
+use Rattle.theory_text.proofs.Lines.ValidRuns.{an_event, over_says, bad_says, empty_says, not_long, short_line, a_run, run_eq}
+use Rattle.theory_text.proofs.Lines.ValidRuns.{fault_run}
 use Rattle.theory_text.proofs.Lines.Words.{count-words}
 use Rattle.theory_auto.proofs.EventEnds.{event_ends}
 use Rattle.theory_auto.proofs.Shorter.{line_of_words}
@@ -65,7 +67,8 @@ module _ (parties : List (List ℕ)) (names : AllNamed parties) where
       by_room true q = refl
       by_room false q = absurd (over_says e q)
 
-  room_words : (count : ℕ) (words : List (List ℕ)) (e : Event) → event_words parties count words ≡ an_event e → nat_lt count most_events ≡ true
+  room_words : (count : ℕ) (words : List (List ℕ)) (e : Event) → event_words parties count words ≡ an_event e
+      → nat_lt count most_events ≡ true
   room_words count [] e h = absurd (empty_says e h)
   room_words count (w ∷ ws) e h = room_within count (event_of parties (w ∷ ws)) e h
 
@@ -77,14 +80,20 @@ module _ (parties : List (List ℕ)) (names : AllNamed parties) where
       let words = count-words line in
       let again = printed_event parties count line e h in
       let read = (line_of_words parties count line e h).read in
-      let ends = event_ends parties names (words_of line) e read in
-      ((record {
-        read = (line_of_words parties count (event_text e) e again).read;
-        one_line = lacks_test ends_line (event_text e) ends;
-      }, read_event parties (words_of line) e (omega (arith, short, words)) read), less_is count (room_words count (words_of line) e t.is))
+      let ends = event_ends parties names (words_of line) e read in (
+        (
+          record {
+            read = (line_of_words parties count (event_text e) e again).read;
+            one_line = lacks_test ends_line (event_text e) ends;
+          },
+          read_event parties (words_of line) e (omega (arith, short, words)) read,
+        ),
+        less_is count (room_words count (words_of line) e t.is),
+      )
 
   one_known : (count : ℕ) (line : List ℕ) (e : Event) (later : Result (List Event) RunFault) (es : List Event)
-      → event_of_line parties count line ≡ an_event e → (count + 1 ≤ 10000 → (ds : List Event) → later ≡ events_read ds → AreKnown parties (count + 1) ds)
+      → event_of_line parties count line ≡ an_event e
+      → (count + 1 ≤ 10000 → (ds : List Event) → later ≡ events_read ds → AreKnown parties (count + 1) ds)
       → with_event e later ≡ events_read es → AreKnown parties count es
   one_known count line e (Err fault) es is f q = cc
   one_known count line e (Ok ds) es is f q =
@@ -118,8 +127,11 @@ module _ (parties : List (List ℕ)) (names : AllNamed parties) where
 secrets_named : (honest : List (List ℕ)) (done xs : List HeldSecret) → AllNew (NewSecret honest) done xs
     → AllByRecursion (λ (x : HeldSecret). IsNamed x.party × IsNamed x.name) xs
 secrets_named honest done [] h = tt
-secrets_named honest done (x ∷ xs) h =
-    ((h.0.named, and_right (is_among x.party honest) (is_name x.name) (and_left _ _ h.0.spelled)), secrets_named honest (done ++ x ∷ []) xs h.1)
+secrets_named honest done (x ∷ xs) h = (
+  (h.0.named, and_right (is_among x.party honest) (is_name x.name) (and_left _ _ h.0.spelled)),
+  secrets_named honest
+      (done ++ x ∷ []) xs h.1,
+)
 
 deposits_named : (parties : List (List ℕ)) (done xs : List (List ℕ × ℕ)) → AllNew (NewDeposit parties) done xs
     → AllByRecursion (λ (d : List ℕ × ℕ). IsNamed (d.0)) xs
@@ -165,6 +177,7 @@ judged_is (Err fault) run h = cc
 pub run_known : (text : List ℕ) (run : Run) → run_of text ≡ Ok run → IsKnownRun run.header run.events
 run_known text run h = by_size (nat_lt most_run_bytes (length text)) h
   where
-    by_size : (t : Bool) → (if t then Err (codes "limit Size line 0") else judged_run (read_run text)) ≡ Ok run → IsKnownRun run.header run.events
+    by_size : (t : Bool) → (if t then Err (codes "limit Size line 0") else judged_run (read_run text)) ≡ Ok run
+        → IsKnownRun run.header run.events
     by_size true e = cc
     by_size false e = rest_known text run (read_header no_header 1 (lines_of text)) refl (judged_is (read_run text) run e)

@@ -10,7 +10,7 @@ use Rattle.spec_run.specs.declared.outcome.Outcome.{Outcome}
 use Rattle.spec_run.specs.declared.outcome.Outcome.TheVariants.{Accepted}
 use Rattle.spec_run.specs.declared.outcome.Reason.{Reason}
 use Rattle.spec_run.specs.declared.outcome.Reason.TheVariants as reason
-use Rattle.spec_text.specs.Words.{◌>>=◌, a_name, all_of}
+use Rattle.spec_text.specs.Words.{◌>>=◌, all_of}
 use Rattle.spec_text.specs.RunText.{output_text, outputs_text}
 use Rattle.spec_text.specs.OutcomeText.{reason_text, with_name, with_number, accepted_text}
 use Rattle.theory_text.proofs.Options.{some}
@@ -106,7 +106,8 @@ reason_read (reason.MissingInput n) h = numbered_reason (λ n. reason.MissingInp
 reason_read reason.ValueLimit h = plain_reason _ (codes "ValueLimit") refl refl refl
 reason_read reason.InsufficientIn h = plain_reason _ (codes "InsufficientIn") refl refl refl
 reason_read reason.NotFinal h = plain_reason _ (codes "NotFinal") refl refl refl
-reason_read (reason.ScriptSigNotEmpty n) h = numbered_reason (λ n. reason.ScriptSigNotEmpty n) (codes "ScriptSigNotEmpty") n refl refl refl h
+reason_read (reason.ScriptSigNotEmpty n) h =
+    numbered_reason (λ n. reason.ScriptSigNotEmpty n) (codes "ScriptSigNotEmpty") n refl refl refl h
 reason_read (reason.NotWitnessScript n) h = numbered_reason (λ n. reason.NotWitnessScript n) (codes "NotWitnessScript") n refl refl refl h
 reason_read (reason.ScriptMismatch n) h = numbered_reason (λ n. reason.ScriptMismatch n) (codes "ScriptMismatch") n refl refl refl h
 reason_read (reason.ItemTooLong n) h = numbered_reason (λ n. reason.ItemTooLong n) (codes "ItemTooLong") n refl refl refl h
@@ -160,16 +161,22 @@ accepted_back spent made lock h k l =
     (pairs_back IsMade an_output number output_text decimal (λ m i. output_back (m.0) i.0) (λ m i. number_back (m.1) i.1) made k)
     ∙ ap (λ o. o >>= λ n. an_outcome (Accepted spent made n)) (number_back lock l))))
 
-pub accepted_read : (spent : List ℕ) (made : List (ℕ × ℕ)) (lock : ℕ) → AllByRecursion IsWide spent → AllByRecursion IsMade made → IsWide lock
+pub accepted_read : (spent : List ℕ) (made : List (ℕ × ℕ)) (lock : ℕ) → AllByRecursion IsWide spent → AllByRecursion IsMade made
+    → IsWide lock
     → IsRead accepted_of (line_of (codes "spends" ∷ spent_words spent made lock)) (Accepted spent made lock)
 accepted_read spent made lock h k l = record {
   word = codes "spends";
   words = spent_words spent made lock;
   are = refl;
-  plain = (known_word (codes "spends") refl, plain_append (map output_text spent) _ (plain_map IsWide output_text output_plain spent h)
-      (known_word (codes "makes") refl, plain_append (pair_words output_text decimal made) _
-      (plain_pairs IsMade output_text decimal (λ m i. (output_plain (m.0) i.0, number_plain (m.1) i.1)) made k)
-      (known_word (codes "lock") refl, (number_plain lock l, tt))));
+  plain = (
+    known_word (codes "spends") refl,
+    plain_append (map output_text spent) _ (plain_map IsWide output_text output_plain spent h) (
+      known_word (codes "makes") refl,
+      plain_append (pair_words output_text decimal made) _
+          (plain_pairs IsMade output_text decimal (λ m i. (output_plain (m.0) i.0, number_plain (m.1) i.1)) made k)
+          (known_word (codes "lock") refl, (number_plain lock l, tt)),
+    ),
+  );
   back = accepted_back spent made lock h k l;
 }
 

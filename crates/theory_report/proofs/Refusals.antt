@@ -1,51 +1,46 @@
 -- Each reason for which an event is refused before it reaches the ledger may be printed.
-use Rattle.std.proofs.Common.{◌≡◌, ℕ, suc, ◌+◌, ◌*◌, ◌<◌, ◌≤◌, ◌^◌, List, [], ◌∷◌, ◌++◌, map, length, Bool, true, false, Option, Some, None, Result, Ok, Err}
-use Rattle.std.proofs.Common.{refl, sym, ap, subst, ◌∙◌, arith, inl, inr, cond}
-use Rattle.std.specs.Prelude.{if◌then◌else◌, is_some, find, filter, slice_get, option_map, nat_le, not, ◌&&◌, ◌||◌, flat_map}
+use Rattle.std.proofs.Common.{◌≡◌, ℕ, List, [], ◌∷◌, ◌++◌, map, Bool, true, false, Option, Some}
+use Rattle.std.proofs.Common.{None}
+use Rattle.std.proofs.Common.{refl, subst, cond}
+use Rattle.std.specs.Prelude.{if◌then◌else◌, is_some, filter, nat_le, not}
 use Rattle.std.specs.List.{list_all, AllByRecursion}
 use Rattle.std.specs.Option.{option_map_or}
-use Rattle.std.specs.Str.{bytes_eq}
 use Rattle.std.proofs.lemmas.Bool.{and_parts}
-use Rattle.std.proofs.lemmas.Bool.Decides.{nat_tests}
-use Rattle.spec_data.specs.Lists.{is_among, has_number, look_up, first_reason, are_different}
+use Rattle.spec_data.specs.Lists.{is_among, has_number, look_up, first_reason}
 use Rattle.spec_terms.specs.Advert.{Advert}
 use Rattle.spec_terms.specs.Term as term
 use Rattle.spec_terms.specs.Term.{branches}
-use Rattle.spec_terms.specs.Core.{core, puts_of, reveals_of, is_asked}
+use Rattle.spec_terms.specs.Core.{core, puts_of, is_asked}
 use Rattle.spec_terms.specs.Faults.{IsWellFormed}
 use Rattle.spec_terms.specs.Parties.{participants}
 use Rattle.spec_terms.specs.Paths.{at}
-use Rattle.spec_terms.specs.Precondition.{Holding, deposits, volatile, persistent, secrets, names_of, secrets_of}
-use Rattle.spec_terms.specs.Readable.{is_name, is_readable_pre, is_readable_entry, is_readable_contract, is_some_list, most_deposits, most_secrets}
+use Rattle.spec_terms.specs.Precondition.{Holding, volatile}
+use Rattle.spec_terms.specs.Readable.{is_name, is_readable_entry}
 use Rattle.spec_terms.specs.declared.pre.Pre.{Pre}
 use Rattle.spec_terms.specs.declared.pre.Pre.TheVariants.{Persistent, Volatile, Secret}
 use Rattle.spec_terms.specs.declared.path.PathStep.{PathStep}
-use Rattle.spec_terms.specs.declared.path.PathStep.TheVariants.{Branch as To}
 use Rattle.spec_bitcoin.specs.Keys.{IsStep, key_of}
 use Rattle.spec_data.specs.Ranges.{max_money}
 use Rattle.spec_compiler.specs.Instance.{Instance, branch_label}
 use Rattle.spec_compiler.specs.declared.prepared.Prepared.{Prepared}
 use Rattle.spec_compiler.specs.Transactions.{holding_or_none}
 use Rattle.spec_compiler.specs.Compilation.{compilation}
-use Rattle.spec_compiler.specs.Endorsements.{Need, put_owner, branch_needs, put_needs, needs_of, path_needs, needs, needed, is_met, missing_endorsement}
+use Rattle.spec_compiler.specs.Endorsements.{Need, put_owner, branch_needs, put_needs, needs_of, path_needs, needs, needed, is_met}
 use Rattle.spec_run.specs.declared.outcome.Reason.{Reason}
-use Rattle.spec_run.specs.declared.outcome.Reason.TheVariants as reason
-use Rattle.spec_run.specs.Setup.{Setup, contract_at, pre_at, pre_of, is_honest, held_secret, bytes_or_none}
+use Rattle.spec_run.specs.Setup.{Setup, contract_at, pre_at, pre_of, is_honest, bytes_or_none}
 use Rattle.spec_run.specs.World.{ContractPosition, World, output_at, is_deposit, live_position_at}
 use Rattle.spec_run.specs.Compiled.{compiled_instance}
 use Rattle.spec_run.specs.Conditions.{IsSetup}
 use Rattle.spec_run.specs.Draft.{Draft, unless}
-use Rattle.spec_run.specs.Owners.{suits}
-use Rattle.spec_run.specs.Ledger.{position_path, position_branch, branch_in}
+use Rattle.spec_run.specs.Ledger.{position_path, branch_in}
 use Rattle.spec_run.specs.Advertising.{repeated, not_live, unsuited, advertise_row}
-use Rattle.spec_run.specs.Committing.{secrets_at, is_secret_long, own_digests, not_held, badly_long, used_digests, used_again, missing_secret, bad_secret}
+use Rattle.spec_run.specs.Committing.{secrets_at, own_digests, not_held, badly_long, used_digests, used_again}
+use Rattle.spec_run.specs.Committing.{missing_secret, bad_secret}
 use Rattle.spec_run.specs.Committing.{committed_digests, commit_row, repeated_digest, digest_row}
 use Rattle.spec_run.specs.Signing.{missing_need, missed_need, not_endorsed, init_row, branch_if_live}
 use Rattle.spec_run.specs.Revealing.{reveal_row}
 use Rattle.spec_run.specs.Giving.{first_dead, first_foreign, give_row}
-use Rattle.spec_run.specs.Firing.{revealed_by, shown_string, first_unshown, unknown_secret, position_instance, unknown_at, fire_row}
-use Rattle.spec_calculus.specs.Same.{owner_eq}
-use Rattle.theory_calculus.specs.Members.{Is_in}
+use Rattle.spec_run.specs.Firing.{revealed_by, first_unshown, unknown_secret, position_instance, unknown_at, fire_row}
 use Rattle.theory_calculus.proofs.Members.{found}
 use Rattle.theory_calculus.proofs.Names.{looked_in}
 use Rattle.theory_world.proofs.Contracts.Checking.{compiled_checked}
@@ -84,7 +79,8 @@ later_named : (t : Bool) (x y : List ℕ) (later : Option (List ℕ)) → IsName
 later_named true x y later h f e = f e
 later_named false x y later h f e = let same : x ≡ y = cc in subst IsNamed same h
 
-later_wide : (t : Bool) (x y : ℕ) (later : Option ℕ) → IsWide x → (later ≡ Some y → IsWide y) → (if t then later else Some x) ≡ Some y → IsWide y
+later_wide : (t : Bool) (x y : ℕ) (later : Option ℕ) → IsWide x → (later ≡ Some y → IsWide y) → (if t then later else Some x) ≡ Some y
+    → IsWide y
 later_wide true x y later h f e = f e
 later_wide false x y later h f e = let same : x ≡ y = cc in subst IsWide same h
 
@@ -105,15 +101,18 @@ dead_wide : (w : World) (ns : List ℕ) → AllByRecursion IsWide ns → (n : �
 dead_wide w [] h n e = cc
 dead_wide w (m ∷ ms) h n e = later_wide (is_deposit (output_at w m)) m n _ h.0 (dead_wide w ms h.1 n) e
 
-foreign_wide : (s : Setup) (w : World) (a : List ℕ) (ns : List ℕ) → AllByRecursion IsWide ns → (n : ℕ) → first_foreign s w a ns ≡ Some n → IsWide n
+foreign_wide : (s : Setup) (w : World) (a : List ℕ) (ns : List ℕ) → AllByRecursion IsWide ns → (n : ℕ) → first_foreign s w a ns ≡ Some n
+    → IsWide n
 foreign_wide s w a [] h n e = cc
 foreign_wide s w a (m ∷ ms) h n e = later_wide _ m n _ h.0 (foreign_wide s w a ms h.1 n) e
 
-unsuited_named : (s : Setup) (w : World) (k : ℕ) (bs : List (List ℕ × ℕ)) → AreNamed bs → (x : List ℕ) → unsuited s w k bs ≡ Some x → IsNamed x
+unsuited_named : (s : Setup) (w : World) (k : ℕ) (bs : List (List ℕ × ℕ)) → AreNamed bs → (x : List ℕ) → unsuited s w k bs ≡ Some x
+    → IsNamed x
 unsuited_named s w k [] h x e = cc
 unsuited_named s w k (b ∷ bs) h x e = later_named _ (b.0) x _ h.0 (unsuited_named s w k bs h.1 x) e
 
-not_held_named : (s : Setup) (party : List ℕ) (names : List (List ℕ)) → AllNamed names → (x : List ℕ) → not_held s party names ≡ Some x → IsNamed x
+not_held_named : (s : Setup) (party : List ℕ) (names : List (List ℕ)) → AllNamed names → (x : List ℕ) → not_held s party names ≡ Some x
+    → IsNamed x
 not_held_named s party [] h x e = cc
 not_held_named s party (y ∷ ys) h x e =
     let n = and_parts (is_name y) (list_all is_name ys) h in later_named _ y x _ n.0 (not_held_named s party ys n.1 x) e
@@ -201,7 +200,8 @@ module _ (hash : List ℕ → List ℕ) (advert : Advert) (well : IsWellFormed a
       → AllByRecursion IsNeed (needs_of hash contract advert path b ds)
   need_all contract path b [] h = tt
   need_all contract path b (d ∷ ds) h =
-      by_append IsNeed (branch_needs hash contract advert path b d) _ (asked_need contract path b d h) (puts_need path h (puts_of (core b)) ds)
+      by_append IsNeed (branch_needs hash contract advert path b d) _ (asked_need contract path b d h)
+      (puts_need path h (puts_of (core b)) ds)
 
   path_need : (contract : ℕ) (path : List PathStep) (made : Prepared) → AllByRecursion IsNeed (path_needs hash contract advert path made)
   path_need contract path made = by_branch (at advert.root path) refl
@@ -213,7 +213,8 @@ module _ (hash : List ℕ → List ℕ) (advert : Advert) (well : IsWellFormed a
 
   all_needs : (contract : ℕ) (paths : List (List PathStep × Prepared)) → AllByRecursion IsNeed (needs hash contract advert paths)
   all_needs contract [] = tt
-  all_needs contract (p ∷ ps) = by_append IsNeed (path_needs hash contract advert (p.0) (p.1)) _ (path_need contract (p.0) (p.1)) (all_needs contract ps)
+  all_needs contract (p ∷ ps) =
+      by_append IsNeed (path_needs hash contract advert (p.0) (p.1)) _ (path_need contract (p.0) (p.1)) (all_needs contract ps)
 
 -- ---- the rows
 
@@ -228,34 +229,62 @@ module _ (s : Setup) (is : IsSetup s) (w : World) where
   secrets_are : (k : ℕ) (party : List ℕ) → AllNamed (secrets_at s k party)
   secrets_are k party = own_named party (pre_at s k) (pre_readable k)
 
-  pub advertise_shown : (k : ℕ) (bs : List (List ℕ × ℕ)) → AreNamed bs → (r : Reason) → first_reason (advertise_row s w k bs) ≡ Some r → IsReason r
+  pub advertise_shown : (k : ℕ) (bs : List (List ℕ × ℕ)) → AreNamed bs → (r : Reason) → first_reason (advertise_row s w k bs) ≡ Some r
+      → IsReason r
   advertise_shown k bs h = first_has IsReason (advertise_row s w k bs) (
     λ x. tt,
-    (λ x. tt,
-    (λ x. tt,
-    (name_some (repeated [] bs) (repeated_named [] bs h),
-    (name_some (not_live w bs) (not_live_named w bs h),
-    (name_some (unsuited s w k bs) (unsuited_named s w k bs h),
-    (λ x. tt,
-    tt)))))),
+    (
+      λ x. tt,
+      (
+        λ x. tt,
+        (
+          name_some (repeated [] bs) (repeated_named [] bs h),
+          (
+            name_some (not_live w bs) (not_live_named w bs h),
+            (
+              name_some (unsuited s w k bs) (unsuited_named s w k bs h),
+              (
+                λ x. tt,
+                tt,
+              ),
+            ),
+          ),
+        ),
+      ),
+    ),
   )
 
-  pub commit_shown : (k : ℕ) (a : List ℕ) (ds : List (List ℕ × List ℕ)) (r : Reason) → first_reason (commit_row s w k a ds) ≡ Some r → IsReason r
+  pub commit_shown : (k : ℕ) (a : List ℕ) (ds : List (List ℕ × List ℕ)) (r : Reason) → first_reason (commit_row s w k a ds) ≡ Some r
+      → IsReason r
   commit_shown k a ds = first_has IsReason (commit_row s w k a ds) (
     λ x. tt,
-    (λ x. tt,
-    (λ x. tt,
-    (λ x. tt,
-    (λ x. tt,
-    (name_some (missing_secret s k a) (λ x e. if_named (is_honest s a) _ x (not_held_named s a (secrets_at s k a) (secrets_are k a) x) e),
-    (name_some (bad_secret s k a) (λ x e. if_named (is_honest s a) _ x (badly_long_named s a (secrets_at s k a) (secrets_are k a) x) e),
-    tt)))))),
+    (
+      λ x. tt,
+      (
+        λ x. tt,
+        (
+          λ x. tt,
+          (
+            λ x. tt,
+            (
+              name_some (missing_secret s k a) (λ x e. if_named (is_honest s a) _ x (not_held_named s a (secrets_at s k a) (secrets_are k a) x) e),
+              (
+                name_some (bad_secret s k a) (λ x e. if_named (is_honest s a) _ x (badly_long_named s a (secrets_at s k a) (secrets_are k a) x) e),
+                tt,
+              ),
+            ),
+          ),
+        ),
+      ),
+    ),
   )
 
-  pub digest_shown : (k : ℕ) (a : List ℕ) (ds : List (List ℕ × List ℕ)) → AreNamed ds → (r : Reason) → first_reason (digest_row s w k a ds) ≡ Some r
+  pub digest_shown : (k : ℕ) (a : List ℕ) (ds : List (List ℕ × List ℕ)) → AreNamed ds → (r : Reason)
+      → first_reason (digest_row s w k a ds) ≡ Some r
       → IsReason r
   digest_shown k a ds h =
-      let named = chosen AreNamed (is_honest s a) (own_digests s a (secrets_at s k a)) ds (own_digests_named s a (secrets_at s k a) (secrets_are k a)) h in
+      let named = chosen AreNamed (is_honest s a) (own_digests s a (secrets_at s k a)) ds
+      (own_digests_named s a (secrets_at s k a) (secrets_are k a)) h in
       first_has IsReason (digest_row s w k a ds)
       (name_some (repeated_digest s w k a ds) (used_named (used_digests w.promises) (committed_digests s k a ds) named), tt)
 
@@ -263,7 +292,8 @@ module _ (s : Setup) (is : IsSetup s) (w : World) where
   need_shown None k c n e = cc
   need_shown (Some st) k c n e =
       let f = found (λ need. not (is_met w.book need)) (needed s.hash st) n e in
-      all_by_in IsNeed (needed s.hash st) (all_needs s.hash st.advert (compiled_checked s is w k st c) st.contract (compilation s.hash st).paths) n f.0
+      all_by_in IsNeed (needed s.hash st)
+      (all_needs s.hash st.advert (compiled_checked s is w k st c) st.contract (compilation s.hash st).paths) n f.0
 
   missed_shown : (k : ℕ) (a : List ℕ) (o : Option Need) → missed_need s w k a ≡ o → is_some o ≡ true → IsReason (not_endorsed o)
   missed_shown k a None e h = cc
@@ -279,9 +309,10 @@ module _ (s : Setup) (is : IsSetup s) (w : World) where
 
   pub give_shown : (a : List ℕ) (ns : List ℕ) (os : List (List ℕ × ℕ)) → AllByRecursion IsWide ns → (r : Reason)
       → first_reason (give_row s w a ns os) ≡ Some r → IsReason r
-  give_shown a ns os h = first_has IsReason (give_row s w a ns os)
-      (number_some IsWide (first_dead w ns) (dead_wide w ns h),
-      (number_some IsWide (first_foreign s w a ns) (foreign_wide s w a ns h), (λ x. tt, (λ x. tt, (λ x. tt, tt)))))
+  give_shown a ns os h = first_has IsReason (give_row s w a ns os) (
+    number_some IsWide (first_dead w ns) (dead_wide w ns h),
+    (number_some IsWide (first_foreign s w a ns) (foreign_wide s w a ns h), (λ x. tt, (λ x. tt, (λ x. tt, tt)))),
+  )
 
   pub reveal_shown : (k : ℕ) (a x : List ℕ) → IsNamed x → (r : Reason) → first_reason (reveal_row s w k a x) ≡ Some r → IsReason r
   reveal_shown k a x h = first_has IsReason (reveal_row s w k a x) (λ q. tt, (λ q. tt, (λ q. h, (λ q. tt, (λ q. tt, (λ q. tt, tt))))))
@@ -290,19 +321,31 @@ module _ (s : Setup) (is : IsSetup s) (w : World) where
   revealed_names None j = refl
   revealed_names (Some held) j = by_contract (contract_at s held.contract) refl
     where
-      by_branch : (a : Advert) → IsWellFormed a → (b : Option term.Guarded) → at a.root (position_path held j) ≡ b → AllNamed (revealed_by b)
+      by_branch : (a : Advert) → IsWellFormed a → (b : Option term.Guarded) → at a.root (position_path held j) ≡ b
+          → AllNamed (revealed_by b)
       by_branch a well None e = refl
       by_branch a well (Some b) e = reveals_named b (branch_fine a well (position_path held j) b e).readable
 
       by_contract : (o : Option Advert) → contract_at s held.contract ≡ o → AllNamed (revealed_by (branch_in o (position_path held j)))
       by_contract None e = refl
-      by_contract (Some a) e = by_branch a (by_get IsWellFormed s.contracts held.contract a is.contracts e) (at a.root (position_path held j)) refl
+      by_contract (Some a) e =
+          by_branch a (by_get IsWellFormed s.contracts held.contract a is.contracts e) (at a.root (position_path held j)) refl
 
-  unknown_named : (o : Option Instance) (b : Option term.Guarded) → AllNamed (revealed_by b) → (x : List ℕ) → unknown_secret s w o b ≡ Some x → IsNamed x
+  unknown_named : (o : Option Instance) (b : Option term.Guarded) → AllNamed (revealed_by b) → (x : List ℕ)
+      → unknown_secret s w o b ≡ Some x → IsNamed x
   unknown_named None b h x e = cc
   unknown_named (Some st) b h x e = unshown_named s w st (revealed_by b) h x e
 
   pub fire_shown : (n j : ℕ) (r : Reason) → first_reason (fire_row s w n j) ≡ Some r → IsReason r
-  fire_shown n j = first_has IsReason (fire_row s w n j)
-      (λ x. tt, (λ x. tt, (name_some (unknown_at s w n j)
-      (unknown_named (position_instance s w (live_position_at w n)) (branch_if_live s (live_position_at w n) j) (revealed_names (live_position_at w n) j)), tt)))
+  fire_shown n j = first_has IsReason (fire_row s w n j) (
+    λ x. tt,
+    (
+      λ x. tt,
+      (
+        name_some (unknown_at s w n j)
+            (unknown_named (position_instance s w (live_position_at w n)) (branch_if_live s (live_position_at w n) j)
+            (revealed_names (live_position_at w n) j)),
+        tt,
+      ),
+    ),
+  )

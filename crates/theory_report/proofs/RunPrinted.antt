@@ -1,12 +1,11 @@
 -- Whatever a run shows may be printed.
-use Rattle.std.proofs.Common.{◌≡◌, ℕ, zero, suc, ◌+◌, ◌*◌, ◌≤◌, ◌^◌, List, [], ◌∷◌, ◌++◌, map, length, Bool, true, false, Option, Some, None, refl, sym, ap, subst, ◌∙◌}
+use Rattle.std.proofs.Common.{◌≡◌, ℕ, ◌+◌, ◌≤◌, ◌^◌, List, [], ◌∷◌, ◌++◌, map, length, Bool, true, false, Option, Some}
+use Rattle.std.proofs.Common.{None, refl, sym, ap, subst, ◌∙◌}
 use Rattle.std.proofs.Common.{arith, inl, inr}
-use Rattle.std.specs.Prelude.{sum_by, nat_le, ◌==◌, ◌&&◌, if◌then◌else◌, option_and_then}
-use Rattle.std.specs.List.{list_all, Contains, AllByRecursion, flat_map}
-use Rattle.std.proofs.lemmas.Bool.{and_parts}
+use Rattle.std.specs.Prelude.{sum_by, nat_le, ◌==◌, if◌then◌else◌, option_and_then}
+use Rattle.std.specs.List.{AllByRecursion, flat_map}
 use Rattle.std.proofs.lemmas.Bool.Decides.{nat_tests}
-use Rattle.spec_data.specs.Ranges.{max_money, last_height, most_contracts}
-use Rattle.spec_data.specs.Messages.{collision}
+use Rattle.spec_data.specs.Ranges.{max_money}
 use Rattle.spec_terms.specs.Advert.{Advert}
 use Rattle.spec_terms.specs.Faults.{IsWellFormed}
 use Rattle.spec_terms.specs.Paths.{Subterm, position, as_contract, subterm_from, contract_under}
@@ -17,7 +16,7 @@ use Rattle.spec_bitcoin.specs.Keys.{IsStep}
 use Rattle.spec_calculus.specs.declared.parts.Deposit.{Deposit}
 use Rattle.spec_calculus.specs.declared.parts.ActiveContract.{ActiveContract}
 use Rattle.spec_calculus.specs.declared.step.Owner.{Owner}
-use Rattle.spec_calculus.specs.declared.step.Owner.TheVariants.{Party, Outside}
+use Rattle.spec_calculus.specs.declared.step.Owner.TheVariants.{Party}
 use Rattle.spec_calculus.specs.declared.step.Step.{Step}
 use Rattle.spec_calculus.specs.declared.step.Step.TheVariants as steps
 use Rattle.spec_calculus.specs.Configuration.{Configuration}
@@ -25,12 +24,8 @@ use Rattle.spec_calculus.specs.Branches.{length_at, is_revealed}
 use Rattle.spec_calculus.specs.Moves.{made}
 use Rattle.spec_calculus.specs.Offers as calculus
 use Rattle.spec_calculus.specs.Steps.{fails, effect, after_steps, Legal, IsLegalRun, owned}
-use Rattle.spec_run.specs.declared.event.Event.{Event}
-use Rattle.spec_run.specs.declared.event.Event.TheVariants as events
-use Rattle.spec_run.specs.declared.header.HeldSecret.{HeldSecret}
 use Rattle.spec_run.specs.declared.outcome.Outcome.{Outcome}
 use Rattle.spec_run.specs.declared.outcome.Outcome.TheVariants.{Done, Accepted, Refused}
-use Rattle.spec_run.specs.declared.outcome.Record.{Record}
 use Rattle.spec_run.specs.Setup.{Setup}
 use Rattle.spec_run.specs.World.{Output, World}
 use Rattle.spec_run.specs.Values.{total_live, live_value}
@@ -42,7 +37,7 @@ use Rattle.theory_calculus.specs.Money.{total_money, IsFunded, IsWithinAllMoney}
 use Rattle.theory_calculus.specs.Numbered.{IsNumbered}
 use Rattle.theory_calculus.specs.Members.{Is_in}
 use Rattle.theory_calculus.proofs.Kept.{money_is_kept, money_stays_within}
-use Rattle.theory_calculus.proofs.Members.{in_filter, contains_from_in, get_below, all_in}
+use Rattle.theory_calculus.proofs.Members.{in_filter, contains_from_in, all_in}
 use Rattle.theory_calculus.proofs.Numbered.{numbers_apart}
 use Rattle.theory_calculus.proofs.Runs.{runs_are_one}
 use Rattle.theory_calculus.proofs.Sums.{made_value}
@@ -53,15 +48,16 @@ use Rattle.spec_run.specs.Conditions.{IsSetup}
 use Rattle.theory_report.specs.Lines.{Said, ShownSecret}
 use Rattle.theory_report.specs.Lines as line
 use Rattle.theory_report.specs.Report.{shown_step, secret_if, secret_of, secrets_from}
-use Rattle.theory_report.specs.Printable.{starts, made_beside, step_said, end_lines, IsWide, IsNamed, IsOwner, IsLength, IsOutcome, IsShownStep, IsSecret}
-use Rattle.theory_report.specs.Printable.{IsOffered, IsSaid}
-use Rattle.theory_report.proofs.LegalSteps.{IsFine, MovesToNamed, all_by_in, by_append, by_get, step_shown, fine_after, deposit_wide, active_wide}
+use Rattle.theory_report.specs.Printable.{starts, made_beside, step_said, end_lines, IsWide, IsNamed, IsOwner, IsLength, IsOutcome}
+use Rattle.theory_report.specs.Printable.{IsShownStep}
+use Rattle.theory_report.specs.Printable.{IsSaid}
+use Rattle.theory_report.proofs.LegalSteps.{IsFine, MovesToNamed, all_by_in, by_append, by_get, step_shown, fine_after, deposit_wide}
+use Rattle.theory_report.proofs.LegalSteps.{active_wide}
 use Rattle.theory_report.proofs.LegalSteps.{few_contracts, pledged_at}
-use Rattle.theory_report.proofs.Named.{AllNamed, IsReadable, IsOwned, HasNames, has_names, secrets_named}
+use Rattle.theory_report.proofs.Named.{IsOwned, has_names, secrets_named}
 use Rattle.theory_report.proofs.RunSteps.{next_grows}
 
 -- ---- the opening
-
 
 module _ (parties : List (List ℕ)) where
   abbrev pub AreSaid : List Said → Type 0
@@ -107,7 +103,8 @@ module _ (parties : List (List ℕ)) where
   steps_said m h [] k = tt
   steps_said m h (st ∷ ss) k = ((k.0, made_again m st, beside_wide m st h), steps_said m h ss k.1)
 
-  each_first : (ms : List (ℕ × ℕ)) → AllByRecursion (λ m. IsWide (m.0) × IsWide (m.1)) ms → AllByRecursion IsWide (map (λ (m : ℕ × ℕ). m.0) ms)
+  each_first : (ms : List (ℕ × ℕ)) → AllByRecursion (λ m. IsWide (m.0) × IsWide (m.1)) ms
+      → AllByRecursion IsWide (map (λ (m : ℕ × ℕ). m.0) ms)
   each_first [] h = tt
   each_first (m ∷ ms) h = ((h.0).0, each_first ms h.1)
 
@@ -123,7 +120,8 @@ module _ (parties : List (List ℕ)) where
   said_map make (x ∷ xs) f = (f x (inl refl), said_map make xs (λ y i. f y (inr i)))
 
   -- live outputs are no more than all, and each is worth no more than all
-  live_said : (n : ℕ) (os : List Output) → n + length os ≤ 2 ^ 40 → total_live os ≤ max_money → AreSaid (map (λ o. line.live o) (live_from n os))
+  live_said : (n : ℕ) (os : List Output) → n + length os ≤ 2 ^ 40 → total_live os ≤ max_money
+      → AreSaid (map (λ o. line.live o) (live_from n os))
   live_said n [] few money = tt
   live_said n (o ∷ os) few money = by_live o.live money (live_said (n + 1) os (omega (arith, few)))
     where
@@ -171,14 +169,18 @@ module _ (parties : List (List ℕ)) where
     deposits_said : AreSaid (map (λ d. line.deposit d) g.deposits)
     deposits_said = said_map (λ d. line.deposit d) g.deposits
         (λ d i.
-        let v = little d.value max_money (all_in (λ (x : Deposit). nat_le x.value max_money) g.deposits d within.deposits i) in
-        (deposit_wide g fine numbered funded within bound d i,
-        all_by_in (λ (x : Deposit). IsOwner x.owner) g.deposits fine.owners d i, omega (arith, v)))
+        let v = little d.value max_money (all_in (λ (x : Deposit). nat_le x.value max_money) g.deposits d within.deposits i) in (
+          deposit_wide g fine numbered funded within bound d i,
+          all_by_in (λ (x : Deposit). IsOwner x.owner) g.deposits fine.owners d i,
+          omega (arith, v),
+        ))
 
-    position_fine : (a : Advert) (q : List PathStep) (c : Contract) → IsWellFormed a → contract_under a.root q ≡ Some c → AllByRecursion IsStep q
+    position_fine : (a : Advert) (q : List PathStep) (c : Contract) → IsWellFormed a → contract_under a.root q ≡ Some c
+        → AllByRecursion IsStep q
     position_fine a q c well e = by_end (subterm_from (position a.root) q) refl e
       where
-        by_end : (o : Option Subterm) → subterm_from (position a.root) q ≡ o → option_and_then as_contract o ≡ Some c → AllByRecursion IsStep q
+        by_end : (o : Option Subterm) → subterm_from (position a.root) q ≡ o → option_and_then as_contract o ≡ Some c
+            → AllByRecursion IsStep q
         by_end None f h = cc
         by_end (Some x) f h = path_fine a q x well f
 
@@ -186,10 +188,12 @@ module _ (parties : List (List ℕ)) where
     active_said = said_map (λ a. line.contract a) g.active
         (λ a i.
         let v = little a.balance max_money (all_in (λ (x : ActiveContract). nat_le x.balance max_money) g.active a within.active i) in
-        let b = funded.balanced a (contains_from_in g.active a i) in
-        (active_wide g fine numbered funded within bound a i, few_contracts g fine numbered funded within bound a.contract b.advert b.there,
-        position_fine b.advert a.position b.choice (by_get IsWellFormed g.contracts a.contract b.advert fine.contracts b.there) b.chosen,
-        omega (arith, v)))
+        let b = funded.balanced a (contains_from_in g.active a i) in (
+          active_wide g fine numbered funded within bound a i,
+          few_contracts g fine numbered funded within bound a.contract b.advert b.there,
+          position_fine b.advert a.position b.choice (by_get IsWellFormed g.contracts a.contract b.advert fine.contracts b.there) b.chosen,
+          omega (arith, v),
+        ))
 
     offer_said : (st : Step) → fails g st ≡ 0 → AreSaid (map (λ e. line.offer e) (map (λ (o : Offer). o.event) (offers_of st)))
     offer_said (steps.Init k) e = (step_shown g fine numbered funded within bound (steps.Init k) e tt, tt)
@@ -223,23 +227,29 @@ module _ (parties : List (List ℕ)) where
     offers_said : AreSaid (map (λ e. line.offer e) (map (λ (o : Offer). o.event) (offers g)))
     offers_said =
         steps_offered (calculus.offers g)
-        (λ st i. same_number (fails g st) 0 (in_filter (λ x. calculus.is_enabled g x) (calculus.beginnings 0 g.contracts ++ calculus.all_takings g.contracts g.active) st i).1)
+        (λ st i. same_number (fails g st) 0
+        (in_filter (λ x. calculus.is_enabled g x) (calculus.beginnings 0 g.contracts ++ calculus.all_takings g.contracts g.active) st i).1)
 
     -- the end of a run that comes to this configuration
     pub end_said : (w : World) → g.time ≡ w.tip → length w.outputs ≤ 2 ^ 40 → live_value w ≤ max_money
         → AreSaid (end_lines w.tip (live_outputs w) g (map (λ (o : Offer). o.event) (offers g)))
     end_said w tip few money =
         let t = fine.time in
-        let height : IsWide w.tip = omega (arith, tip, t) in
-        (tt,
-        (height,
-        by_append (IsSaid parties) (map (λ o. line.live o) (live_outputs w)) _ (live_said 0 w.outputs (omega (arith, few)) money)
-        (omega (arith, t),
-        by_append (IsSaid parties) (map (λ d. line.deposit d) g.deposits) _ deposits_said
-        (by_append (IsSaid parties) (map (λ a. line.contract a) g.active) _ active_said
-        (by_append (IsSaid parties) (map (λ x. line.secret x) (secrets_from g 0 g.contracts)) _
-        (secrets_said g 0 g.contracts (omega (arith, fine.few)) fine.contracts (λ j a y n e. pledged_at g fine numbered funded within bound j a y n e))
-        offers_said)))))
+        let height : IsWide w.tip = omega (arith, tip, t) in (
+          tt,
+          (
+            height,
+            by_append (IsSaid parties) (map (λ o. line.live o) (live_outputs w)) _ (live_said 0 w.outputs (omega (arith, few)) money) (
+              omega (arith, t),
+              by_append (IsSaid parties) (map (λ d. line.deposit d) g.deposits) _ deposits_said
+                  (by_append (IsSaid parties) (map (λ a. line.contract a) g.active) _ active_said
+                  (by_append (IsSaid parties) (map (λ x. line.secret x) (secrets_from g 0 g.contracts)) _
+                  (secrets_said g 0 g.contracts (omega (arith, fine.few)) fine.contracts
+                  (λ j a y n e. pledged_at g fine numbered funded within bound j a y n e))
+                  offers_said)),
+            ),
+          ),
+        )
 
 -- ---- all steps of a run
 
@@ -277,7 +287,8 @@ module _ (s : Setup) (setup : IsSetup s) (named : AllByRecursion (λ (d : List �
       let r : IsLegalRun o done g = (runs_are_one o done g).1 (legal, there) in
       let numbered = numbers_apart s.header.parties s.header.honest s.header.deposits s.contracts done g r in
       let funded = money_is_kept s.header.parties s.header.honest s.header.deposits s.contracts done g setup.contracts r in
-      let within = money_stays_within s.header.parties s.header.honest s.header.deposits s.contracts done g setup.contracts opening_little r in
+      let within = money_stays_within s.header.parties s.header.honest s.header.deposits s.contracts done g setup.contracts opening_little
+      r in
       let here : g.next ≤ 2 ^ 64 = (let n = next_grows (st ∷ ss) g in omega (arith, n, bound)) in
       let shown = step_shown g fine numbered funded within here st l.0 m.0 in
       let next = fine_after g fine numbered funded within here st l.0 m.0 in

@@ -1,10 +1,10 @@
 -- The steps of a run may be printed, and so may what its last configuration keeps.
-use Rattle.std.proofs.Common.{◌≡◌, ℕ, ◌+◌, ◌≤◌, ◌^◌, List, [], ◌∷◌, ◌++◌, map, length, Bool, true, false, Option, Some, None, refl, sym, ap, subst, ◌∙◌, arith}
-use Rattle.std.specs.Prelude.{if◌then◌else◌, not, ◌&&◌}
+use Rattle.std.proofs.Common.{◌≡◌, ℕ, ◌≤◌, List, [], ◌∷◌, ◌++◌, map, Bool, true, false, Option, Some, None, refl}
+use Rattle.std.proofs.Common.{◌∙◌, arith}
+use Rattle.std.specs.Prelude.{if◌then◌else◌, ◌&&◌}
 use Rattle.std.specs.List.{list_all, filter, AllByRecursion}
 use Rattle.std.specs.Str.{bytes_eq}
 use Rattle.std.proofs.lemmas.Bool.{and_parts}
-use Rattle.spec_data.specs.Ranges.{last_height}
 use Rattle.spec_terms.specs.Term as term
 use Rattle.spec_terms.specs.Term.{put_reveal, withdraw, split, auth, after}
 use Rattle.spec_terms.specs.Core.{core}
@@ -13,27 +13,26 @@ use Rattle.spec_terms.specs.Readable.{is_name}
 use Rattle.spec_bitcoin.specs.declared.tx.TxOut.{TxOut}
 use Rattle.spec_bitcoin.specs.declared.tx.Tx.{Tx}
 use Rattle.spec_calculus.specs.declared.step.Owner.{Owner}
-use Rattle.spec_calculus.specs.declared.step.Owner.TheVariants.{Party, Outside}
+use Rattle.spec_calculus.specs.declared.step.Owner.TheVariants.{Party}
 use Rattle.spec_calculus.specs.declared.step.Step.{Step}
 use Rattle.spec_calculus.specs.declared.step.Step.TheVariants as steps
 use Rattle.spec_calculus.specs.Configuration.{Configuration}
-use Rattle.spec_calculus.specs.Steps.{effect, after_steps, Legal, IsLegalRun, names_made}
+use Rattle.spec_calculus.specs.Steps.{effect, after_steps}
 use Rattle.spec_run.specs.declared.event.Event.{Event}
 use Rattle.spec_run.specs.declared.event.Event.TheVariants as events
 use Rattle.spec_run.specs.declared.outcome.Outcome.{Outcome}
 use Rattle.spec_run.specs.declared.outcome.Outcome.TheVariants as outcomes
 use Rattle.spec_run.specs.Setup.{Setup, people_at, pre_at}
 use Rattle.spec_run.specs.World.{World}
-use Rattle.spec_run.specs.Draft.{Draft}
-use Rattle.spec_run.specs.Owners.{owner_among, owner_by, paid_to}
+use Rattle.spec_run.specs.Owners.{owner_among, paid_to}
 use Rattle.spec_run.specs.Ledger.{Kind, Begins, Takes, Moves, kind_of, position_branch}
-use Rattle.spec_run.specs.Steps.{reveal_step, reveals, moved_output, move_of, auth_move, parties_once, owners_of, move_steps, auth_inits}
-use Rattle.spec_run.specs.Steps.{unauthorised, begin_steps, auth_branch, is_awaited, core_step, branch_steps, kind_steps, accepted_steps, init_steps, is_of_party, is_bound_live}
-use Rattle.spec_run.specs.Steps.{done_steps, outcome_steps, steps_of}
+use Rattle.spec_run.specs.Steps.{reveal_step, reveals, moved_output, move_of, auth_move, parties_once, owners_of, auth_inits}
+use Rattle.spec_run.specs.Steps.{unauthorised, auth_branch, is_awaited, core_step, branch_steps, kind_steps, accepted_steps}
+use Rattle.spec_run.specs.Steps.{is_of_party, is_bound_live}
+use Rattle.spec_run.specs.Steps.{done_steps, outcome_steps}
 use Rattle.spec_run.specs.Event.{Passed}
 use Rattle.spec_run.specs.Translation.{Turn, turns_from, turn_of, in_order}
-use Rattle.theory_report.specs.Report.{shown_step}
-use Rattle.theory_report.specs.Printable.{IsOwner, IsNamed, IsShownStep}
+use Rattle.theory_report.specs.Printable.{IsOwner, IsNamed}
 use Rattle.theory_report.proofs.Named.{AllNamed}
 use Rattle.theory_report.proofs.LegalSteps.{MovesToNamed, by_append}
 
@@ -96,7 +95,8 @@ module _ (s : Setup) (named : AllNamed s.header.parties) where
 
   accepted_moves : (g : Configuration) (w next : World) (spent : List ℕ) (tx : Option Tx) → AllMove (accepted_steps s g w next spent tx)
   accepted_moves g w next spent None = tt
-  accepted_moves g w next spent (Some tx) = by_append MovesToNamed _ _ (reveals_move w next) (kind_moves g w tx spent (kind_of s w tx spent))
+  accepted_moves g w next spent (Some tx) =
+      by_append MovesToNamed _ _ (reveals_move w next) (kind_moves g w tx spent (kind_of s w tx spent))
 
   done_moves : (strings : List (List ℕ)) (w next : World) (e : Event) → AllMove (done_steps s strings w next e)
   done_moves strings w next (events.Advertise contract bindings) = (tt, tt)

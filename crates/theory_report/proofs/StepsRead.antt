@@ -64,9 +64,13 @@ move_read inputs outputs h k = record {
   words = map output_text inputs ++ codes "->" ∷ share_words outputs;
   are = ap (λ (r : List ℕ). codes "move" ++ (outputs_text inputs ++ (32 ∷ r))) (pairs_line owner_text decimal (codes "->") outputs)
       ∙ then_line output_text (codes "move") inputs (codes "->") (share_words outputs);
-  plain = (known_word (codes "move") refl, plain_append (map output_text inputs) _ (plain_map IsWide output_text output_plain inputs h)
-      (known_word (codes "->") refl,
-      plain_pairs IsShare owner_text decimal (λ o i. (owner_plain (o.0) i.0, number_plain (o.1) i.1)) outputs k));
+  plain = (
+    known_word (codes "move") refl,
+    plain_append (map output_text inputs) _ (plain_map IsWide output_text output_plain inputs h) (
+      known_word (codes "->") refl,
+      plain_pairs IsShare owner_text decimal (λ o i. (owner_plain (o.0) i.0, number_plain (o.1) i.1)) outputs k,
+    ),
+  );
   back = move_back inputs outputs h k;
 }
 
@@ -81,8 +85,13 @@ advertise_read k bs h all = record {
   word = codes "advertise";
   words = decimal k ∷ map binding_text bs;
   are = ap (λ (r : List ℕ). codes "advertise " ++ r) (all_line binding_text (decimal k) bs);
-  plain = (known_word (codes "advertise") refl, (number_plain k h,
-      plain_map IsBinding binding_text (λ b i. named_plain an_output output_text b i.0 (output_plain (b.1) i.1)) bs all));
+  plain = (
+    known_word (codes "advertise") refl,
+    (
+      number_plain k h,
+      plain_map IsBinding binding_text (λ b i. named_plain an_output output_text b i.0 (output_plain (b.1) i.1)) bs all,
+    ),
+  );
   back = ap (λ o. o >>= λ n. all_of (named an_output) (map binding_text bs) >>= λ l. a_step (steps.Advertise n l) []) (number_back k h)
       ∙ ap (λ o. o >>= λ l. a_step (steps.Advertise k l) [])
       (all_back IsBinding (named an_output) binding_text
@@ -103,8 +112,16 @@ commit_read k a ls h name all = record {
   are = ap (λ (r : List ℕ). codes "commit " ++ r)
       (append_assoc (decimal k) (32 ∷ a) (lengths_text ls)
       ∙ ap (λ (r : List ℕ). decimal k ++ (32 ∷ r)) (all_line sized_text a ls));
-  plain = (known_word (codes "commit") refl, (number_plain k h, (name_plain a name,
-      plain_map IsSized sized_text (λ l i. named_plain a_length length_text l i.0 (length_plain (l.1) i.1)) ls all)));
+  plain = (
+    known_word (codes "commit") refl,
+    (
+      number_plain k h,
+      (
+        name_plain a name,
+        plain_map IsSized sized_text (λ l i. named_plain a_length length_text l i.0 (length_plain (l.1) i.1)) ls all,
+      ),
+    ),
+  );
   back = ap (λ o. o >>= λ n. a_name a >>= λ p. all_of (named a_length) (map sized_text ls) >>= λ l. a_step (steps.Commit n p l) [])
       (number_back k h)
       ∙ (ap (λ o. o >>= λ p. all_of (named a_length) (map sized_text ls) >>= λ l. a_step (steps.Commit k p l) []) (name_back a name)
@@ -177,7 +194,8 @@ auth_branch_read a n i h k l = record {
   words = a ∷ output_text n ∷ decimal i ∷ [];
   are = refl;
   plain = (known_word (codes "authbranch") refl, (name_plain a h, (output_plain n k, (number_plain i l, tt))));
-  back = ap (λ o. o >>= λ p. an_output (output_text n) >>= λ m. number (decimal i) >>= λ j. a_step (steps.AuthBranch p m j) []) (name_back a h)
+  back =
+      ap (λ o. o >>= λ p. an_output (output_text n) >>= λ m. number (decimal i) >>= λ j. a_step (steps.AuthBranch p m j) []) (name_back a h)
       ∙ (ap (λ o. o >>= λ m. number (decimal i) >>= λ j. a_step (steps.AuthBranch a m j) []) (output_back n k)
       ∙ ap (λ o. o >>= λ j. a_step (steps.AuthBranch a n j) []) (number_back i l));
 }

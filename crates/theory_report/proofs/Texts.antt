@@ -1,5 +1,6 @@
 -- The text that is printed of a run is that of its lines.
-use Rattle.std.proofs.Common.{◌≡◌, ℕ, ◌+◌, Bool, List, [], ◌∷◌, ◌++◌, map, length, Option, Some, None, refl, sym, ap, ◌∙◌, append_assoc, append-nil}
+use Rattle.std.proofs.Common.{◌≡◌, ℕ, ◌+◌, Bool, List, [], ◌∷◌, ◌++◌, map, length, Option, Some, None, refl, sym, ap, ◌∙◌, append_assoc}
+use Rattle.std.proofs.Common.{append-nil}
 use Rattle.std.specs.Prelude.{flat_map, codes}
 use Rattle.std.specs.Fmt.{decimal}
 use Rattle.spec_terms.specs.Advert.{Advert}
@@ -24,7 +25,8 @@ use Rattle.theory_text.proofs.Lines.LineBytes.{lined}
 use Rattle.theory_report.specs.Lines.{Said, ShownSecret}
 use Rattle.theory_report.specs.Lines as line
 use Rattle.theory_report.specs.Report.{shown_step, secret_if, secret_of, secrets_from}
-use Rattle.theory_report.specs.Printable.{starts, made_beside, step_said, entry_lines, entries_lines, end_lines, ending_lines, run_lines, report_lines}
+use Rattle.theory_report.specs.Printable.{starts, made_beside, step_said, entry_lines, entries_lines, end_lines, ending_lines, run_lines}
+use Rattle.theory_report.specs.Printable.{report_lines}
 
 -- ---- one line, without its end
 
@@ -37,13 +39,16 @@ said_line line.ending = codes "end"
 said_line (line.tip height) = codes "tip " ++ decimal height
 said_line (line.live o) = codes "live " ++ (output_text o.0 ++ (codes " " ++ decimal o.1))
 said_line (line.time height) = codes "time " ++ decimal height
-said_line (line.deposit d) = codes "deposit " ++ (output_text d.number ++ (codes " " ++ (owner_text d.owner ++ (codes " " ++ decimal d.value))))
+said_line (line.deposit d) =
+    codes "deposit " ++ (output_text d.number ++ (codes " " ++ (owner_text d.owner ++ (codes " " ++ decimal d.value))))
 said_line (line.contract a) =
     codes "contract "
-    ++ (output_text a.number ++ (codes " " ++ (decimal a.contract ++ (codes " " ++ (path_text a.position ++ (codes " " ++ decimal a.balance))))))
+    ++ (output_text a.number ++ (codes " " ++
+    (decimal a.contract ++ (codes " " ++ (path_text a.position ++ (codes " " ++ decimal a.balance))))))
 said_line (line.secret x) =
     codes "secret "
-    ++ (decimal x.contract ++ (codes " " ++ (x.party ++ (codes " " ++ (x.name ++ (codes " " ++ (length_text x.length ++ (codes " " ++ shown_word x.revealed))))))))
+    ++ (decimal x.contract ++ (codes " " ++
+    (x.party ++ (codes " " ++ (x.name ++ (codes " " ++ (length_text x.length ++ (codes " " ++ shown_word x.revealed))))))))
 said_line (line.offer e) = codes "offer " ++ event_text e
 said_line (line.guessed party name) = codes "guessed " ++ (party ++ (codes " " ++ name))
 said_line (line.collided earlier later) = codes "collided " ++ (hex_text earlier ++ (codes " " ++ hex_text later))
@@ -134,7 +139,8 @@ live_text : (o : ℕ × ℕ) → live_line o ≡ said_line (line.live o) ++ newl
 live_text o = ap (λ (r : List ℕ). codes "live " ++ r) (two_words (output_text o.0) (decimal o.1) newline)
 
 deposit_text : (d : Deposit) → deposit_line d ≡ said_line (line.deposit d) ++ newline
-deposit_text d = ap (λ (r : List ℕ). codes "deposit " ++ r) (three_words (output_text d.number) (owner_text d.owner) (decimal d.value) newline)
+deposit_text d =
+    ap (λ (r : List ℕ). codes "deposit " ++ r) (three_words (output_text d.number) (owner_text d.owner) (decimal d.value) newline)
 
 contract_text : (a : ActiveContract) → contract_line a ≡ said_line (line.contract a) ++ newline
 contract_text a =
@@ -161,13 +167,15 @@ abbrev as_secrets : List ShownSecret → List Said
 as_secrets xs = map (λ y. line.secret y) xs
 
 both_secrets : (xs ys : List ShownSecret) → text_of (as_secrets xs) ++ text_of (as_secrets ys) ≡ text_of (as_secrets (xs ++ ys))
-both_secrets xs ys = sym (text_append (as_secrets xs) (as_secrets ys)) ∙ ap text_of (sym (map_append (λ (y : ShownSecret). line.secret y) xs ys))
+both_secrets xs ys =
+    sym (text_append (as_secrets xs) (as_secrets ys)) ∙ ap text_of (sym (map_append (λ (y : ShownSecret). line.secret y) xs ys))
 
 contract_secrets : (g : Configuration) (k : ℕ) (xs : List (List ℕ × List ℕ))
     → flat_map (secret_line_of g k) xs ≡ text_of (as_secrets (flat_map (secret_of g k) xs))
 contract_secrets g k [] = refl
 contract_secrets g k (x ∷ xs) =
-    (λ i. secret_text k (x.1) (x.0) (is_revealed g.revealed k (x.1) (x.0)) (length_at g.committed k (x.1) (x.0)) i ++ contract_secrets g k xs i)
+    (λ i. secret_text k (x.1) (x.0) (is_revealed g.revealed k (x.1) (x.0))
+    (length_at g.committed k (x.1) (x.0)) i ++ contract_secrets g k xs i)
     ∙ both_secrets (secret_of g k x) (flat_map (secret_of g k) xs)
 
 all_secrets : (g : Configuration) (k : ℕ) (cs : List Advert) → secret_lines g k cs ≡ text_of (as_secrets (secrets_from g k cs))
@@ -188,21 +196,23 @@ end_text_of tip live g offers =
     (λ i. all_secrets g 0 g.contracts i ++ text_map (λ e. line.offer e) offer_line offer_text offers i)
     ∙ sym (text_append secrets offered) in
     let active : flat_map contract_line g.active ++ (secret_lines g 0 g.contracts ++ flat_map offer_line offers)
-        ≡ text_of (contracts ++ (secrets ++ offered)) =
+    ≡ text_of (contracts ++ (secrets ++ offered)) =
     (λ i. text_map (λ a. line.contract a) contract_line contract_text g.active i ++ last i)
     ∙ sym (text_append contracts (secrets ++ offered)) in
-    let owned : flat_map deposit_line g.deposits ++ (flat_map contract_line g.active ++ (secret_lines g 0 g.contracts ++ flat_map offer_line offers))
-        ≡ text_of (deposits ++ (contracts ++ (secrets ++ offered))) =
+    let owned : flat_map deposit_line g.deposits ++
+    (flat_map contract_line g.active ++ (secret_lines g 0 g.contracts ++ flat_map offer_line offers))
+    ≡ text_of (deposits ++ (contracts ++ (secrets ++ offered))) =
     (λ i. text_map (λ d. line.deposit d) deposit_line deposit_text g.deposits i ++ active i)
     ∙ sym (text_append deposits (contracts ++ (secrets ++ offered))) in
     let rest = deposits ++ (contracts ++ (secrets ++ offered)) in
     let timed : codes "time " ++ (decimal g.time ++ (newline ++ (flat_map deposit_line g.deposits
-        ++ (flat_map contract_line g.active ++ (secret_lines g 0 g.contracts ++ flat_map offer_line offers)))))
-        ≡ text_of (line.time g.time ∷ rest) =
+    ++ (flat_map contract_line g.active ++ (secret_lines g 0 g.contracts ++ flat_map offer_line offers)))))
+    ≡ text_of (line.time g.time ∷ rest) =
     ap (λ (r : List ℕ). codes "time " ++ (decimal g.time ++ (newline ++ r))) owned
     ∙ ap (λ (r : List ℕ). codes "time " ++ r) (sym (append_assoc (decimal g.time) newline (text_of rest))) in
     let behind : List Said = lives ++ (line.time g.time ∷ rest) in
-    let alive = (λ i. text_map (λ o. line.live o) live_line live_text live i ++ timed i) ∙ sym (text_append lives (line.time g.time ∷ rest)) in
+    let alive = (λ i. text_map (λ o. line.live o) live_line live_text live i ++ timed i)
+    ∙ sym (text_append lives (line.time g.time ∷ rest)) in
     ap (λ (r : List ℕ). codes "end" ++ (newline ++ (codes "tip " ++ (decimal tip ++ (newline ++ r))))) alive
     ∙ ap (λ (r : List ℕ). codes "end" ++ (newline ++ (codes "tip " ++ r))) (sym (append_assoc (decimal tip) newline (text_of behind)))
 

@@ -1,8 +1,9 @@
 -- The text of every run is read as what the run shows.
-use Rattle.std.proofs.Common.{◌≡◌, ℕ, zero, suc, ◌+◌, ◌*◌, ◌≤◌, ◌^◌, List, [], ◌∷◌, ◌++◌, map, length, Bool, true, false, Option, Some, None, refl, sym, ap, subst, ◌∙◌}
+use Rattle.std.proofs.Common.{◌≡◌, ℕ, suc, ◌+◌, ◌*◌, ◌≤◌, ◌^◌, List, [], ◌∷◌, ◌++◌, map, length, Option, Some}
+use Rattle.std.proofs.Common.{None, refl, ap, subst}
 use Rattle.std.proofs.Common.{arith, length-append}
 use Rattle.std.specs.Prelude.{sum_by}
-use Rattle.std.specs.List.{AllByRecursion, find}
+use Rattle.std.specs.List.{AllByRecursion}
 use Rattle.std.proofs.lemmas.List.Sums.{sum_by-cons}
 use Rattle.spec_data.specs.Ranges.{max_money}
 use Rattle.spec_data.specs.Messages.{collision}
@@ -15,14 +16,14 @@ use Rattle.spec_run.specs.declared.header.HeldSecret.{HeldSecret}
 use Rattle.spec_run.specs.declared.outcome.Record.{Record}
 use Rattle.spec_run.specs.Setup.{Setup}
 use Rattle.spec_run.specs.World.{World}
-use Rattle.spec_run.specs.Draft.{Draft, Answer, Went, Halted, Halt, Collided, Guessed, guess, is_guessed, settle, settled}
-use Rattle.spec_run.specs.Event.{Passed, draft, event, goes_on, played_from, played, opening_world, opening_outputs, opening_collision, holds_nothing}
-use Rattle.spec_run.specs.Translation.{Turn, turn_of, turns_from, record_in, opening_configuration, course, translated, in_order, last_world, last_configuration}
+use Rattle.spec_run.specs.Draft.{Answer, Went, Halted, Halt, Collided, Guessed, guess, is_guessed, settle, settled}
+use Rattle.spec_run.specs.Event.{draft, event, goes_on, played_from, played, opening_world, opening_outputs, opening_collision}
+use Rattle.spec_run.specs.Event.{holds_nothing}
+use Rattle.spec_run.specs.Translation.{Turn, turn_of, turns_from, record_in, opening_configuration, course, translated, in_order}
+use Rattle.spec_run.specs.Translation.{last_world, last_configuration}
 use Rattle.spec_run.specs.Translation.{first_halt}
-use Rattle.spec_run.specs.Statements.{Claim, HoldsFrom, HoldsThroughout, IsRun}
-use Rattle.spec_text.specs.declared.entry.Entry.{Entry}
+use Rattle.spec_run.specs.Statements.{Claim, HoldsFrom, IsRun}
 use Rattle.spec_text.specs.StepText.{made_by}
-use Rattle.spec_text.specs.PlayText.{Ending, whole, guessed, collided}
 use Rattle.spec_text.specs.Played.{entry_of, entries, ending_from, ending}
 use Rattle.theory_calculus.proofs.Members.{found}
 use Rattle.theory_world.proofs.Tests.{length_map}
@@ -34,13 +35,13 @@ use Rattle.theory_run.proofs.Soundness.{sound_runs}
 use Rattle.theory_run.proofs.Worlds.WorldsOfRuns.{worlds_of_runs}
 use Rattle.theory_auto.proofs.FewOutputs.{last_few}
 use Rattle.theory_report.specs.Lines.{Said}
-use Rattle.theory_report.specs.Lines as line
 use Rattle.theory_report.specs.Report.{shown_step}
-use Rattle.theory_report.specs.Printable.{starts, step_said, entry_lines, entries_lines, IsWide, IsNamed, IsOutcome, IsShownStep, IsSpelledEvent, IsSaid, IsPrintable}
+use Rattle.theory_report.specs.Printable.{starts, entry_lines, entries_lines, IsWide, IsNamed, IsOutcome, IsShownStep}
+use Rattle.theory_report.specs.Printable.{IsSpelledEvent, IsSaid, IsPrintable}
 use Rattle.theory_report.proofs.EventOutcomes.{draft_shown}
 use Rattle.theory_report.proofs.LegalSteps.{IsFine, by_append, all_by_in}
 use Rattle.theory_report.proofs.ReadEvents.{IsReadEvent}
-use Rattle.theory_report.proofs.ReadRuns.{IsKnownEvent, AreKnown, IsKnownRun}
+use Rattle.theory_report.proofs.ReadRuns.{IsKnownEvent, IsKnownRun}
 use Rattle.theory_report.proofs.RunPrinted.{AreSaid, starts_said, steps_said, made_wide, end_said, fine_opening, along}
 use Rattle.theory_report.proofs.RunSteps.{turns_move, each_list}
 
@@ -53,7 +54,8 @@ module _ (s : Setup) (P : Event → Type 0) (z : List (List ℕ)) where
   turn_events (e ∷ es) g w h = by_answer (event s w e) (λ g' w'. turn_events es g' w' h.1)
     where
       by_answer : (a : Answer)
-          → ((g' : Configuration) (w' : World) → AllByRecursion (λ (t : Turn). P t.event) (turns_from s z g' w' (played_from s w' es).passed))
+          → ((g' : Configuration) (w' : World)
+          → AllByRecursion (λ (t : Turn). P t.event) (turns_from s z g' w' (played_from s w' es).passed))
           → AllByRecursion (λ (t : Turn). P t.event) (turns_from s z g w (goes_on e a (λ next. played_from s next es)).passed)
       by_answer (Halted halt) ih = tt
       by_answer (Went d next) ih =
@@ -99,7 +101,8 @@ module _ (s : Setup) (P : Event → Type 0)
       by_answer None None q ih = ih (settled w (draft s w e))
 
 -- each value is no more than all
-with_values : (ds : List (List ℕ × ℕ)) → AllByRecursion (λ (d : List ℕ × ℕ). IsNamed (d.0)) ds → sum_by (λ (d : List ℕ × ℕ). d.1) ds ≤ max_money
+with_values : (ds : List (List ℕ × ℕ)) → AllByRecursion (λ (d : List ℕ × ℕ). IsNamed (d.0)) ds
+    → sum_by (λ (d : List ℕ × ℕ). d.1) ds ≤ max_money
     → AllByRecursion (λ (d : List ℕ × ℕ). IsNamed (d.0) × IsWide (d.1)) ds
 with_values [] h l = tt
 with_values (d ∷ ds) h l =
@@ -146,9 +149,19 @@ module _ (s : Setup) (es : List Event) (run : IsRun s es) (known : IsKnownRun s.
     step = λ before g w e k is calm unguessed begins.
         let grows = event_grows s run.setup w e is in
         let next = run_after s run.setup (run_posts s es) g w k.0 e is calm unguessed begins in
-        let few = k.1 in
-        (λ l r. draft_shown s run.setup (run_posts s es) g w k.0 (omega (arith, few, l)) e is r,
-        (next, omega (arith, grows, few, length-append before (record_in (turn_of s (run_posts s es) g w (record { event = e; draft = draft s w e; world = settled w (draft s w e) })) ∷ []))));
+        let few = k.1 in (
+          λ l r. draft_shown s run.setup (run_posts s es) g w k.0 (omega (arith, few, l)) e is r,
+          (
+            next,
+            omega (
+              arith,
+              grows,
+              few,
+              length-append before
+                  (record_in (turn_of s (run_posts s es) g w (record { event = e; draft = draft s w e; world = settled w (draft s w e) })) ∷ []),
+            ),
+          ),
+        );
   }
 
   out_turns : (ts : List Turn) (before : List Record) (g : Configuration) (w : World) → HoldsFrom out_claim before g w ts
@@ -156,9 +169,10 @@ module _ (s : Setup) (es : List Event) (run : IsRun s es) (known : IsKnownRun s.
       → AllByRecursion (λ (t : Turn). IsOutcome t.outcome) ts
   out_turns [] before g w h few k = tt
   out_turns (t ∷ ts) before g w h few k =
-      let a = length-append before (record_in t ∷ []) in
-      (h.0 (omega (arith, few)) k.0,
-      out_turns ts (before ++ record_in t ∷ []) t.configuration t.world h.1 (omega (arith, few, a)) k.1)
+      let a = length-append before (record_in t ∷ []) in (
+        h.0 (omega (arith, few)) k.0,
+        out_turns ts (before ++ record_in t ∷ []) t.configuration t.world h.1 (omega (arith, few, a)) k.1,
+      )
 
   each_of : (P Q : Event → Type 0) → ((e : Event) → P e → Q e) → (xs : List Event) → AllByRecursion P xs → AllByRecursion Q xs
   each_of P Q f [] h = tt
@@ -207,7 +221,7 @@ module _ (s : Setup) (es : List Event) (run : IsRun s es) (known : IsKnownRun s.
       let bound : (after_steps (opening_configuration s) (in_order (translated s es))).next ≤ 2 ^ 64 =
       (let b = last_bound in let e = ap (λ (c : Configuration). c.next) sim.leads in omega (arith, b, e)) in
       let r = along s run.setup known.deposits [] (opening_configuration s) tt refl (fine_opening s run.setup known.deposits)
-          (in_order (translated s es)) sim.legal moves bound in
+      (in_order (translated s es)) sim.legal moves bound in
       (r.0, subst IsFine sim.leads r.1)
 
   steps_shown : AllByRecursion (λ (t : Turn). AllByRecursion Shows t.steps) (course s es).turns

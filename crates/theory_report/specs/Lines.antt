@@ -155,8 +155,8 @@ abbrev pub accepted_of : Words → Option Outcome
 accepted_of (word ∷ words) =
     if bytes_eq word (codes "spends")
     then (cut_at (codes "makes") words >>= λ p. all_of an_output (p.0) >>= λ spent.
-        cut_at (codes "lock") (p.1) >>= λ q. pairs_of an_output number (q.0) >>= λ made.
-        one_number (q.1) >>= λ lock. Some (Accepted spent made lock))
+    cut_at (codes "lock") (p.1) >>= λ q. pairs_of an_output number (q.0) >>= λ made.
+    one_number (q.1) >>= λ lock. Some (Accepted spent made lock))
     else None
 accepted_of [] = None
 
@@ -284,8 +284,8 @@ secret_said _ = None
 abbrev pub offered : Words → Option Event
 offered (fire ∷ what ∷ word ∷ []) =
     if bytes_eq fire (codes "fire") then
-      (if bytes_eq what (codes "init") then (number word >>= λ k. Some (events.FireInit k))
-      else (an_output what >>= λ n. number word >>= λ i. Some (events.Fire n i)))
+    (if bytes_eq what (codes "init") then (number word >>= λ k. Some (events.FireInit k))
+    else (an_output what >>= λ n. number word >>= λ i. Some (events.Fire n i)))
     else None
 offered _ = None
 

@@ -9,6 +9,7 @@ use Rattle.spec_tool.specs.Headline.{HeadlineTheorem}
 use Rattle.theory_tool.specs.Ended.{CallsEnd}
 use Rattle.theory_tool.specs.Kept.{RunsAreKept}
 use Rattle.theory_tool.specs.Statuses.{StatusesTheorem}
+use Rattle.theory_report.specs.Statements.{PlaysAreRead}
 use Rattle.theory_commands.specs.Causes.{CausesInFiles}
 use Rattle.theory_commands.specs.Commands.{CommandsShow}
 use Rattle.bitml_command.specs.Seen.{HasFew}
@@ -34,6 +35,7 @@ pub record Theorems : Type 0 where
   pub ends : CallsEnd
   pub headline : HeadlineTheorem
   pub kept : RunsAreKept
+  pub told : PlaysAreRead
   pub commands : CommandsShow
   pub files : CausesInFiles
 
@@ -56,7 +58,7 @@ module _ (t : Theorems) (hash : List ℕ → List ℕ) (bytes : HashesBytes hash
     serves = inl (record {
       answers = a;
       caused = caused t.causes t.statuses t.files hash command a.reads;
-      shows = shows t.headline t.kept t.commands hash bytes command a.reads few a.made;
+      shows = shows t.headline t.kept t.told t.commands hash bytes command a.reads few a.made;
     });
     usage = λ e. usage_is a.reads (ended_with (tool_answer hash command a.reads) a.ends.went 2 (λ f. absurd (cc)) (sym e ∙ a.ends.status_is));
     unread = λ e. a.unread (unread_is command a.reads (ended_with (tool_answer hash command a.reads) a.ends.went 3 (λ f. absurd (cc)) (sym e ∙ a.ends.status_is)));

@@ -12,6 +12,8 @@ use Rattle.spec_tool.specs.Commands.{Command, check, play, plan, make, psbt_of, 
 use Rattle.spec_tool.specs.Commands.{Printed, onto_judged, contracts_from, both_judged, run_answer, play_answer, files_of, contract_file}
 use Rattle.spec_tool.specs.Answers.{tool_answer, tool_reads, read_answer, text_answer, contracts_in}
 use Rattle.spec_tool.specs.Headline as shown
+use Rattle.theory_report.specs.Report.{report_of}
+use Rattle.theory_report.specs.Statements.{PlaysAreRead}
 use Rattle.spec_tool.specs.Headline.{HeadlineTheorem}
 use Rattle.theory_tool.specs.Kept.{RunsAreKept}
 use Rattle.theory_commands.specs.Commands.{CommandsShow}
@@ -43,8 +45,8 @@ texts_count (file ∷ files) (failed ∷ reads) e = tt
 
 -- ---- the headline
 
-module _ (theorem : HeadlineTheorem) (kept : RunsAreKept) (hash : List ℕ → List ℕ) (bytes : HashesBytes hash) (run : List ℕ)
-    (contracts : List (List ℕ)) (few : length contracts ≤ most_contracts) where
+module _ (theorem : HeadlineTheorem) (kept : RunsAreKept) (told : PlaysAreRead) (hash : List ℕ → List ℕ) (bytes : HashesBytes hash)
+    (run : List ℕ) (contracts : List (List ℕ)) (few : length contracts ≤ most_contracts) where
   of_texts : (texts : List Text) → length texts ≡ length (files_of (play run contracts)) → ShowsRun hash texts (text_answer hash (play run contracts) texts)
   of_texts texts count run_text contract_texts r adverts e valid well_formed =
       let here : length texts ≡ suc (length contract_texts) = ap length e ∙ ap (λ (m : ℕ). suc m) (length-map contract_texts (λ (t : List ℕ). Some t)) in
@@ -55,6 +57,8 @@ module _ (theorem : HeadlineTheorem) (kept : RunsAreKept) (hash : List ℕ → L
         subst (λ (p : Printed). shown.Headline hash run_text contract_texts p) (sym same)
             (theorem hash bytes run_text contract_texts r adverts valid well_formed few_texts),
         kept hash bytes run_text contract_texts r adverts valid well_formed few_texts,
+        ap (λ (p : Printed). report_of r.header.parties p.text) same
+            ∙ told hash bytes run_text contract_texts r adverts valid well_formed few_texts,
       )
 
   of_read : (o : Option (List Text)) → Counts (length (files_of (play run contracts))) o → ShowsTexts hash o (read_answer hash (play run contracts) o)
@@ -73,22 +77,22 @@ module _ (commands : CommandsShow) (hash : List ℕ → List ℕ) (bytes : Hashe
       → ShowsFiles hash command (texts_read reads) (tool_answer hash (Some command) reads)
   of_command command reads = of_files command (texts_read reads)
 
-pub shows : HeadlineTheorem → RunsAreKept → CommandsShow → (hash : List ℕ → List ℕ) → HashesBytes hash
+pub shows : HeadlineTheorem → RunsAreKept → PlaysAreRead → CommandsShow → (hash : List ℕ → List ℕ) → HashesBytes hash
     → (command : Option Command) (reads : List Read) → HasFew command → tool_reads command reads ≡ true
     → Shows hash command reads (tool_answer hash command reads)
-shows theorem kept commands hash bytes None reads few made = tt
-shows theorem kept commands hash bytes (Some (play run contracts)) reads few made =
-    of_play theorem kept hash bytes run contracts few reads made
-shows theorem kept commands hash bytes (Some (check contract)) reads few made = of_command commands hash bytes (check contract) reads
-shows theorem kept commands hash bytes (Some (plan run contract)) reads few made = of_command commands hash bytes (plan run contract) reads
-shows theorem kept commands hash bytes (Some (make number size)) reads few made = of_command commands hash bytes (make number size) reads
-shows theorem kept commands hash bytes (Some (psbt_of run contract which)) reads few made =
+shows theorem kept told commands hash bytes None reads few made = tt
+shows theorem kept told commands hash bytes (Some (play run contracts)) reads few made =
+    of_play theorem kept told hash bytes run contracts few reads made
+shows theorem kept told commands hash bytes (Some (check contract)) reads few made = of_command commands hash bytes (check contract) reads
+shows theorem kept told commands hash bytes (Some (plan run contract)) reads few made = of_command commands hash bytes (plan run contract) reads
+shows theorem kept told commands hash bytes (Some (make number size)) reads few made = of_command commands hash bytes (make number size) reads
+shows theorem kept told commands hash bytes (Some (psbt_of run contract which)) reads few made =
     of_command commands hash bytes (psbt_of run contract which) reads
-shows theorem kept commands hash bytes (Some (psbt_shown file)) reads few made = of_command commands hash bytes (psbt_shown file) reads
-shows theorem kept commands hash bytes (Some (psbt_joined first second)) reads few made =
+shows theorem kept told commands hash bytes (Some (psbt_shown file)) reads few made = of_command commands hash bytes (psbt_shown file) reads
+shows theorem kept told commands hash bytes (Some (psbt_joined first second)) reads few made =
     of_command commands hash bytes (psbt_joined first second) reads
-shows theorem kept commands hash bytes (Some (weigh run contract)) reads few made = of_command commands hash bytes (weigh run contract) reads
-shows theorem kept commands hash bytes (Some (audit run contract file)) reads few made =
+shows theorem kept told commands hash bytes (Some (weigh run contract)) reads few made = of_command commands hash bytes (weigh run contract) reads
+shows theorem kept told commands hash bytes (Some (audit run contract file)) reads few made =
     of_command commands hash bytes (audit run contract file) reads
-shows theorem kept commands hash bytes (Some (auto run contract strategy)) reads few made =
+shows theorem kept told commands hash bytes (Some (auto run contract strategy)) reads few made =
     of_command commands hash bytes (auto run contract strategy) reads

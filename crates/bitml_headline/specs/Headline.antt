@@ -10,6 +10,8 @@ use Rattle.spec_tool.specs.Causes.{is_run_refused, is_contract_refused, is_psbt_
 use Rattle.spec_tool.specs.Headline as shown
 use Rattle.theory_tool.specs.Statuses.{Plays, Guess, Collision, AuditRefused, StrategyRefused, AllIsWell}
 use Rattle.theory_tool.specs.Kept.{KeepsRun}
+use Rattle.theory_report.specs.Report.{report_of}
+use Rattle.theory_report.specs.Statements.{shown_run}
 use Rattle.theory_commands.specs.Causes.{HasCausesInFiles}
 use Rattle.theory_commands.specs.Commands.{ShowsCommand}
 use Rattle.bm_io.specs.Counts.{RoseBy}
@@ -128,13 +130,14 @@ abbrev pub texts_of : List (List ℕ) → List Text
 texts_of texts = map Some texts
 
 -- where `play` takes a run and its contracts, its answer shows the ledger's run of all events with a legal run of the calculus beside
--- it, or a collision or guessed secret at its end; and the run keeps all that the theorems on runs say of money, refusals, deposits,
--- beginnings and worlds
+-- it, or a collision or guessed secret at its end; the run keeps all that the theorems on runs say of money, refusals, deposits,
+-- beginnings and worlds; and the text is read as all that the run shows, so that nothing of it is left out
 abbrev pub ShowsRun : (List ℕ → List ℕ) → List Text → Printed → Type 0
 ShowsRun hash texts printed =
     (run_text : List ℕ) (contract_texts : List (List ℕ)) (run : Run) (contracts : List Advert)
     → texts ≡ Some run_text ∷ texts_of contract_texts → run_of run_text ≡ Ok run → contracts_from 0 contract_texts ≡ Ok contracts
     → shown.Headline hash run_text contract_texts printed × KeepsRun (setup_of hash run contracts) run.events
+    × (report_of run.header.parties printed.text ≡ Some (shown_run (setup_of hash run contracts) run.events))
 
 abbrev pub ShowsTexts : (List ℕ → List ℕ) → Option (List Text) → Printed → Type 0
 ShowsTexts hash None printed = Unit {0}

@@ -16,10 +16,9 @@ use Rattle.spec_tool.specs.Answers.{with_contract, if_whole, printed_of}
 use Rattle.spec_tool.specs.Commands.{prints, setup_of, run_answer}
 use Rattle.spec_tool.specs.Reads.{Text, text_at}
 use Rattle.spec_tool.specs.WeighText.{plan_value, weigh_text}
-use Rattle.theory_script.specs.Listed.{PathsInOrder}
+use Rattle.theory_psbt.specs.Listed.{SignersForEach}
+use Rattle.theory_script.specs.Listed.{PathsAreListed, ScriptsAreListed, PathsInOrder}
 use Rattle.theory_script.specs.Money.{MoneyIsKept}
-use Rattle.theory_script.proofs.Listing.Transactions.{paths_are_listed}
-use Rattle.theory_script.proofs.Listing.OutputScripts.{scripts_are_listed}
 use Rattle.theory_tool.specs.Runs.{IsUnhalted}
 use Rattle.theory_weights.specs.Bounds.{WeightsAreBounds}
 use Rattle.theory_weights.specs.Runs.{WeightsAddUp, TotalsBoundRuns}
@@ -33,19 +32,22 @@ use Rattle.theory_commands.proofs.Played.{calm, well_formed, is_run, advert_is}
 
 -- the theorems that are cited of a contract's transactions
 pub record Theorems : Type 0 where
+  pub paths : PathsAreListed
+  pub scripts : ScriptsAreListed
   pub in_order : PathsInOrder
   pub money : MoneyIsKept
   pub bounds : WeightsAreBounds
   pub sums : WeightsAddUp
   pub totals : TotalsBoundRuns
   pub sizes : WeightsBySizes
+  pub signers : SignersForEach
 
 module _ (t : Theorems) (hash : List ℕ → List ℕ) (bytes : HashesBytes hash) where
   planned : (instance : Instance) → IsWellFormed instance.advert → IsPlanned hash instance
   planned instance well = record {
     in_order = t.in_order hash instance;
-    paths = paths_are_listed hash instance;
-    scripts = scripts_are_listed hash instance;
+    paths = t.paths hash instance;
+    scripts = t.scripts hash instance;
     money = t.money hash instance well;
   }
 

@@ -4,7 +4,6 @@ use Rattle.std.specs.Prelude.{if◌then◌else◌, nat_le}
 use Rattle.std.specs.Option.{option_map_or}
 use Rattle.std.proofs.lemmas.Bool.Decides.{nat_tests}
 use Rattle.spec_terms.specs.Advert.{Advert}
-use Rattle.spec_bitcoin.specs.Keys.{key_of}
 use Rattle.spec_compiler.specs.Instance.{Instance}
 use Rattle.spec_run.specs.declared.event.Event.{Event}
 use Rattle.spec_run.specs.declared.event.Run.{Run}
@@ -24,7 +23,7 @@ use Rattle.spec_tool.specs.Sizes.{most_psbt_bytes}
 use Rattle.theory_listed.specs.InRuns.{IsReadBack}
 use Rattle.theory_listed.proofs.InRuns.{listed_read}
 use Rattle.theory_psbt.proofs.Kept.{spelled_is_psbt}
-use Rattle.theory_psbt.proofs.Signers.{signers_for_each}
+use Rattle.theory_psbt.specs.Listed.{SignersForEach}
 use Rattle.theory_tool.specs.Runs.{IsUnhalted}
 use Rattle.theory_commands.specs.ContractFiles.{HoldsContract}
 use Rattle.theory_commands.specs.Files.{ShowsPlayed}
@@ -84,7 +83,7 @@ module _ (which : Which) (s : Setup) (es : List Event) where
           ∙ ap (λ (o : Option Listed). option_map_or (λ l. psbt_line (listed_psbt s.hash (last_world s es).book l))
           o (no_path_line which)) e
 
-module _ (hash : List ℕ → List ℕ) (bytes : HashesBytes hash) (which : Which) where
+module _ (signers : SignersForEach) (hash : List ℕ → List ℕ) (bytes : HashesBytes hash) (which : Which) where
   module _ (run_text contract_text : Text) (run : Run) (advert : Advert)
       (h : HoldsRun run_text run) (k : HoldsContract contract_text advert) where
     abbrev s : Setup
@@ -97,7 +96,7 @@ module _ (hash : List ℕ → List ℕ) (bytes : HashesBytes hash) (which : Whic
     which_shown u = record {
       compiled = λ l c.
           prints_listed s (last_world s es) c.instance which l (psbt_text which s es)
-          (signers_for_each hash (key_of hash) c.instance which l c.named)
+          (signers hash c.instance which l c.named)
           ((listed_read s es (is_run hash bytes run_text contract_text run advert h k (calm s es u).opens)).last
           c.instance which l c.compiled c.named);
       no_path = λ e. ap (prints 0) (no_path_is which s es e);

@@ -8,13 +8,15 @@ ghost use Rattle.theory_commands.specs.ContractFiles.{ContractsAreRead};
 ghost use Rattle.theory_commands.specs.PsbtFiles.{PsbtFilesAreRead};
 ghost use Rattle.theory_commands.specs.RunFiles.{RunFilesAreRead};
 ghost use Rattle.theory_commands.specs.Strategies.{StrategyFilesAreRead};
-ghost use Rattle.theory_script.specs.Listed.{PathsInOrder};
+ghost use Rattle.theory_psbt.specs.Listed.{SignersForEach};
+ghost use Rattle.theory_script.specs.Listed.{PathsAreListed, PathsInOrder, ScriptsAreListed};
 ghost use Rattle.theory_script.specs.Money.{MoneyIsKept};
 ghost use Rattle.theory_weights.specs.Bounds.{WeightsAreBounds};
 ghost use Rattle.theory_weights.specs.Runs.{TotalsBoundRuns, WeightsAddUp};
 ghost use Rattle.theory_weights.specs.Sizes.{WeightsBySizes};
 
-use theory_script::{money_is_kept, paths_in_order};
+use theory_psbt::signers_for_each;
+use theory_script::{money_is_kept, paths_are_listed, paths_in_order, scripts_are_listed};
 use theory_weights::{totals_bound_runs, weights_add_up, weights_are_bounds, weights_by_sizes};
 
 /// A run file is read as the run that its lines spell, and is refused for its size, or for its first
@@ -45,12 +47,15 @@ pub fn strategy_files_are_read()
 
 // Each command shows what is said of it, where the theorems on a contract's transactions hold.
 fn by_theorems()
+    requires paths { PathsAreListed }
+    requires scripts { ScriptsAreListed }
     requires in_order { PathsInOrder }
     requires money { MoneyIsKept }
     requires bounds { WeightsAreBounds }
     requires sums { WeightsAddUp }
     requires totals { TotalsBoundRuns }
     requires sizes { WeightsBySizes }
+    requires signers { SignersForEach }
     ensures { CommandsShow }
 {}
 
@@ -63,12 +68,15 @@ fn by_theorems()
 pub fn commands_show()
     ensures { CommandsShow }
 {
+    paths_are_listed();
+    scripts_are_listed();
     paths_in_order();
     money_is_kept();
     weights_are_bounds();
     weights_add_up();
     totals_bound_runs();
     weights_by_sizes();
+    signers_for_each();
     by_theorems();
 }
 

@@ -95,7 +95,9 @@ def place_in(text, reason):
 
 
 def shown(text):
-    """Text with each byte in one column."""
+    """Text with each byte in one column. Of a line with a secret the bytes aren't shown."""
+    if text.split()[:1] in ([b'secret'], [b'post']):
+        text = re.sub(rb'[0-9A-Za-z]{16,}', lambda m: b'.' * len(m.group()), text)
     return ''.join(chr(b) if 32 <= b < 127 else ' ' if b == 9 else '?' for b in text)
 
 
@@ -124,6 +126,22 @@ def show_line(file, text, number):
     show(file, text, before + len(line) - len(line.lstrip(b' \t')))
 
 
+def hint(answer, file, text):
+    """What is wrong with the file as a whole, where that can be told."""
+    if text.startswith(b'\xef\xbb\xbf'):
+        return 'begins with a byte order mark, which is no part of the text'
+    if answer.startswith('psbt'):
+        if text.startswith(b'psbt\xff'):
+            return 'is in the binary form: base64 -w0 %s writes the one that is read' % file
+        if len(text.split()) > 1:
+            return "has line breaks or blanks: tr -d ' \\r\\n' <%s writes it without" % file
+    elif answer.startswith('run') and text.lstrip()[:1] == b'{':
+        return 'looks like a contract: the run file is the first word'
+    elif answer.startswith('contract') and b'--' in text.split():
+        return 'looks like a run file, which is the first word'
+    return None
+
+
 def main():
     answer, command, *files = sys.argv[1:]
     contract = re.match(r'contract (\d+) refused (.*)', answer)
@@ -132,10 +150,17 @@ def main():
         number = int(contract.group(1)) + (command != 'check')
     elif other:
         number = 0 if other.group(1) == 'run' else 2
+    elif re.match(r'psbt refused (\d)', answer):
+        number = int(re.match(r'psbt refused (\d)', answer).group(1))
     else:
         return
     with open(files[number], 'rb') as file:
         text = file.read()
+    why = hint(answer, files[number], text)
+    if why:
+        print('%s: %s' % (files[number], why))
+    if not contract and not other:
+        return
     if contract:
         place = place_in(text, contract.group(2))
         if place is not None:

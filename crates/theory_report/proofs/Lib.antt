@@ -4,6 +4,7 @@ pub mod LedgerAnswers
 pub mod LegalSteps
 pub mod LineWords
 pub mod LinesRead
+pub mod MoreParties
 pub mod Named
 pub mod Paths
 pub mod Plays

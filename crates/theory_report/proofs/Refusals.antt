@@ -267,9 +267,11 @@ module _ (s : Setup) (is : IsSetup s) (w : World) where
           (
             λ x. tt,
             (
-              name_some (missing_secret s k a) (λ x e. if_named (is_honest s a) _ x (not_held_named s a (secrets_at s k a) (secrets_are k a) x) e),
+              name_some (missing_secret s k a)
+                  (λ x e. if_named (is_honest s a) _ x (not_held_named s a (secrets_at s k a) (secrets_are k a) x) e),
               (
-                name_some (bad_secret s k a) (λ x e. if_named (is_honest s a) _ x (badly_long_named s a (secrets_at s k a) (secrets_are k a) x) e),
+                name_some (bad_secret s k a) (λ x e. if_named (is_honest s a) _ x
+                    (badly_long_named s a (secrets_at s k a) (secrets_are k a) x) e),
                 tt,
               ),
             ),

@@ -158,7 +158,8 @@ module _ (s : Setup) (es : List Event) (run : IsRun s es) (known : IsKnownRun s.
               grows,
               few,
               length-append before
-                  (record_in (turn_of s (run_posts s es) g w (record { event = e; draft = draft s w e; world = settled w (draft s w e) })) ∷ []),
+                  (record_in (turn_of s (run_posts s es) g w
+                  (record { event = e; draft = draft s w e; world = settled w (draft s w e) })) ∷ []),
             ),
           ),
         );

@@ -40,14 +40,14 @@ abbrev pub PlaysAreRead : Type 0
 PlaysAreRead = (hash : List ℕ → List ℕ) → HashesBytes hash
     → (run_file : List ℕ) (contract_files : List (List ℕ)) (run : Run) (contracts : List Advert)
     → run_of run_file ≡ Ok run → contracts_from 0 contract_files ≡ Ok contracts → length contract_files ≤ 16
-    → report_of run.header.parties (play_answer hash run_file contract_files).text ≡ Some (shown_run (setup_of hash run contracts) run.events)
+    → report_of run.header.parties (play_answer hash run_file contract_files).text
+    ≡ Some (shown_run (setup_of hash run contracts) run.events)
 
--- So two runs among the same parties of which the same is printed are the same in all that is printed.
+-- So two runs of which the same is printed are the same in all that is printed, whoever takes part in them.
 abbrev pub SamePlaysShowTheSame : Type 0
 SamePlaysShowTheSame = (hash : List ℕ → List ℕ) → HashesBytes hash
     → (run_file other_file : List ℕ) (contract_files other_files : List (List ℕ)) (run other : Run) (contracts others : List Advert)
     → run_of run_file ≡ Ok run → contracts_from 0 contract_files ≡ Ok contracts → length contract_files ≤ 16
     → run_of other_file ≡ Ok other → contracts_from 0 other_files ≡ Ok others → length other_files ≤ 16
-    → run.header.parties ≡ other.header.parties
     → (play_answer hash run_file contract_files).text ≡ (play_answer hash other_file other_files).text
     → shown_run (setup_of hash run contracts) run.events ≡ shown_run (setup_of hash other others) other.events

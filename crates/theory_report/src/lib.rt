@@ -23,8 +23,8 @@ pub fn plays_are_read()
     ensures { PlaysAreRead }
 {}
 
-/// So two runs among the same parties of which `play` prints the same are the same in all that is
-/// printed.
+/// So two runs of which `play` prints the same are the same in all that is printed, whoever takes
+/// part in them.
 pub fn same_plays_show_the_same()
     ensures { SamePlaysShowTheSame }
 {}

@@ -15,3 +15,4 @@ mod PsbtsOfRuns
 mod Secrets
 mod Strategies
 mod Weighed
+mod WidestPlan

@@ -5,8 +5,9 @@ ghost use Rattle.spec_tool.specs.Commands as spec;
 ghost use Rattle.spec_tool.specs.Answers.{answer};
 ghost use Rattle.bitml_command.specs.Seen.{command, printed};
 ghost use Rattle.bitml_command.specs.Files.{reads_of, AsksFront, CountsAll};
+ghost use Rattle.bitml_command.specs.Logs.{LogsFront};
 ghost use Rattle.bitml_headline.specs.Headline.{around, AnswersOrGivesUp, Headline};
-ghost use Rattle.bitml_headline.specs.Replied.{between, Replied};
+ghost use Rattle.bitml_headline.specs.Replied.{standing, Replied};
 ghost use Rattle.bitml.specs.Served.{IsServed};
 
 use crate::answering::text_reply;
@@ -46,8 +47,10 @@ fn reply<H: Hash32 + Drop, F: Files>(
 ) -> Result<Reply, OutOfMemory>
     requires { IsServed (Some (command call.now)) }
     ensures reply { IfOk result (λ reply. Replied (answer (H.digest_of hash) (command call.now)) (command call.now)
-        (between (F.told files.old) (F.told files.new) (F.faults files.old) (F.faults files.new)) (printed reply)) }
+        (standing (F.told files.old) (F.log files.old) (F.taken files.old) (F.faults files.old))
+        (standing (F.told files.new) (F.log files.new) (F.taken files.new) (F.faults files.new)) (printed reply)) }
     ensures memory { OnErr result (AsksFront (F.told files.old) (F.told files.new) (spec.files_of (command call.now))) }
+    ensures wanted { OnErr result (LogsFront (F.log files.old) (F.log files.new) (spec.files_of (command call.now))) }
 {
     let list = files_of(alloc, call)?;
     let reading = read_all(alloc, files, list.as_slice())?;
@@ -64,8 +67,8 @@ fn serve<H: Hash32 + Drop, F: Files, S: Sink>(
 ) -> u8
     requires { IsServed (Some (command call.now)) }
     ensures { AnswersOrGivesUp (H.digest_of hash) (Some (command call.now))
-        (around (F.told files.old) (F.faults files.old) (S.written out.old) (S.faults out.old))
-        (around (F.told files.new) (F.faults files.new) (S.written out.new) (S.faults out.new)) result }
+        (around (F.told files.old) (F.log files.old) (F.taken files.old) (F.faults files.old) (S.pieces out.old) (S.faults out.old))
+        (around (F.told files.new) (F.log files.new) (F.taken files.new) (F.faults files.new) (S.pieces out.new) (S.faults out.new)) result }
 {
     match reply(alloc, hash, call, files) {
         Ok(reply) => finish(out, reply.status, reply.text.as_slice()),
@@ -82,8 +85,8 @@ fn answer_words<H: Hash32 + Drop, F: Files, S: Sink>(
     out: &mut S,
 ) -> u8
     ensures { AnswersOrGivesUp (H.digest_of hash) (spec.command_of (map string_bytes words.now))
-        (around (F.told files.old) (F.faults files.old) (S.written out.old) (S.faults out.old))
-        (around (F.told files.new) (F.faults files.new) (S.written out.new) (S.faults out.new)) result }
+        (around (F.told files.old) (F.log files.old) (F.taken files.old) (F.faults files.old) (S.pieces out.old) (S.faults out.old))
+        (around (F.told files.new) (F.log files.new) (F.taken files.new) (F.faults files.new) (S.pieces out.new) (S.faults out.new)) result }
 {
     match command_of(alloc, words) {
         Ok(None) => finish(out, 2, b"usage\n"),
@@ -101,8 +104,8 @@ pub fn run_tool<H: Hash32 + Drop, F: Files, S: Sink>(
     out: &mut S,
 ) -> u8
     ensures { Headline (H.digest_of hash) (spec.command_of (map string_bytes words.now))
-        (around (F.told files.old) (F.faults files.old) (S.written out.old) (S.faults out.old))
-        (around (F.told files.new) (F.faults files.new) (S.written out.new) (S.faults out.new)) result }
+        (around (F.told files.old) (F.log files.old) (F.taken files.old) (F.faults files.old) (S.pieces out.old) (S.faults out.old))
+        (around (F.told files.new) (F.log files.new) (F.taken files.new) (F.faults files.new) (S.pieces out.new) (S.faults out.new)) result }
 {
     hashes_bytes(&hash);
     answers_are_headlines();

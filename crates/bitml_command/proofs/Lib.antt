@@ -1,6 +1,7 @@
-pub mod PathSteps
-pub mod Told
+mod JudgedTwo
 pub mod FewEvents
 pub mod InOrder
+pub mod Logged
+pub mod PathSteps
 pub mod Taken
-mod JudgedTwo
+pub mod Told

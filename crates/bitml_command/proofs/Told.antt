@@ -187,10 +187,10 @@ pub on_err : {X E : Type 0} (r : Result X E) (P : Type 0) → P → OnErr r P
 on_err (Ok x) P p = tt
 on_err (Err e) P p = p
 
-asked_is : (list : List (Bor (List ℕ) × ℕ)) (d : Bor (List ℕ) × ℕ) (i n : ℕ) → n ≡ i → i < length list → asked (get_or list i d) ≡ get_or (map asked list) n (asked d)
+pub asked_is : (list : List (Bor (List ℕ) × ℕ)) (d : Bor (List ℕ) × ℕ) (i n : ℕ) → n ≡ i → i < length list → asked (get_or list i d) ≡ get_or (map asked list) n (asked d)
 asked_is list d i n e less = sym (get_or-map asked list i d (asked d) less) ∙ ap (λ m. get_or (map asked list) m (asked d)) (sym e)
 
-before_end : (list : List (Bor (List ℕ) × ℕ)) (i n : ℕ) → n ≡ i → i < length list → n < length (map asked list)
+pub before_end : (list : List (Bor (List ℕ) × ℕ)) (i n : ℕ) → n ≡ i → i < length list → n < length (map asked list)
 before_end list i n e less = let f : length (map asked list) ≡ length list = length-map list asked in omega (arith, e, f, less)
 
 module _ (before mid now : Option Told) (list : List (Bor (List ℕ) × ℕ)) (d : Bor (List ℕ) × ℕ) (i : ℕ) (texts : List Text) (e : length texts ≡ i) (less : i < length list) (h : Went before mid (map asked list) texts) where

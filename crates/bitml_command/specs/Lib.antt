@@ -1,4 +1,5 @@
 pub mod Files
+pub mod Judges
+pub mod Logs
 pub mod Path
 pub mod Seen
-pub mod Judges

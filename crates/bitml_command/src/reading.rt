@@ -4,6 +4,7 @@ ghost use Rattle.std.specs.Prelude.{◌≡◌, ◌≤◌, map, IfOk, OnErr};
 ghost use Rattle.bm_io.specs.Counts.{RoseBy};
 ghost use Rattle.bitml_command.specs.Seen.{asked};
 ghost use Rattle.bitml_command.specs.Files.{read_of, reads_of, ReadsOne, AsksFront, AsksOne, ReadsAll, CountsAll, RoseIfFailed};
+ghost use Rattle.bitml_command.specs.Logs.{Logs, LogsOne, LogsWant, LogsFront};
 
 use bm_io::{Files, ReadError};
 use spec_data::{Bytes, OutOfMemory, Seq};
@@ -27,6 +28,9 @@ fn read_one<F: Files>(
 ) -> Result<Option<Option<Bytes>>, OutOfMemory>
     ensures reads { IfOk result (λ text. ReadsOne (F.told files.old) (F.told files.new) (name.now, limit) (read_of text)) }
     ensures memory { OnErr result (AsksOne (F.told files.old) (F.told files.new) name.now) }
+    ensures logged { IfOk result (λ text. LogsOne (F.log files.old) (F.log files.new) (F.taken files.old) (F.taken files.new)
+        (name.now, limit) (read_of text)) }
+    ensures wanted { OnErr result (LogsWant (F.log files.old) (F.log files.new) (name.now, limit)) }
     ensures later { F.faults files.old ≤ F.faults files.new }
     ensures rose { result ≡ Ok None → RoseBy 1 (F.faults files.old) (F.faults files.new) }
 {
@@ -45,6 +49,9 @@ pub fn read_all<F: Files>(
     list: &[(&str, usize)],
 ) -> Result<Reading, OutOfMemory>
     ensures reads { IfOk result (λ r. ReadsAll (F.told files.old) (F.told files.new) (map asked list.now) (reads_of r)) }
+    ensures logged { IfOk result (λ r. Logs (F.log files.old) (F.log files.new) (F.taken files.old) (F.taken files.new)
+        (map asked list.now) (reads_of r)) }
+    ensures wanted { OnErr result (LogsFront (F.log files.old) (F.log files.new) (map asked list.now)) }
     ensures count { IfOk result (λ r. CountsAll r (map asked list.now)) }
     ensures rose { IfOk result (RoseIfFailed (F.faults files.old) (F.faults files.new)) }
     ensures memory { OnErr result (AsksFront (F.told files.old) (F.told files.new) (map asked list.now)) }

@@ -6,8 +6,9 @@ ghost use Rattle.spec_picture.specs.Drawing.{words_drawn, drawn_answer, read_dra
 ghost use Rattle.spec_tool.specs.Reads.{texts_read};
 ghost use Rattle.bitml_command.specs.Seen.{printed};
 ghost use Rattle.bitml_command.specs.Files.{reads_of, AsksFront};
+ghost use Rattle.bitml_command.specs.Logs.{LogsFront};
 ghost use Rattle.bitml_headline.specs.Headline.{around};
-ghost use Rattle.bitml_headline.specs.Replied.{between, Replied};
+ghost use Rattle.bitml_headline.specs.Replied.{standing, Replied};
 ghost use Rattle.bitml_draw.specs.Drawn.{AnswersOrGivesUp, DrawsOrGivesUp};
 
 use crate::replying::draw_texts;
@@ -46,8 +47,10 @@ fn reply<H: Hash32 + Drop, F: Files>(
     files: &mut F,
 ) -> Result<Reply, OutOfMemory>
     ensures reply { IfOk result (λ reply. Replied (drawn_answer (H.digest_of hash) (Some (plan run.now contract.now))) (plan run.now contract.now)
-        (between (F.told files.old) (F.told files.new) (F.faults files.old) (F.faults files.new)) (printed reply)) }
+        (standing (F.told files.old) (F.log files.old) (F.taken files.old) (F.faults files.old))
+        (standing (F.told files.new) (F.log files.new) (F.taken files.new) (F.faults files.new)) (printed reply)) }
     ensures memory { OnErr result (AsksFront (F.told files.old) (F.told files.new) (files_named (plan run.now contract.now))) }
+    ensures wanted { OnErr result (LogsFront (F.log files.old) (F.log files.new) (files_named (plan run.now contract.now))) }
 {
     let list = files_of(alloc, &Command::Plan(run, contract))?;
     let reading = read_all(alloc, files, list.as_slice())?;
@@ -64,8 +67,8 @@ fn serve<H: Hash32 + Drop, F: Files, S: Sink>(
     out: &mut S,
 ) -> u8
     ensures { AnswersOrGivesUp (H.digest_of hash) (Some (plan run.now contract.now))
-        (around (F.told files.old) (F.faults files.old) (S.written out.old) (S.faults out.old))
-        (around (F.told files.new) (F.faults files.new) (S.written out.new) (S.faults out.new)) result }
+        (around (F.told files.old) (F.log files.old) (F.taken files.old) (F.faults files.old) (S.pieces out.old) (S.faults out.old))
+        (around (F.told files.new) (F.log files.new) (F.taken files.new) (F.faults files.new) (S.pieces out.new) (S.faults out.new)) result }
 {
     match reply(alloc, hash, run, contract, files) {
         Ok(reply) => finish(out, reply.status, reply.text.as_slice()),
@@ -92,8 +95,8 @@ fn answer_words<H: Hash32 + Drop, F: Files, S: Sink>(
     out: &mut S,
 ) -> u8
     ensures { AnswersOrGivesUp (H.digest_of hash) (words_drawn (map string_bytes words.now))
-        (around (F.told files.old) (F.faults files.old) (S.written out.old) (S.faults out.old))
-        (around (F.told files.new) (F.faults files.new) (S.written out.new) (S.faults out.new)) result }
+        (around (F.told files.old) (F.log files.old) (F.taken files.old) (F.faults files.old) (S.pieces out.old) (S.faults out.old))
+        (around (F.told files.new) (F.log files.new) (F.taken files.new) (F.faults files.new) (S.pieces out.new) (S.faults out.new)) result }
 {
     match two(words) {
         Some((run, contract)) => serve(alloc, hash, run, contract, files, out),
@@ -111,8 +114,8 @@ pub fn draw_tool<H: Hash32 + Drop, F: Files, S: Sink>(
     out: &mut S,
 ) -> u8
     ensures { DrawsOrGivesUp (H.digest_of hash) (words_drawn (map string_bytes words.now))
-        (around (F.told files.old) (F.faults files.old) (S.written out.old) (S.faults out.old))
-        (around (F.told files.new) (F.faults files.new) (S.written out.new) (S.faults out.new)) result }
+        (around (F.told files.old) (F.log files.old) (F.taken files.old) (F.faults files.old) (S.pieces out.old) (S.faults out.old))
+        (around (F.told files.new) (F.log files.new) (F.taken files.new) (F.faults files.new) (S.pieces out.new) (S.faults out.new)) result }
 {
     answers_are_pictures();
     nothing_is_drawn_twice();

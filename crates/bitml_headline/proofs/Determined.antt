@@ -20,30 +20,29 @@ same_reads told one other one_now other_now files reads more e f a b =
     first.0 ∙ sym second.0
 
 -- an answer that was written whole: its status, and what was written
-record Whole (printed : Printed) (before now : Option (List ℕ)) (status : ℕ) : Type 0 where
+record Whole (printed : Printed) (before now : List (List ℕ)) (status : ℕ) : Type 0 where
   status_is : status ≡ printed.status
   written : now ≡ with_text printed.text before
 
-nothing_taken : (text : List ℕ) (n : ℕ) → length text ≡ 0 → take n text ≡ text
-nothing_taken [] n h = take-nil n
-nothing_taken (x ∷ xs) n h = absurd (omega (arith, h))
+not_empty : (byte : ℕ) (bytes : List ℕ) → (length (byte ∷ bytes) == 0) ≡ false
+not_empty byte bytes = grind arith
 
 -- a call that ends with another status than 4 wrote all of its text
-is_whole : (printed : Printed) (before now : Option (List ℕ)) (faults faults_now status : ℕ) → (status ≡ 4 → ⊥)
+is_whole : (printed : Printed) (before now : List (List ℕ)) (faults faults_now status : ℕ) → (status ≡ 4 → ⊥)
     → Ends printed before now faults faults_now status → Whole printed before now status
-is_whole printed before now faults faults_now status other ends = by_went ends.went ends.written ends.status_is
+is_whole printed before now faults faults_now status other ends = by_went printed.text refl ends.went ends.written ends.status_is
   where
-    by_empty : (empty : Bool) → (length printed.text == 0) ≡ empty → (n : ℕ) → now ≡ with_text (take n printed.text) before
-        → status ≡ cond empty printed.status 4 → Whole printed before now status
-    by_empty true e n written is = record {
-      status_is = is;
-      written = written ∙ ap (λ text. with_text text before) (nothing_taken printed.text n (grind (arith, e)));
+    by_went : (text : List ℕ) → printed.text ≡ text → (went : Bool) → IsWritten printed.text went before now → status ≡ ended printed went
+        → Whole printed before now status
+    by_went text e true written is = record { status_is = is; written = written }
+    by_went [] e false written is = record {
+      status_is = is ∙ ap (λ (t : List ℕ). cond (length t == 0) printed.status 4) e;
+      written =
+          subst (λ (t : List ℕ). IsWritten t false before now) e written ∙ ap (λ (t : List ℕ). with_text t before) (sym e);
     }
-    by_empty false e n written is = absurd (other is)
-
-    by_went : (went : Bool) → IsWritten printed.text went before now → status ≡ ended printed went → Whole printed before now status
-    by_went true written is = record { status_is = is; written = written }
-    by_went false written is = by_empty (length printed.text == 0) refl (written.0) (written.1) is
+    by_went (b ∷ bs) e false written is =
+        absurd (other (is ∙ ap (λ (t : List ℕ). cond (length t == 0) printed.status 4) e
+        ∙ ap (λ (empty : Bool). cond empty printed.status 4) (not_empty b bs)))
 
 pub determined : FilesDetermineAnswers
 determined answers command told first first_now second second_now status other e f a b unfailed other_unfailed =

@@ -16,54 +16,67 @@ use Rattle.theory_commands.specs.Causes.{HasCausesInFiles}
 use Rattle.theory_commands.specs.Commands.{ShowsCommand}
 use Rattle.bm_io.specs.Counts.{RoseBy}
 use Rattle.bm_io.specs.Files.{Told}
+use Rattle.bm_io.specs.Logs.{Reply}
 use Rattle.spec_run.specs.Conditions.{HashesBytes}
 use Rattle.bitml_command.specs.Files.{Tells, AsksFront}
+use Rattle.bitml_command.specs.Logs.{Logs, LogsFront}
 use Rattle.bitml_command.specs.Seen.{HasFew}
 
 -- ---- around a call
 
--- what stands around a call: what files and sink tell of themselves, if they do, and how often each has failed
+-- what stands around a call: what files tell of themselves, if they do, the reads so far, how many bytes they took, and how often one
+-- has failed; the pieces that the sink took, one for each write, and how often one has failed
 pub record Around : Type 0 where
   pub told : Option Told
+  pub log : List Reply
+  pub taken : ℕ
   pub read_faults : ℕ
-  pub written : Option (List ℕ)
+  pub written : List (List ℕ)
   pub write_faults : ℕ
 
 -- the same, put together
-abbrev pub around : Option Told → ℕ → Option (List ℕ) → ℕ → Around
-around told read_faults written write_faults =
-    record { told = told; read_faults = read_faults; written = written; write_faults = write_faults }
+abbrev pub around : Option Told → List Reply → ℕ → ℕ → List (List ℕ) → ℕ → Around
+around told log taken read_faults written write_faults = record {
+  told = told;
+  log = log;
+  taken = taken;
+  read_faults = read_faults;
+  written = written;
+  write_faults = write_faults;
+}
 
 -- the files that a command asks for; words that are none ask for no file
 abbrev pub asked_by : Option Command → List Asked
 asked_by None = []
 asked_by (Some command) = files_of command
 
--- what was written, where that is told, with this text after it
-abbrev pub with_text : List ℕ → Option (List ℕ) → Option (List ℕ)
-with_text text None = None
-with_text text (Some written) = Some (written ++ text)
+-- what was written, with this text after it as one piece; an empty text isn't written
+abbrev pub with_text : List ℕ → List (List ℕ) → List (List ℕ)
+with_text [] written = written
+with_text (byte ∷ bytes) written = written ++ (byte ∷ bytes) ∷ []
 
--- the text was written whole, where the write went through, and else a front of it
-abbrev pub IsWritten : List ℕ → Bool → Option (List ℕ) → Option (List ℕ) → Type 0
+-- the text was written whole, where the write went through, and else a front of it, as one piece
+abbrev pub IsWritten : List ℕ → Bool → List (List ℕ) → List (List ℕ) → Type 0
 IsWritten text true before now = now ≡ with_text text before
-IsWritten text false before now = (n : ℕ) × (now ≡ with_text (take n text) before)
+IsWritten [] false before now = now ≡ before
+IsWritten (byte ∷ bytes) false before now = (n : ℕ) × (now ≡ before ++ take n (byte ∷ bytes) ∷ [])
 
 -- ---- answers
 
 -- How a call ends that writes this: with its status, where all of the text was written, and else with 4 and a front of the text. A
 -- write fails only where the count of faults rose.
-pub record Ends (printed : Printed) (before now : Option (List ℕ)) (faults faults_now : ℕ) (status : ℕ) : Type 0 where
+pub record Ends (printed : Printed) (before now : List (List ℕ)) (faults faults_now : ℕ) (status : ℕ) : Type 0 where
   pub went : Bool
   pub written : IsWritten printed.text went before now
   pub status_is : status ≡ ended printed went
   pub unwritten : went ≡ false → RoseBy 1 faults faults_now
 
--- The files that the words name are read in order, up to the first read that fails, and no other. What is written is what these
--- answers give to the reads.
+-- The files that the words name are read in order, up to the first read that fails, and no other: these reads are the new entries of
+-- the log. What is written is what these answers give to the reads.
 pub record AnswersBy (answers : List Read → Printed) (command : Option Command) (before now : Around) (status : ℕ) : Type 0 where
   pub reads : List Read
   pub made : tool_reads command reads ≡ true
+  pub logged : Logs before.log now.log before.taken now.taken (asked_by command) reads
   -- where files tell their content, it fixes the reads, and which names were asked for
   pub told : Tells before.told now.told (asked_by command) reads
   -- a read fails only where the count of faults rose
@@ -76,6 +89,7 @@ pub record GivesUp (command : Option Command) (before now : Around) (status : �
   pub some : is_some command ≡ true
   pub status_is : status ≡ 5
   pub written : now.written ≡ before.written
+  pub logged : LogsFront before.log now.log (asked_by command)
   pub told : AsksFront before.told now.told (asked_by command)
 
 -- the same, or want of memory

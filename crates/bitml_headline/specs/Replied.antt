@@ -4,21 +4,24 @@ use Rattle.spec_tool.specs.Reads.{Read, texts_read, are_made}
 use Rattle.spec_tool.specs.Commands.{Command, Printed, files_of}
 use Rattle.bm_io.specs.Counts.{RoseBy}
 use Rattle.bm_io.specs.Files.{Told}
+use Rattle.bm_io.specs.Logs.{Reply}
 use Rattle.bitml_command.specs.Files.{Tells}
+use Rattle.bitml_command.specs.Logs.{Logs}
 
--- what files tell of themselves before and after, and how often a read had failed
-pub record Between : Type 0 where
-  pub before : Option Told
-  pub now : Option Told
+-- files as they stand: what they tell of themselves, the reads so far, how many bytes they took, and how often one has failed
+pub record Standing : Type 0 where
+  pub told : Option Told
+  pub log : List Reply
+  pub taken : ℕ
   pub faults : ℕ
-  pub faults_now : ℕ
 
-abbrev pub between : Option Told → Option Told → ℕ → ℕ → Between
-between before now faults faults_now = record { before = before; now = now; faults = faults; faults_now = faults_now }
+abbrev pub standing : Option Told → List Reply → ℕ → ℕ → Standing
+standing told log taken faults = record { told = told; log = log; taken = taken; faults = faults }
 
-pub record Replied (answers : List Read → Printed) (command : Command) (b : Between) (reply : Printed) : Type 0 where
+pub record Replied (answers : List Read → Printed) (command : Command) (before now : Standing) (reply : Printed) : Type 0 where
   pub reads : List Read
   pub made : are_made (files_of command) reads ≡ true
-  pub told : Tells b.before b.now (files_of command) reads
-  pub unread : texts_read reads ≡ None → RoseBy 1 b.faults b.faults_now
+  pub logged : Logs before.log now.log before.taken now.taken (files_of command) reads
+  pub told : Tells before.told now.told (files_of command) reads
+  pub unread : texts_read reads ≡ None → RoseBy 1 before.faults now.faults
   pub reply_is : reply ≡ answers reads

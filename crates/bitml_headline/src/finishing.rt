@@ -9,7 +9,7 @@ use bm_io::Sink;
 
 // Writes a text, and answers whether the write went through. An empty text isn't written.
 fn write<S: Sink>(out: &mut S, text: &[u8]) -> bool
-    ensures written { IsWritten text.now result (S.written out.old) (S.written out.new) }
+    ensures written { IsWritten text.now result (S.pieces out.old) (S.pieces out.new) }
     ensures fault { result ≡ false → RoseBy 1 (S.faults out.old) (S.faults out.new) }
     ensures empty { text.now ≡ [] → result ≡ true }
 {
@@ -24,7 +24,7 @@ fn write<S: Sink>(out: &mut S, text: &[u8]) -> bool
 
 /// Writes a text, and answers this status, or 4 where the write failed.
 pub fn finish<S: Sink>(out: &mut S, status: u8, text: &[u8]) -> u8
-    ensures { Ends (prints status text.now) (S.written out.old) (S.written out.new) (S.faults out.old) (S.faults out.new) result }
+    ensures { Ends (prints status text.now) (S.pieces out.old) (S.pieces out.new) (S.faults out.old) (S.faults out.new) result }
 {
     if write(out, text) { status } else { 4 }
 }

@@ -1,1 +1,3 @@
 pub mod FileLemmas
+pub mod Pieces
+pub mod Walks

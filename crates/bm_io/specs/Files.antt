@@ -1,9 +1,10 @@
 -- What reading a file by its name answers and leaves.
 use Rattle.std.specs.Prelude.{◌≡◌, ℕ, ◌+◌, ◌≤◌, Bool, false, ◌==◌, nat_le, if◌then◌else◌, List, [], ◌∷◌, ◌++◌, length, Option, Some, None}
-use Rattle.std.specs.Prelude.{Result, Ok, Err}
+use Rattle.std.specs.Prelude.{Result, Ok, Err, min}
 use Rattle.std.specs.Str.{bytes_eq}
 use Rattle.spec_data.specs.Lists.{look_up}
-use Rattle.bm_io.specs.Counts.{RoseBy, raised}
+use Rattle.bm_io.specs.Counts.{RoseBy, raised, last_count}
+use Rattle.bm_io.specs.Logs.{Reply, reply_of}
 use Rattle.bm_io.specs.declared.files.ReadError.{ReadError}
 use Rattle.bm_io.specs.declared.files.ReadError.TheVariants.{Failed, TooLong, Memory}
 
@@ -67,21 +68,22 @@ pub record Causes {X : Type 0} (before now : ℕ) (result : Result X ReadError) 
   pub later : before ≤ now
   pub failed : result ≡ Err Failed → RoseBy 1 before now
 
--- where nothing is told, a file is too long only where more than the limit was taken
-abbrev pub CausesTooLong : {X : Type 0} → Option Told → ℕ → ℕ → ℕ → Result X ReadError → Type 0
-CausesTooLong None before now limit (Err TooLong) = RoseBy (limit + 1) before now
-CausesTooLong told before now limit result = Unit {0}
+-- a file is too long only where more than the limit was taken
+abbrev pub CausesTooLong : {X : Type 0} → ℕ → ℕ → ℕ → Result X ReadError → Type 0
+CausesTooLong before now limit result = result ≡ Err TooLong → RoseBy (limit + 1) before now
 
 -- ---- files in memory
 
--- files in memory are what they tell, and how often a read has failed
+-- files in memory are what they tell, how often a read has failed, how many bytes were taken, and the reads so far
 pub record FilesInMemory : Type 0 where
   pub told : Told
   pub faults : ℕ
+  pub taken : ℕ
+  pub log : List Reply
 
 -- no file, no name asked, and no read that is to fail
 abbrev pub no_files : FilesInMemory
-no_files = record { told = record { files = []; asked = []; failing = None }; faults = 0 }
+no_files = record { told = record { files = []; asked = []; failing = None }; faults = 0; taken = 0; log = [] }
 
 -- the files with these bytes under this name, in the place of those that it had
 abbrev pub with_file : List ℕ → List ℕ → List (List ℕ × List ℕ) → List (List ℕ × List ℕ)
@@ -95,13 +97,32 @@ faults_after faults (Err Failed) = raised faults
 faults_after faults (Err TooLong) = faults
 faults_after faults (Err Memory) = faults
 
+-- the count of bytes taken after a read, which takes one more than the limit of a file that is too long
+abbrev pub taken_after : ℕ → ℕ → Result (List ℕ) ReadError → ℕ
+taken_after taken limit (Ok bytes) = min (taken + length bytes) last_count
+taken_after taken limit (Err Failed) = taken
+taken_after taken limit (Err TooLong) = raised (min (taken + limit) last_count)
+taken_after taken limit (Err Memory) = taken
+
+-- files in memory after a read, but for what it took and answered
+abbrev pub after_search : {X : Type 0} → FilesInMemory → List ℕ → Result X ReadError → FilesInMemory
+after_search files name result = record files { told = told_after files.told name result; faults = faults_after files.faults result }
+
 -- files in memory after a read
-abbrev pub after_read : {X : Type 0} → FilesInMemory → List ℕ → Result X ReadError → FilesInMemory
-after_read files name result = record { told = told_after files.told name result; faults = faults_after files.faults result }
+abbrev pub after_read : FilesInMemory → List ℕ → ℕ → Result (List ℕ) ReadError → FilesInMemory
+after_read files name limit result = record (after_search files name result) {
+  taken = taken_after files.taken limit result;
+  log = files.log ++ reply_of name limit result ∷ [];
+}
 
 -- ---- files of the system
 
--- files of the system are how often a read has failed, and how many bytes were taken
+-- files of the system are how often a read has failed, how many bytes were taken, and the reads so far
 pub record FilesOfSystem : Type 0 where
   pub faults : ℕ
   pub taken : ℕ
+  pub log : List Reply
+
+-- of which nothing was read
+abbrev pub unread : FilesOfSystem
+unread = record { faults = 0; taken = 0; log = [] }

@@ -1,7 +1,8 @@
 //! Files, by their names.
 
-ghost use Rattle.std.specs.Prelude.{ℕ, ◌≤◌, length, IfOk, Option};
+ghost use Rattle.std.specs.Prelude.{◌≡◌, ℕ, ◌≤◌, List, [], ◌∷◌, ◌++◌, length, IfOk, Option};
 ghost use Rattle.bm_io.specs.Files.{Told, Reads, CausesTooLong, Causes, shown};
+ghost use Rattle.bm_io.specs.Logs.{Reply, reply_of};
 
 use std::alloc::Global;
 
@@ -21,6 +22,9 @@ pub trait Files {
     /// What they tell of themselves, if they do.
     ghost told: { Self → Option Told };
 
+    /// The reads so far, with what each answered.
+    ghost log: { Self → List Reply };
+
     /// How often a read has failed.
     ghost faults: { Self → ℕ };
 
@@ -32,6 +36,7 @@ pub trait Files {
         ensures few { IfOk result (λ v. length v.items ≤ limit) }
         ensures cause { Causes (faults self.old) (faults self.new) result }
         ensures taken { taken self.old ≤ taken self.new }
-        ensures too_long { CausesTooLong (told self.old) (taken self.old) (taken self.new) limit result }
+        ensures too_long { CausesTooLong (taken self.old) (taken self.new) limit result }
+        ensures logged { log self.new ≡ log self.old ++ reply_of name.now limit (shown (λ v. v.items) result) ∷ [] }
         ensures reads { Reads (told self.old) (told self.new) name.now limit (shown (λ v. v.items) result) };
 }

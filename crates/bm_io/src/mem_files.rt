@@ -1,12 +1,14 @@
 //! Files in memory.
 
-ghost use Rattle.std.specs.Prelude.{◌≡◌, ◌≤◌, ℕ, IfOk, OnOk, OnErr, Some, None, Ok, length};
+ghost use Rattle.std.specs.Prelude.{◌≡◌, ◌≤◌, ℕ, [], ◌∷◌, ◌++◌, IfOk, OnOk, OnErr, Some, None, Ok, length};
 ghost use Rattle.std.specs.Option.{option_copied};
 ghost use Rattle.spec_data.specs.Lists.{look_up};
 ghost use Rattle.bm_io.specs.Files.{Reads, CausesTooLong, Causes, IsUnlessMemory, shown, within, answer_of, no_files, with_file};
-ghost use Rattle.bm_io.specs.Files.{after_read};
+ghost use Rattle.bm_io.specs.Files.{after_read, after_search, taken_after};
+ghost use Rattle.bm_io.specs.Logs.{reply_of};
 
 use crate::files::{Files, ReadError};
+use crate::read_log::{NewReply, ReadLog};
 use spec_data::{Bytes, OutOfMemory};
 use std::alloc::Global;
 use std::marker::Model;
@@ -19,6 +21,8 @@ pub struct MemFiles {
     asked: Vec<Bytes>,
     failing: Option<u64>,
     faults: u64,
+    taken: u64,
+    log: ReadLog,
 }
 
 impl Model for MemFiles {
@@ -26,7 +30,7 @@ impl Model for MemFiles {
 
     ghost Value = { FilesInMemory };
 
-    ghost view = { λ f. record { told = record { files = f.files.items; asked = f.asked.items; failing = f.failing }; faults = f.faults } };
+    ghost view = { λ f. record { told = record { files = f.files.items; asked = f.asked.items; failing = f.failing }; faults = f.faults; taken = f.taken; log = f.log.replies } };
 }
 
 impl MemFiles {
@@ -40,6 +44,8 @@ impl MemFiles {
             asked: Vec::new(alloc),
             failing: None,
             faults: 0,
+            taken: 0,
+            log: ReadLog::new(),
         }
     }
 
@@ -108,19 +114,26 @@ fn copied(alloc: Global, bytes: &[u8], limit: usize) -> Result<Vec<u8>, ReadErro
     }
 }
 
-impl Files for MemFiles {
-    ghost told = { λ s. Some s.told };
+/// Counts the bytes that a read took which answers this.
+fn count(taken: &mut u64, limit: usize, found: &Result<Vec<u8>, ReadError>)
+    ensures after { taken.new ≡ taken_after taken.old limit (shown (λ v. v.items) found.now) }
+    ensures later { taken.old ≤ taken.new }
+    ensures too_long { CausesTooLong taken.old taken.new limit found.now }
+{
+    match found {
+        Ok(bytes) => *taken = taken.saturating_add(bytes.len() as u64),
+        Err(ReadError::TooLong) => *taken = taken.saturating_add(limit as u64).saturating_add(1),
+        Err(ReadError::Failed) | Err(ReadError::Memory) => {}
+    }
+}
 
-    ghost faults = { λ s. s.faults };
-
-    ghost taken = { λ s. 0 };
-
-    fn read(&mut self, alloc: Global, name: &str, limit: usize) -> Result<Vec<u8>, ReadError>
+impl MemFiles {
+    /// What a read answers. It leaves the count of bytes taken and the log as they were.
+    fn search(&mut self, alloc: Global, name: &str, limit: usize) -> Result<Vec<u8>, ReadError>
         ensures few { IfOk result (λ v. length v.items ≤ limit) }
-        ensures cause { Causes self.old.faults self.new.faults result }
-        ensures too_long { CausesTooLong (Some self.old.told) 0 0 limit result }
         ensures reads { Reads (Some self.old.told) (Some self.new.told) name.now limit (shown (λ v. v.items) result) }
-        ensures after { self.new ≡ after_read self.old name.now result }
+        ensures cause { Causes self.old.faults self.new.faults result }
+        ensures after { self.new ≡ after_search self.old name.now result }
     {
         let Ok(asked) = Bytes::from_slice(self.alloc, name.as_bytes()) else {
             return Err(ReadError::Memory);
@@ -143,6 +156,31 @@ impl Files for MemFiles {
         if found == Err(ReadError::Failed) {
             self.faults = self.faults.saturating_add(1);
         }
+        found
+    }
+}
+
+impl Files for MemFiles {
+    ghost told = { λ s. Some s.told };
+
+    ghost log = { λ s. s.log };
+
+    ghost faults = { λ s. s.faults };
+
+    ghost taken = { λ s. s.taken };
+
+    fn read(&mut self, alloc: Global, name: &str, limit: usize) -> Result<Vec<u8>, ReadError>
+        ensures few { IfOk result (λ v. length v.items ≤ limit) }
+        ensures cause { Causes self.old.faults self.new.faults result }
+        ensures taken { self.old.taken ≤ self.new.taken }
+        ensures too_long { CausesTooLong self.old.taken self.new.taken limit result }
+        ensures logged { self.new.log ≡ self.old.log ++ reply_of name.now limit (shown (λ v. v.items) result) ∷ [] }
+        ensures reads { Reads (Some self.old.told) (Some self.new.told) name.now limit (shown (λ v. v.items) result) }
+        ensures after { self.new ≡ after_read self.old name.now limit (shown (λ v. v.items) result) }
+    {
+        let found = self.search(alloc, name, limit);
+        count(&mut self.taken, limit, &found);
+        self.log = self.log.and(&NewReply::of(name, limit, &found));
         found
     }
 }

@@ -1,6 +1,6 @@
 //! A sink of bytes.
 
-ghost use Rattle.std.specs.Prelude.{ℕ, List, Option};
+ghost use Rattle.std.specs.Prelude.{ℕ, List};
 ghost use Rattle.bm_io.specs.Counts.{HasCause};
 ghost use Rattle.bm_io.specs.Sink.{Writes};
 
@@ -10,8 +10,8 @@ pub struct WriteFault;
 
 /// What takes bytes.
 pub trait Sink {
-    /// The bytes written, if it tells them.
-    ghost written: { Self → Option (List ℕ) };
+    /// The pieces that it took, one for each write: all of it, or a front where the write failed.
+    ghost pieces: { Self → List (List ℕ) };
 
     /// How often a write has failed.
     ghost faults: { Self → ℕ };
@@ -19,5 +19,5 @@ pub trait Sink {
     /// Writes the whole piece, or fails after a front of it. It takes no memory.
     fn write_all(&mut self, piece: &[u8]) -> Result<(), WriteFault>
         ensures cause { HasCause (faults self.old) (faults self.new) result }
-        ensures writes { Writes (written self.old) (written self.new) piece.now result };
+        ensures writes { Writes (pieces self.old) (pieces self.new) piece.now result };
 }

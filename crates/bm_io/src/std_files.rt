@@ -2,19 +2,22 @@
 
 ghost use Rattle.std.specs.Prelude.{◌≡◌, ◌≤◌, ◌+◌, None, IfOk, length, Err};
 ghost use Rattle.bm_io.specs.Counts.{RoseBy};
+ghost use Rattle.bm_io.specs.Files.{unread};
 
 use crate::files::{Files, ReadError};
+use crate::read_log::{NewReply, ReadLog};
 use std::alloc::Global;
 use std::fs;
 use std::io::Read;
 use std::marker::Model;
 
-/// Files of the system, which tell nothing of their content.
+/// Files of the system, which tell nothing of their content. What each read answered stands in the log.
 #[derive(Drop)]
 pub struct StdFiles<R> {
     rt: R,
     faults: u64,
     taken: u64,
+    log: ReadLog,
 }
 
 impl<R> Model for StdFiles<R> {
@@ -22,18 +25,19 @@ impl<R> Model for StdFiles<R> {
 
     ghost Value = { FilesOfSystem };
 
-    ghost view = { λ f. record { faults = f.faults; taken = f.taken } };
+    ghost view = { λ f. record { faults = f.faults; taken = f.taken; log = f.log.replies } };
 }
 
 impl<R: std::rt::Files> StdFiles<R> {
     /// The files of this system, of which nothing was read yet.
     pub fn new(rt: R) -> StdFiles<R>
-        ensures { result ≡ record { faults = 0; taken = 0 } }
+        ensures { result ≡ unread }
     {
         StdFiles {
             rt,
             faults: 0,
             taken: 0,
+            log: ReadLog::new(),
         }
     }
 }
@@ -75,6 +79,8 @@ fn take_all<T: Read>(
 impl<R: std::rt::Files> Files for StdFiles<R> {
     ghost told = { λ _. None };
 
+    ghost log = { λ s. s.log };
+
     ghost faults = { λ s. s.faults };
 
     ghost taken = { λ s. s.taken };
@@ -87,6 +93,7 @@ impl<R: std::rt::Files> Files for StdFiles<R> {
         if found == Err(ReadError::Failed) {
             self.faults = self.faults.saturating_add(1);
         }
+        self.log = self.log.and(&NewReply::of(name, limit, &found));
         found
     }
 }

@@ -1,8 +1,0 @@
-use Rattle.std.proofs.Common.{length, ◌-◌, ◌≡◌, ◌≤◌}
-use Rattle.bm_io.proofs.std_sink.StdSinkSink.write_all.Given as goal
-
-abbrev pub invariant-loop-at : goal.invariant-loop-at
-invariant-loop-at g l = (l.self-inside.faults ≡ l.initial.self-inside.faults) × (l.at ≤ length l.piece)
-
-abbrev pub decreases-loop-at : goal.decreases-loop-at
-decreases-loop-at g l = length l.piece - l.at

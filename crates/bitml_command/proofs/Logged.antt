@@ -1,5 +1,6 @@
 -- What stands in the log after reads that are made one after another.
-use Rattle.std.proofs.Common.{◌≡◌, ℕ, zero, suc, ◌+◌, ◌<◌, ◌≤◌, ◌-◌, ◌^◌, min, List, [], ◌∷◌, ◌++◌, length, take, get_or, map, Option, Some, None}
+use Rattle.std.proofs.Common.{◌≡◌, ℕ, zero, suc, ◌+◌, ◌<◌, ◌≤◌, ◌-◌, ◌^◌, min, List, [], ◌∷◌, ◌++◌, length, take, get_or, map, Option, Some}
+use Rattle.std.proofs.Common.{None}
 use Rattle.std.proofs.Common.{Result, Ok, Err, refl, sym, ap, subst, ◌∙◌, arith, append_assoc, append-nil, length-append, add-one}
 use Rattle.std.proofs.Math.Seq.{take-suc}
 use Rattle.std.proofs.lemmas.List.{map-append, length-map}
@@ -29,7 +30,8 @@ entries_next : (files : List Asked) (reads : List Read) (file : Asked) (read : R
 entries_next [] reads file read less = absurd (omega (arith, less))
 entries_next (f ∷ []) [] file read less = refl
 entries_next (f ∷ g ∷ files) [] file read less = refl
-entries_next (f ∷ files) (r ∷ reads) file read less = ap (λ (es : List Reply). entry f r ∷ es) (entries_next files reads file read (omega (arith, less)))
+entries_next (f ∷ files) (r ∷ reads) file read less =
+    ap (λ (es : List Reply). entry f r ∷ es) (entries_next files reads file read (omega (arith, less)))
 
 beyond_next : (files : List Asked) (reads : List Read) (file : Asked) (read : Read) → length reads < length files
     → all_beyond files (reads ++ read ∷ []) ≡ all_beyond files reads + beyond (get_or files (length reads) file) read
@@ -55,7 +57,8 @@ logs_next before mid now x y z files reads file read less h one = record {
 
 -- ---- want of memory
 
-asked_entries : (files : List Asked) (reads : List Read) → length reads ≤ length files → map asked_in (entries files reads) ≡ take (length reads) files
+asked_entries : (files : List Asked) (reads : List Read) → length reads ≤ length files
+    → map asked_in (entries files reads) ≡ take (length reads) files
 asked_entries [] [] le = refl
 asked_entries [] (r ∷ reads) le = absurd (omega (arith, le))
 asked_entries (f ∷ files) [] le = refl
@@ -105,7 +108,8 @@ module _ (before mid now : List Reply) (x y z : ℕ) (list : List (Bor (List ℕ
   file_is : asked (get_or list i d) ≡ get_or (map asked list) (length (taken texts)) (asked d)
   file_is = asked_is list d i (length (taken texts)) counted less
 
-  more : (read : Read) → LogsOne mid now y z (asked (get_or list i d)) read → Logs before now x z (map asked list) (taken texts ++ read ∷ [])
+  more : (read : Read) → LogsOne mid now y z (asked (get_or list i d)) read
+      → Logs before now x z (map asked list) (taken texts ++ read ∷ [])
   more read one =
       logs_next before mid now x y z (map asked list) (taken texts) (asked d) read inside h
       (subst (λ (file : Asked). LogsOne mid now y z file read) file_is one)

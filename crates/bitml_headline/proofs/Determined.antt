@@ -1,8 +1,6 @@
 -- Files that tell of themselves fix the reads, and so the answer.
 use Rattle.std.proofs.Common.{◌≡◌, ℕ, Bool, true, false, List, [], ◌∷◌, length, Option, Some, refl, sym, ap, subst, ◌∙◌, arith, cond}
 use Rattle.std.proofs.Common.{◌==◌}
-use Rattle.std.specs.Prelude.{take}
-use Rattle.std.proofs.Math.Seq.{take-nil}
 use Rattle.spec_tool.specs.Reads.{Asked, Read}
 use Rattle.spec_tool.specs.Commands.{Printed}
 use Rattle.spec_tool.specs.Answers.{ended}

@@ -1,5 +1,6 @@
 -- What a call replies to the reads of its files, and what it does of words that are no command.
-use Rattle.std.proofs.Common.{◌≡◌, ℕ, true, List, [], ◌∷◌, length, take, map, Option, Some, None, Result, Ok, Err, refl, sym, ap, subst, ◌∙◌}
+use Rattle.std.proofs.Common.{◌≡◌, ℕ, true, List, [], ◌∷◌, length, take, map, Option, Some, None, Result, Ok, Err, refl, sym, ap, subst}
+use Rattle.std.proofs.Common.{◌∙◌}
 use Rattle.std.proofs.Common.{append-nil, inl, inr}
 use Rattle.std.specs.Prelude.{IfOk, OnErr, is_some}
 use Rattle.spec_tool.specs.Reads.{Asked, Read, are_made}
@@ -40,7 +41,8 @@ tells_none (Some told) = (refl, ap (λ names. Some (record told { asked = names 
 module _ (answers : Option Command → List Read → Printed) (told : Option Told) (log : List Entry) (taken faults : ℕ)
     (written written_now : List (List ℕ)) (failed failed_now status : ℕ) where
   no_command : answers None [] ≡ usage → Ends usage written written_now failed failed_now status
-      → AnswersByOrGivesUp (answers None) None (around told log taken faults written failed) (around told log taken faults written_now failed_now) status
+      → AnswersByOrGivesUp (answers None) None (around told log taken faults written failed)
+      (around told log taken faults written_now failed_now) status
   no_command is_usage e = inl (record {
     reads = [];
     made = refl;
@@ -52,10 +54,12 @@ module _ (answers : Option Command → List Read → Printed) (told : Option Tol
 
   -- the usage, where there is no command
   pub tells_usage : (o : Option Command) → answers None [] ≡ usage → o ≡ None → Ends usage written written_now failed failed_now status
-      → AnswersByOrGivesUp (answers o) o (around told log taken faults written failed) (around told log taken faults written_now failed_now) status
+      → AnswersByOrGivesUp (answers o) o (around told log taken faults written failed)
+      (around told log taken faults written_now failed_now) status
   tells_usage o is_usage none e =
       subst (λ (c : Option Command).
-      AnswersByOrGivesUp (answers c) c (around told log taken faults written failed) (around told log taken faults written_now failed_now) status)
+      AnswersByOrGivesUp (answers c) c (around told log taken faults written failed) (around told log taken faults written_now failed_now)
+      status)
       (sym none) (no_command is_usage e)
 
 -- a call that ends with what was replied
@@ -81,7 +85,8 @@ asked_front (file ∷ files) [] = refl
 asked_front (file ∷ files) (read ∷ reads) = ap (λ (fs : List Asked). file ∷ fs) (asked_front files reads)
 
 -- after the reads of these files, which are the command's
-pub wanted_after : {X E : Type 0} (r : Result X E) (before now : List Entry) (taken taken_now : ℕ) (files named : List Asked) (reads : List Read)
+pub wanted_after : {X E : Type 0} (r : Result X E) (before now : List Entry) (taken taken_now : ℕ) (files named : List Asked)
+    (reads : List Read)
     → files ≡ named → Logs before now taken taken_now files reads → OnErr r (LogsFront before now named)
 wanted_after (Ok value) before now taken taken_now files named reads e h = tt
 wanted_after (Err error) before now taken taken_now files named reads e h =

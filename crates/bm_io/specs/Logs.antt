@@ -1,5 +1,5 @@
 -- What files and sinks have done so far, as proofs alone see it.
-use Rattle.std.specs.Prelude.{◌≡◌, ℕ, List, [], ◌∷◌, ◌++◌, Result}
+use Rattle.std.specs.Prelude.{ℕ, List, Result}
 use Rattle.bm_io.specs.declared.files.ReadError.{ReadError}
 
 -- a read: the name and the limit that were asked for, and what was answered

@@ -12,7 +12,8 @@ serve-requires g c =
 pub returns-in-Ok-None : goal.returns-in-Ok-None
 returns-in-Ok-None g c =
     tells_usage (tool_answer (g.H.Hash32.digest_of c.args.hash)) (g.F.Files.told c.args.files.now) (g.F.Files.log c.args.files.now)
-    (g.F.Files.taken c.args.files.now) (g.F.Files.faults c.args.files.now) (g.S.Sink.pieces c.args.out.now) (g.S.Sink.pieces c.finish.new.out) (g.S.Sink.faults c.args.out.now) (g.S.Sink.faults c.finish.new.out)
+    (g.F.Files.taken c.args.files.now) (g.F.Files.faults c.args.files.now) (g.S.Sink.pieces c.args.out.now)
+    (g.S.Sink.pieces c.finish.new.out) (g.S.Sink.faults c.args.out.now) (g.S.Sink.faults c.finish.new.out)
     c.finish.result _ refl
     (no_call (map (string_bytes {Z = Global}) c.args.words.now) c.in-Ok-None.field-0 c.in-Ok-None.ensures.command c.in-Ok-None.field-0-is)
     c.finish.ensures

@@ -19,11 +19,13 @@ returns-clause-reply g c =
       taken = g.F.Files.taken c.read_all.new.files;
       faults = g.F.Files.faults c.read_all.new.files;
     }) (map asked c.as_slice.result.now) c.in_ok-reading.reading
-    c.reply_to.result (ap (map asked) c.as_slice.ensures.value ∙ c.in_ok-list.ensures) c.in_ok-reading.ensures.reads c.in_ok-reading.ensures.logged c.in_ok-reading.ensures.rose
+    c.reply_to.result (ap (map asked) c.as_slice.ensures.value ∙ c.in_ok-list.ensures) c.in_ok-reading.ensures.reads
+    c.in_ok-reading.ensures.logged c.in_ok-reading.ensures.rose
     c.reply_to.ensures
 
 pub returns-clause-wanted : goal.returns-clause-wanted
 returns-clause-wanted g c =
     wanted_after c.reply_to.result (g.F.Files.log c.args.files.now) (g.F.Files.log c.read_all.new.files) (g.F.Files.taken c.args.files.now)
-    (g.F.Files.taken c.read_all.new.files) (map asked c.as_slice.result.now) _ _ (ap (map asked) c.as_slice.ensures.value ∙ c.in_ok-list.ensures)
+    (g.F.Files.taken c.read_all.new.files) (map asked c.as_slice.result.now) _ _
+    (ap (map asked) c.as_slice.ensures.value ∙ c.in_ok-list.ensures)
     c.in_ok-reading.ensures.logged

@@ -20,6 +20,7 @@ returns-in-Ok g c =
       taken = g.F.Files.taken c.reply.new.files;
       faults = g.F.Files.faults c.reply.new.files;
     })
-    (printed c.in-Ok.reply) (prints c.in-Ok.reply.status c.as_slice.result.now) (g.S.Sink.pieces c.args.out.now) (g.S.Sink.pieces c.finish.new.out)
+    (printed c.in-Ok.reply) (prints c.in-Ok.reply.status c.as_slice.result.now) (g.S.Sink.pieces c.args.out.now)
+    (g.S.Sink.pieces c.finish.new.out)
     (g.S.Sink.faults c.args.out.now) (g.S.Sink.faults c.finish.new.out) c.finish.result c.in-Ok.ensures.reply
     (ap (prints c.in-Ok.reply.status) c.as_slice.ensures) c.finish.ensures

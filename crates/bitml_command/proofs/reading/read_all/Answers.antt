@@ -21,14 +21,17 @@ pub returns-in_err-text-clause-wanted : goal.returns-in_err-text-clause-wanted
 returns-in_err-text-clause-wanted g c =
     on_err c.from_residual.result _
     (log_wants (g.F.Files.log c.args.files.now) (g.F.Files.log c.loop-name.files) (g.F.Files.log c.read_one.new.files)
-    (g.F.Files.taken c.args.files.now) (g.F.Files.taken c.loop-name.files) (g.F.Files.taken c.read_one.new.files) c.args.list.now nothing c.loop-name.name-index c.loop-name.texts
+    (g.F.Files.taken c.args.files.now) (g.F.Files.taken c.loop-name.files) (g.F.Files.taken c.read_one.new.files) c.args.list.now nothing
+    c.loop-name.name-index c.loop-name.texts
     c.loop-name.invariant.counted c.loop-name-test.true c.loop-name.invariant.logs c.in_err-text.ensures.wanted)
 
 pub returns-in_default-clause-logged : goal.returns-in_default-clause-logged
 returns-in_default-clause-logged g c =
     log_fails (g.F.Files.log c.args.files.now) (g.F.Files.log c.loop-name.files) (g.F.Files.log c.read_one.new.files)
-    (g.F.Files.taken c.args.files.now) (g.F.Files.taken c.loop-name.files) (g.F.Files.taken c.read_one.new.files) c.args.list.now nothing c.loop-name.name-index c.loop-name.texts
-    c.loop-name.invariant.counted c.loop-name-test.true c.loop-name.invariant.logs c.in_ok-text.field-0 c.in_default.is c.in_ok-text.ensures.logged
+    (g.F.Files.taken c.args.files.now) (g.F.Files.taken c.loop-name.files) (g.F.Files.taken c.read_one.new.files) c.args.list.now nothing
+    c.loop-name.name-index c.loop-name.texts
+    c.loop-name.invariant.counted c.loop-name-test.true c.loop-name.invariant.logs c.in_ok-text.field-0 c.in_default.is
+    c.in_ok-text.ensures.logged
 
 pub returns-in_default-clause-reads : goal.returns-in_default-clause-reads
 returns-in_default-clause-reads g c =
@@ -45,12 +48,18 @@ returns-in_err-push-clause-memory g c =
 pub returns-in_err-push-clause-wanted : goal.returns-in_err-push-clause-wanted
 returns-in_err-push-clause-wanted g c =
     on_err c.from_residual-in_err-push.result _
-    (log_front (g.F.Files.log c.args.files.now) (g.F.Files.log c.read_one.new.files) (g.F.Files.taken c.args.files.now) (g.F.Files.taken c.read_one.new.files)
+    (log_front (g.F.Files.log c.args.files.now) (g.F.Files.log c.read_one.new.files) (g.F.Files.taken c.args.files.now)
+    (g.F.Files.taken c.read_one.new.files)
     c.args.list.now (c.loop-name.texts ++ c.in-Some.text ∷ [])
-    (let counted = c.loop-name.invariant.counted in let less = c.loop-name-test.true in let e : length (c.loop-name.texts ++ c.in-Some.text ∷ []) ≡ length c.loop-name.texts + 1 = length-append c.loop-name.texts (c.in-Some.text ∷ []) in omega (arith, counted, less, e))
+    (let counted = c.loop-name.invariant.counted in let less = c.loop-name-test.true in
+    let e : length (c.loop-name.texts ++ c.in-Some.text ∷ []) ≡ length c.loop-name.texts + 1 =
+    length-append c.loop-name.texts (c.in-Some.text ∷ []) in
+    omega (arith, counted, less, e))
     (log_goes_on (g.F.Files.log c.args.files.now) (g.F.Files.log c.loop-name.files) (g.F.Files.log c.read_one.new.files)
-    (g.F.Files.taken c.args.files.now) (g.F.Files.taken c.loop-name.files) (g.F.Files.taken c.read_one.new.files) c.args.list.now nothing c.loop-name.name-index c.loop-name.texts
-    c.loop-name.invariant.counted c.loop-name-test.true c.loop-name.invariant.logs c.in_ok-text.field-0 c.in-Some.text c.in-Some.is c.in_ok-text.ensures.logged))
+    (g.F.Files.taken c.args.files.now) (g.F.Files.taken c.loop-name.files) (g.F.Files.taken c.read_one.new.files) c.args.list.now nothing
+    c.loop-name.name-index c.loop-name.texts
+    c.loop-name.invariant.counted c.loop-name-test.true c.loop-name.invariant.logs c.in_ok-text.field-0 c.in-Some.text c.in-Some.is
+    c.in_ok-text.ensures.logged))
 
 pub loop-name-preserved : goal.loop-name-preserved
 loop-name-preserved g c =
@@ -60,10 +69,13 @@ loop-name-preserved g c =
       went = subst (λ (texts : List Text). Went (g.F.Files.told c.args.files.now) (g.F.Files.told c.read_one.new.files) (map asked c.args.list.now) texts) (sym pushed)
           (list_goes_on (g.F.Files.told c.args.files.now) (g.F.Files.told c.loop-name.files) (g.F.Files.told c.read_one.new.files) c.args.list.now nothing c.loop-name.name-index
           c.loop-name.texts c.loop-name.invariant.counted c.loop-name-test.true c.loop-name.invariant.went c.in_ok-text.field-0 c.in-Some.text c.in-Some.is c.in_ok-text.ensures.reads);
-      logs = subst (λ (texts : List Text). Logs (g.F.Files.log c.args.files.now) (g.F.Files.log c.read_one.new.files) (g.F.Files.taken c.args.files.now) (g.F.Files.taken c.read_one.new.files) (map asked c.args.list.now) (taken texts)) (sym pushed)
+      logs = subst (λ (texts : List Text). Logs (g.F.Files.log c.args.files.now) (g.F.Files.log c.read_one.new.files)
+          (g.F.Files.taken c.args.files.now) (g.F.Files.taken c.read_one.new.files) (map asked c.args.list.now) (taken texts)) (sym pushed)
           (log_goes_on (g.F.Files.log c.args.files.now) (g.F.Files.log c.loop-name.files) (g.F.Files.log c.read_one.new.files)
-          (g.F.Files.taken c.args.files.now) (g.F.Files.taken c.loop-name.files) (g.F.Files.taken c.read_one.new.files) c.args.list.now nothing c.loop-name.name-index c.loop-name.texts
-          c.loop-name.invariant.counted c.loop-name-test.true c.loop-name.invariant.logs c.in_ok-text.field-0 c.in-Some.text c.in-Some.is c.in_ok-text.ensures.logged);
+          (g.F.Files.taken c.args.files.now) (g.F.Files.taken c.loop-name.files) (g.F.Files.taken c.read_one.new.files) c.args.list.now
+          nothing c.loop-name.name-index c.loop-name.texts
+          c.loop-name.invariant.counted c.loop-name-test.true c.loop-name.invariant.logs c.in_ok-text.field-0 c.in-Some.text c.in-Some.is
+          c.in_ok-text.ensures.logged);
       later = let so_far = c.loop-name.invariant.later in let more = c.read_one.ensures.later in omega (arith, so_far, more);
     }
 
@@ -82,5 +94,6 @@ loop-name-init g c = record {
 
 pub returns-clause-logged : goal.returns-clause-logged
 returns-clause-logged g c =
-    log_ends (g.F.Files.log c.args.files.now) (g.F.Files.log c.loop-name.files) (g.F.Files.taken c.args.files.now) (g.F.Files.taken c.loop-name.files)
+    log_ends (g.F.Files.log c.args.files.now) (g.F.Files.log c.loop-name.files) (g.F.Files.taken c.args.files.now)
+    (g.F.Files.taken c.loop-name.files)
     (map asked c.args.list.now) c.loop-name.texts c.loop-name.invariant.logs

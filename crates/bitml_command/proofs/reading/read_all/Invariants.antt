@@ -8,6 +8,7 @@ abbrev pub invariant-loop-name : goal.invariant-loop-name
 invariant-loop-name g l = record {
   counted : length l.texts ≡ l.name-index;
   went : Went (g.F.Files.told l.initial.files) (g.F.Files.told l.files) (map asked l.list) l.texts;
-  logs : Logs (g.F.Files.log l.initial.files) (g.F.Files.log l.files) (g.F.Files.taken l.initial.files) (g.F.Files.taken l.files) (map asked l.list) (taken l.texts);
+  logs : Logs (g.F.Files.log l.initial.files) (g.F.Files.log l.files) (g.F.Files.taken l.initial.files) (g.F.Files.taken l.files)
+      (map asked l.list) (taken l.texts);
   later : g.F.Files.faults l.initial.files ≤ g.F.Files.faults l.files;
 }

@@ -7,7 +7,8 @@ use Rattle.bitml_draw.proofs.tool.reply.Goals as goal
 
 pub returns-clause-reply : goal.returns-clause-reply
 returns-clause-reply g c =
-    replied (drawn_answer (g.H.Hash32.digest_of c.args.hash) (Some (plan c.args.run.now c.args.contract.now))) (plan c.args.run.now c.args.contract.now)
+    replied (drawn_answer (g.H.Hash32.digest_of c.args.hash) (Some (plan c.args.run.now c.args.contract.now)))
+    (plan c.args.run.now c.args.contract.now)
     (record {
       told = g.F.Files.told c.args.files.now;
       log = g.F.Files.log c.args.files.now;

@@ -7,7 +7,8 @@ use Rattle.bitml_draw.proofs.tool.serve.Goals as goal
 
 pub returns-in-Ok : goal.returns-in-Ok
 returns-in-Ok g c =
-    answers_reply (drawn_answer (g.H.Hash32.digest_of c.args.hash) (Some (plan c.args.run.now c.args.contract.now))) (plan c.args.run.now c.args.contract.now)
+    answers_reply (drawn_answer (g.H.Hash32.digest_of c.args.hash) (Some (plan c.args.run.now c.args.contract.now)))
+    (plan c.args.run.now c.args.contract.now)
     (record {
       told = g.F.Files.told c.args.files.now;
       log = g.F.Files.log c.args.files.now;
@@ -20,6 +21,7 @@ returns-in-Ok g c =
       taken = g.F.Files.taken c.reply.new.files;
       faults = g.F.Files.faults c.reply.new.files;
     })
-    (printed c.in-Ok.reply) (prints c.in-Ok.reply.status c.as_slice.result.now) (g.S.Sink.pieces c.args.out.now) (g.S.Sink.pieces c.finish.new.out)
+    (printed c.in-Ok.reply) (prints c.in-Ok.reply.status c.as_slice.result.now) (g.S.Sink.pieces c.args.out.now)
+    (g.S.Sink.pieces c.finish.new.out)
     (g.S.Sink.faults c.args.out.now) (g.S.Sink.faults c.finish.new.out) c.finish.result c.in-Ok.ensures.reply
     (ap (prints c.in-Ok.reply.status) c.as_slice.ensures) c.finish.ensures

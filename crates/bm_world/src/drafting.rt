@@ -8,13 +8,13 @@ ghost use Rattle.bm_world_board.specs.Drafts.{setup_of, world_of, Drafts, Signs}
 ghost use Rattle.bm_world.specs.Kinds.{IsNoCommit};
 ghost use Rattle.bm_world.specs.Playing.{IsPlayable, IsCompiledAfter};
 
-use crate::handing::draft_handing;
-use crate::signing::draft_signing;
-use crate::telling::draft_telling;
+use crate::handing::{draft_appended, draft_given, draft_initial, draft_taken};
 use bm_compile::Compiled;
 use bm_hash::{Hash32, Trail, TrailError};
 use bm_world_board::{Board, Drafted};
 use bm_world_commit::draft_commit;
+use bm_world_events::{draft_advertise, draft_mine, draft_post, draft_reveal, draft_sign};
+use bm_world_sign::{draft_authorise, draft_endorse, draft_init};
 use spec_run::Event;
 use std::alloc::Global;
 
@@ -39,12 +39,68 @@ fn draft_other<H: Hash32 + Drop>(
 {
     match event {
         Event::Commit { .. } => unreachable!(),
-        Event::Endorse { .. } | Event::Init { .. } | Event::Authorise { .. } | Event::Sign { .. } =>
-            draft_signing(alloc, trail, board, event),
-        Event::Give { .. } | Event::Append { .. } | Event::FireInit { .. } | Event::Fire { .. } =>
-            draft_handing(alloc, trail, board, event),
-        Event::Advertise { .. } | Event::Reveal { .. } | Event::Post { .. } | Event::Mine { .. } =>
-            draft_telling(alloc, trail, board, event),
+        Event::Advertise { contract, bindings } => {
+            let drafted = draft_advertise(alloc, board, *contract, bindings.as_slice())?;
+            Ok(drafted)
+        }
+        Event::Endorse { contract, party } => {
+            let drafted = draft_endorse(alloc, trail, board, *contract, party)?;
+            Ok(drafted)
+        }
+        Event::Init { contract, party } => {
+            let drafted = draft_init(alloc, trail, board, *contract, party)?;
+            Ok(drafted)
+        }
+        Event::Authorise {
+            party,
+            output,
+            branch,
+        } => {
+            let drafted = draft_authorise(alloc, trail, board, party, *output, *branch)?;
+            Ok(drafted)
+        }
+        Event::Reveal {
+            contract,
+            party,
+            secret,
+        } => {
+            let drafted = draft_reveal(alloc, trail, board, *contract, party, secret)?;
+            Ok(drafted)
+        }
+        Event::Post { bytes } => {
+            let drafted = draft_post(alloc, trail, bytes.as_slice())?;
+            Ok(drafted)
+        }
+        Event::Sign {
+            party,
+            label,
+            digest,
+        } => {
+            let drafted = draft_sign(alloc, trail, board, party, label, digest)?;
+            Ok(drafted)
+        }
+        Event::Give {
+            party,
+            inputs,
+            outputs,
+        } => {
+            let inputs = inputs.as_slice();
+            let drafted = draft_given(alloc, trail, board, party, inputs, outputs.as_slice())?;
+            Ok(drafted)
+        }
+        Event::Append { bytes } => {
+            let drafted = draft_appended(alloc, trail, board, bytes.as_slice())?;
+            Ok(drafted)
+        }
+        Event::FireInit { contract } => {
+            let drafted = draft_initial(alloc, trail, board, *contract)?;
+            Ok(drafted)
+        }
+        Event::Fire { output, branch } => {
+            let drafted = draft_taken(alloc, trail, board, *output, *branch)?;
+            Ok(drafted)
+        }
+        Event::Mine { blocks } => Ok(draft_mine(alloc, board, *blocks)),
     }
 }
 

@@ -2,11 +2,10 @@
 
 ghost use Rattle.std.specs.Prelude.{◌≡◌, IfOk, IfErr};
 ghost use Rattle.bm_hash.specs.Trails.{StopsAlong};
-ghost use Rattle.spec_run.specs.Conditions.{IsEvent, IsPiece, IsGift};
+ghost use Rattle.spec_run.specs.Conditions.{IsPiece, IsGift};
 ghost use Rattle.spec_run.specs.Event as run;
 ghost use Rattle.spec_run.specs.declared.event.Event.TheVariants as events;
 ghost use Rattle.bm_world_board.specs.Drafts.{setup_of, world_of, Drafts, Signs};
-ghost use Rattle.bm_world.specs.Kinds.{IsHanding};
 ghost use Rattle.bm_world.specs.Playing.{IsPlayable};
 
 use bm_hash::{Hash32, Trail, TrailError};
@@ -14,12 +13,11 @@ use bm_world_board::{Board, Drafted};
 use bm_world_fire::{draft_fire, draft_fire_init};
 use bm_world_spend::{draft_append, draft_give};
 use spec_data::Name;
-use spec_run::Event;
 use std::alloc::Global;
 
-// The draft of a transaction that is handed over as it is.
+/// The draft of a transaction that is handed over as it is.
 #[tactic(auto, using(bm_hash::proofs::HashesLemmas::stops_early))]
-fn draft_appended<H: Hash32 + Drop>(
+pub(crate) fn draft_appended<H: Hash32 + Drop>(
     alloc: Global,
     trail: &mut Trail<H>,
     board: &Board,
@@ -37,9 +35,9 @@ fn draft_appended<H: Hash32 + Drop>(
     Ok(drafted)
 }
 
-// The draft of a gift, whose pairs are then in the book.
+/// The draft of a gift, whose pairs are then in the book.
 #[tactic(auto, using(bm_hash::proofs::HashesLemmas::stops_early))]
-fn draft_given<H: Hash32 + Drop>(
+pub(crate) fn draft_given<H: Hash32 + Drop>(
     alloc: Global,
     trail: &mut Trail<H>,
     board: &mut Board,
@@ -61,9 +59,9 @@ fn draft_given<H: Hash32 + Drop>(
     Ok(drafted)
 }
 
-// The draft of the initial transaction of a contract.
+/// The draft of the initial transaction of a contract.
 #[tactic(auto, using(bm_hash::proofs::HashesLemmas::stops_early))]
-fn draft_initial<H: Hash32 + Drop>(
+pub(crate) fn draft_initial<H: Hash32 + Drop>(
     alloc: Global,
     trail: &mut Trail<H>,
     board: &Board,
@@ -80,9 +78,9 @@ fn draft_initial<H: Hash32 + Drop>(
     Ok(drafted)
 }
 
-// The draft of the transaction of a branch.
+/// The draft of the transaction of a branch.
 #[tactic(auto, using(bm_hash::proofs::HashesLemmas::stops_early))]
-fn draft_taken<H: Hash32 + Drop>(
+pub(crate) fn draft_taken<H: Hash32 + Drop>(
     alloc: Global,
     trail: &mut Trail<H>,
     board: &Board,
@@ -98,49 +96,4 @@ fn draft_taken<H: Hash32 + Drop>(
 {
     let drafted = draft_fire(alloc, trail, board, output, branch)?;
     Ok(drafted)
-}
-
-/// The draft of an event that hands a transaction to the ledger. The pairs that it signs are then in the book.
-#[tactic(auto, using(bm_hash::proofs::HashesLemmas::stops_early))]
-pub(crate) fn draft_handing<H: Hash32 + Drop>(
-    alloc: Global,
-    trail: &mut Trail<H>,
-    board: &mut Board,
-    event: &Event,
-) -> Result<Drafted, TrailError>
-    requires playable { IsPlayable (setup_of (H.digest_of trail.old.hasher) board.old) board.old trail.old.messages }
-    requires is { IsEvent (setup_of (H.digest_of trail.old.hasher) board.old) event.now }
-    requires kind { IsHanding event.now }
-    ensures hasher { trail.new.hasher ≡ trail.old.hasher }
-    ensures board { Signs board.old board.new }
-    ensures ok { IfOk result (Drafts (H.digest_of trail.old.hasher) (world_of board.new trail.old.messages) trail.old.messages
-        trail.new.messages
-        (run.draft (setup_of (H.digest_of trail.old.hasher) board.old) (world_of board.old trail.old.messages) event.now)) }
-    ensures err { IfErr result (StopsAlong H.digest_of trail.old trail.new
-        ((run.draft (setup_of (H.digest_of trail.old.hasher) board.old) (world_of board.old trail.old.messages) event.now).hashes)) }
-{
-    match event {
-        Event::Give {
-            party,
-            inputs,
-            outputs,
-        } => {
-            let inputs = inputs.as_slice();
-            let drafted = draft_given(alloc, trail, board, party, inputs, outputs.as_slice())?;
-            Ok(drafted)
-        }
-        Event::Append { bytes } => {
-            let drafted = draft_appended(alloc, trail, board, bytes.as_slice())?;
-            Ok(drafted)
-        }
-        Event::FireInit { contract } => {
-            let drafted = draft_initial(alloc, trail, board, *contract)?;
-            Ok(drafted)
-        }
-        Event::Fire { output, branch } => {
-            let drafted = draft_taken(alloc, trail, board, *output, *branch)?;
-            Ok(drafted)
-        }
-        _ => unreachable!(),
-    }
 }

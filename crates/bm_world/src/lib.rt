@@ -6,10 +6,8 @@ mod halt;
 mod handing;
 mod placing;
 mod playing;
-mod signing;
 mod standing;
 mod starting;
-mod telling;
 mod world;
 
 pub use halt::{Halt, StartError};

@@ -2,7 +2,7 @@ use Rattle.std.proofs.Common.{sym, subst}
 use Rattle.spec_run.specs.declared.event.Event.TheVariants as events
 use Rattle.spec_run.specs.Event as run
 use Rattle.bm_world_board.specs.Drafts.{setup_of, world_of, Drafts}
-use Rattle.bm_world.proofs.telling.draft_telling.Goals as goal
+use Rattle.bm_world.proofs.drafting.draft_other.Goals as goal
 
 pub returns-in_ok-drafted-in-Post-clause-ok : goal.returns-in_ok-drafted-in-Post-clause-ok
 returns-in_ok-drafted-in-Post-clause-ok g c =

@@ -20,6 +20,7 @@ use Rattle.spec_tool.specs.Commands.{setup_of, ending_status}
 use Rattle.spec_tool.specs.Reads.{Text}
 use Rattle.theory_text.proofs.Lines.ValidRuns.{run_file_is}
 use Rattle.theory_text.specs.RunFiles.{IsReadRun}
+use Rattle.theory_report.proofs.ReadRuns.{IsKnownRun, run_known}
 use Rattle.theory_tool.specs.Runs.{IsUnhalted}
 use Rattle.theory_commands.specs.ContractFiles.{HoldsContract}
 use Rattle.theory_commands.specs.RunFiles.{HoldsRun}
@@ -57,6 +58,11 @@ well_formed (Some text) advert h = record { readable = h.read.readable; faultles
 read_run_is : (text : Text) (run : Run) → HoldsRun text run → IsReadRun run
 read_run_is None run h = absurd h
 read_run_is (Some text) run h = run_file_is text run ((run_files_read.read (Some text) run).1 h)
+
+-- and its names, secrets and events are such as text may have
+pub known_run : (text : Text) (run : Run) → HoldsRun text run → IsKnownRun run.header run.events
+known_run None run h = absurd h
+known_run (Some text) run h = run_known text run ((run_files_read.read (Some text) run).1 h)
 
 module _ (hash : List ℕ → List ℕ) (bytes : HashesBytes hash) (run_text contract_text : Text) (run : Run) (advert : Advert)
     (h : HoldsRun run_text run) (k : HoldsContract contract_text advert) where

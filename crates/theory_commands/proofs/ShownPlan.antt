@@ -20,15 +20,16 @@ use Rattle.theory_psbt.specs.Listed.{SignersForEach}
 use Rattle.theory_script.specs.Listed.{PathsAreListed, ScriptsAreListed, PathsInOrder}
 use Rattle.theory_script.specs.Money.{MoneyIsKept}
 use Rattle.theory_tool.specs.Runs.{IsUnhalted}
+use Rattle.theory_lines.proofs.Plans.{plan_back}
 use Rattle.theory_weights.specs.Bounds.{WeightsAreBounds}
 use Rattle.theory_weights.specs.Runs.{WeightsAddUp, TotalsBoundRuns}
 use Rattle.theory_weights.specs.Sizes.{WeightsBySizes}
 use Rattle.theory_commands.specs.ContractFiles.{HoldsContract}
-use Rattle.theory_commands.specs.Files.{ShowsPlayed}
+use Rattle.theory_commands.specs.Files.{ShowsPlayed, IfWhole}
 use Rattle.theory_commands.specs.RunFiles.{HoldsRun}
 use Rattle.theory_commands.specs.Shown.Plan.{IsPlanned, PlansIf, ShowsPlan, WeighsIf, ShowsWeights}
 use Rattle.theory_commands.proofs.Files.{played, of_whole, unhalted, text_halted, text_whole}
-use Rattle.theory_commands.proofs.Played.{calm, well_formed, is_run, advert_is}
+use Rattle.theory_commands.proofs.Played.{calm, well_formed, is_run, known_run, advert_is}
 
 -- the theorems that are cited of a contract's transactions
 pub record Theorems : Type 0 where
@@ -69,15 +70,22 @@ module _ (t : Theorems) (hash : List ℕ → List ℕ) (bytes : HashesBytes hash
     plans None c = refl
     plans (Some instance) c = record { answer = refl; planned = planned instance (well instance c) }
 
-    plan_shown : ShowsPlan s es (run_answer plan_text s es)
+    plan_whole : IfWhole s es (run_answer plan_text s es)
+        (PlansIf hash (compiled_instance s (last_world s es) 0) (run_answer plan_text s es))
     unfolding plan_text
-    plan_shown =
+    plan_whole =
         let o = compiled_instance s (last_world s es) 0 in
         record {
           whole = λ u.
               subst (PlansIf hash o) (sym (text_whole (ending s es) (setting_text hash o) (unhalted s es u))) (plans o refl);
           halted = text_halted (ending s es) (setting_text hash o);
         }
+
+    plan_shown : ShowsPlan s es (run_answer plan_text s es)
+    plan_shown = record {
+      shown = plan_whole;
+      read = plan_back s es (known_run run_text run h) (is_run hash bytes run_text contract_text run advert h k);
+    }
 
     -- ---- weigh
 

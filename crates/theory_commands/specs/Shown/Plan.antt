@@ -22,6 +22,7 @@ use Rattle.theory_script.specs.Money.{KeepsMoney}
 use Rattle.theory_weights.specs.Bounds.{IsWithin, WeighsRightly}
 use Rattle.theory_weights.specs.Runs.{way_to, FiredInitial, FiredAll, TotalsAreSums}
 use Rattle.theory_weights.specs.Sizes.{IsSized}
+use Rattle.theory_lines.specs.Plan.{plan_of, shown_plan}
 use Rattle.theory_commands.specs.Files.{IfWhole}
 
 -- ---- the transactions of a compiled contract
@@ -49,8 +50,10 @@ PlansIf hash None printed = printed ≡ prints 0 not_compiled_line
 PlansIf hash (Some instance) printed = Plans hash instance printed
 
 -- of a run and its contract, as the last world has it
-abbrev pub ShowsPlan : Setup → List Event → Printed → Type 0
-ShowsPlan s es printed = IfWhole s es printed (PlansIf s.hash (compiled_instance s (last_world s es) 0) printed)
+pub record ShowsPlan (s : Setup) (es : List Event) (printed : Printed) : Type 0 where
+  pub shown : IfWhole s es printed (PlansIf s.hash (compiled_instance s (last_world s es) 0) printed)
+  -- the text is read as all that the contract is compiled to, or as what stands in its place
+  pub read : plan_of printed.text ≡ Some (shown_plan s es)
 
 -- ---- weigh
 

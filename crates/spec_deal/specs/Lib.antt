@@ -1,0 +1,11 @@
+pub mod Sizes
+pub mod Needed
+pub mod Setting
+pub mod DealFile
+pub mod Slots
+pub mod Shape
+pub mod Given
+pub mod SignatureFile
+pub mod Hashed
+pub mod SecretFile
+pub mod Finished

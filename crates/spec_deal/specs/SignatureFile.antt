@@ -1,0 +1,148 @@
+-- Files of signatures: what wallets signed, as partially signed transactions by BIP 174, a line each; or why a file is refused.
+use Rattle.std.specs.Prelude.{ℕ, ◌+◌, List, [], ◌∷◌, ◌++◌, length, take, drop, Bool, true, false, not, ◌&&◌, ◌==◌, nat_lt}
+use Rattle.std.specs.Prelude.{if◌then◌else◌, Option, Some, None, Result, Ok, Err}
+use Rattle.std.specs.List.{find, list_any}
+use Rattle.std.specs.Str.{bytes_eq}
+use Rattle.spec_bitcoin.specs.declared.tx.TxOut.{TxOut}
+use Rattle.spec_bitcoin.specs.Keys.{key_bytes, deposit_script}
+use Rattle.spec_bitcoin.specs.Spelling.{stripped}
+use Rattle.spec_compiler.specs.Keyed.Keys.{Keys}
+use Rattle.spec_compiler.specs.Keyed.Instance.{Instance}
+use Rattle.spec_compiler.specs.declared.unsigned.Spent.{Spent}
+use Rattle.spec_compiler.specs.Keyed.Transactions.{tx_of, pays}
+use Rattle.spec_run.specs.Ledger.{same_output}
+use Rattle.spec_text.specs.Lines.{lines_of, words_of}
+use Rattle.spec_tool.specs.declared.psbt.PsbtInput.{PsbtInput}
+use Rattle.spec_tool.specs.Base64.{base64_bytes}
+use Rattle.spec_tool.specs.Keyed.Listed.{Listed, listed}
+use Rattle.spec_tool.specs.Psbt.{Psbt, Pairing}
+use Rattle.spec_tool.specs.PsbtBytes.{psbt_of}
+use Rattle.spec_deal.specs.declared.signed.Signed.{Signed}
+use Rattle.spec_deal.specs.declared.fault.SignatureReason.{SignatureReason}
+use Rattle.spec_deal.specs.declared.fault.SignatureReason.TheVariants as reasons
+use Rattle.spec_deal.specs.declared.fault.SignatureFault.{SignatureFault}
+use Rattle.spec_deal.specs.declared.fault.SignatureFault.TheVariants as faults
+use Rattle.spec_deal.specs.Sizes.{most_signature_bytes}
+use Rattle.spec_deal.specs.Shape.{is_strict}
+use Rattle.spec_deal.specs.Slots.{Slot, slots}
+use Rattle.spec_deal.specs.Given.{is_for}
+
+-- the signatures so far, or why a line is bad
+abbrev pub Taken : Type 0
+Taken = Result (List Signed) SignatureReason
+
+-- ---- a signature
+
+-- whether both are of one input and by one key
+abbrev pub same_place : Signed → Signed → Bool
+same_place a b = bytes_eq a.tx b.tx && (a.input == b.input && bytes_eq a.key b.key)
+
+-- the same signature may come again
+abbrev pub taken_once : List Signed → Signed → Option Signed → Taken
+taken_once given g None = Ok (given ++ g ∷ [])
+taken_once given g (Some earlier) = if bytes_eq earlier.signature g.signature then Ok given else Err (reasons.Conflict g.input)
+
+-- one more signature: for a key that a transaction with these bytes needs there, of the right shape, and no other than an earlier one
+abbrev pub take_signature : (List ℕ → List ℕ) → Keys → List Slot → List Signed → Signed → Taken
+take_signature hash keys wanted given g =
+    if not (list_any (λ slot. is_for hash keys slot g) wanted) then Err (reasons.Key g.input)
+    else if not (is_strict g.signature) then Err (reasons.Signature g.input)
+    else taken_once given g (find (same_place g) given)
+
+-- the signatures of input k in order
+abbrev pub take_signatures : (List ℕ → List ℕ) → Keys → List Slot → List ℕ → ℕ → List Signed → List Pairing → Taken
+take_signatures hash keys wanted tx k given [] = Ok given
+take_signatures hash keys wanted tx k given (p ∷ ps) =
+    elim (take_signature hash keys wanted given (record { tx = tx; input = k; key = p.0; signature = p.1 })) [
+      | Ok more ↦ take_signatures hash keys wanted tx k more ps
+      | Err reason ↦ Err reason
+    ]
+
+-- ---- an input
+
+-- the key of a script that asks for one signature alone
+abbrev pub script_key : List ℕ → List ℕ
+script_key script = take key_bytes (drop 1 script)
+
+-- whether a script is a push of a key, and CHECKSIG
+abbrev pub is_one_key : List ℕ → Bool
+is_one_key script = (length (script_key script) == key_bytes) && bytes_eq script (deposit_script (script_key script))
+
+-- whether what a record says of the spent output is so
+abbrev pub spent_fits : TxOut → Option TxOut → Bool
+spent_fits output None = true
+spent_fits output (Some said) = same_output said output
+
+abbrev pub script_fits : List ℕ → Option (List ℕ) → Bool
+script_fits script None = true
+script_fits script (Some said) = bytes_eq said script
+
+-- whether a final witness is one signature and the script, which asks for one alone
+abbrev pub witness_fits : List ℕ → Option (List (List ℕ)) → Bool
+witness_fits script None = true
+witness_fits script (Some (signature ∷ shown ∷ [])) = bytes_eq shown script && is_one_key script
+witness_fits script (Some _) = false
+
+-- the signature of a final witness
+abbrev pub final_signature : List ℕ → Option (List (List ℕ)) → List Pairing
+final_signature script None = []
+final_signature script (Some []) = []
+final_signature script (Some (signature ∷ items)) = (script_key script, signature) ∷ []
+
+-- an input that spends this: its records first, then its signatures in ascending order of their keys, then that of its final witness
+abbrev pub take_input : (List ℕ → List ℕ) → Keys → List Slot → List ℕ → ℕ → List Signed → Spent → PsbtInput → Taken
+take_input hash keys wanted tx k given spent input =
+    if not (spent_fits (pays hash spent.script spent.value) input.spent) then Err (reasons.Spent k)
+    else if not (script_fits spent.script input.script) then Err (reasons.Script k)
+    else if not (witness_fits spent.script input.witness) then Err (reasons.Witness k)
+    else take_signatures hash keys wanted tx k given (input.partial ++ final_signature spent.script input.witness)
+
+-- the inputs from number k on
+abbrev pub take_inputs : (List ℕ → List ℕ) → Keys → List Slot → List ℕ → ℕ → List Signed → List Spent → List PsbtInput → Taken
+take_inputs hash keys wanted tx k given [] inputs = Ok given
+take_inputs hash keys wanted tx k given (spent ∷ spends) [] = Ok given
+take_inputs hash keys wanted tx k given (spent ∷ spends) (input ∷ inputs) =
+    elim (take_input hash keys wanted tx k given spent input) [
+      | Ok more ↦ take_inputs hash keys wanted tx (k + 1) more spends inputs
+      | Err reason ↦ Err reason
+    ]
+
+-- ---- a line
+
+-- whether it is the transaction with these bytes
+abbrev pub has_bytes : List ℕ → Listed → Bool
+has_bytes bytes l = bytes_eq (stripped (tx_of l.draft)) bytes
+
+abbrev pub take_listed : (List ℕ → List ℕ) → Keys → List Slot → List Signed → Psbt → Option Listed → Taken
+take_listed hash keys wanted given p None = Err reasons.Foreign
+take_listed hash keys wanted given p (Some l) = take_inputs hash keys wanted (stripped p.tx) 0 given l.draft.spends p.inputs
+
+abbrev pub take_psbt : (List ℕ → List ℕ) → Keys → Instance → List Signed → Option Psbt → Taken
+take_psbt hash keys s given None = Err reasons.Form
+take_psbt hash keys s given (Some p) =
+    take_listed hash keys (slots hash keys s) given p (find (has_bytes (stripped p.tx)) (listed hash keys s))
+
+abbrev pub take_bytes : (List ℕ → List ℕ) → Keys → Instance → List Signed → Option (List ℕ) → Taken
+take_bytes hash keys s given None = Err reasons.Base64
+take_bytes hash keys s given (Some bytes) = take_psbt hash keys s given (psbt_of bytes)
+
+-- the words of a line; a line without words says nothing
+abbrev pub take_words : (List ℕ → List ℕ) → Keys → Instance → List Signed → List (List ℕ) → Taken
+take_words hash keys s given [] = Ok given
+take_words hash keys s given (word ∷ []) = take_bytes hash keys s given (base64_bytes word)
+take_words hash keys s given (word ∷ (next ∷ words)) = Err reasons.Base64
+
+-- ---- a file
+
+-- the lines from number n on
+abbrev pub take_lines : (List ℕ → List ℕ) → Keys → Instance → List Signed → ℕ → List (List ℕ) → Result (List Signed) SignatureFault
+take_lines hash keys s given n [] = Ok given
+take_lines hash keys s given n (line ∷ lines) = elim (take_words hash keys s given (words_of line)) [
+  | Ok more ↦ take_lines hash keys s more (n + 1) lines
+  | Err reason ↦ Err (faults.Line n reason)
+]
+
+-- the signatures that a file gives, or why it is refused
+abbrev pub read_signatures : (List ℕ → List ℕ) → Keys → Instance → List ℕ → Result (List Signed) SignatureFault
+read_signatures hash keys s text =
+    if nat_lt most_signature_bytes (length text) then Err faults.Size else take_lines hash keys s [] 1 (lines_of text)

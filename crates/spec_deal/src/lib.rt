@@ -1,0 +1,12 @@
+//! Deals: contracts with the keys, deposits and hashes of real wallets, and what the program says of them.
+#![tactic(auto)]
+
+pub mod deal;
+pub mod fault;
+pub mod finish;
+pub mod signed;
+
+pub use deal::{Deal, Needed};
+pub use fault::{DealFault, DealReason, SecretFault, SecretReason, SignatureFault, SignatureReason};
+pub use finish::{FinishRefusal, Verb};
+pub use signed::Signed;

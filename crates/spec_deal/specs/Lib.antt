@@ -9,3 +9,7 @@ pub mod SignatureFile
 pub mod Hashed
 pub mod SecretFile
 pub mod Finished
+pub mod DealText
+pub mod RefusedText
+pub mod Commands
+pub mod Answers

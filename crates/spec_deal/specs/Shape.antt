@@ -1,6 +1,6 @@
 -- The shape of signatures that nodes relay: strict DER by BIP 66, with the hash type ALL behind it and the low S of BIP 146.
 use Rattle.std.specs.Prelude.{◌≡◌, ℕ, ◌+◌, ◌*◌, List, [], ◌∷◌, ◌++◌, length, take, drop, Bool, true, false, not, ◌&&◌, ◌||◌, ◌==◌}
-use Rattle.std.specs.Prelude.{nat_le, nat_lt, Option, Some, None, slice_index}
+use Rattle.std.specs.Prelude.{nat_le, nat_lt, slice_index}
 use Rattle.std.specs.Str.{bytes_eq}
 
 -- half the order of the curve secp256k1, the greatest S

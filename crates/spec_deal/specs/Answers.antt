@@ -1,0 +1,202 @@
+-- What the program for deals answers to words and to what the reads of its files answered: a status and a text, for every command.
+--
+--  0  otherwise
+--  1  the contract is refused
+--  2  the words are no command
+--  3  a read failed; nothing is written
+--  4  the write failed; a front of the text is written
+--  5  memory was wanting; nothing is written
+--  8  two different strings that are hashed collide
+-- 13  the deal file is refused
+-- 14  the file of signatures is refused
+-- 15  the file of secrets is refused
+-- 16  the contract has no such path, or a transaction can't be finished
+--
+-- The first that applies is answered, in this order: the words; the reads, in the order of the words; the contract; the deal file, but
+-- for a deposit that the deal itself makes; the strings of the compiled deal; such a deposit; the path; the file of signatures; that of
+-- secrets, whose strings collide at their lines; what is missing.
+use Rattle.std.specs.Prelude.{ℕ, List, [], ◌∷◌, ◌++◌, length, Bool, ◌==◌, Option, Some, None, Result, Ok, Err}
+use Rattle.std.specs.Prelude.{codes}
+use Rattle.std.specs.List.{find, list_any}
+use Rattle.std.specs.Option.{option_map}
+use Rattle.std.specs.Str.{bytes_eq}
+use Rattle.spec_data.specs.Digits.{hex_text}
+use Rattle.spec_data.specs.Messages.{collision}
+use Rattle.spec_terms.specs.Advert.{Advert}
+use Rattle.spec_bitcoin.specs.declared.tx.OutPoint.{OutPoint}
+use Rattle.spec_bitcoin.specs.Digests.{txid}
+use Rattle.spec_bitcoin.specs.Spelling.{spelling}
+use Rattle.spec_compiler.specs.Keyed.Keys.{Keys}
+use Rattle.spec_compiler.specs.Keyed.Instance.{Instance}
+use Rattle.spec_compiler.specs.Keyed.Transactions.{tx_of}
+use Rattle.spec_text.specs.PlayText.{collided_line}
+use Rattle.spec_text.specs.Refusals.{Judged}
+use Rattle.spec_text.specs.RunText.{newline}
+use Rattle.spec_tool.specs.declared.which.Which.{Which}
+use Rattle.spec_tool.specs.Answers.{contract_in, unread}
+use Rattle.spec_tool.specs.Commands.{Printed, prints, usage, contract_refused}
+use Rattle.spec_tool.specs.Keyed.Listed.{Listed, listed, listed_at, which_text}
+use Rattle.spec_tool.specs.PsbtText.{psbt_line}
+use Rattle.spec_tool.specs.Reads.{Read, Text, text_at, texts_read, are_made}
+use Rattle.spec_deal.specs.declared.deal.Deal.{Deal}
+use Rattle.spec_deal.specs.declared.signed.Signed.{Signed}
+use Rattle.spec_deal.specs.declared.fault.DealFault.{DealFault}
+use Rattle.spec_deal.specs.declared.fault.DealFault.TheVariants as deal_faults
+use Rattle.spec_deal.specs.declared.fault.SignatureFault.{SignatureFault}
+use Rattle.spec_deal.specs.declared.fault.SignatureFault.TheVariants as signature_faults
+use Rattle.spec_deal.specs.declared.fault.SecretFault.TheVariants as secret_faults
+use Rattle.spec_deal.specs.declared.finish.FinishRefusal.{FinishRefusal}
+use Rattle.spec_deal.specs.Commands as commands
+use Rattle.spec_deal.specs.Commands.{DealCommand, deal_files}
+use Rattle.spec_deal.specs.DealFile.{read_deal}
+use Rattle.spec_deal.specs.DealText.{line_of, keys_text, plan_text, psbts_text, unsigned_psbt, missing_text, held_text}
+use Rattle.spec_deal.specs.Finished.{finished, finish_refusal}
+use Rattle.spec_deal.specs.Hashed.{deal_strings}
+use Rattle.spec_deal.specs.RefusedText.{deal_refused_line, signatures_refused_line, secrets_refused_line, finish_refused_line}
+use Rattle.spec_deal.specs.SecretFile.{Shown, SecretsRead, shows, refused, collided, read_secrets}
+use Rattle.spec_deal.specs.Setting.{deal_keys, deal_instance}
+use Rattle.spec_deal.specs.SignatureFile.{read_signatures}
+
+-- ---- the contract
+
+abbrev pub with_advert : (Advert → Printed) → Judged Advert → Printed
+with_advert answer (Ok advert) = answer advert
+with_advert answer (Err why) = contract_refused 0 why
+
+-- ---- the deal
+
+abbrev pub deal_refused : DealFault → Printed
+deal_refused fault = prints 13 (deal_refused_line fault)
+
+-- whether the deal's own transactions make the output at this place
+abbrev pub is_made_here : (List ℕ → List ℕ) → Keys → Instance → OutPoint → Bool
+is_made_here hash keys s place = list_any (λ l. bytes_eq (txid hash (tx_of l.draft)) place.txid) (listed hash keys s)
+
+-- the first deposit that would be made by one of the deal's own transactions
+abbrev pub circular : (List ℕ → List ℕ) → Keys → Instance → Option (List ℕ)
+circular hash keys s = option_map (λ p. p.0) (find (λ p. is_made_here hash keys s (p.1)) s.bound)
+
+abbrev pub unless_circular : Option (List ℕ) → Printed → Printed
+unless_circular None answer = answer
+unless_circular (Some name) answer = deal_refused (deal_faults.Circular name)
+
+abbrev pub collides : List ℕ → List ℕ → Printed
+collides earlier later = prints 8 (collided_line earlier later)
+
+abbrev pub unless_collided : Option (List ℕ × List ℕ) → Printed → Printed
+unless_collided None answer = answer
+unless_collided (Some pair) answer = collides (pair.0) (pair.1)
+
+-- what is answered of a deal that is compiled
+abbrev pub compiled : (List ℕ → List ℕ) → (Keys → Instance → Printed) → Keys → Instance → Printed
+compiled hash answer keys s =
+    unless_collided (collision hash [] (deal_strings hash keys s)) (unless_circular (circular hash keys s) (answer keys s))
+
+abbrev pub with_deal : (List ℕ → List ℕ) → (Keys → Instance → Printed) → Advert → Result Deal DealFault → Printed
+with_deal hash answer advert (Err fault) = deal_refused fault
+with_deal hash answer advert (Ok deal) = compiled hash answer (deal_keys deal) (deal_instance advert deal)
+
+-- the deal of a file, or why it is refused before it is compiled
+abbrev pub deal_in : Advert → Text → Result Deal DealFault
+deal_in advert None = Err deal_faults.Size
+deal_in advert (Some text) = read_deal advert text
+
+-- what is answered of the contract of the first file and the deal of the second
+abbrev pub of_deal : (List ℕ → List ℕ) → (Keys → Instance → Printed) → List Text → Printed
+of_deal hash answer texts =
+    with_advert (λ advert. with_deal hash answer advert (deal_in advert (text_at texts 1))) (contract_in (text_at texts 0))
+
+-- ---- one of its transactions
+
+abbrev pub no_path : Which → Printed
+no_path which = prints 16 (line_of (codes "refused path" ∷ which_text which ∷ []))
+
+abbrev pub if_there : (Listed → Printed) → Which → Option Listed → Printed
+if_there answer which None = no_path which
+if_there answer which (Some l) = answer l
+
+-- what is answered of a transaction, where the contract has it
+abbrev pub of_transaction : (List ℕ → List ℕ) → Which → (Keys → Instance → Listed → Printed) → Keys → Instance → Printed
+of_transaction hash which answer keys s = if_there (answer keys s) which (listed_at hash keys s which)
+
+-- ---- signatures
+
+abbrev pub with_signatures : (List Signed → Printed) → Result (List Signed) SignatureFault → Printed
+with_signatures answer (Ok given) = answer given
+with_signatures answer (Err fault) = prints 14 (signatures_refused_line fault)
+
+-- the signatures of a file, or why it is refused
+abbrev pub signatures_in : (List ℕ → List ℕ) → Keys → Instance → Text → Result (List Signed) SignatureFault
+signatures_in hash keys s None = Err signature_faults.Size
+signatures_in hash keys s (Some text) = read_signatures hash keys s text
+
+-- what is answered of the signatures of a file
+abbrev pub of_signatures : (List ℕ → List ℕ) → (Keys → Instance → List Signed → Printed) → Text → Keys → Instance → Printed
+of_signatures hash answer text keys s = with_signatures (answer keys s) (signatures_in hash keys s text)
+
+-- ---- secrets
+
+abbrev pub with_secrets : (List Shown → Printed) → SecretsRead → Printed
+with_secrets answer (shows strings) = answer strings
+with_secrets answer (refused fault) = prints 15 (secrets_refused_line fault)
+with_secrets answer (collided earlier later) = collides earlier later
+
+-- the secrets of a file
+abbrev pub secrets_in : (List ℕ → List ℕ) → Keys → Instance → Text → SecretsRead
+secrets_in hash keys s None = refused secret_faults.Size
+secrets_in hash keys s (Some text) = read_secrets hash keys s text
+
+-- ---- finished transactions
+
+abbrev pub unless_refused : Option FinishRefusal → List ℕ → Printed
+unless_refused None bytes = prints 0 (hex_text bytes ++ newline)
+unless_refused (Some refusal) bytes = prints 16 (finish_refused_line refusal)
+
+-- what is answered to these signatures and secrets
+abbrev pub finished_answer : (List ℕ → List ℕ) → Keys → Instance → Listed → List Signed → List Shown → Printed
+finished_answer hash keys s l given strings =
+    unless_refused (finish_refusal hash keys s given strings l) (spelling (finished hash keys s given strings l))
+
+-- without a file of secrets there are none
+abbrev pub finish_answer : (List ℕ → List ℕ) → Text → Keys → Instance → Listed → Printed
+finish_answer hash signatures keys s l =
+    with_signatures (λ given. finished_answer hash keys s l given []) (signatures_in hash keys s signatures)
+
+abbrev pub finish_with_answer : (List ℕ → List ℕ) → Text → Text → Keys → Instance → Listed → Printed
+finish_with_answer hash signatures secrets keys s l =
+    with_signatures (λ given. with_secrets (λ strings. finished_answer hash keys s l given strings) (secrets_in hash keys s secrets))
+    (signatures_in hash keys s signatures)
+
+-- ---- all commands
+
+-- what a command answers to the texts of its files
+abbrev pub deal_text_answer : (List ℕ → List ℕ) → DealCommand → List Text → Printed
+deal_text_answer hash (commands.keys contract) texts = with_advert (λ advert. prints 0 (keys_text advert)) (contract_in (text_at texts 0))
+deal_text_answer hash (commands.plan contract deal) texts = of_deal hash (λ keys s. prints 0 (plan_text hash keys s)) texts
+deal_text_answer hash (commands.psbts contract deal) texts = of_deal hash (λ keys s. prints 0 (psbts_text hash keys s)) texts
+deal_text_answer hash (commands.psbt contract deal which) texts =
+    of_deal hash (of_transaction hash which (λ keys s l. prints 0 (psbt_line (unsigned_psbt hash l)))) texts
+deal_text_answer hash (commands.missing contract deal signatures) texts =
+    of_deal hash (of_signatures hash (λ keys s given. prints 0 (missing_text hash keys s given)) (text_at texts 2)) texts
+deal_text_answer hash (commands.held contract deal signatures) texts =
+    of_deal hash (of_signatures hash (λ keys s given. prints 0 (held_text hash keys s given)) (text_at texts 2)) texts
+deal_text_answer hash (commands.finish contract deal which signatures) texts =
+    of_deal hash (of_transaction hash which (finish_answer hash (text_at texts 2))) texts
+deal_text_answer hash (commands.finish_with contract deal which signatures secrets) texts =
+    of_deal hash (of_transaction hash which (finish_with_answer hash (text_at texts 2) (text_at texts 3))) texts
+
+abbrev pub deal_read_answer : (List ℕ → List ℕ) → DealCommand → Option (List Text) → Printed
+deal_read_answer hash command None = unread
+deal_read_answer hash command (Some texts) = deal_text_answer hash command texts
+
+-- ---- the call
+
+-- what words answer to the reads of their files, in order up to the first that failed; those that are no command read nothing
+abbrev pub deal_answer : (List ℕ → List ℕ) → Option DealCommand → List Read → Printed
+deal_answer hash None reads = usage
+deal_answer hash (Some command) reads = deal_read_answer hash command (texts_read reads)
+
+-- whether these are the reads of these words
+abbrev pub deal_reads : Option DealCommand → List Read → Bool
+deal_reads None reads = length reads == 0
+deal_reads (Some command) reads = are_made (deal_files command) reads

@@ -1,2 +1,3 @@
 pub mod WorkedFiles
 pub mod WorkedShapes
+pub mod WorkedSignatures

@@ -1,6 +1,6 @@
 -- Worked values of deals, each by computation alone: what is needed, what deal files give, and why they are refused.
 use Rattle.std.proofs.Common.{◌≡◌, ℕ, List, [], ◌∷◌, ◌++◌, refl}
-use Rattle.std.specs.Prelude.{codes, replicate, fold, ◌+◌, ◌*◌, ◌%◌, Result, Ok, Err}
+use Rattle.std.specs.Prelude.{codes, replicate, fold, ◌+◌, ◌*◌, ◌/◌, ◌%◌, Result, Ok, Err}
 use Rattle.std.specs.Fmt.{digits}
 use Rattle.spec_terms.specs.Advert.{Advert}
 use Rattle.spec_terms.specs.Term.{constant, length_of, less, always, auth, after, put_reveal, withdraw, no_branch, branch}
@@ -16,9 +16,13 @@ use Rattle.spec_deal.specs.RefusedText.{deal_refused_line}
 abbrev pub line : List ℕ → List ℕ → List ℕ
 line text more = text ++ 10 ∷ more
 
+-- 32 bytes, the first two of which are the number
+abbrev in_bytes : ℕ → List ℕ
+in_bytes h = h / 256 ∷ h % 256 ∷ replicate 30 0
+
 -- 32 bytes that tell most short messages apart
 abbrev pub weigh : List ℕ → List ℕ
-weigh message = fold (λ h b. (31 * h + b) % 65521) 7 message ∷ replicate 31 0
+weigh message = in_bytes (fold (λ h b. (31 * h + b) % 65521) 7 message)
 
 abbrev pub A : List ℕ
 A = codes "A"

@@ -1,0 +1,103 @@
+-- What is claimed of finished transactions: their scripts are true for every judge of signatures that accepts those given, and false where
+-- a signature is missing.
+use Rattle.std.specs.Prelude.{◌≡◌, ℕ, ◌+◌, List, [], ◌∷◌, Bool, true, false, ◌&&◌, Option, Some, None}
+use Rattle.std.specs.List.{list_all, list_any}
+use Rattle.spec_data.specs.Lists.{is_among}
+use Rattle.spec_terms.specs.Term.{Contract}
+use Rattle.spec_terms.specs.Faults.{IsWellFormed}
+use Rattle.spec_terms.specs.Precondition.{secrets, names_of}
+use Rattle.spec_terms.specs.declared.path.PathStep.{PathStep}
+use Rattle.spec_bitcoin.specs.Keys.{deposit_script, key_bytes}
+use Rattle.spec_bitcoin.specs.Meaning.{script_meaning}
+use Rattle.spec_bitcoin.specs.Spelling.{stripped}
+use Rattle.spec_bitcoin.specs.Verdict.{script_of, items_of}
+use Rattle.spec_compiler.specs.Scripts.{digest_of}
+use Rattle.spec_compiler.specs.Keyed.Keys.{Keys, key_in}
+use Rattle.spec_compiler.specs.Keyed.Instance.{Instance, people, branch_path, branch_label, position_script}
+use Rattle.spec_compiler.specs.declared.unsigned.Spent.{Spent}
+use Rattle.spec_compiler.specs.Keyed.Transactions.{tx_of}
+use Rattle.spec_compiler.specs.Keyed.Statements.{AreKeys, IsCompiled, has_size, is_short, is_secret}
+use Rattle.spec_tool.specs.declared.which.Which.{Which}
+use Rattle.spec_tool.specs.Keyed.Listed.{Listed, listed_at}
+use Rattle.spec_deal.specs.declared.signed.Signed.{Signed}
+use Rattle.spec_deal.specs.Slots.{Slot, listed_slots, slot_key}
+use Rattle.spec_deal.specs.Given.{signature_for}
+use Rattle.spec_deal.specs.SecretFile.{Shown}
+use Rattle.spec_deal.specs.Finished.{bytes_or_none, witnesses, finished, finish_refusal}
+use Rattle.std.specs.Prelude.{length}
+
+-- ---- judges
+
+-- which signature is valid for which key, at each input
+abbrev pub Judge : Type 0
+Judge = ℕ → List ℕ → List ℕ → Bool
+
+-- whether a judge accepts the signature that is given for this
+abbrev pub accepts_one : (List ℕ → List ℕ) → Keys → List Signed → Judge → Slot → Bool
+accepts_one hash keys given judge slot =
+    judge slot.input (bytes_or_none (signature_for hash keys given slot)) (slot_key hash keys slot)
+
+-- whether it accepts all that are given for a transaction
+abbrev pub accepts : (List ℕ → List ℕ) → Keys → Instance → List Signed → Judge → Listed → Bool
+accepts hash keys s given judge l = list_all (accepts_one hash keys given judge) (listed_slots s.advert l)
+
+-- ---- what is given
+
+-- the contract passed the check, and each of its secrets has a hash of 32 bytes
+pub record IsSettled (s : Instance) : Type 0 where
+  pub checked : IsWellFormed s.advert
+  pub committed : list_all (λ name. has_size 32 (digest_of s.hashes name)) (names_of (secrets s.advert.pre)) ≡ true
+
+-- no signature has more bytes than an item of a witness may have
+abbrev pub are_short : List Signed → Bool
+are_short given = list_all (λ (g : Signed). is_short g.signature) given
+
+-- each string has as many bytes as a secret may have, and the hash of its secret
+abbrev pub do_fit : (List ℕ → List ℕ) → Instance → List Shown → Bool
+do_fit hash s strings = list_all (λ (x : Shown). is_secret hash x.bytes (digest_of s.hashes x.name)) strings
+
+-- ---- what follows
+
+-- from input k on: a witness for each input, which ends with the script of what it spends, and whose other items make the script true
+abbrev pub AllOpen : (List ℕ → List ℕ) → Judge → ℕ → List Spent → List (List (List ℕ)) → Type 0
+AllOpen hash judge k [] [] = Unit {0}
+AllOpen hash judge k [] (witness ∷ others) = ⊥
+AllOpen hash judge k (spent ∷ spends) [] = ⊥
+AllOpen hash judge k (spent ∷ spends) (witness ∷ others) =
+    (script_of witness ≡ spent.script) × (script_meaning hash (judge k) spent.script (items_of witness) ≡ true)
+    × AllOpen hash judge (k + 1) spends others
+
+-- where a transaction is finished, every judge that accepts the given signatures finds the scripts of all its inputs true
+abbrev pub FinishedOpens : Type 0
+FinishedOpens =
+    (hash : List ℕ → List ℕ) (keys : Keys) (s : Instance) (given : List Signed) (strings : List Shown) (which : Which) (l : Listed)
+    (judge : Judge)
+    → AreKeys hash keys → IsSettled s → are_short given ≡ true → do_fit hash s strings ≡ true
+    → listed_at hash keys s which ≡ Some l → finish_refusal hash keys s given strings l ≡ None
+    → accepts hash keys s given judge l ≡ true
+    → AllOpen hash judge 0 l.draft.spends (witnesses hash keys s given strings l l.which)
+
+-- without witnesses a finished transaction has the bytes of the plan's
+abbrev pub FinishedIsPlanned : Type 0
+FinishedIsPlanned =
+    (hash : List ℕ → List ℕ) (keys : Keys) (s : Instance) (given : List Signed) (strings : List Shown) (l : Listed)
+    → stripped (finished hash keys s given strings l) ≡ stripped (tx_of l.draft)
+
+-- ---- no other way
+
+-- no item is a signature of the party for a branch of the position
+abbrev pub NoneSigns : (List ℕ → List ℕ) → Keys → (List ℕ → List ℕ → Bool) → Instance → List PathStep → List ℕ → List (List ℕ) → Type 0
+NoneSigns hash keys valid s position party items =
+    (i : ℕ) → list_any (λ item. valid item (key_in hash keys (branch_label s.contract (branch_path position i) party))) items ≡ false
+
+-- a position's script is false where a participant has signed no branch, and a deposit's where its owner hasn't signed
+pub record NoOtherWay (hash : List ℕ → List ℕ) (keys : Keys) (valid : List ℕ → List ℕ → Bool) : Type 0 where
+  pub positions : (s : Instance) (position : List PathStep) (contract : Contract) (items : List (List ℕ)) (party : List ℕ)
+      → AreKeys hash keys → IsCompiled s position contract → list_all is_short items ≡ true → is_among party (people s) ≡ true
+      → NoneSigns hash keys valid s position party items
+      → script_meaning hash valid (position_script hash keys s position contract) items ≡ false
+  pub deposits : (key : List ℕ) (items : List (List ℕ)) → length key ≡ key_bytes → list_all is_short items ≡ true
+      → list_any (λ item. valid item key) items ≡ false → script_meaning hash valid (deposit_script key) items ≡ false
+
+abbrev pub FalseWithoutOne : Type 0
+FalseWithoutOne = (hash : List ℕ → List ℕ) (keys : Keys) (valid : List ℕ → List ℕ → Bool) → NoOtherWay hash keys valid

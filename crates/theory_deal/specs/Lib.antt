@@ -1,0 +1,4 @@
+pub mod Signatures
+pub mod Plan
+pub mod Finished
+pub mod Shapes

@@ -1,0 +1,36 @@
+//! What follows of deals: each theorem is the contract of a function that does nothing.
+#![tactic(auto)]
+
+ghost use Rattle.theory_deal.specs.Finished.{FinishedOpens, FinishedIsPlanned, FalseWithoutOne};
+ghost use Rattle.theory_deal.specs.Plan.{PlanOfRuns};
+ghost use Rattle.theory_deal.specs.Signatures.{MissingAndHeld, MayStart};
+
+/// A signature is listed as missing exactly where a transaction needs it and it isn't there, and as held exactly where it is.
+pub fn missing_and_held()
+    ensures { MissingAndHeld }
+{}
+
+/// The initial transaction may be signed exactly where every endorsement is there.
+pub fn may_start()
+    ensures { MayStart }
+{}
+
+/// Without its deposits and signers, the plan of a deal is what `bitml` prints of the same contract at the same keys.
+pub fn plan_of_runs()
+    ensures { PlanOfRuns }
+{}
+
+/// Where a transaction is finished, every judge of signatures that accepts the given ones finds the scripts of all its inputs true.
+pub fn finished_opens()
+    ensures { FinishedOpens }
+{}
+
+/// Without witnesses a finished transaction has the bytes of the plan's.
+pub fn finished_is_planned()
+    ensures { FinishedIsPlanned }
+{}
+
+/// A script is false for every judge that finds no signature of one of its signers.
+pub fn false_without_one()
+    ensures { FalseWithoutOne }
+{}

@@ -1,1 +1,5 @@
+mod Branches
 mod Listed
+mod PlanOfRuns
+mod Planned
+mod Unsigned

@@ -77,16 +77,18 @@ module _ (hash : List ℕ → List ℕ) (keys : Keys) (s : Instance) where
       end_from-step hash keys s (at_position (root_standing hash keys s) s.advert.root) front step
       ∙ ap (option_and_then (next_end hash keys s step)) h
 
+  by_next : (steps : List PathStep) (q : PathEnd) (o : Option PathEnd)
+      → ((r : PathEnd) → o ≡ Some r → end_from hash keys s r steps ≡ Some q → IfFound q)
+      → option_and_then (λ (r : PathEnd). end_from hash keys s r steps) o ≡ Some q → IfFound q
+  by_next steps q None go e = cc
+  by_next steps q (Some r) go e = go r refl e
+
   found_from : (front steps : List PathStep) (p q : PathEnd) → end_at hash keys s front ≡ Some p → IfFound p
       → end_from hash keys s p steps ≡ Some q → IfFound q
   found_from front [] p q there found e = subst IfFound (some_same e) found
-  found_from front (step ∷ steps) p q there found e = by_next (next_end hash keys s step p) refl e
-    where
-      by_next : (o : Option PathEnd) → next_end hash keys s step p ≡ o
-          → option_and_then (λ (r : PathEnd). end_from hash keys s r steps) o ≡ Some q → IfFound q
-      by_next None is k = cc
-      by_next (Some r) is k =
-          found_from (front ++ step ∷ []) steps r q (one_more front step p there ∙ is) (found_next front step p r there is) k
+  found_from front (step ∷ steps) p q there found e =
+      by_next steps q (next_end hash keys s step p)
+      (λ r is k. found_from (front ++ step ∷ []) steps r q (one_more front step p there ∙ is) (found_next front step p r there is) k) e
 
   -- the branch at the end of a path
   pub branch_found : (path : List PathStep) (here : Standing) (i : ℕ) (b : term.Guarded)

@@ -1,4 +1,5 @@
 mod Branches
+mod FinishedOpens
 mod Listed
 mod PlanOfRuns
 mod Planned

@@ -53,7 +53,7 @@ none_fails p (x ∷ xs) h = by_test (p x) refl h (none_fails p xs)
     by_test true e k ih = ih k
     by_test false e k ih = cc
 
-all_pass : {X : Type 0} (p : X → Bool) (xs : List X) → find (λ x. not (p x)) xs ≡ None → list_all p xs ≡ true
+pub all_pass : {X : Type 0} (p : X → Bool) (xs : List X) → find (λ x. not (p x)) xs ≡ None → list_all p xs ≡ true
 all_pass p [] h = refl
 all_pass p (x ∷ xs) h = by_test (p x) h (all_pass p xs)
   where

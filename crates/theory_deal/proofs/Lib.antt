@@ -3,4 +3,8 @@ mod FinishedOpens
 mod Listed
 mod PlanOfRuns
 mod Planned
+mod ReadDeals
+mod ReadSecrets
+mod ReadSignatures
+mod Shapes
 mod Unsigned

@@ -2,3 +2,4 @@ pub mod Signatures
 pub mod Plan
 pub mod Finished
 pub mod Shapes
+pub mod Files

@@ -1,8 +1,10 @@
 //! What follows of deals: each theorem is the contract of a function that does nothing.
 #![tactic(auto)]
 
+ghost use Rattle.theory_deal.specs.Files.{DealsAreSized, SecretsFit, SignaturesAreShaped};
 ghost use Rattle.theory_deal.specs.Finished.{FinishedOpens, FinishedIsPlanned, FalseWithoutOne};
 ghost use Rattle.theory_deal.specs.Plan.{PlanOfRuns};
+ghost use Rattle.theory_deal.specs.Shapes.{ShapeExactly, ShapeIsShort};
 ghost use Rattle.theory_deal.specs.Signatures.{MissingAndHeld, MayStart};
 
 /// A signature is listed as missing exactly where a transaction needs it and it isn't there, and as held exactly where it is.
@@ -33,4 +35,29 @@ pub fn finished_is_planned()
 /// A script is false for every judge that finds no signature of one of its signers.
 pub fn false_without_one()
     ensures { FalseWithoutOne }
+{}
+
+/// A signature has the shape exactly where there are an R and an S that it spells.
+pub fn shape_exactly()
+    ensures { ShapeExactly }
+{}
+
+/// A signature of the shape has at most 73 bytes.
+pub fn shape_is_short()
+    ensures { ShapeIsShort }
+{}
+
+/// Each signature of a file that is taken has the shape.
+pub fn signatures_are_shaped()
+    ensures { SignaturesAreShaped }
+{}
+
+/// Each string of a file of secrets that is taken fits its secret.
+pub fn secrets_fit()
+    ensures { SecretsFit }
+{}
+
+/// The keys and hashes of a deal that is taken have their sizes.
+pub fn deals_are_sized()
+    ensures { DealsAreSized }
 {}

@@ -1,0 +1,39 @@
+-- What is claimed of the files of a deal that are taken: keys and hashes have their sizes, signatures their shape, and secrets their hashes.
+use Rattle.std.specs.Prelude.{◌≡◌, ℕ, List, Bool, true, Ok, None}
+use Rattle.std.specs.List.{list_all}
+use Rattle.spec_terms.specs.Advert.{Advert}
+use Rattle.spec_terms.specs.Faults.{IsWellFormed}
+use Rattle.spec_compiler.specs.Keyed.Keys.{Keys}
+use Rattle.spec_compiler.specs.Keyed.Instance.{Instance}
+use Rattle.spec_compiler.specs.Keyed.Statements.{AreKeys}
+use Rattle.spec_deal.specs.declared.deal.Deal.{Deal}
+use Rattle.spec_deal.specs.declared.signed.Signed.{Signed}
+use Rattle.spec_deal.specs.DealFile.{read_deal}
+use Rattle.spec_deal.specs.SecretFile.{Shown, shows, read_secrets}
+use Rattle.spec_deal.specs.Setting.{deal_keys, deal_instance}
+use Rattle.spec_deal.specs.Shape.{is_strict}
+use Rattle.spec_deal.specs.SignatureFile.{read_signatures}
+use Rattle.theory_deal.specs.Finished.{IsSettled, are_short, do_fit}
+
+-- the keys of a deal have 33 bytes, and its hashes 32
+pub record IsSized (hash : List ℕ → List ℕ) (advert : Advert) (deal : Deal) : Type 0 where
+  pub are_keys : AreKeys hash (deal_keys deal)
+  pub settled : IsWellFormed advert → IsSettled (deal_instance advert deal)
+
+abbrev pub DealsAreSized : Type 0
+DealsAreSized = (hash : List ℕ → List ℕ) (advert : Advert) (text : List ℕ) (deal : Deal) → read_deal advert text ≡ Ok deal
+    → IsSized hash advert deal
+
+-- each signature has the shape, and so none is too long for an item of a witness
+pub record AreShaped (given : List Signed) : Type 0 where
+  pub strict : list_all (λ (g : Signed). is_strict g.signature) given ≡ true
+  pub short : are_short given ≡ true
+
+abbrev pub SignaturesAreShaped : Type 0
+SignaturesAreShaped = (hash : List ℕ → List ℕ) (keys : Keys) (s : Instance) (text : List ℕ) (given : List Signed)
+    → read_signatures hash keys s text ≡ Ok given → AreShaped given
+
+-- each string has the size of a secret, and the hash of its secret
+abbrev pub SecretsFit : Type 0
+SecretsFit = (hash : List ℕ → List ℕ) (keys : Keys) (s : Instance) (text : List ℕ) (strings : List Shown)
+    → read_secrets hash keys s text ≡ shows strings → do_fit hash s strings ≡ true

@@ -81,7 +81,6 @@ pub data Line : Type 0 where
   bad : DealReason → Line
   gives : Entry → Line
 
-
 abbrev pub given_once : Option Entry → Option Entry → Entry → Line
 given_once (Some earlier) other e = bad (reasons.Repeated earlier.line)
 given_once None (Some other) e = bad (reasons.Shared other.line)

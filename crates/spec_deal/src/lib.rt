@@ -7,6 +7,8 @@ pub mod finish;
 pub mod signed;
 
 pub use deal::{Deal, Needed};
-pub use fault::{DealFault, DealReason, SecretFault, SecretReason, SignatureFault, SignatureReason};
+pub use fault::{
+    DealFault, DealReason, SecretFault, SecretReason, SignatureFault, SignatureReason,
+};
 pub use finish::{FinishRefusal, Verb};
 pub use signed::Signed;

@@ -1,6 +1,6 @@
 -- Where a transaction is finished, every judge that accepts the given signatures finds the scripts of all its inputs true.
 use Rattle.std.proofs.Common.{◌≡◌, ℕ, zero, suc, ◌+◌, List, [], ◌∷◌, ◌++◌, length, map, Bool, true, false, not, Option, Some, None, refl, sym, ap, ◌∙◌, subst, arith, cond}
-use Rattle.std.specs.Prelude.{◌&&◌, ◌==◌, reverse, slice_get, is_some}
+use Rattle.std.specs.Prelude.{◌&&◌, ◌==◌, slice_get, is_some}
 use Rattle.std.specs.List.{list_all, find}
 use Rattle.std.specs.Option.{option_map, option_map_or, option_and_then}
 use Rattle.std.specs.Str.{bytes_eq}
@@ -13,7 +13,7 @@ use Rattle.spec_terms.specs.Advert.{Advert}
 use Rattle.spec_terms.specs.Parties.{participants}
 use Rattle.spec_terms.specs.Paths as paths
 use Rattle.spec_terms.specs.Paths.{Subterm, as_branch, subterm_from, at, contract_under}
-use Rattle.spec_terms.specs.Precondition.{Holding, persistent, volatile}
+use Rattle.spec_terms.specs.Precondition.{Holding, persistent}
 use Rattle.spec_terms.specs.Value.{holds}
 use Rattle.spec_terms.specs.declared.path.PathStep.{PathStep}
 use Rattle.spec_bitcoin.specs.declared.label.Label.{Label}
@@ -23,26 +23,22 @@ use Rattle.spec_bitcoin.specs.Verdict.{script_of, items_of}
 use Rattle.spec_compiler.specs.Scripts.{digest_of}
 use Rattle.spec_compiler.specs.Witness.{witness_stack, witness_of}
 use Rattle.spec_compiler.specs.Keyed.Keys.{Keys, key_in}
-use Rattle.spec_compiler.specs.Keyed.Instance.{Instance, people, branch_path, branch_label, branch_keys, deposit_key, position_script}
+use Rattle.spec_compiler.specs.Keyed.Instance.{Instance, branch_path, branch_label, branch_keys, deposit_key}
 use Rattle.spec_compiler.specs.declared.unsigned.Spent.{Spent}
-use Rattle.spec_compiler.specs.declared.unsigned.Unsigned.{Unsigned}
-use Rattle.spec_compiler.specs.Keyed.Transactions.{Standing, party_script, deposit, put_deposits, holding_or_none, branch_unsigned}
-use Rattle.spec_compiler.specs.Keyed.ByPath as by_path
-use Rattle.spec_compiler.specs.Keyed.ByPath.{PathEnd, at_position, at_branch, end_at, as_unsigned, unsigned_at}
+use Rattle.spec_compiler.specs.Keyed.Transactions.{Standing, party_script, deposit, put_deposits, branch_unsigned}
+use Rattle.spec_compiler.specs.Keyed.ByPath.{PathEnd, at_position, at_branch, end_at, as_unsigned}
 use Rattle.spec_compiler.specs.Keyed.Statements.{are_valid, are_secrets, is_secret, is_short, secret_lengths, AreKeys, IsCompiled, Fills}
 use Rattle.spec_compiler.specs.Keyed.Endorsements.{put_owner}
-use Rattle.spec_data.specs.Lists.{look_up}
 use Rattle.spec_tool.specs.declared.which.Which.{Which}
 use Rattle.spec_tool.specs.declared.which.Which.TheVariants as names
 use Rattle.spec_tool.specs.Keyed.Listed.{Listed, deposit_signer, path_signers, branch_signers, path_listed, initial_listed, listed_at}
 use Rattle.spec_deal.specs.declared.signed.Signed.{Signed}
-use Rattle.spec_deal.specs.declared.finish.FinishRefusal.{FinishRefusal}
 use Rattle.spec_deal.specs.declared.finish.FinishRefusal.TheVariants as refusals
 use Rattle.spec_deal.specs.Slots.{Slot, input_slots, slots_from, verb_of}
 use Rattle.spec_deal.specs.Given.{is_for, signature_for}
 use Rattle.spec_deal.specs.SecretFile.{Shown, string_for}
-use Rattle.spec_deal.specs.Finished.{bytes_or_none, input_signatures, deposit_witnesses, choices_at, strings_of, branch_witness, path_witnesses, witnesses}
-use Rattle.spec_deal.specs.Finished.{endorsement_refusal, signature_refusal, secret_refusal, predicate_holds, predicate_refusal, finish_refusal}
+use Rattle.spec_deal.specs.Finished.{bytes_or_none, input_signatures, deposit_witnesses, strings_of, branch_witness, path_witnesses, witnesses}
+use Rattle.spec_deal.specs.Finished.{signature_refusal, secret_refusal, predicate_holds, predicate_refusal, finish_refusal}
 use Rattle.theory_calculus.proofs.Members.{all_in, found}
 use Rattle.theory_calculus.proofs.Names.{bytes-true}
 use Rattle.theory_script.proofs.Checked.{IsSound, AllSound, is_good}
@@ -77,15 +73,15 @@ twice : {X Y Z : Type 0} (f : Y → Z) (g : X → Y) (xs : List X) → map f (ma
 twice f g [] = refl
 twice f g (x ∷ xs) = ap (λ (w : List _). f (g x) ∷ w) (twice f g xs)
 
-first_none : {R : Type 0} (a b : Option R) → or_else a b ≡ None → a ≡ None
+pub first_none : {R : Type 0} (a b : Option R) → or_else a b ≡ None → a ≡ None
 first_none None b h = refl
 first_none (Some r) b h = cc
 
-second_none : {R : Type 0} (a b : Option R) → or_else a b ≡ None → b ≡ None
+pub second_none : {R : Type 0} (a b : Option R) → or_else a b ≡ None → b ≡ None
 second_none None b h = h
 second_none (Some r) b h = cc
 
-map_none : {X Y : Type 0} (f : X → Y) (o : Option X) → option_map f o ≡ None → o ≡ None
+pub map_none : {X Y : Type 0} (f : X → Y) (o : Option X) → option_map f o ≡ None → o ≡ None
 map_none f None h = refl
 map_none f (Some x) h = cc
 
@@ -123,7 +119,6 @@ slot_of advert l k spent label =
     record { which = l.which; draft = l.draft; input = k; spent = spent; label = label; verb = verb_of advert l.which label }
 
 module _ (hash : List ℕ → List ℕ) (keys : Keys) (s : Instance) (given : List Signed) (judge : Judge) where
-
   signature_short : are_short given ≡ true → (slot : Slot) → is_short (bytes_or_none (signature_for hash keys given slot)) ≡ true
   signature_short short slot = by_found (find (is_for hash keys slot) given) refl
     where
@@ -186,8 +181,7 @@ module _ (hash : List ℕ → List ℕ) (keys : Keys) (s : Instance) (given : Li
   deposits_open are_keys short l k (spent ∷ spends) [] d h = absurd d
   deposits_open are_keys short l k (spent ∷ spends) (x ∷ xs) d h =
       let now = input_slots s.advert l k spent x in
-      let later = slots_from s.advert l (k + 1) spends xs in
-      (
+      let later = slots_from s.advert l (k + 1) spends xs in (
         script_at_end (input_signatures hash keys s given l k spent x) spent.script,
         one_deposit are_keys short l k spent x d.0 (all_left (accepts_one hash keys given judge) now later h),
         deposits_open are_keys short l (k + 1) spends xs d.1 (all_later (accepts_one hash keys given judge) now later h),
@@ -316,12 +310,11 @@ module _ (hash : List ℕ → List ℕ) (keys : Keys) (s : Instance) (given : Li
         let now = input_slots s.advert made 0 here.output (map (branch_label s.contract path) (participants s.advert)) in
         let puts = put_deposits hash keys s (puts_of (core b)) in
         let owners = map (λ name. deposit_signer (put_owner s.advert name)) (puts_of (core b)) in
-        let later = slots_from s.advert made 1 puts owners in
-        (
+        let later = slots_from s.advert made 1 puts owners in (
           first_script made,
           first_opens made (all_left (accepts_one hash keys given judge) now later h),
           deposits_open are_keys short made 1 puts owners (puts_are (puts_of (core b)))
-          (all_later (accepts_one hash keys given judge) now later h),
+              (all_later (accepts_one hash keys given judge) now later h),
         )
 
 -- ---- all transactions

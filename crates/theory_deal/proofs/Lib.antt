@@ -8,3 +8,4 @@ mod ReadSecrets
 mod ReadSignatures
 mod Shapes
 mod Unsigned
+mod Whole

@@ -1,17 +1,12 @@
 -- The signatures that are missing and held are those of the list without and with one given; the first endorsement that is missing.
-use Rattle.std.proofs.Common.{◌≡◌, ℕ, List, [], ◌∷◌, ◌++◌, Bool, true, false, not, Option, Some, None, refl, sym, ap, ◌∙◌, cond}
-use Rattle.std.specs.Prelude.{codes, filter, ◌&&◌}
+use Rattle.std.proofs.Common.{◌≡◌, List, [], ◌∷◌, Bool, true, false, not, Option, Some, None, refl, ap, cond}
+use Rattle.std.specs.Prelude.{filter, ◌&&◌}
 use Rattle.std.specs.List.{Contains, find, list_all}
-use Rattle.std.proofs.lemmas.Bool.{not-false}
-use Rattle.spec_compiler.specs.Keyed.Keys.{Keys}
-use Rattle.spec_compiler.specs.Keyed.Instance.{Instance}
-use Rattle.spec_text.specs.RunText.{newline}
-use Rattle.spec_deal.specs.declared.signed.Signed.{Signed}
 use Rattle.spec_deal.specs.DealText.{gate_line}
 use Rattle.spec_deal.specs.Slots.{Slot, slots, is_endorsement}
-use Rattle.spec_deal.specs.Given.{has, endorsements, may_start, first_unendorsed}
+use Rattle.spec_deal.specs.Given.{has}
 use Rattle.theory_calculus.proofs.Members.{in_from_contains, contains_from_in, in_filter, filter_has, all_in, found}
-use Rattle.theory_deal.specs.Signatures.{MissingAndHeld, MayStart, AllEndorsed}
+use Rattle.theory_deal.specs.Signatures.{MissingAndHeld, MayStart}
 
 from_not : (b : Bool) → not b ≡ true → b ≡ false
 from_not true e = cc
@@ -44,7 +39,7 @@ missing_and_held hash keys s given slot = record {
 
 -- ---- all pass, or the first that doesn't
 
-none_fails : {X : Type 0} (p : X → Bool) (xs : List X) → list_all p xs ≡ true → find (λ x. not (p x)) xs ≡ None
+pub none_fails : {X : Type 0} (p : X → Bool) (xs : List X) → list_all p xs ≡ true → find (λ x. not (p x)) xs ≡ None
 none_fails p [] h = refl
 none_fails p (x ∷ xs) h = by_test (p x) refl h (none_fails p xs)
   where
@@ -76,7 +71,6 @@ all_of_each p q xs f =
         let n : p x ≡ false = from_not (p x) r.1 in
         cc
 
-
 pub may_start_exactly : MayStart
 may_start_exactly hash keys s given =
     let all = slots hash keys s in
@@ -89,8 +83,8 @@ may_start_exactly hash keys s given =
       );
       none = (λ h. all_pass there (filter wants all) h, λ h. none_fails there (filter wants all) h);
       first = λ slot e.
-      let r = found (λ y. not (there y)) (filter wants all) slot e in
-      let m = in_filter wants all slot r.0 in
-      (contains_from_in all slot m.0, m.1, from_not (there slot) r.1);
+          let r = found (λ y. not (there y)) (filter wants all) slot e in
+          let m = in_filter wants all slot r.0 in
+          (contains_from_in all slot m.0, m.1, from_not (there slot) r.1);
       printed = λ h. ap gate_line (none_fails there (filter wants all) h);
     }

@@ -1,13 +1,12 @@
 -- The lines that a deal's plan has in common with plans of runs are the text of what the contract is compiled to.
-use Rattle.std.proofs.Common.{◌≡◌, ℕ, suc, ◌+◌, List, [], ◌∷◌, ◌++◌, length, map, Option, Some, None, refl, sym, ap, ◌∙◌, append_assoc}
-use Rattle.std.specs.Prelude.{codes, filter, reverse}
+use Rattle.std.proofs.Common.{◌≡◌, ℕ, ◌+◌, List, [], ◌∷◌, ◌++◌, length, map, refl, sym, ap, ◌∙◌, append_assoc}
+use Rattle.std.specs.Prelude.{codes, reverse}
 use Rattle.std.specs.Fmt.{decimal}
 use Rattle.std.specs.List.{flat_map}
 use Rattle.std.specs.Option.{option_map}
 use Rattle.std.proofs.lemmas.List.Elements.{filter-append}
 use Rattle.std.proofs.lemmas.Grind.{flat_map-append}
 use Rattle.spec_data.specs.Digits.{hex_text}
-use Rattle.spec_terms.specs.Advert.{Advert}
 use Rattle.spec_terms.specs.Precondition.{Holding, deposits}
 use Rattle.spec_terms.specs.declared.path.PathStep.{PathStep}
 use Rattle.spec_bitcoin.specs.declared.label.Label.{Label}
@@ -22,7 +21,7 @@ use Rattle.spec_compiler.specs.Keyed.Compilation.{path_transactions, scripts, co
 use Rattle.spec_compiler.specs.Keyed.ByPath.{unsigned_at}
 use Rattle.spec_text.specs.PlanText.{script_line, digest_lines, prepared_lines, path_lines, compiled_text}
 use Rattle.spec_tool.specs.declared.which.Which.TheVariants as names
-use Rattle.spec_tool.specs.Keyed.Listed.{Listed, listed, initial_listed, path_listed, which_text}
+use Rattle.spec_tool.specs.Keyed.Listed.{Listed, initial_listed, path_listed, which_text}
 use Rattle.spec_deal.specs.DealText.{PlanLine, plan_lines, lines_text, of_runs, deposit_line, sign_line, input_lines, listed_lines}
 use Rattle.spec_deal.specs.Slots.{Slot, input_slots}
 use Rattle.theory_script.proofs.Keyed.Transactions.{AreRight, transactions_right}

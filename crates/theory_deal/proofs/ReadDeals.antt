@@ -1,19 +1,19 @@
 -- The keys of a deal that is taken have 33 bytes, and its hashes 32.
 use Rattle.std.proofs.Common.{◌≡◌, ℕ, ◌+◌, List, [], ◌∷◌, ◌++◌, length, map, Bool, true, false, not, Option, Some, None, refl, sym, ap, ◌∙◌, subst, arith, cond}
-use Rattle.std.specs.Prelude.{Result, Ok, Err, nat_lt, ◌&&◌, ◌||◌, ◌==◌, codes, reverse}
+use Rattle.std.specs.Prelude.{Result, Ok, Err, nat_lt, ◌&&◌, ◌||◌, ◌==◌, codes, reverse, is_some}
 use Rattle.std.specs.List.{list_all, list_any, find}
 use Rattle.std.specs.Option.{option_map}
 use Rattle.std.specs.Str.{bytes_eq}
 use Rattle.std.proofs.lemmas.Bool.{and_parts, and_from}
+use Rattle.std.proofs.lemmas.Slice.Eq.{bytes_eq-Decides}
+use Rattle.spec_data.specs.Lists.{is_among}
 use Rattle.spec_data.specs.Digits.{read_hex}
 use Rattle.spec_terms.specs.Advert.{Advert}
-use Rattle.spec_terms.specs.Precondition.{secrets, names_of}
 use Rattle.spec_bitcoin.specs.declared.label.Label.{Label}
 use Rattle.spec_compiler.specs.Scripts.{digest_of}
 use Rattle.spec_compiler.specs.Keyed.Statements.{has_size}
 use Rattle.spec_text.specs.Lines.{lines_of, words_of}
 use Rattle.spec_text.specs.Words.{◌>>=◌, given, small, one_of, digest}
-use Rattle.spec_deal.specs.declared.deal.Deal.{Deal}
 use Rattle.spec_deal.specs.declared.deal.Needed.{Needed}
 use Rattle.spec_deal.specs.declared.deal.Needed.TheVariants as needs
 use Rattle.spec_deal.specs.declared.fault.DealReason.TheVariants as reasons
@@ -21,14 +21,52 @@ use Rattle.spec_deal.specs.declared.fault.DealFault.{DealFault}
 use Rattle.spec_deal.specs.declared.fault.DealFault.TheVariants as faults
 use Rattle.spec_deal.specs.Sizes.{most_deal_bytes}
 use Rattle.spec_deal.specs.Needed.{needed, needed_labels, needed_deposits, needed_secrets, same_needed, same_label}
-use Rattle.spec_deal.specs.Setting.{no_key, key_at}
+use Rattle.spec_deal.specs.Setting.{key_at}
 use Rattle.spec_deal.specs.DealFile.{Value, key, place, hash, same_value, Entry, is_key, key_of_word, place_of_words, hash_of_word, label_of_word}
-use Rattle.spec_deal.specs.DealFile.{Line, empty, bad, gives, given_once, if_new, with_value, with_needed, key_line, deposit_line, hash_line, line_says}
-use Rattle.spec_deal.specs.DealFile.{read_entries, value_for, key_or_none, place_or_none, hash_or_none, deal_of, is_given, first_missing, whole_deal, deal_judged}
-use Rattle.theory_calculus.proofs.Members.{all_append, all_in, found}
+use Rattle.spec_deal.specs.DealFile.{Line, empty, bad, gives, given_once, with_needed, key_line, deposit_line, hash_line, line_says}
+use Rattle.spec_deal.specs.DealFile.{read_entries, value_for, key_or_none, hash_or_none, deal_of, is_given, first_missing, whole_deal, deal_judged}
+use Rattle.theory_calculus.proofs.Members.{all_append, all_in, all_map, found}
 use Rattle.theory_calculus.proofs.Names.{bytes-true}
 use Rattle.theory_deal.proofs.Listed.{all_pass}
-use Rattle.theory_deal.specs.Files.{DealsAreSized}
+use Rattle.theory_deal.specs.Files.{IsSized, DealsAreSized}
+
+-- ---- lists
+
+there_found : {X : Type 0} (p : X → Bool) (xs : List X) → list_any p xs ≡ true → is_some (find p xs) ≡ true
+there_found p [] h = cc
+there_found p (x ∷ xs) h = by_test (p x) h (there_found p xs)
+  where
+    by_test : (b : Bool) → (b || list_any p xs) ≡ true → (list_any p xs ≡ true → is_some (find p xs) ≡ true)
+        → is_some (cond b (Some x) (find p xs)) ≡ true
+    by_test true k ih = refl
+    by_test false k ih = ih k
+
+all_right : {X : Type 0} (f : X → Bool) (xs ys : List X) → list_all f (xs ++ ys) ≡ true → list_all f ys ≡ true
+all_right f [] ys h = h
+all_right f (x ∷ xs) ys h = all_right f xs ys (and_parts (f x) (list_all f (xs ++ ys)) h).1
+
+or_later : (a b : Bool) → b ≡ true → (a || b) ≡ true
+or_later true b h = refl
+or_later false b h = h
+
+-- what holds of each name holds of all
+each_name : (f : List ℕ → Bool) (ns : List (List ℕ)) → ((n : List ℕ) → is_among n ns ≡ true → f n ≡ true) → list_all f ns ≡ true
+each_name f [] g = refl
+each_name f (n ∷ ns) g =
+    and_from (f n) (list_all f ns)
+    (g n (ap (λ (b : Bool). b || is_among n ns) ((bytes_eq-Decides n n).1 refl)))
+    (each_name f ns (λ m k. g m (or_later (bytes_eq n m) (is_among m ns) k)))
+
+-- and what holds of all holds of one of them
+at_name : (f : List ℕ → Bool) (ns : List (List ℕ)) (m : List ℕ) → list_all f ns ≡ true → is_among m ns ≡ true → f m ≡ true
+at_name f [] m h k = cc
+at_name f (n ∷ ns) m h k =
+    let p = and_parts (f n) (list_all f ns) h in
+    by_test (bytes_eq n m) refl k p.0 (at_name f ns m p.1)
+  where
+    by_test : (b : Bool) → bytes_eq n m ≡ b → (b || is_among m ns) ≡ true → f n ≡ true → (is_among m ns ≡ true → f m ≡ true) → f m ≡ true
+    by_test true e j x ih = subst (λ (y : List ℕ). f y ≡ true) (bytes-true n m e) x
+    by_test false e j x ih = ih j
 
 -- ---- what a line gives
 
@@ -217,3 +255,81 @@ module _ (advert : Advert) where
             (key_at (map (λ x. (x, key_or_none (value_for entries (needs.Key x)))) ls) label)) ≡ 33
         by_test true ih = one_key l
         by_test false ih = ih
+
+    -- ---- hashes
+
+    hash_long : (name : List ℕ) (e : Entry) → same_needed e.needed (needs.Hash name) ≡ true → entry_fits e ≡ true
+        → has_size 32 (hash_or_none (Some e.value)) ≡ true
+    hash_long name e m h = by_kind e.needed e.value m h
+      where
+        by_kind : (what : Needed) (value : Value) → same_needed what (needs.Hash name) ≡ true → fits what value ≡ true
+            → has_size 32 (hash_or_none (Some value)) ≡ true
+        by_kind (needs.Hash other) (hash bytes) m h = h
+        by_kind (needs.Hash other) (place outpoint) m h = cc
+        by_kind (needs.Hash other) (key bytes) m h = cc
+        by_kind (needs.Key label) value m h = cc
+        by_kind (needs.Deposit other) value m h = cc
+
+    one_hash : (name : List ℕ) → is_given entries (needs.Hash name) ≡ true
+        → has_size 32 (hash_or_none (value_for entries (needs.Hash name))) ≡ true
+    one_hash name h =
+        by_found (find (λ (e : Entry). same_needed e.needed (needs.Hash name)) entries) refl
+        (there_found (λ (e : Entry). same_needed e.needed (needs.Hash name)) entries h)
+      where
+        by_found : (o : Option Entry) → find (λ (e : Entry). same_needed e.needed (needs.Hash name)) entries ≡ o → is_some o ≡ true
+            → has_size 32 (hash_or_none (option_map (λ (e : Entry). e.value) o)) ≡ true
+        by_found None e k = cc
+        by_found (Some x) e k =
+            let r = found (λ (y : Entry). same_needed y.needed (needs.Hash name)) entries x e in
+            hash_long name x r.1 (all_in entry_fits entries x all r.0)
+
+    digest_sized : (ns : List (List ℕ)) (name : List ℕ) → is_among name ns ≡ true → is_given entries (needs.Hash name) ≡ true
+        → has_size 32 (digest_of (map (λ n. (n, hash_or_none (value_for entries (needs.Hash n)))) ns) name) ≡ true
+    digest_sized [] name h k = cc
+    digest_sized (n ∷ ns) name h k = by_test (bytes_eq n name) refl h (λ m. digest_sized ns name m k)
+      where
+        by_test : (b : Bool) → bytes_eq n name ≡ b → (b || is_among name ns) ≡ true
+            → (is_among name ns ≡ true
+            → has_size 32 (digest_of (map (λ x. (x, hash_or_none (value_for entries (needs.Hash x)))) ns) name) ≡ true)
+            → has_size 32 (cond b (hash_or_none (value_for entries (needs.Hash n)))
+            (digest_of (map (λ x. (x, hash_or_none (value_for entries (needs.Hash x)))) ns) name)) ≡ true
+        by_test true e m ih =
+            one_hash n (subst (λ (x : List ℕ). is_given entries (needs.Hash x) ≡ true) (sym (bytes-true n name e)) k)
+        by_test false e m ih = ih m
+
+    secrets_given : find (λ what. not (is_given entries what)) (needed advert) ≡ None
+        → list_all (λ name. is_given entries (needs.Hash name)) (needed_secrets advert) ≡ true
+    secrets_given h =
+        sym (all_map (is_given entries) needs.Hash (needed_secrets advert))
+        ∙ all_right (is_given entries) (map needs.Deposit (needed_deposits advert)) (map needs.Hash (needed_secrets advert))
+        (all_right (is_given entries) (map needs.Key (needed_labels advert)) _ (all_pass (is_given entries) (needed advert) h))
+
+    hashes_sized : find (λ what. not (is_given entries what)) (needed advert) ≡ None
+        → list_all (λ name. has_size 32 (digest_of (deal_of advert entries).hashes name)) (needed_secrets advert) ≡ true
+    hashes_sized h =
+        each_name (λ name. has_size 32 (digest_of (deal_of advert entries).hashes name)) (needed_secrets advert)
+        (λ name m.
+        digest_sized (needed_secrets advert) name m
+        (at_name (λ n. is_given entries (needs.Hash n)) (needed_secrets advert) name (secrets_given h) m))
+
+pub deals_are_sized : DealsAreSized
+deals_are_sized hash_of advert text deal e = by_size (nat_lt most_deal_bytes (length text)) e
+  where
+    by_missing : (entries : List Entry) (o : Option Needed) → AllFit entries → first_missing advert entries ≡ o
+        → whole_deal advert entries o ≡ Ok deal → IsSized hash_of advert deal
+    by_missing entries (Some what) all is k = cc
+    by_missing entries None all is k =
+        let same : deal_of advert entries ≡ deal = cc in
+        subst (IsSized hash_of advert) same (record {
+          are_keys = λ label. keys_long advert entries all (needed_labels advert) label;
+          settled = λ checked. record { checked = checked; committed = hashes_sized advert entries all is };
+        })
+
+    by_entries : (r : Result (List Entry) DealFault) → ReadFits advert r → deal_judged advert r ≡ Ok deal → IsSized hash_of advert deal
+    by_entries (Err fault) h k = cc
+    by_entries (Ok entries) h k = by_missing entries (first_missing advert entries) h refl k
+
+    by_size : (b : Bool) → cond b (Err faults.Size) (deal_judged advert (read_entries advert [] 1 (lines_of text))) ≡ Ok deal
+        → IsSized hash_of advert deal
+    by_size true k = cc
+    by_size false k = by_entries (read_entries advert [] 1 (lines_of text)) (entries_fit advert [] 1 (lines_of text) refl) k

@@ -1,14 +1,13 @@
 -- Each string that is taken of a file of secrets has the hash and the size of its secret.
-use Rattle.std.proofs.Common.{◌≡◌, ℕ, ◌+◌, List, [], ◌∷◌, ◌++◌, length, Bool, true, false, Option, Some, None, refl, sym, ap, ◌∙◌, subst, cond}
+use Rattle.std.proofs.Common.{◌≡◌, ℕ, ◌+◌, List, [], ◌∷◌, ◌++◌, length, Bool, true, false, Option, Some, None, refl, ap, subst, cond}
 use Rattle.std.specs.Prelude.{nat_lt, ◌&&◌, codes}
-use Rattle.std.specs.List.{list_all, find}
+use Rattle.std.specs.List.{find}
 use Rattle.std.specs.Str.{bytes_eq}
 use Rattle.std.proofs.lemmas.Bool.{and_from}
 use Rattle.spec_data.specs.Digits.{read_hex}
 use Rattle.spec_data.specs.Lists.{is_among}
 use Rattle.spec_data.specs.Messages.{noted, noted_all, clash}
 use Rattle.spec_compiler.specs.Scripts.{digest_of}
-use Rattle.spec_compiler.specs.Keyed.Keys.{Keys}
 use Rattle.spec_compiler.specs.Keyed.Instance.{Instance}
 use Rattle.spec_compiler.specs.Keyed.Statements.{is_secret}
 use Rattle.spec_text.specs.Lines.{lines_of, words_of}
@@ -24,7 +23,6 @@ use Rattle.theory_deal.specs.Finished.{do_fit}
 use Rattle.theory_deal.specs.Files.{SecretsFit}
 
 module _ (hash : List ℕ → List ℕ) (s : Instance) where
-
   -- what a line gives fits
   abbrev LineFits : Line → Type 0
   LineFits empty = Unit {0}

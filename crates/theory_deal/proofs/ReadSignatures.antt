@@ -1,6 +1,6 @@
 -- Each signature that is taken of a file has the shape.
-use Rattle.std.proofs.Common.{◌≡◌, ℕ, ◌+◌, List, [], ◌∷◌, ◌++◌, length, Bool, true, false, not, Option, Some, None, refl, sym, ap, ◌∙◌, subst, arith, cond}
-use Rattle.std.specs.Prelude.{Result, Ok, Err, nat_le, nat_lt, ◌&&◌}
+use Rattle.std.proofs.Common.{◌≡◌, ℕ, ◌+◌, List, [], ◌∷◌, ◌++◌, length, Bool, true, false, not, Option, Some, None, refl, ap, subst, arith, cond}
+use Rattle.std.specs.Prelude.{Result, Ok, Err, nat_lt, ◌&&◌}
 use Rattle.std.specs.List.{list_all, list_any, find}
 use Rattle.std.specs.Str.{bytes_eq}
 use Rattle.spec_bitcoin.specs.Spelling.{stripped}
@@ -27,7 +27,6 @@ use Rattle.spec_deal.specs.SignatureFile.{Taken, same_place, taken_once, take_si
 use Rattle.spec_deal.specs.SignatureFile.{final_signature, take_input, take_inputs, has_bytes, take_listed, take_psbt, take_bytes, take_words, take_lines}
 use Rattle.theory_calculus.proofs.Members.{all_append, all_then}
 use Rattle.theory_deal.proofs.Shapes.{strict_has_shape, shape_is_short}
-use Rattle.theory_deal.specs.Finished.{are_short}
 use Rattle.theory_deal.specs.Files.{SignaturesAreShaped}
 
 abbrev Shaped : List Signed → Type 0
@@ -66,7 +65,7 @@ module _ (hash : List ℕ → List ℕ) (keys : Keys) where
     where
       by_taken : (r : Taken) → IsShaped r
           → ((more : List Signed) → Shaped more → IsShaped (take_signatures hash keys wanted tx k more ps))
-          → IsShaped {E = SignatureReason} (elim r [ | Ok more ↦ take_signatures hash keys wanted tx k more ps | Err reason ↦ Err reason ])
+          → IsShaped {E = SignatureReason} (elim r [ Ok more ↦ take_signatures hash keys wanted tx k more ps | Err reason ↦ Err reason ])
       by_taken (Ok more) m go = go more m
       by_taken (Err reason) m go = tt
 
@@ -94,7 +93,7 @@ module _ (hash : List ℕ → List ℕ) (keys : Keys) where
     where
       by_taken : (r : Taken) → IsShaped r
           → ((more : List Signed) → Shaped more → IsShaped (take_inputs hash keys wanted tx (k + 1) more spends ins))
-          → IsShaped {E = SignatureReason} (elim r [ | Ok more ↦ take_inputs hash keys wanted tx (k + 1) more spends ins | Err reason ↦ Err reason ])
+          → IsShaped {E = SignatureReason} (elim r [ Ok more ↦ take_inputs hash keys wanted tx (k + 1) more spends ins | Err reason ↦ Err reason ])
       by_taken (Ok more) m go = go more m
       by_taken (Err reason) m go = tt
 
@@ -124,7 +123,7 @@ module _ (hash : List ℕ → List ℕ) (keys : Keys) where
     where
       by_taken : (r : Taken) → IsShaped r
           → ((more : List Signed) → Shaped more → IsShaped (take_lines hash keys s more (n + 1) lines))
-          → IsShaped (elim r [ | Ok more ↦ take_lines hash keys s more (n + 1) lines | Err reason ↦ Err (faults.Line n reason) ])
+          → IsShaped (elim r [ Ok more ↦ take_lines hash keys s more (n + 1) lines | Err reason ↦ Err (faults.Line n reason) ])
       by_taken (Ok more) m go = go more m
       by_taken (Err reason) m go = tt
 
@@ -137,7 +136,7 @@ signatures_are_shaped hash keys s text given e =
     record {
       strict = strict;
       short = all_then (λ (g : Signed). is_strict g.signature) (λ (g : Signed). is_short g.signature) given
-      (λ g h. short_one g.signature h) strict;
+          (λ g h. short_one g.signature h) strict;
     }
   where
     by_size : (b : Bool) → cond b (Err faults.Size) (take_lines hash keys s [] 1 (lines_of text)) ≡ Ok given → Shaped given

@@ -1,5 +1,5 @@
 -- A script is false where one of its signers has signed nothing.
-use Rattle.std.proofs.Common.{◌≡◌, ℕ, List, [], ◌∷◌, ◌++◌, map, Bool, true, false, not, refl, sym, ap, ◌∙◌, subst}
+use Rattle.std.proofs.Common.{◌≡◌, ℕ, List, [], ◌∷◌, ◌++◌, map, Bool, true, false, not, refl, ap, ◌∙◌, subst}
 use Rattle.std.specs.Prelude.{reverse, ◌&&◌, ◌||◌}
 use Rattle.std.specs.List.{list_all, list_any}
 use Rattle.std.specs.Str.{bytes_eq}
@@ -7,7 +7,6 @@ use Rattle.std.proofs.lemmas.Bool.{and_parts}
 use Rattle.spec_data.specs.Lists.{is_among}
 use Rattle.spec_terms.specs.Term.{Contract}
 use Rattle.spec_terms.specs.declared.path.PathStep.{PathStep}
-use Rattle.spec_bitcoin.specs.Keys.{deposit_script}
 use Rattle.spec_bitcoin.specs.Meaning.{script_meaning}
 use Rattle.spec_compiler.specs.Keyed.Keys.{Keys, key_in}
 use Rattle.spec_compiler.specs.Keyed.Instance.{Instance, people, branch_path, branch_label, position_script}
@@ -104,7 +103,7 @@ pub false_without_one : FalseWithoutOne
 false_without_one hash keys valid = record {
   positions = positions_false hash keys valid;
   deposits = λ key items size short none.
-  deposit_meaning hash valid key items size short
-  ∙ no_single valid key (reverse items)
-  (all_reverse (λ item. not (valid item key)) items (none_is_all (λ item. valid item key) items none));
+      deposit_meaning hash valid key items size short
+      ∙ no_single valid key (reverse items)
+      (all_reverse (λ item. not (valid item key)) items (none_is_all (λ item. valid item key) items none));
 }

@@ -1,6 +1,6 @@
 -- What is claimed of finished transactions: their scripts are true for every judge of signatures that accepts those given, and false where
 -- a signature is missing.
-use Rattle.std.specs.Prelude.{◌≡◌, ℕ, ◌+◌, List, [], ◌∷◌, Bool, true, false, ◌&&◌, Option, Some, None}
+use Rattle.std.specs.Prelude.{◌≡◌, ℕ, ◌+◌, List, [], ◌∷◌, Bool, true, false, Some, None}
 use Rattle.std.specs.List.{list_all, list_any}
 use Rattle.spec_data.specs.Lists.{is_among}
 use Rattle.spec_terms.specs.Term.{Contract}

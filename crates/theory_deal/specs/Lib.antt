@@ -3,3 +3,4 @@ pub mod Plan
 pub mod Finished
 pub mod Shapes
 pub mod Files
+pub mod Whole

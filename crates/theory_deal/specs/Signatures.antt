@@ -1,5 +1,5 @@
 -- What is claimed of the signatures that are listed as missing and as there, and of the word whether the initial transaction may be signed.
-use Rattle.std.specs.Prelude.{◌≡◌, ℕ, List, Bool, true, false, None, Some, codes, ◌++◌, ◌↔◌}
+use Rattle.std.specs.Prelude.{◌≡◌, ℕ, List, true, false, None, Some, codes, ◌++◌, ◌↔◌}
 use Rattle.std.specs.List.{Contains}
 use Rattle.spec_compiler.specs.Keyed.Keys.{Keys}
 use Rattle.spec_compiler.specs.Keyed.Instance.{Instance}

@@ -6,6 +6,7 @@ ghost use Rattle.theory_deal.specs.Finished.{FinishedOpens, FinishedIsPlanned, F
 ghost use Rattle.theory_deal.specs.Plan.{PlanOfRuns};
 ghost use Rattle.theory_deal.specs.Shapes.{ShapeExactly, ShapeIsShort};
 ghost use Rattle.theory_deal.specs.Signatures.{MissingAndHeld, MayStart};
+ghost use Rattle.theory_deal.specs.Whole.{FinishesExactly, FinishTheorem};
 
 /// A signature is listed as missing exactly where a transaction needs it and it isn't there, and as held exactly where it is.
 pub fn missing_and_held()
@@ -60,4 +61,14 @@ pub fn secrets_fit()
 /// The keys and hashes of a deal that is taken have their sizes.
 pub fn deals_are_sized()
     ensures { DealsAreSized }
+{}
+
+/// A transaction is finished exactly where nothing is missing that it needs.
+pub fn finishes_exactly()
+    ensures { FinishesExactly }
+{}
+
+/// What `finish` prints of files that are taken is the plan's transaction, with witnesses that make all its scripts true.
+pub fn finish_theorem()
+    ensures { FinishTheorem }
 {}

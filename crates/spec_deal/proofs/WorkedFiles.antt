@@ -1,5 +1,6 @@
 -- Worked values of deals, each by computation alone: what is needed, what deal files give, and why they are refused.
 use Rattle.std.proofs.Common.{◌≡◌, ℕ, List, [], ◌∷◌, ◌++◌, refl}
+use Rattle.std.specs.List.{flat_map}
 use Rattle.std.specs.Prelude.{codes, replicate, fold, ◌+◌, ◌*◌, ◌/◌, ◌%◌, Result, Ok, Err}
 use Rattle.std.specs.Fmt.{digits}
 use Rattle.spec_terms.specs.Advert.{Advert}
@@ -174,72 +175,104 @@ abbrev pub refusal : Result Deal DealFault → List ℕ
 refusal (Ok deal) = []
 refusal (Err fault) = deal_refused_line fault
 
-pub template_is_refused : refusal (read_deal bet (file (codes "key D:A .." ∷ codes "key D:B .." ∷ codes "key B:0:r.0:A .." ∷ codes "key B:0:r.0:B .." ∷ codes "key B:0:r.0.0:A .." ∷ codes "key B:0:r.0.0:B .." ∷ codes "key B:0:r.1:A .." ∷ codes "key B:0:r.1:B .." ∷ codes "deposit x .. .." ∷ codes "deposit y .. .." ∷ codes "hash a .." ∷ [])))
+pub template_is_refused :
+    refusal (read_deal bet (file (codes "key D:A .." ∷ codes "key D:B .." ∷ codes "key B:0:r.0:A .." ∷ codes "key B:0:r.0:B .."
+    ∷ codes "key B:0:r.0.0:A .." ∷ codes "key B:0:r.0.0:B .." ∷ codes "key B:0:r.1:A .." ∷ codes "key B:0:r.1:B .."
+    ∷ codes "deposit x .. .." ∷ codes "deposit y .. .." ∷ codes "hash a .." ∷ [])))
     ≡ line (codes "deal refused line 1 value") ([])
 unfolding digits label_text
 template_is_refused = refl
 
-pub one_word_more_is_refused : refusal (read_deal bet (file (line_1 ∷ line_2 ∷ codes "key B:0:r.0:A 03880380f4fe91faca6db3387f5c981c02fee0dbae9278e8dcf2e0769b15457907 00" ∷ line_4 ∷ line_5 ∷ line_6 ∷ line_7 ∷ line_8 ∷ line_9 ∷ line_10 ∷ line_11 ∷ [])))
+pub one_word_more_is_refused :
+    refusal (read_deal bet (file (line_1 ∷ line_2
+    ∷ codes "key B:0:r.0:A 03880380f4fe91faca6db3387f5c981c02fee0dbae9278e8dcf2e0769b15457907 00" ∷ line_4 ∷ line_5 ∷ line_6
+    ∷ line_7 ∷ line_8 ∷ line_9 ∷ line_10 ∷ line_11 ∷ [])))
     ≡ line (codes "deal refused line 3 form") ([])
 unfolding digits label_text
 one_word_more_is_refused = refl
 
-pub no_kind_is_refused : refusal (read_deal bet (file (codes "Key D:A 03913ffe7036ec1cefec5d4589d0c2e8e7b6a300c97e0a106cd9624f149bcda7f5" ∷ line_2 ∷ line_3 ∷ line_4 ∷ line_5 ∷ line_6 ∷ line_7 ∷ line_8 ∷ line_9 ∷ line_10 ∷ line_11 ∷ [])))
+pub no_kind_is_refused :
+    refusal (read_deal bet (file (codes "Key D:A 03913ffe7036ec1cefec5d4589d0c2e8e7b6a300c97e0a106cd9624f149bcda7f5" ∷ line_2
+    ∷ line_3 ∷ line_4 ∷ line_5 ∷ line_6 ∷ line_7 ∷ line_8 ∷ line_9 ∷ line_10 ∷ line_11 ∷ [])))
     ≡ line (codes "deal refused line 1 form") ([])
 unfolding digits label_text
 no_kind_is_refused = refl
 
-pub other_contract_is_refused : refusal (read_deal bet (file (line_1 ∷ line_2 ∷ codes "key B:1:r.0:A 03880380f4fe91faca6db3387f5c981c02fee0dbae9278e8dcf2e0769b15457907" ∷ line_4 ∷ line_5 ∷ line_6 ∷ line_7 ∷ line_8 ∷ line_9 ∷ line_10 ∷ line_11 ∷ [])))
+pub other_contract_is_refused :
+    refusal (read_deal bet (file (line_1 ∷ line_2
+    ∷ codes "key B:1:r.0:A 03880380f4fe91faca6db3387f5c981c02fee0dbae9278e8dcf2e0769b15457907" ∷ line_4 ∷ line_5 ∷ line_6
+    ∷ line_7 ∷ line_8 ∷ line_9 ∷ line_10 ∷ line_11 ∷ [])))
     ≡ line (codes "deal refused line 3 foreign") ([])
 unfolding digits label_text
 other_contract_is_refused = refl
 
-pub foreign_before_value_is_refused : refusal (read_deal bet (file (line_1 ∷ line_2 ∷ codes "key B:0:r.9:A .." ∷ line_4 ∷ line_5 ∷ line_6 ∷ line_7 ∷ line_8 ∷ line_9 ∷ line_10 ∷ line_11 ∷ [])))
+pub foreign_before_value_is_refused :
+    refusal (read_deal bet (file (line_1 ∷ line_2 ∷ codes "key B:0:r.9:A .." ∷ line_4 ∷ line_5 ∷ line_6 ∷ line_7 ∷ line_8
+    ∷ line_9 ∷ line_10 ∷ line_11 ∷ [])))
     ≡ line (codes "deal refused line 3 foreign") ([])
 unfolding digits label_text
 foreign_before_value_is_refused = refl
 
-pub no_compressed_key_is_refused : refusal (read_deal bet (file (codes "key D:A 04913ffe7036ec1cefec5d4589d0c2e8e7b6a300c97e0a106cd9624f149bcda7f5" ∷ line_2 ∷ line_3 ∷ line_4 ∷ line_5 ∷ line_6 ∷ line_7 ∷ line_8 ∷ line_9 ∷ line_10 ∷ line_11 ∷ [])))
+pub no_compressed_key_is_refused :
+    refusal (read_deal bet (file (codes "key D:A 04913ffe7036ec1cefec5d4589d0c2e8e7b6a300c97e0a106cd9624f149bcda7f5" ∷ line_2
+    ∷ line_3 ∷ line_4 ∷ line_5 ∷ line_6 ∷ line_7 ∷ line_8 ∷ line_9 ∷ line_10 ∷ line_11 ∷ [])))
     ≡ line (codes "deal refused line 1 value") ([])
 unfolding digits label_text
 no_compressed_key_is_refused = refl
 
-pub key_too_short_is_refused : refusal (read_deal bet (file (line_1 ∷ line_2 ∷ line_3 ∷ codes "key B:0:r.0:B 023c24fce1010225fd96c5407ef8f06e3a5bae1e6b8f3449ef2085634b3e148b" ∷ line_5 ∷ line_6 ∷ line_7 ∷ line_8 ∷ line_9 ∷ line_10 ∷ line_11 ∷ [])))
+pub key_too_short_is_refused :
+    refusal (read_deal bet (file (line_1 ∷ line_2 ∷ line_3
+    ∷ codes "key B:0:r.0:B 023c24fce1010225fd96c5407ef8f06e3a5bae1e6b8f3449ef2085634b3e148b" ∷ line_5 ∷ line_6 ∷ line_7 ∷ line_8
+    ∷ line_9 ∷ line_10 ∷ line_11 ∷ [])))
     ≡ line (codes "deal refused line 4 value") ([])
 unfolding digits label_text
 key_too_short_is_refused = refl
 
-pub output_number_too_great_is_refused : refusal (read_deal bet (file (line_1 ∷ line_2 ∷ line_3 ∷ line_4 ∷ line_5 ∷ line_6 ∷ line_7 ∷ line_8 ∷ line_9 ∷ codes "deposit y 6b8fae22b3d8cef3f23d00741edc38e743d3830b33a353976f6a5fea9172aae2 4294967296" ∷ line_11 ∷ [])))
+pub output_number_too_great_is_refused :
+    refusal (read_deal bet (file (line_1 ∷ line_2 ∷ line_3 ∷ line_4 ∷ line_5 ∷ line_6 ∷ line_7 ∷ line_8 ∷ line_9
+    ∷ codes "deposit y 6b8fae22b3d8cef3f23d00741edc38e743d3830b33a353976f6a5fea9172aae2 4294967296" ∷ line_11 ∷ [])))
     ≡ line (codes "deal refused line 10 value") ([])
 unfolding digits label_text
 output_number_too_great_is_refused = refl
 
-pub repeated_is_refused : refusal (read_deal bet (file (line_1 ∷ line_2 ∷ line_3 ∷ line_4 ∷ line_5 ∷ line_6 ∷ line_7 ∷ line_8 ∷ line_9 ∷ line_10 ∷ line_11 ∷ line_2 ∷ [])))
+pub repeated_is_refused :
+    refusal (read_deal bet (file (line_1 ∷ line_2 ∷ line_3 ∷ line_4 ∷ line_5 ∷ line_6 ∷ line_7 ∷ line_8 ∷ line_9 ∷ line_10
+    ∷ line_11 ∷ line_2 ∷ [])))
     ≡ line (codes "deal refused line 12 repeated 2") ([])
 unfolding digits label_text
 repeated_is_refused = refl
 
-pub shared_key_is_refused : refusal (read_deal bet (file (line_1 ∷ line_2 ∷ line_3 ∷ line_4 ∷ line_5 ∷ codes "key B:0:r.0.0:B 03BA15C3D41F9A0004B4F0E9F93716DC85AB600A158E90D0639F364AB04C766F21" ∷ line_7 ∷ line_8 ∷ line_9 ∷ line_10 ∷ line_11 ∷ [])))
+pub shared_key_is_refused :
+    refusal (read_deal bet (file (line_1 ∷ line_2 ∷ line_3 ∷ line_4 ∷ line_5
+    ∷ codes "key B:0:r.0.0:B 03BA15C3D41F9A0004B4F0E9F93716DC85AB600A158E90D0639F364AB04C766F21" ∷ line_7 ∷ line_8 ∷ line_9
+    ∷ line_10 ∷ line_11 ∷ [])))
     ≡ line (codes "deal refused line 6 shared 2") ([])
 unfolding digits label_text
 shared_key_is_refused = refl
 
-pub shared_place_is_refused : refusal (read_deal bet (file (line_1 ∷ line_2 ∷ line_3 ∷ line_4 ∷ line_5 ∷ line_6 ∷ line_7 ∷ line_8 ∷ line_9 ∷ codes "deposit y c7d1ca1a29278ff9aa4d23bed0d2f777b570582f3a1ff735b4272fdeb4707691 0" ∷ line_11 ∷ [])))
+pub shared_place_is_refused :
+    refusal (read_deal bet (file (line_1 ∷ line_2 ∷ line_3 ∷ line_4 ∷ line_5 ∷ line_6 ∷ line_7 ∷ line_8 ∷ line_9
+    ∷ codes "deposit y c7d1ca1a29278ff9aa4d23bed0d2f777b570582f3a1ff735b4272fdeb4707691 0" ∷ line_11 ∷ [])))
     ≡ line (codes "deal refused line 10 shared 9") ([])
 unfolding digits label_text
 shared_place_is_refused = refl
 
-pub no_key_given_is_refused : refusal (read_deal bet (file (line_1 ∷ line_2 ∷ line_3 ∷ line_4 ∷ line_6 ∷ line_7 ∷ line_8 ∷ line_9 ∷ line_10 ∷ line_11 ∷ [])))
+pub no_key_given_is_refused :
+    refusal (read_deal bet (file (line_1 ∷ line_2 ∷ line_3 ∷ line_4 ∷ line_6 ∷ line_7 ∷ line_8 ∷ line_9 ∷ line_10 ∷ line_11
+    ∷ [])))
     ≡ line (codes "deal refused missing key B:0:r.0.0:A") ([])
 unfolding digits label_text
 no_key_given_is_refused = refl
 
-pub no_deposit_given_is_refused : refusal (read_deal bet (file (line_1 ∷ line_2 ∷ line_3 ∷ line_4 ∷ line_5 ∷ line_6 ∷ line_7 ∷ line_8 ∷ line_9 ∷ [])))
+pub no_deposit_given_is_refused :
+    refusal (read_deal bet (file (line_1 ∷ line_2 ∷ line_3 ∷ line_4 ∷ line_5 ∷ line_6 ∷ line_7 ∷ line_8 ∷ line_9 ∷ [])))
     ≡ line (codes "deal refused missing deposit y") ([])
 unfolding digits label_text
 no_deposit_given_is_refused = refl
 
-pub no_hash_given_is_refused : refusal (read_deal bet (file (line_1 ∷ line_2 ∷ line_3 ∷ line_4 ∷ line_5 ∷ line_6 ∷ line_7 ∷ line_8 ∷ line_9 ∷ line_10 ∷ [])))
+pub no_hash_given_is_refused :
+    refusal (read_deal bet (file (line_1 ∷ line_2 ∷ line_3 ∷ line_4 ∷ line_5 ∷ line_6 ∷ line_7 ∷ line_8 ∷ line_9 ∷ line_10
+    ∷ [])))
     ≡ line (codes "deal refused missing hash a") ([])
 unfolding digits label_text
 no_hash_given_is_refused = refl
@@ -252,68 +285,24 @@ nothing_given_is_refused = refl
 -- in the reverse order, with tabs, carriage returns, empty lines, and a key in upper case
 abbrev pub turned : List ℕ
 turned =
-    (10 ∷ [])
-    ++ (codes " "
-    ++ ((9 ∷ [])
-    ++ ((10 ∷ [])
-    ++ (codes "hash a 12e53d027fec5936fb9e8d7ce7f98252d9b85e5633e2386fd3d59a1f2c1a2703"
-    ++ ((13 ∷ [])
-    ++ ((10 ∷ [])
-    ++ ((9 ∷ [])
-    ++ (codes "deposit "
-    ++ ((9 ∷ [])
-    ++ (codes "y "
-    ++ ((9 ∷ [])
-    ++ (codes "6b8fae22b3d8cef3f23d00741edc38e743d3830b33a353976f6a5fea9172aae2 "
-    ++ ((9 ∷ [])
-    ++ (codes "1 "
-    ++ ((13 ∷ [])
-    ++ ((10 ∷ [])
-    ++ (codes "deposit x c7d1ca1a29278ff9aa4d23bed0d2f777b570582f3a1ff735b4272fdeb4707691 0"
-    ++ ((13 ∷ [])
-    ++ ((10 ∷ [])
-    ++ ((9 ∷ [])
-    ++ (codes "key "
-    ++ ((9 ∷ [])
-    ++ (codes "B:0:r.1:B "
-    ++ ((9 ∷ [])
-    ++ (codes "028f194e849e01cc64b26090c5d47bffdbdb3904023c817a98729cd6b4a481e57d "
-    ++ ((13 ∷ [])
-    ++ ((10 ∷ [])
-    ++ (codes "key B:0:r.1:A 02f318d2ff23218b2bf4bcd80ee4b79558dab1a20505f57f125d38b4a8344b9eed"
-    ++ ((13 ∷ [])
-    ++ ((10 ∷ [])
-    ++ ((9 ∷ [])
-    ++ (codes "key "
-    ++ ((9 ∷ [])
-    ++ (codes "B:0:r.0.0:B "
-    ++ ((9 ∷ [])
-    ++ (codes "0230588467e4001454ec1e1fc960ea058ef5ca3976b3ecfe152dfc29fc01d2ede2 "
-    ++ ((13 ∷ [])
-    ++ ((10 ∷ [])
-    ++ (codes "key B:0:r.0.0:A 033d1647343f4a9acee04accaa2494f71c403de0c463951a641ba91da0f7950e8a"
-    ++ ((13 ∷ [])
-    ++ ((10 ∷ [])
-    ++ ((9 ∷ [])
-    ++ (codes "key "
-    ++ ((9 ∷ [])
-    ++ (codes "B:0:r.0:B "
-    ++ ((9 ∷ [])
-    ++ (codes "023c24fce1010225fd96c5407ef8f06e3a5bae1e6b8f3449ef2085634b3e148b29 "
-    ++ ((13 ∷ [])
-    ++ ((10 ∷ [])
-    ++ (codes "key B:0:r.0:A 03880380f4fe91faca6db3387f5c981c02fee0dbae9278e8dcf2e0769b15457907"
-    ++ ((13 ∷ [])
-    ++ ((10 ∷ [])
-    ++ ((9 ∷ [])
-    ++ (codes "key "
-    ++ ((9 ∷ [])
-    ++ (codes "D:B "
-    ++ ((9 ∷ [])
-    ++ (codes "03ba15c3d41f9a0004b4f0e9f93716dc85ab600a158e90d0639f364ab04c766f21 "
-    ++ ((13 ∷ [])
-    ++ ((10 ∷ [])
-    ++ (codes "key D:A 03913FFE7036EC1CEFEC5D4589D0C2E8E7B6A300C97E0A106CD9624F149BCDA7F5")))))))))))))))))))))))))))))))))))))))))))))))))))))))))))))
+    flat_map {X = List ℕ} (λ part. part)
+    ((10 ∷ []) ∷ codes " " ∷ (9 ∷ []) ∷ (10 ∷ [])
+    ∷ codes "hash a 12e53d027fec5936fb9e8d7ce7f98252d9b85e5633e2386fd3d59a1f2c1a2703" ∷ (13 ∷ []) ∷ (10 ∷ []) ∷ (9 ∷ [])
+    ∷ codes "deposit " ∷ (9 ∷ []) ∷ codes "y " ∷ (9 ∷ [])
+    ∷ codes "6b8fae22b3d8cef3f23d00741edc38e743d3830b33a353976f6a5fea9172aae2 " ∷ (9 ∷ []) ∷ codes "1 " ∷ (13 ∷ [])
+    ∷ (10 ∷ []) ∷ codes "deposit x c7d1ca1a29278ff9aa4d23bed0d2f777b570582f3a1ff735b4272fdeb4707691 0" ∷ (13 ∷ [])
+    ∷ (10 ∷ []) ∷ (9 ∷ []) ∷ codes "key " ∷ (9 ∷ []) ∷ codes "B:0:r.1:B " ∷ (9 ∷ [])
+    ∷ codes "028f194e849e01cc64b26090c5d47bffdbdb3904023c817a98729cd6b4a481e57d " ∷ (13 ∷ []) ∷ (10 ∷ [])
+    ∷ codes "key B:0:r.1:A 02f318d2ff23218b2bf4bcd80ee4b79558dab1a20505f57f125d38b4a8344b9eed" ∷ (13 ∷ []) ∷ (10 ∷ [])
+    ∷ (9 ∷ []) ∷ codes "key " ∷ (9 ∷ []) ∷ codes "B:0:r.0.0:B " ∷ (9 ∷ [])
+    ∷ codes "0230588467e4001454ec1e1fc960ea058ef5ca3976b3ecfe152dfc29fc01d2ede2 " ∷ (13 ∷ []) ∷ (10 ∷ [])
+    ∷ codes "key B:0:r.0.0:A 033d1647343f4a9acee04accaa2494f71c403de0c463951a641ba91da0f7950e8a" ∷ (13 ∷ []) ∷ (10 ∷ [])
+    ∷ (9 ∷ []) ∷ codes "key " ∷ (9 ∷ []) ∷ codes "B:0:r.0:B " ∷ (9 ∷ [])
+    ∷ codes "023c24fce1010225fd96c5407ef8f06e3a5bae1e6b8f3449ef2085634b3e148b29 " ∷ (13 ∷ []) ∷ (10 ∷ [])
+    ∷ codes "key B:0:r.0:A 03880380f4fe91faca6db3387f5c981c02fee0dbae9278e8dcf2e0769b15457907" ∷ (13 ∷ []) ∷ (10 ∷ [])
+    ∷ (9 ∷ []) ∷ codes "key " ∷ (9 ∷ []) ∷ codes "D:B " ∷ (9 ∷ [])
+    ∷ codes "03ba15c3d41f9a0004b4f0e9f93716dc85ab600a158e90d0639f364ab04c766f21 " ∷ (13 ∷ []) ∷ (10 ∷ [])
+    ∷ codes "key D:A 03913FFE7036EC1CEFEC5D4589D0C2E8E7B6A300C97E0A106CD9624F149BCDA7F5" ∷ [])
 
 pub order_and_layout_are_free : read_deal bet turned ≡ read_deal bet bet_file
 unfolding digits label_text

@@ -1,5 +1,5 @@
--- Worked values of signatures that are there and missing, each by computation alone: with the keys of no wallet, and a hash that is quick to
--- compute.
+-- Worked values of signatures that are there and missing, each by computation alone: with the keys of no wallet, and a hash that is
+-- quick to compute.
 use Rattle.std.proofs.Common.{◌≡◌, ℕ, List, [], ◌∷◌, ◌++◌, refl}
 use Rattle.std.specs.Prelude.{codes, map, filter, replicate, Bool, not, ◌&&◌, ◌==◌, Option, Some, None, Ok, Err}
 use Rattle.std.specs.Fmt.{digits}
@@ -88,7 +88,8 @@ pub all_endorsed : told bet (endorsed bet)
 unfolding digits label_text stripped compact position_script item_of_number signed_bytes
 all_endorsed = refl
 
-pub one_endorsement_short : told bet (sign (filter (λ slot. not (is_this (codes "r.0.0") (codes "B:0:r.0.0:B") slot)) (endorsements weigh keys (setting bet))))
+pub one_endorsement_short : told bet
+    (sign (filter (λ slot. not (is_this (codes "r.0.0") (codes "B:0:r.0.0:B") slot)) (endorsements weigh keys (setting bet))))
     ≡
     line (codes "missing init 0 D:A init") (
     line (codes "missing init 1 D:B init") (
@@ -249,20 +250,23 @@ one_line advert = elim (listed_at weigh keys (setting advert) names.Init) [
 pub front_alone : file_refusal (codes "cHNidP8=")
     ≡
     line (codes "signatures refused line 1 form") ([])
-unfolding digits label_text stripped compact position_script item_of_number signed_bytes base64_bytes base64_text psbt_of psbt_bytes records_at maps_at many wide_at compact_at string_at input_at inputs_at output_at
+unfolding digits label_text stripped compact position_script item_of_number signed_bytes base64_bytes
+    base64_text psbt_of psbt_bytes records_at maps_at many wide_at compact_at string_at input_at inputs_at output_at
     outputs_at witness_at witnesses_at plain_at marked_at transaction_at all_at
 front_alone = refl
 
 pub nothing_in_it : read_signatures weigh keys (setting twin) (one_line twin)
     ≡
     Ok []
-unfolding digits label_text stripped compact position_script item_of_number signed_bytes base64_bytes base64_text psbt_of psbt_bytes records_at maps_at many wide_at compact_at string_at input_at inputs_at output_at
+unfolding digits label_text stripped compact position_script item_of_number signed_bytes base64_bytes
+    base64_text psbt_of psbt_bytes records_at maps_at many wide_at compact_at string_at input_at inputs_at output_at
     outputs_at witness_at witnesses_at plain_at marked_at transaction_at all_at
 nothing_in_it = refl
 
 pub of_another_deal : file_refusal (one_line twin)
     ≡
     line (codes "signatures refused line 1 foreign") ([])
-unfolding digits label_text stripped compact position_script item_of_number signed_bytes base64_bytes base64_text psbt_of psbt_bytes records_at maps_at many wide_at compact_at string_at input_at inputs_at output_at
+unfolding digits label_text stripped compact position_script item_of_number signed_bytes base64_bytes
+    base64_text psbt_of psbt_bytes records_at maps_at many wide_at compact_at string_at input_at inputs_at output_at
     outputs_at witness_at witnesses_at plain_at marked_at transaction_at all_at
 of_another_deal = refl

@@ -1,5 +1,6 @@
 -- Where a transaction is finished, every judge that accepts the given signatures finds the scripts of all its inputs true.
-use Rattle.std.proofs.Common.{◌≡◌, ℕ, zero, suc, ◌+◌, List, [], ◌∷◌, ◌++◌, length, map, Bool, true, false, not, Option, Some, None, refl, sym, ap, ◌∙◌, subst, arith, cond}
+use Rattle.std.proofs.Common.{◌≡◌, ℕ, zero, suc, ◌+◌, List, [], ◌∷◌, ◌++◌, length, map, Bool}
+use Rattle.std.proofs.Common.{true, false, not, Option, Some, None, refl, sym, ap, ◌∙◌, subst, arith, cond}
 use Rattle.std.specs.Prelude.{◌&&◌, ◌==◌, slice_get, is_some}
 use Rattle.std.specs.List.{list_all, find}
 use Rattle.std.specs.Option.{option_map, option_map_or, option_and_then}
@@ -37,7 +38,8 @@ use Rattle.spec_deal.specs.declared.finish.FinishRefusal.TheVariants as refusals
 use Rattle.spec_deal.specs.Slots.{Slot, input_slots, slots_from, verb_of}
 use Rattle.spec_deal.specs.Given.{is_for, signature_for}
 use Rattle.spec_deal.specs.SecretFile.{Shown, string_for}
-use Rattle.spec_deal.specs.Finished.{bytes_or_none, input_signatures, deposit_witnesses, strings_of, branch_witness, path_witnesses, witnesses}
+use Rattle.spec_deal.specs.Finished.{bytes_or_none, input_signatures, deposit_witnesses}
+use Rattle.spec_deal.specs.Finished.{strings_of, branch_witness, path_witnesses, witnesses}
 use Rattle.spec_deal.specs.Finished.{signature_refusal, secret_refusal, predicate_holds, predicate_refusal, finish_refusal}
 use Rattle.theory_calculus.proofs.Members.{all_in, found}
 use Rattle.theory_calculus.proofs.Names.{bytes-true}
@@ -130,7 +132,8 @@ module _ (hash : List ℕ → List ℕ) (keys : Keys) (s : Instance) (given : Li
   input_short : are_short given ≡ true → (l : Listed) (k : ℕ) (spent : Spent) (signers : List Label)
       → list_all is_short (input_signatures hash keys s given l k spent signers) ≡ true
   input_short short l k spent [] = refl
-  input_short short l k spent (label ∷ signers) = and_from _ _ (signature_short short (slot_of s.advert l k spent label)) (input_short short l k spent signers)
+  input_short short l k spent (label ∷ signers) = and_from _ _ (signature_short short (slot_of s.advert l k spent label))
+      (input_short short l k spent signers)
 
   input_valid : (l : Listed) (k : ℕ) (spent : Spent) (signers : List Label)
       → list_all (accepts_one hash keys given judge) (input_slots s.advert l k spent signers) ≡ true
@@ -167,7 +170,8 @@ module _ (hash : List ℕ → List ℕ) (keys : Keys) (s : Instance) (given : Li
       → script_meaning hash (judge k) spent.script (input_signatures hash keys s given l k spent labels) ≡ true)
       (sym d.signs)
       (λ a.
-      ap (λ (bytes : List ℕ). script_meaning hash (judge k) bytes (input_signatures hash keys s given l k spent (deposit_signer d.party))) d.script
+      ap (λ (bytes : List ℕ). script_meaning hash (judge k) bytes (input_signatures hash keys s given l k spent
+      (deposit_signer d.party))) d.script
       ∙ deposit_meaning hash (judge k) key (input_signatures hash keys s given l k spent (deposit_signer d.party))
       (are_keys (labels.Deposit d.party)) (input_short short l k spent (deposit_signer d.party))
       ∙ input_valid l k spent (deposit_signer d.party) a)
@@ -264,7 +268,8 @@ module _ (hash : List ℕ → List ℕ) (keys : Keys) (s : Instance) (given : Li
         ap (branch_witness s strings (signatures l)) ends
         ∙ ap
         (λ (o : Option Contract).
-        witness_of (signatures l) (strings_of strings (reveals_of (core b))) i (option_map_or (λ c. length (branches c)) o 0) here.output.script)
+        witness_of (signatures l) (strings_of strings (reveals_of (core b))) i (option_map_or (λ c. length
+        (branches c)) o 0) here.output.script)
         place.stands.branches
 
     first_script : (l : Listed) → script_of (branch_witness s strings (signatures l) (end_at hash keys s path)) ≡ here.output.script
@@ -331,7 +336,8 @@ module _ (hash : List ℕ → List ℕ) (keys : Keys) (s : Instance) (given : Li
   initial_opens : Opened (initial_listed hash keys s)
   initial_opens refusal h =
       let l = initial_listed hash keys s in
-      deposits_open hash keys s given judge are_keys short l 0 l.draft.spends l.signers (persistent_are hash keys s given judge (persistent s.advert.pre)) h
+      deposits_open hash keys s given judge are_keys short l 0 l.draft.spends l.signers
+      (persistent_are hash keys s given judge (persistent s.advert.pre)) h
 
   path_opens : (path : List PathStep) (here : Standing) (i : ℕ) (b : term.Guarded)
       → end_at hash keys s path ≡ Some (at_branch here i b) → branch_path here.position i ≡ path

@@ -1,4 +1,5 @@
 mod Branches
+mod Causes
 mod FinishedOpens
 mod Listed
 mod PlanOfRuns

@@ -57,7 +57,8 @@ module _ (hash : List ℕ → List ℕ) (keys : Keys) (s : Instance) where
       → shown (map (λ p. of_runs (script_line p)) ps ++ rest) ≡ flat_map script_line ps ++ shown rest
   scripts_shown [] rest = refl
   scripts_shown (p ∷ ps) rest =
-      ap (λ (x : List ℕ). script_line p ++ x) (scripts_shown ps rest) ∙ sym (append_assoc (script_line p) (flat_map script_line ps) (shown rest))
+      ap (λ (x : List ℕ). script_line p ++ x) (scripts_shown ps rest) ∙ sym (append_assoc (script_line p)
+      (flat_map script_line ps) (shown rest))
 
   inputs_shown : (l : Listed) (k : ℕ) (spends : List Spent) (signers : List (List Label)) → length signers ≡ length spends
       → shown (input_lines hash s.advert l k spends signers)
@@ -69,7 +70,8 @@ module _ (hash : List ℕ → List ℕ) (keys : Keys) (s : Instance) where
       let later = input_lines hash s.advert l (k + 1) spends signers in
       let n : length signers ≡ length spends = cc in
       ap (λ (x : List ℕ). 100 ∷ 105 ∷ 103 ∷ 101 ∷ 115 ∷ 116 ∷ 32 ∷ x)
-      (words_before (which_text l.which) (decimal k) (hex_text digest) (shown (map sign_line (input_slots s.advert l k spent labels) ++ later))
+      (words_before (which_text l.which) (decimal k) (hex_text digest) (shown (map sign_line
+      (input_slots s.advert l k spent labels) ++ later))
       ∙ ap
       (λ (x : List ℕ). which_text l.which ++ (32 ∷ (decimal k ++ (32 ∷ (hex_text digest ++ 10 ∷ x)))))
       (signs_hidden (input_slots s.advert l k spent labels) later ∙ inputs_shown l (k + 1) spends signers n))
@@ -104,7 +106,8 @@ module _ (hash : List ℕ → List ℕ) (keys : Keys) (s : Instance) where
       let others = flat_map (listed_lines hash s.advert) (map (λ p. path_listed s (p.0) (p.1)) (path_transactions hash keys s)) in
       ap
       (λ (x : List ℕ). (codes "contract 0 compiled" ++ 10 ∷ []) ++ x)
-      (scripts_shown (scripts hash keys s) (map (deposit_line hash keys s) (deposits s.advert.pre) ++ (listed_lines hash s.advert first ++ others))
+      (scripts_shown (scripts hash keys s) (map (deposit_line hash keys s) (deposits s.advert.pre) ++
+      (listed_lines hash s.advert first ++ others))
       ∙ ap
       (λ (x : List ℕ). flat_map script_line (scripts hash keys s) ++ x)
       (deposits_hidden (deposits s.advert.pre) (listed_lines hash s.advert first ++ others)

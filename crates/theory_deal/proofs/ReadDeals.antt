@@ -1,5 +1,6 @@
 -- The keys of a deal that is taken have 33 bytes, and its hashes 32.
-use Rattle.std.proofs.Common.{◌≡◌, ℕ, ◌+◌, List, [], ◌∷◌, ◌++◌, length, map, Bool, true, false, not, Option, Some, None, refl, sym, ap, ◌∙◌, subst, arith, cond}
+use Rattle.std.proofs.Common.{◌≡◌, ℕ, ◌+◌, List, [], ◌∷◌, ◌++◌, length, map, Bool, true}
+use Rattle.std.proofs.Common.{false, not, Option, Some, None, refl, sym, ap, ◌∙◌, subst, arith, cond}
 use Rattle.std.specs.Prelude.{Result, Ok, Err, nat_lt, ◌&&◌, ◌||◌, ◌==◌, codes, reverse, is_some}
 use Rattle.std.specs.List.{list_all, list_any, find}
 use Rattle.std.specs.Option.{option_map}
@@ -22,9 +23,11 @@ use Rattle.spec_deal.specs.declared.fault.DealFault.TheVariants as faults
 use Rattle.spec_deal.specs.Sizes.{most_deal_bytes}
 use Rattle.spec_deal.specs.Needed.{needed, needed_labels, needed_deposits, needed_secrets, same_needed, same_label}
 use Rattle.spec_deal.specs.Setting.{key_at}
-use Rattle.spec_deal.specs.DealFile.{Value, key, place, hash, same_value, Entry, is_key, key_of_word, place_of_words, hash_of_word, label_of_word}
+use Rattle.spec_deal.specs.DealFile.{Value, key, place, hash, same_value}
+use Rattle.spec_deal.specs.DealFile.{Entry, is_key, key_of_word, place_of_words, hash_of_word, label_of_word}
 use Rattle.spec_deal.specs.DealFile.{Line, empty, bad, gives, given_once, with_needed, key_line, deposit_line, hash_line, line_says}
-use Rattle.spec_deal.specs.DealFile.{read_entries, value_for, key_or_none, hash_or_none, deal_of, is_given, first_missing, whole_deal, deal_judged}
+use Rattle.spec_deal.specs.DealFile.{read_entries, value_for, key_or_none, hash_or_none}
+use Rattle.spec_deal.specs.DealFile.{deal_of, is_given, first_missing, whole_deal, deal_judged}
 use Rattle.theory_calculus.proofs.Members.{all_append, all_in, all_map, found}
 use Rattle.theory_calculus.proofs.Names.{bytes-true}
 use Rattle.theory_deal.proofs.Listed.{all_pass}

@@ -1,5 +1,6 @@
 -- Each signature that is taken of a file has the shape.
-use Rattle.std.proofs.Common.{◌≡◌, ℕ, ◌+◌, List, [], ◌∷◌, ◌++◌, length, Bool, true, false, not, Option, Some, None, refl, ap, subst, arith, cond}
+use Rattle.std.proofs.Common.{◌≡◌, ℕ, ◌+◌, List, [], ◌∷◌, ◌++◌, length, Bool, true}
+use Rattle.std.proofs.Common.{false, not, Option, Some, None, refl, ap, subst, arith, cond}
 use Rattle.std.specs.Prelude.{Result, Ok, Err, nat_lt, ◌&&◌}
 use Rattle.std.specs.List.{list_all, list_any, find}
 use Rattle.std.specs.Str.{bytes_eq}
@@ -23,8 +24,10 @@ use Rattle.spec_deal.specs.Sizes.{most_signature_bytes}
 use Rattle.spec_deal.specs.Shape.{is_strict}
 use Rattle.spec_deal.specs.Slots.{Slot, slots}
 use Rattle.spec_deal.specs.Given.{is_for}
-use Rattle.spec_deal.specs.SignatureFile.{Taken, same_place, taken_once, take_signature, take_signatures, spent_fits, script_fits, witness_fits}
-use Rattle.spec_deal.specs.SignatureFile.{final_signature, take_input, take_inputs, has_bytes, take_listed, take_psbt, take_bytes, take_words, take_lines}
+use Rattle.spec_deal.specs.SignatureFile.{Taken, same_place, taken_once, take_signature}
+use Rattle.spec_deal.specs.SignatureFile.{take_signatures, spent_fits, script_fits, witness_fits}
+use Rattle.spec_deal.specs.SignatureFile.{final_signature, take_input, take_inputs, has_bytes}
+use Rattle.spec_deal.specs.SignatureFile.{take_listed, take_psbt, take_bytes, take_words, take_lines}
 use Rattle.theory_calculus.proofs.Members.{all_append, all_then}
 use Rattle.theory_deal.proofs.Shapes.{strict_has_shape, shape_is_short}
 use Rattle.theory_deal.specs.Files.{SignaturesAreShaped}
@@ -37,7 +40,8 @@ abbrev IsShaped : {E : Type 0} → Result (List Signed) E → Type 0
 IsShaped (Ok given) = Shaped given
 IsShaped (Err reason) = Unit {0}
 
-once : (given : List Signed) (g : Signed) (o : Option Signed) → Shaped given → is_strict g.signature ≡ true → IsShaped (taken_once given g o)
+once : (given : List Signed) (g : Signed) (o : Option Signed) → Shaped given → is_strict g.signature ≡ true → IsShaped
+    (taken_once given g o)
 once given g None h k = all_append (λ (x : Signed). is_strict x.signature) given (g ∷ []) h (ap (λ (b : Bool). b && true) k)
 once given g (Some earlier) h k = by_test (bytes_eq earlier.signature g.signature)
   where
@@ -93,7 +97,11 @@ module _ (hash : List ℕ → List ℕ) (keys : Keys) where
     where
       by_taken : (r : Taken) → IsShaped r
           → ((more : List Signed) → Shaped more → IsShaped (take_inputs hash keys wanted tx (k + 1) more spends ins))
-          → IsShaped {E = SignatureReason} (elim r [ Ok more ↦ take_inputs hash keys wanted tx (k + 1) more spends ins | Err reason ↦ Err reason ])
+          → IsShaped {E = SignatureReason} (elim r [
+            | Ok more ↦ take_inputs hash keys wanted tx
+                (k + 1) more spends ins
+            | Err reason ↦ Err reason
+          ])
       by_taken (Ok more) m go = go more m
       by_taken (Err reason) m go = tt
 
@@ -119,7 +127,8 @@ module _ (hash : List ℕ → List ℕ) (keys : Keys) where
       → IsShaped (take_lines hash keys s given n lines)
   of_lines s given n [] h = h
   of_lines s given n (line ∷ lines) h =
-      by_taken (take_words hash keys s given (words_of line)) (of_words s given (words_of line) h) (λ more m. of_lines s more (n + 1) lines m)
+      by_taken (take_words hash keys s given (words_of line)) (of_words s given (words_of line) h)
+      (λ more m. of_lines s more (n + 1) lines m)
     where
       by_taken : (r : Taken) → IsShaped r
           → ((more : List Signed) → Shaped more → IsShaped (take_lines hash keys s more (n + 1) lines))

@@ -55,7 +55,8 @@ module _ (hash : List ℕ → List ℕ) (keys : Keys) (s : Instance) (given : Li
           endorsed = endorsed_if l.which (first_none (endorsement_refusal hash keys s given l.which) _ h);
           signed =
               all_pass (has hash keys given) (listed_slots s.advert l)
-              (map_none (λ (slot : Slot). refusals.Signature slot.input slot.label) _ (first_none (signature_refusal hash keys s given l) _ a));
+              (map_none (λ (slot : Slot). refusals.Signature slot.input slot.label) _ (first_none
+              (signature_refusal hash keys s given l) _ a));
           shown =
               all_pass (λ name. is_some (string_for strings name)) (revealed_by (which_branch s l.which))
               (map_none refusals.Secret _ (first_none (secret_refusal strings (which_branch s l.which)) _ b));

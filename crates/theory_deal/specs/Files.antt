@@ -1,4 +1,5 @@
--- What is claimed of the files of a deal that are taken: keys and hashes have their sizes, signatures their shape, and secrets their hashes.
+-- What is claimed of the files of a deal that are taken: keys and hashes have their sizes, signatures their shape, and secrets their
+-- hashes.
 use Rattle.std.specs.Prelude.{◌≡◌, ℕ, List, true, Ok}
 use Rattle.std.specs.List.{list_all}
 use Rattle.spec_terms.specs.Advert.{Advert}

@@ -4,3 +4,4 @@ pub mod Finished
 pub mod Shapes
 pub mod Files
 pub mod Whole
+pub mod Causes

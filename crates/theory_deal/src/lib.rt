@@ -1,6 +1,7 @@
 //! What follows of deals: each theorem is the contract of a function that does nothing.
 #![tactic(auto)]
 
+ghost use Rattle.theory_deal.specs.Causes.{DealCausesTheorem};
 ghost use Rattle.theory_deal.specs.Files.{DealsAreSized, SecretsFit, SignaturesAreShaped};
 ghost use Rattle.theory_deal.specs.Finished.{FinishedOpens, FinishedIsPlanned, FalseWithoutOne};
 ghost use Rattle.theory_deal.specs.Plan.{PlanOfRuns};
@@ -71,4 +72,9 @@ pub fn finishes_exactly()
 /// What `finish` prints of files that are taken is the plan's transaction, with witnesses that make all its scripts true.
 pub fn finish_theorem()
     ensures { FinishTheorem }
+{}
+
+/// Each status of the program for deals comes by its cause.
+pub fn deal_statuses_have_causes()
+    ensures { DealCausesTheorem }
 {}

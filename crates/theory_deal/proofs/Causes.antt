@@ -1,0 +1,185 @@
+-- Each status of the program for deals comes by its cause.
+use Rattle.std.proofs.Common.{◌≡◌, ℕ, ◌↔◌, true, List, [], ◌∷◌, Option, Some, None, refl, subst, arith}
+use Rattle.std.specs.Prelude.{Result, Ok, Err, is_err, ◌==◌}
+use Rattle.std.proofs.lemmas.Bool.{false≢true, or_right}
+use Rattle.spec_data.specs.Lists.{has_number}
+use Rattle.spec_data.specs.Messages.{collision}
+use Rattle.spec_terms.specs.Advert.{Advert}
+use Rattle.spec_compiler.specs.Keyed.Keys.{Keys}
+use Rattle.spec_compiler.specs.Keyed.Instance.{Instance}
+use Rattle.spec_text.specs.Refusals.{Judged}
+use Rattle.spec_tool.specs.declared.which.Which.{Which}
+use Rattle.spec_tool.specs.Answers.{contract_in}
+use Rattle.spec_tool.specs.Commands.{Printed, prints}
+use Rattle.spec_tool.specs.PsbtText.{psbt_line}
+use Rattle.spec_deal.specs.DealText.{keys_text, plan_text, psbts_text, unsigned_psbt, missing_text, held_text}
+use Rattle.spec_tool.specs.Keyed.Listed.{Listed, listed_at}
+use Rattle.spec_tool.specs.Reads.{Read, Text, text_at, texts_read}
+use Rattle.spec_deal.specs.declared.deal.Deal.{Deal}
+use Rattle.spec_deal.specs.declared.signed.Signed.{Signed}
+use Rattle.spec_deal.specs.declared.fault.DealFault.{DealFault}
+use Rattle.spec_deal.specs.declared.fault.SignatureFault.{SignatureFault}
+use Rattle.spec_deal.specs.declared.finish.FinishRefusal.{FinishRefusal}
+use Rattle.spec_deal.specs.Answers.{with_advert, circular, unless_circular, unless_collided, with_deal, deal_in, of_deal, if_there}
+use Rattle.spec_deal.specs.Answers.{of_transaction, of_signatures, with_signatures, signatures_in}
+use Rattle.spec_deal.specs.Answers.{with_secrets, secrets_in, unless_refused, finished_answer}
+use Rattle.spec_deal.specs.Answers.{finish_answer, finish_with_answer, deal_text_answer, deal_read_answer, deal_answer}
+use Rattle.spec_deal.specs.Commands as commands
+use Rattle.spec_deal.specs.Commands.{DealCommand}
+use Rattle.spec_deal.specs.Finished.{finished, finish_refusal}
+use Rattle.spec_bitcoin.specs.Spelling.{spelling}
+use Rattle.spec_deal.specs.Hashed.{deal_strings}
+use Rattle.spec_deal.specs.SecretFile.{Shown, SecretsRead, shows, refused, collided}
+use Rattle.spec_deal.specs.Setting.{deal_keys, deal_instance}
+use Rattle.theory_deal.specs.Causes.{deal_statuses, DealCausesTheorem}
+
+-- what is answered of a contract that is taken: no status but these
+abbrev later : List ℕ
+later = 0 ∷ 8 ∷ 13 ∷ 14 ∷ 15 ∷ 16 ∷ []
+
+abbrev IsLater : Printed → Type 0
+IsLater printed = has_number printed.status later ≡ true
+
+abbrev IsAny : Printed → Type 0
+IsAny printed = has_number printed.status deal_statuses ≡ true
+
+-- ---- answers
+
+signatures_later : (answer : List Signed → Printed) (r : Result (List Signed) SignatureFault) → ((given : List Signed)
+    → IsLater (answer given))
+    → IsLater (with_signatures answer r)
+signatures_later answer (Ok given) h = h given
+signatures_later answer (Err fault) h = refl
+
+secrets_later : (answer : List Shown → Printed) (r : SecretsRead) → ((strings : List Shown) → IsLater (answer strings))
+    → IsLater (with_secrets answer r)
+secrets_later answer (shows strings) h = h strings
+secrets_later answer (refused fault) h = refl
+secrets_later answer (collided first second) h = refl
+
+refusal_later : (o : Option FinishRefusal) (bytes : List ℕ) → IsLater (unless_refused o bytes)
+refusal_later None bytes = refl
+refusal_later (Some refusal) bytes = refl
+
+there_later : (answer : Listed → Printed) (which : Which) (o : Option Listed) → ((l : Listed) → IsLater (answer l))
+    → IsLater (if_there answer which o)
+there_later answer which None h = refl
+there_later answer which (Some l) h = h l
+
+circular_later : (o : Option (List ℕ)) (printed : Printed) → IsLater printed → IsLater (unless_circular o printed)
+circular_later None printed h = h
+circular_later (Some name) printed h = refl
+
+collided_later : (o : Option (List ℕ × List ℕ)) (printed : Printed) → IsLater printed → IsLater (unless_collided o printed)
+collided_later None printed h = h
+collided_later (Some pair) printed h = refl
+
+module _ (hash : List ℕ → List ℕ) where
+  deal_later : (answer : Keys → Instance → Printed) (advert : Advert) (r : Result Deal DealFault)
+      → ((keys : Keys) (s : Instance) → IsLater (answer keys s)) → IsLater (with_deal hash answer advert r)
+  deal_later answer advert (Err fault) h = refl
+  deal_later answer advert (Ok deal) h =
+      let keys = deal_keys deal in
+      let s = deal_instance advert deal in
+      collided_later (collision hash [] (deal_strings hash keys s)) (unless_circular (circular hash keys s) (answer keys s))
+      (circular_later (circular hash keys s) (answer keys s) (h keys s))
+
+  finished_later : (keys : Keys) (s : Instance) (l : Listed) (given : List Signed) (strings : List Shown)
+      → IsLater (finished_answer hash keys s l given strings)
+  finished_later keys s l given strings =
+      refusal_later (finish_refusal hash keys s given strings l) (spelling (finished hash keys s given strings l))
+
+  finish_later : (text : Text) (keys : Keys) (s : Instance) (l : Listed) → IsLater (finish_answer hash text keys s l)
+  finish_later text keys s l = signatures_later (λ given. finished_answer hash keys s l given []) (signatures_in hash keys s text)
+      (λ given. finished_later keys s l given [])
+
+  finish_with_later : (text secrets : Text) (keys : Keys) (s : Instance) (l : Listed)
+      → IsLater (finish_with_answer hash text secrets keys s l)
+  finish_with_later text secrets keys s l =
+      signatures_later
+      (λ given. with_secrets (λ strings. finished_answer hash keys s l given strings) (secrets_in hash keys s secrets))
+      (signatures_in hash keys s text)
+      (λ given.
+      secrets_later (λ strings. finished_answer hash keys s l given strings) (secrets_in hash keys s secrets)
+      (λ strings. finished_later keys s l given strings))
+
+  -- ---- the contract
+
+  -- an answer that begins with the contract
+  record Begins (printed : Printed) (r : Judged Advert) : Type 0 where
+    one : (printed.status ≡ 1) ↔ (is_err r ≡ true)
+    any : IsAny printed
+
+  weaker : (n : ℕ) → has_number n later ≡ true → has_number n deal_statuses ≡ true
+  weaker n h = or_right (1 == n) (has_number n later) h
+
+  begins : (answer : Advert → Printed) (r : Judged Advert) → ((advert : Advert) → IsLater (answer advert))
+      → Begins (with_advert answer r) r
+  begins answer (Err why) h = record { one = (λ e. refl, λ e. refl); any = refl }
+  begins answer (Ok advert) h = record {
+    one = (
+      λ e. absurd (false≢true (subst (λ (n : ℕ). has_number n later ≡ true) e (h advert))),
+      λ e. absurd (false≢true e),
+    );
+    any = weaker (answer advert).status (h advert);
+  }
+
+  of_deal_begins : (answer : Keys → Instance → Printed) (texts : List Text) → ((keys : Keys) (s : Instance) → IsLater (answer keys s))
+      → Begins (of_deal hash answer texts) (contract_in (text_at texts 0))
+  of_deal_begins answer texts h =
+      begins (λ advert. with_deal hash answer advert (deal_in advert (text_at texts 1))) (contract_in (text_at texts 0))
+      (λ advert. deal_later answer advert (deal_in advert (text_at texts 1)) h)
+
+  text_begins : (command : DealCommand) (texts : List Text) → Begins (deal_text_answer hash command texts) (contract_in (text_at texts 0))
+  text_begins (commands.keys contract) texts =
+      begins (λ advert. prints 0 (keys_text advert)) (contract_in (text_at texts 0)) (λ advert. refl)
+  text_begins (commands.plan contract deal) texts = of_deal_begins (λ keys s. prints 0 (plan_text hash keys s)) texts (λ keys s. refl)
+  text_begins (commands.psbts contract deal) texts = of_deal_begins (λ keys s. prints 0 (psbts_text hash keys s)) texts (λ keys s. refl)
+  text_begins (commands.psbt contract deal which) texts =
+      let one : Keys → Instance → Listed → Printed = λ keys s l. prints 0 (psbt_line (unsigned_psbt hash l)) in
+      of_deal_begins (of_transaction hash which one) texts
+      (λ keys s. there_later (one keys s) which (listed_at hash keys s which) (λ l. refl))
+  text_begins (commands.missing contract deal signatures) texts =
+      let one : Keys → Instance → List Signed → Printed = λ keys s given. prints 0 (missing_text hash keys s given) in
+      of_deal_begins (of_signatures hash one (text_at texts 2)) texts
+      (λ keys s. signatures_later (one keys s) (signatures_in hash keys s (text_at texts 2)) (λ given. refl))
+  text_begins (commands.held contract deal signatures) texts =
+      let one : Keys → Instance → List Signed → Printed = λ keys s given. prints 0 (held_text hash keys s given) in
+      of_deal_begins (of_signatures hash one (text_at texts 2)) texts
+      (λ keys s. signatures_later (one keys s) (signatures_in hash keys s (text_at texts 2)) (λ given. refl))
+  text_begins (commands.finish contract deal which signatures) texts =
+      let one = finish_answer hash (text_at texts 2) in
+      of_deal_begins (of_transaction hash which one) texts
+      (λ keys s. there_later (one keys s) which (listed_at hash keys s which) (finish_later (text_at texts 2) keys s))
+  text_begins (commands.finish_with contract deal which signatures secrets) texts =
+      let one = finish_with_answer hash (text_at texts 2) (text_at texts 3) in
+      of_deal_begins (of_transaction hash which one) texts
+      (λ keys s. there_later (one keys s) which (listed_at hash keys s which) (finish_with_later (text_at texts 2)
+      (text_at texts 3) keys s))
+
+  -- ---- reads and words
+
+  unread_by : (command : DealCommand) (o : Option (List Text)) → ((deal_read_answer hash command o).status ≡ 3) ↔ (o ≡ None)
+  unread_by command None = (λ e. refl, λ e. refl)
+  unread_by command (Some texts) = (
+    λ e. absurd (false≢true (subst (λ (n : ℕ). has_number n deal_statuses ≡ true) e (text_begins command texts).any)),
+    λ e. cc,
+  )
+
+  no_usage : (command : DealCommand) (o : Option (List Text)) → (deal_read_answer hash command o).status ≡ 2 → ⊥
+  no_usage command None e = absurd (omega (arith, e))
+  no_usage command (Some texts) e =
+      false≢true (subst (λ (n : ℕ). has_number n deal_statuses ≡ true) e (text_begins command texts).any)
+
+by_command : (hash : List ℕ → List ℕ) (command : Option DealCommand) (reads : List Read)
+    → ((deal_answer hash command reads).status ≡ 2) ↔ (command ≡ None)
+by_command hash None reads = (λ e. refl, λ e. refl)
+by_command hash (Some command) reads = (λ e. absurd (no_usage hash command (texts_read reads) e), λ e. cc)
+
+pub deal_causes : DealCausesTheorem
+deal_causes = record {
+  usage = λ hash command reads. by_command hash command reads;
+  unread = λ hash command reads. unread_by hash command (texts_read reads);
+  contract_refused = λ hash command texts. (text_begins hash command texts).one;
+  others = λ hash command texts. (text_begins hash command texts).any;
+}

@@ -1,6 +1,9 @@
 -- Each status of the program for deals comes by its cause.
-use Rattle.std.proofs.Common.{◌≡◌, ℕ, ◌↔◌, true, List, [], ◌∷◌, Option, Some, None, refl, subst, arith}
-use Rattle.std.specs.Prelude.{Result, Ok, Err, is_err, ◌==◌}
+use Rattle.std.proofs.Common.{◌≡◌, ℕ, ◌↔◌, true, List, [], ◌∷◌, Option, Some, None, refl, subst, arith, ◌∙◌}
+use Rattle.std.specs.Prelude.{Result, Ok, Err, is_err, is_some, ◌==◌, ◌&&◌}
+use Rattle.std.specs.Option.{is_none}
+use Rattle.std.proofs.Common.{sym}
+use Rattle.std.specs.Prelude.{Bool, false}
 use Rattle.std.proofs.lemmas.Bool.{false≢true, or_right}
 use Rattle.spec_data.specs.Lists.{has_number}
 use Rattle.spec_data.specs.Messages.{collision}
@@ -31,14 +34,28 @@ use Rattle.spec_bitcoin.specs.Spelling.{spelling}
 use Rattle.spec_deal.specs.Hashed.{deal_strings}
 use Rattle.spec_deal.specs.SecretFile.{Shown, SecretsRead, shows, refused, collided}
 use Rattle.spec_deal.specs.Setting.{deal_keys, deal_instance}
-use Rattle.theory_deal.specs.Causes.{deal_statuses, DealCausesTheorem}
+use Rattle.theory_deal.specs.Causes.{deal_statuses, reads_deal, is_refused, is_deal_refused, DealCausesTheorem}
 
--- what is answered of a contract that is taken: no status but these
-abbrev later : List ℕ
-later = 0 ∷ 8 ∷ 13 ∷ 14 ∷ 15 ∷ 16 ∷ []
+-- what is answered of a deal that is taken: no status but these
+abbrev after_deal : List ℕ
+after_deal = 0 ∷ 8 ∷ 14 ∷ 15 ∷ 16 ∷ []
 
 abbrev IsLater : Printed → Type 0
-IsLater printed = has_number printed.status later ≡ true
+IsLater printed = has_number printed.status after_deal ≡ true
+
+-- an answer that begins with the deal
+record OfDeal (printed : Printed) (is_bad : Bool) : Type 0 where
+  thirteen : (printed.status ≡ 13) ↔ (is_bad ≡ true)
+  any : has_number printed.status (13 ∷ after_deal) ≡ true
+
+taken_deal : (printed : Printed) → IsLater printed → OfDeal printed false
+taken_deal printed h = record {
+  thirteen = (
+    λ e. absurd (false≢true (subst (λ (n : ℕ). has_number n after_deal ≡ true) e h)),
+    λ e. absurd (false≢true e),
+  );
+  any = or_right (13 == printed.status) (has_number printed.status after_deal) h;
+}
 
 abbrev IsAny : Printed → Type 0
 IsAny printed = has_number printed.status deal_statuses ≡ true
@@ -66,23 +83,20 @@ there_later : (answer : Listed → Printed) (which : Which) (o : Option Listed) 
 there_later answer which None h = refl
 there_later answer which (Some l) h = h l
 
-circular_later : (o : Option (List ℕ)) (printed : Printed) → IsLater printed → IsLater (unless_circular o printed)
-circular_later None printed h = h
-circular_later (Some name) printed h = refl
-
-collided_later : (o : Option (List ℕ × List ℕ)) (printed : Printed) → IsLater printed → IsLater (unless_collided o printed)
-collided_later None printed h = h
-collided_later (Some pair) printed h = refl
+by_circular : (c : Option (List ℕ × List ℕ)) (o : Option (List ℕ)) (printed : Printed) → IsLater printed
+    → OfDeal (unless_collided c (unless_circular o printed)) (is_none c && is_some o)
+by_circular (Some pair) o printed h = taken_deal (unless_collided (Some pair) (unless_circular o printed)) refl
+by_circular None None printed h = taken_deal printed h
+by_circular None (Some name) printed h = record { thirteen = (λ e. refl, λ e. refl); any = refl }
 
 module _ (hash : List ℕ → List ℕ) where
   deal_later : (answer : Keys → Instance → Printed) (advert : Advert) (r : Result Deal DealFault)
-      → ((keys : Keys) (s : Instance) → IsLater (answer keys s)) → IsLater (with_deal hash answer advert r)
-  deal_later answer advert (Err fault) h = refl
+      → ((keys : Keys) (s : Instance) → IsLater (answer keys s)) → OfDeal (with_deal hash answer advert r) (is_refused hash advert r)
+  deal_later answer advert (Err fault) h = record { thirteen = (λ e. refl, λ e. refl); any = refl }
   deal_later answer advert (Ok deal) h =
       let keys = deal_keys deal in
       let s = deal_instance advert deal in
-      collided_later (collision hash [] (deal_strings hash keys s)) (unless_circular (circular hash keys s) (answer keys s))
-      (circular_later (circular hash keys s) (answer keys s) (h keys s))
+      by_circular (collision hash [] (deal_strings hash keys s)) (circular hash keys s) (answer keys s) (h keys s)
 
   finished_later : (keys : Keys) (s : Instance) (l : Listed) (given : List Signed) (strings : List Shown)
       → IsLater (finished_answer hash keys s l given strings)
@@ -106,33 +120,53 @@ module _ (hash : List ℕ → List ℕ) where
   -- ---- the contract
 
   -- an answer that begins with the contract
-  record Begins (printed : Printed) (r : Judged Advert) : Type 0 where
+  record Begins (printed : Printed) (r : Judged Advert) (is_bad : Bool) : Type 0 where
     one : (printed.status ≡ 1) ↔ (is_err r ≡ true)
+    thirteen : (printed.status ≡ 13) ↔ (is_bad ≡ true)
     any : IsAny printed
 
-  weaker : (n : ℕ) → has_number n later ≡ true → has_number n deal_statuses ≡ true
-  weaker n h = or_right (1 == n) (has_number n later) h
-
-  begins : (answer : Advert → Printed) (r : Judged Advert) → ((advert : Advert) → IsLater (answer advert))
-      → Begins (with_advert answer r) r
-  begins answer (Err why) h = record { one = (λ e. refl, λ e. refl); any = refl }
-  begins answer (Ok advert) h = record {
-    one = (
-      λ e. absurd (false≢true (subst (λ (n : ℕ). has_number n later ≡ true) e (h advert))),
-      λ e. absurd (false≢true e),
-    );
-    any = weaker (answer advert).status (h advert);
+  begins : (answer : Advert → Printed) (bad : Advert → Bool) (r : Judged Advert) (is_bad : Bool)
+      → ((advert : Advert) → OfDeal (answer advert) (bad advert)) → is_bad ≡ elim r [ Ok advert ↦ bad advert | Err why ↦ false ]
+      → Begins (with_advert answer r) r is_bad
+  begins answer bad (Err why) is_bad h e = record {
+    one = (λ x. refl, λ x. refl);
+    thirteen = (λ x. absurd (omega (arith, x)), λ x. absurd (false≢true (sym e ∙ x)));
+    any = refl;
   }
+  begins answer bad (Ok advert) is_bad h e = record {
+    one = (
+      λ x. absurd (false≢true (subst (λ (n : ℕ). has_number n (13 ∷ after_deal) ≡ true) x (h advert).any)),
+      λ x. absurd (false≢true x),
+    );
+    thirteen = (λ x. e ∙ (h advert).thirteen.0 x, λ x. (h advert).thirteen.1 (sym e ∙ x));
+    any = or_right (1 == (answer advert).status) (has_number (answer advert).status (13 ∷ after_deal)) (h advert).any;
+  }
+
+  same_refusal : (r : Judged Advert) (text : Text)
+      → is_deal_refused hash r text ≡ elim r [ Ok advert ↦ is_refused hash advert (deal_in advert text) | Err why ↦ false ]
+  same_refusal (Ok advert) text = refl
+  same_refusal (Err why) text = refl
+
+  none_refused : (r : Judged Advert) → false ≡ elim r [ Ok advert ↦ false | Err why ↦ false ]
+  none_refused (Ok advert) = refl
+  none_refused (Err why) = refl
 
   of_deal_begins : (answer : Keys → Instance → Printed) (texts : List Text) → ((keys : Keys) (s : Instance) → IsLater (answer keys s))
       → Begins (of_deal hash answer texts) (contract_in (text_at texts 0))
+      (is_deal_refused hash (contract_in (text_at texts 0)) (text_at texts 1))
   of_deal_begins answer texts h =
-      begins (λ advert. with_deal hash answer advert (deal_in advert (text_at texts 1))) (contract_in (text_at texts 0))
+      begins (λ advert. with_deal hash answer advert (deal_in advert (text_at texts 1)))
+      (λ advert. is_refused hash advert (deal_in advert (text_at texts 1)))
+      (contract_in (text_at texts 0)) (is_deal_refused hash (contract_in (text_at texts 0)) (text_at texts 1))
       (λ advert. deal_later answer advert (deal_in advert (text_at texts 1)) h)
+      (same_refusal (contract_in (text_at texts 0)) (text_at texts 1))
 
-  text_begins : (command : DealCommand) (texts : List Text) → Begins (deal_text_answer hash command texts) (contract_in (text_at texts 0))
+  text_begins : (command : DealCommand) (texts : List Text)
+      → Begins (deal_text_answer hash command texts) (contract_in (text_at texts 0))
+      (reads_deal command && is_deal_refused hash (contract_in (text_at texts 0)) (text_at texts 1))
   text_begins (commands.keys contract) texts =
-      begins (λ advert. prints 0 (keys_text advert)) (contract_in (text_at texts 0)) (λ advert. refl)
+      begins (λ advert. prints 0 (keys_text advert)) (λ advert. false) (contract_in (text_at texts 0)) false
+      (λ advert. taken_deal (prints 0 (keys_text advert)) refl) (none_refused (contract_in (text_at texts 0)))
   text_begins (commands.plan contract deal) texts = of_deal_begins (λ keys s. prints 0 (plan_text hash keys s)) texts (λ keys s. refl)
   text_begins (commands.psbts contract deal) texts = of_deal_begins (λ keys s. prints 0 (psbts_text hash keys s)) texts (λ keys s. refl)
   text_begins (commands.psbt contract deal which) texts =
@@ -181,5 +215,6 @@ deal_causes = record {
   usage = λ hash command reads. by_command hash command reads;
   unread = λ hash command reads. unread_by hash command (texts_read reads);
   contract_refused = λ hash command texts. (text_begins hash command texts).one;
+  deal_refused = λ hash command texts. (text_begins hash command texts).thirteen;
   others = λ hash command texts. (text_begins hash command texts).any;
 }

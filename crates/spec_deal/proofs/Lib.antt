@@ -1,3 +1,4 @@
 pub mod WorkedFiles
 pub mod WorkedShapes
 pub mod WorkedSignatures
+pub mod WorkedGiven

@@ -1,0 +1,2 @@
+pub mod WorkedRuns
+pub mod Worked

@@ -59,10 +59,14 @@ abbrev pub endorsed_for : Setup → World → List ℕ → Option Instance → L
 endorsed_for s w party None = []
 endorsed_for s w party (Some instance) = if is_honest s party then endorsed w.book (needs_at s instance) else []
 
+-- whether the deposit that a name is bound to is there; before the contract is advertised none is bound, and so none is gone
+abbrev pub isnt_gone : Configuration → ℕ → List ℕ → Bool
+isnt_gone g k x = not (is_advertised g.advertised k) || is_there g.deposits (look_up x (bindings_of g.advertised k))
+
 -- the persistent deposits are there, and their owners let the contract take them
 abbrev pub started : Configuration → ℕ → List (List ℕ × Holding) → List Condition
 started g k ds =
-    map (λ d. (is_there g.deposits (look_up (d.0) (bindings_of g.advertised k)), wants.Deposit (d.0))) ds
+    map (λ d. (isnt_gone g k (d.0), wants.Deposit (d.0))) ds
     ++ map (λ d. (is_init_authorised g.init_authorised k (d.0), wants.Start (d.1).owner k)) ds
 
 -- ---- once it has begun

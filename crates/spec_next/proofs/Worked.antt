@@ -1,6 +1,6 @@
 -- Worked values of what comes next in a run, at each stage of a contract.
 use Rattle.spec_terms.specs.Readable.{is_name}
-use Rattle.std.proofs.Common.{◌≡◌, ℕ, List, [], ◌∷◌, ◌++◌, refl, Some, None, replicate}
+use Rattle.std.proofs.Common.{◌≡◌, [], ◌∷◌, refl, Some, None, replicate}
 use Rattle.std.specs.Prelude.{codes}
 use Rattle.std.specs.Fmt.{digits}
 use Rattle.spec_bitcoin.specs.Keys.{label_text}
@@ -18,12 +18,12 @@ use Rattle.spec_text.specs.ReadContract.{branches_at, choice_with, parts_at, aut
 use Rattle.spec_text.specs.ReadTest.{constant_at, length_at, formula_at, comparison_at, test_at}
 use Rattle.spec_text.specs.Reading.{names_from}
 use Rattle.spec_text.specs.Played.{play_text}
-use Rattle.spec_tool.specs.Reads.{got, failed, too_long}
-use Rattle.spec_tool.specs.Commands.{prints, usage}
+use Rattle.spec_tool.specs.Reads.{got}
+use Rattle.spec_tool.specs.Commands.{prints}
 use Rattle.spec_tool.proofs.WorkedHash.{small_hash}
 use Rattle.spec_next.specs.OutlookText.{next_text}
 use Rattle.spec_next.specs.FirstLines.{begin_text}
-use Rattle.spec_next.specs.NextAnswer.{begins, goes_on, next_words, next_files, next_answer}
+use Rattle.spec_next.specs.NextAnswer.{begins, goes_on, next_words, next_answer}
 use Rattle.spec_next.proofs.WorkedRuns.{lines, commitment, commitment_header, commitment_opened, escrow, escrow_opened}
 
 -- ---- words

@@ -1,5 +1,6 @@
 -- How what comes next is printed.
-use Rattle.std.specs.Prelude.{ℕ, List, ◌++◌, flat_map, codes}
+use Rattle.std.specs.Prelude.{ℕ, List, [], ◌∷◌, ◌++◌, map, filter, flat_map, not, codes}
+use Rattle.std.specs.Str.{bytes_eq}
 use Rattle.spec_run.specs.declared.event.Event.{Event}
 use Rattle.spec_run.specs.Setup.{Setup}
 use Rattle.spec_run.specs.Translation.{last_world, last_configuration}
@@ -18,9 +19,14 @@ ruling_line e rulings.Can = codes "can " ++ (event_text e ++ newline)
 ruling_line e (rulings.Cannot reason) = codes "cannot " ++ (event_text e ++ (codes " " ++ (reason_text reason ++ newline)))
 ruling_line e rulings.Halts = codes "cannot " ++ (event_text e ++ (codes " halts" ++ newline))
 
+-- each line once, where it first stands
+abbrev pub once : List (List ℕ) → List (List ℕ)
+once [] = []
+once (line ∷ more) = line ∷ filter (λ other. not (bytes_eq other line)) (once more)
+
 -- an event and what is wanting for it
 abbrev pub prospect_text : Prospect → List ℕ
-prospect_text p = ruling_line p.event p.ruling ++ flat_map want_line p.wants
+prospect_text p = ruling_line p.event p.ruling ++ flat_map (λ line. line) (once (map want_line p.wants))
 
 -- `waits A`
 abbrev pub waits_line : List ℕ → List ℕ

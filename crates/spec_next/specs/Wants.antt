@@ -1,6 +1,5 @@
 -- What is wanting for an event: the conditions that fail of those that it has in the calculus of BitML.
 use Rattle.std.specs.Prelude.{ℕ, List, [], ◌∷◌, ◌++◌, map, filter, Bool, not, ◌||◌, nat_le, if◌then◌else◌, Option, Some, None}
-use Rattle.std.specs.Str.{bytes_eq}
 use Rattle.spec_data.specs.Lists.{is_among, has_number, look_up}
 use Rattle.spec_terms.specs.Core.{core, asks, lock, puts_of, reveals_of, test_of}
 use Rattle.spec_terms.specs.Precondition.{Holding, persistent, names_of, secrets}
@@ -27,7 +26,6 @@ use Rattle.spec_run.specs.Signing.{needs_at}
 use Rattle.spec_run.specs.Advertising.{deposit_names}
 use Rattle.spec_next.specs.declared.want.Want.{Want}
 use Rattle.spec_next.specs.declared.want.Want.TheVariants as wants
-use Rattle.spec_next.specs.WantText.{want_text}
 
 -- a condition: whether it is met, and what is wanting where it isn't
 abbrev pub Condition : Type 0
@@ -133,11 +131,6 @@ conditions s g w (events.Mine blocks) = []
 abbrev pub unmet : List Condition → List Want
 unmet conditions = map (λ c. c.1) (filter (λ c. not (c.0)) conditions)
 
--- each once, by what is printed of it, where it first stands
-abbrev pub once : List Want → List Want
-once [] = []
-once (x ∷ xs) = x ∷ filter (λ y. not (bytes_eq (want_text y) (want_text x))) (once xs)
-
 -- what is wanting for an event
 abbrev pub wants_of : Setup → Configuration → World → Event → List Want
-wants_of s g w e = once (unmet (conditions s g w e))
+wants_of s g w e = unmet (conditions s g w e)

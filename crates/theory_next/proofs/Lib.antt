@@ -1,0 +1,4 @@
+pub mod Complete
+pub mod Said
+pub mod Exact
+pub mod Ready

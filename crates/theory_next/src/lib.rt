@@ -1,0 +1,32 @@
+//! What follows of what comes next in a run: each theorem is the contract of a function that does nothing.
+#![tactic(auto)]
+
+ghost use Rattle.theory_next.specs.Candidates.{CanIsMeant, OffersAreCandidates, OffersAreSaid};
+ghost use Rattle.theory_next.specs.Ready.{ReadyComesTheorem};
+ghost use Rattle.theory_next.specs.Wants.{WantsAreExactTheorem};
+
+/// An event is said to be one that can come exactly where it is done or accepted, and halts nothing.
+pub fn can_is_meant()
+    ensures { CanIsMeant }
+{}
+
+/// Everything that may be taken by the calculus is among the candidates.
+pub fn offers_are_candidates()
+    ensures { OffersAreCandidates }
+{}
+
+/// After a run it is said of all that may be taken by the calculus that it can come, unless it halts the run.
+pub fn offers_are_said()
+    ensures { OffersAreSaid }
+{}
+
+/// What is wanting for an event is exactly what fails of its conditions, and nothing is wanting exactly where all are met.
+pub fn wants_are_exact()
+    ensures { WantsAreExactTheorem }
+{}
+
+/// After a run a contract begins, and a branch of an active contract is taken, wherever nothing is wanting for it, unless
+/// it halts the run: so of a beginning or a branch that can't come something is always wanting.
+pub fn ready_comes()
+    ensures { ReadyComesTheorem }
+{}

@@ -50,7 +50,7 @@ none_unmet (c ∷ cs) h =
 pub fails_in : (cs : List Condition) (c : Condition) → Is_in c cs → c.0 ≡ false → Is_in (c.1) (unmet cs)
 fails_in cs c i h = in_map (λ (d : Condition). d.1) (filter fails cs) c (filter_has fails cs c i (ap not h))
 
-is_failing : (cs : List Condition) (x : Want) → Is_in x (unmet cs) → IsFailing cs x
+pub is_failing : (cs : List Condition) (x : Want) → Is_in x (unmet cs) → IsFailing cs x
 is_failing cs x h =
     let m = from_map (λ (c : Condition). c.1) (filter fails cs) x h in
     let f = in_filter fails cs m.0 m.1 in

@@ -42,10 +42,10 @@ use Rattle.theory_next.proofs.Exact.{all_met}
 
 -- ---- conditions and premises
 
-abbrev met : List Condition → Bool
+abbrev pub met : List Condition → Bool
 met cs = list_all (λ (c : Condition). c.0) cs
 
-met_parts : (xs ys : List Condition) → met (xs ++ ys) ≡ true → (met xs ≡ true) × (met ys ≡ true)
+pub met_parts : (xs ys : List Condition) → met (xs ++ ys) ≡ true → (met xs ≡ true) × (met ys ≡ true)
 met_parts [] ys h = (refl, h)
 met_parts (x ∷ xs) ys h =
     let p = and_parts (x.0) (met (xs ++ ys)) h in

@@ -1,3 +1,4 @@
 pub mod Candidates
 pub mod Wants
 pub mod Ready
+pub mod MetAlone

@@ -2,6 +2,7 @@
 #![tactic(auto)]
 
 ghost use Rattle.theory_next.specs.Candidates.{CanIsMeant, OffersAreCandidates, OffersAreSaid};
+ghost use Rattle.theory_next.specs.MetAlone.{MetAloneTheorem};
 ghost use Rattle.theory_next.specs.Ready.{ReadyComesTheorem};
 ghost use Rattle.theory_next.specs.Wants.{WantsAreExactTheorem};
 
@@ -29,4 +30,10 @@ pub fn wants_are_exact()
 /// it halts the run: so of a beginning or a branch that can't come something is always wanting.
 pub fn ready_comes()
     ensures { ReadyComesTheorem }
+{}
+
+/// After a run that doesn't halt, where an authorisation or a height alone is wanting for a branch, the event that meets it
+/// can come, and after it the branch can be taken, unless that halts the run.
+pub fn met_alone()
+    ensures { MetAloneTheorem }
 {}

@@ -3,7 +3,7 @@ use Rattle.std.specs.Prelude.{ℕ, ◌+◌, ◌==◌, List, [], ◌∷◌, ◌++
 use Rattle.std.specs.List.{flat_map, list_all}
 use Rattle.spec_terms.specs.Advert.{Advert}
 use Rattle.spec_terms.specs.Core.{asks}
-use Rattle.spec_terms.specs.Parties.{participants}
+use Rattle.spec_terms.specs.Parties.{participants, add_all}
 use Rattle.spec_terms.specs.Precondition.{deposits, secrets}
 use Rattle.spec_terms.specs.Term as term
 use Rattle.spec_bitcoin.specs.Keys.{Pair, has_signed}
@@ -59,10 +59,11 @@ starting s w k people =
 abbrev pub revealing : Setup → ℕ → List (List ℕ × List ℕ) → List Event
 revealing s k secrets = map (λ x. events.Reveal k (x.1) (x.0)) (filter (λ x. is_honest s (x.1)) secrets)
 
--- those whom a branch asks and who haven't authorised it, in the order of the text
+-- those whom a branch asks and who haven't authorised it, each once in the order of the text
 abbrev pub authorising : Configuration → ℕ → ℕ → term.Guarded → List Event
 authorising g n i b =
-    map (λ party. events.Authorise party n i) (filter (λ party. not (has_branch_authorised g.branch_authorised n i party)) (asks b))
+    map (λ party. events.Authorise party n i)
+    (filter (λ party. not (has_branch_authorised g.branch_authorised n i party)) (add_all [] (asks b)))
 
 -- the branches from number i on, each authorised and then taken
 abbrev pub taking : Configuration → ℕ → ℕ → List term.Guarded → List Event

@@ -1,8 +1,8 @@
 -- Everything that may be taken by the calculus is among the candidates, and can come unless it halts.
-use Rattle.std.proofs.Common.{◌≡◌, ℕ, zero, suc, ◌+◌, List, [], ◌∷◌, ◌++◌, map, Bool, true, false, Option, Some, None, refl, sym, ap, ◌∙◌}
-use Rattle.std.proofs.Common.{subst, arith, inl, inr, ◌⊎◌}
-use Rattle.std.specs.Prelude.{is_some, ◌==◌, ◌↔◌}
-use Rattle.std.specs.List.{Contains, flat_map, filter}
+use Rattle.std.proofs.Common.{◌≡◌, ℕ, zero, suc, ◌+◌, List, [], ◌∷◌, ◌++◌, map, true, Option, Some, None, refl, sym, ap}
+use Rattle.std.proofs.Common.{subst, arith, inl, inr}
+use Rattle.std.specs.Prelude.{is_some, ◌==◌}
+use Rattle.std.specs.List.{flat_map}
 use Rattle.std.proofs.lemmas.Bool.{eq-eqb}
 use Rattle.std.proofs.lemmas.List.Concat.{flat_map-cons}
 use Rattle.spec_terms.specs.Advert.{Advert}
@@ -23,7 +23,7 @@ use Rattle.spec_run.specs.declared.event.Event.TheVariants as events
 use Rattle.spec_run.specs.Setup.{Setup}
 use Rattle.spec_run.specs.World.{World}
 use Rattle.spec_run.specs.Offers.{Offer, offers_of, offers}
-use Rattle.spec_next.specs.Candidates.{advertising, committing, endorsing, starting, revealing, authorising, taking, taking_active, actives_of}
+use Rattle.spec_next.specs.Candidates.{committing, endorsing, starting, revealing, authorising, taking, taking_active, actives_of}
 use Rattle.spec_next.specs.Candidates.{candidates, candidates_from, all_candidates}
 use Rattle.theory_calculus.specs.Members.{Is_in}
 use Rattle.theory_calculus.proofs.Members.{in_left, in_right, in_append, in_from_contains, contains_from_in, in_filter, filter_has}

@@ -4,3 +4,6 @@ pub mod Exact
 pub mod Ready
 pub mod OneMore
 pub mod MetAlone
+pub mod Apart
+pub mod Once
+pub mod FirstLines

@@ -1,8 +1,7 @@
 -- Where one thing alone is wanting for a branch and is met, the branch can be taken.
-use Rattle.std.proofs.Common.{◌≡◌, ℕ, ◌+◌, ◌-◌, ◌<◌, ◌≤◌, List, [], ◌∷◌, ◌++◌, map, Bool, true, false, Option, Some, None, refl, sym, ap, ◌∙◌}
+use Rattle.std.proofs.Common.{◌≡◌, ℕ, ◌+◌, ◌-◌, ◌<◌, ◌≤◌, List, [], ◌∷◌, ◌++◌, Bool, true, false, Option, Some, None, refl, sym, ap, ◌∙◌}
 use Rattle.std.proofs.Common.{subst, arith, inl, inr, ◌⊎◌}
-use Rattle.std.specs.Prelude.{not, ◌&&◌, ◌||◌, cond, nat_le, is_some, slice_get, option_map}
-use Rattle.std.specs.List.{Contains, list_all}
+use Rattle.std.specs.Prelude.{not, cond, nat_le, is_some, slice_get}
 use Rattle.std.specs.Option.{option_and_then}
 use Rattle.std.proofs.lemmas.Bool.{le-leb, and_from, and_parts, or_left, or_right}
 use Rattle.std.specs.Str.{bytes_eq}
@@ -10,10 +9,8 @@ use Rattle.spec_data.specs.Lists.{is_among, first_reason}
 use Rattle.spec_data.specs.Ranges.{last_height}
 use Rattle.spec_terms.specs.Advert.{Advert}
 use Rattle.spec_terms.specs.Core.{core, asks, lock, puts_of, reveals_of}
-use Rattle.spec_terms.specs.Precondition.{secrets}
 use Rattle.spec_terms.specs.Term as term
 use Rattle.spec_terms.specs.declared.pre.Pre.{Pre}
-use Rattle.spec_calculus.specs.declared.parts.ActiveContract.{ActiveContract}
 use Rattle.spec_calculus.specs.declared.parts.BranchAuthorisation.{BranchAuthorisation}
 use Rattle.spec_calculus.specs.Configuration.{Configuration}
 use Rattle.spec_calculus.specs.Beginning.{contract_at, pre_of}
@@ -23,17 +20,17 @@ use Rattle.spec_run.specs.declared.event.Event.{Event}
 use Rattle.spec_run.specs.declared.event.Event.TheVariants as events
 use Rattle.spec_run.specs.declared.outcome.Reason.TheVariants as reason
 use Rattle.spec_run.specs.Setup.{Setup, is_declared}
-use Rattle.spec_run.specs.World.{ContractPosition, Output, World, live_position, live_position_at, output_at}
+use Rattle.spec_run.specs.World.{ContractPosition, Output, World, live_position, live_position_at}
 use Rattle.spec_run.specs.Draft.{done, unless}
 use Rattle.spec_run.specs.Event.{mine_row, draft}
 use Rattle.spec_run.specs.Ledger.{position_branch}
 use Rattle.spec_run.specs.Signing.{with_pairs, asked_by, branch_if_live, authorising_pairs, authorise_row}
-use Rattle.spec_run.specs.Translation.{opening_configuration, last_configuration, last_world, first_halt}
+use Rattle.spec_run.specs.Translation.{last_configuration, last_world, first_halt}
 use Rattle.spec_run.specs.Agreement.{active_in, active_by}
 use Rattle.spec_run.specs.Statements.{IsRun, spends_with_leave}
 use Rattle.spec_next.specs.declared.want.Want.{Want}
 use Rattle.spec_next.specs.declared.want.Want.TheVariants as wants
-use Rattle.spec_next.specs.Wants.{Condition, authorised, put_in, revealed, undecided_or_true, asked_for, asked_by_branch, unmet, conditions, wants_of}
+use Rattle.spec_next.specs.Wants.{Condition, authorised, put_in, revealed, undecided_or_true, asked_for, asked_by_branch, unmet}
 use Rattle.theory_calculus.specs.Members.{Is_in}
 use Rattle.theory_calculus.proofs.Names.{bytes_refl}
 use Rattle.theory_calculus.proofs.Members.{in_left, in_right, in_append, in_from_contains, contains_from_in}
@@ -43,7 +40,7 @@ use Rattle.theory_world.proofs.Ledger.Outputs.{active-at}
 use Rattle.theory_run.specs.Tracks.{Tracks}
 use Rattle.theory_run.proofs.Following.{run_posts, kept_at_end}
 use Rattle.theory_offers.proofs.WholeRun.{KeptAll, opening_all, keeps_all}
-use Rattle.theory_next.specs.MetAlone.{IsAlone, AloneWanting, TurnsAround, MetAlone, MetAloneTheorem}
+use Rattle.theory_next.specs.MetAlone.{IsAlone, AloneWanting, TurnsAround, MetAloneTheorem}
 use Rattle.theory_next.proofs.Exact.{from_map, in_map, fails_in, is_failing}
 use Rattle.theory_next.proofs.Ready.{Enabled, met, branch_enabled, enabled_comes}
 use Rattle.theory_next.proofs.OneMore as one_more

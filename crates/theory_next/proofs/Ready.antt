@@ -1,12 +1,10 @@
 -- After a run, what nothing is wanting for can come, unless it halts.
-use Rattle.std.proofs.Common.{◌≡◌, ℕ, ◌+◌, List, [], ◌∷◌, ◌++◌, map, Bool, true, false, Option, Some, None, refl, sym, ap, ◌∙◌, subst, inl, inr, ◌⊎◌}
-use Rattle.std.specs.Prelude.{not, ◌||◌, ◌&&◌, nat_le, is_some, if◌then◌else◌}
+use Rattle.std.proofs.Common.{◌≡◌, ℕ, ◌+◌, List, [], ◌∷◌, ◌++◌, map, Bool, true, Option, Some, None, refl, sym, ap, ◌∙◌, subst, inl}
+use Rattle.std.specs.Prelude.{not, ◌||◌, nat_le, is_some, if◌then◌else◌}
 use Rattle.std.specs.List.{Contains, list_all}
 use Rattle.std.proofs.lemmas.Bool.{and_parts, and_from}
 use Rattle.spec_data.specs.Lists.{first_false, AllTrue, look_up}
-use Rattle.spec_terms.specs.Advert.{Advert}
 use Rattle.spec_terms.specs.Core.{core, asks, lock, puts_of, reveals_of, test_of}
-use Rattle.spec_terms.specs.Parties.{participants}
 use Rattle.spec_terms.specs.Precondition.{Holding, persistent, names_of}
 use Rattle.spec_terms.specs.Term as term
 use Rattle.spec_terms.specs.Term.{auth, after, put_reveal, withdraw, split}
@@ -16,9 +14,9 @@ use Rattle.spec_calculus.specs.declared.step.Step.{Step}
 use Rattle.spec_calculus.specs.declared.step.Step.TheVariants as steps
 use Rattle.spec_calculus.specs.declared.parts.ActiveContract.{ActiveContract}
 use Rattle.spec_calculus.specs.Configuration.{Configuration}
-use Rattle.spec_calculus.specs.Beginning.{contract_at, pre_of, participants_of, is_advertised, has_committed, have_committed, bindings_of}
-use Rattle.spec_calculus.specs.Beginning.{is_there, are_there, persistent_names, is_init_authorised, are_init_authorised}
-use Rattle.spec_calculus.specs.Branches.{active_at, branch_of, advert_of, contract_number, is_put, is_withdraw, is_split, are_revealed}
+use Rattle.spec_calculus.specs.Beginning.{contract_at, pre_of, participants_of, is_advertised, have_committed, bindings_of}
+use Rattle.spec_calculus.specs.Beginning.{is_there, are_there, is_init_authorised, are_init_authorised}
+use Rattle.spec_calculus.specs.Branches.{active_at, branch_of, advert_of, contract_number, are_revealed}
 use Rattle.spec_calculus.specs.Branches.{have_branch_authorised, secret_lengths, is_put_core, is_withdraw_core, is_split_core}
 use Rattle.spec_run.specs.Statements.{IsRun}
 use Rattle.spec_calculus.specs.Steps.{premises, fails, branch_at, put_reveal_premises, withdraw_premises, split_premises}
@@ -26,11 +24,10 @@ use Rattle.spec_calculus.specs.Offered.{is_contract_step}
 use Rattle.spec_run.specs.declared.event.Event.{Event}
 use Rattle.spec_run.specs.declared.event.Event.TheVariants as events
 use Rattle.spec_run.specs.Setup.{Setup}
-use Rattle.spec_run.specs.World.{World}
 use Rattle.spec_run.specs.Translation.{last_configuration, last_world}
 use Rattle.spec_run.specs.Offers.{Offer, offers_of, offers}
 use Rattle.spec_next.specs.declared.want.Want.TheVariants as wants
-use Rattle.spec_next.specs.Wants.{Condition, agreed, isnt_gone, started, authorised, put_in, revealed, undecided_or_true, asked_for, asked_by_branch, conditions, wants_of}
+use Rattle.spec_next.specs.Wants.{Condition, agreed, isnt_gone, started, authorised, put_in, revealed, undecided_or_true, asked_for, asked_by_branch, conditions}
 use Rattle.theory_calculus.proofs.Members.{all_map, in_from_contains, contains_from_in}
 use Rattle.theory_calculus.proofs.Offered.{every_enabled}
 use Rattle.theory_calculus.specs.Members.{Is_in}

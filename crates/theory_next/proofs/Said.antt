@@ -1,7 +1,6 @@
 -- What can come is what goes through; and all that is offered after a run is said to come, unless it halts.
-use Rattle.std.proofs.Common.{◌≡◌, ℕ, ◌+◌, List, [], ◌∷◌, ◌++◌, map, Bool, true, false, refl, sym, ap, ◌∙◌, subst, inl, inr, ◌⊎◌}
-use Rattle.std.specs.Prelude.{◌↔◌}
-use Rattle.std.specs.List.{Contains, flat_map, filter}
+use Rattle.std.proofs.Common.{◌≡◌, ℕ, ◌+◌, List, [], ◌∷◌, ◌++◌, true, false, refl, ap, ◌∙◌, inl, inr, ◌⊎◌}
+use Rattle.std.specs.List.{Contains}
 use Rattle.spec_terms.specs.Advert.{Advert}
 use Rattle.spec_calculus.specs.declared.step.Step.{Step}
 use Rattle.spec_calculus.specs.Configuration.{Configuration}
@@ -13,16 +12,15 @@ use Rattle.spec_run.specs.World.{World}
 use Rattle.spec_run.specs.Draft.{Draft, Answer, Went, Halted}
 use Rattle.spec_run.specs.Event.{event}
 use Rattle.spec_run.specs.Values.{is_refused}
-use Rattle.spec_run.specs.Steps.{steps_of, outcome_steps}
+use Rattle.spec_run.specs.Steps.{outcome_steps}
 use Rattle.spec_run.specs.Translation.{last_configuration, last_world}
-use Rattle.spec_run.specs.Offers.{Offer, offers}
+use Rattle.spec_run.specs.Offers.{Offer}
 use Rattle.spec_run.specs.Statements.{IsKept, IsLast, LeadsTo}
 use Rattle.spec_next.specs.declared.outlook.Ruling.{Ruling}
 use Rattle.spec_next.specs.declared.outlook.Ruling.TheVariants as rulings
-use Rattle.spec_next.specs.declared.outlook.Prospect.{Prospect}
 use Rattle.spec_next.specs.declared.outlook.Outlook.{Outlook}
 use Rattle.spec_next.specs.Candidates.{candidates, candidates_from, all_candidates}
-use Rattle.spec_next.specs.Prospects.{ruling_by, ruling_of, ruling, is_shown, prospect, prospects_of, outlook, outlooks_from, outlooks}
+use Rattle.spec_next.specs.Prospects.{ruling_by, ruling_of, ruling, is_shown, prospect, outlook, outlooks_from, outlooks}
 use Rattle.theory_calculus.specs.Members.{Is_in}
 use Rattle.theory_calculus.proofs.Members.{in_append, in_from_contains, contains_from_in, filter_has}
 use Rattle.theory_offers.proofs.WholeRun.{kept_offers}

@@ -2,3 +2,5 @@ pub mod Candidates
 pub mod Wants
 pub mod Ready
 pub mod MetAlone
+pub mod Once
+pub mod FirstLines

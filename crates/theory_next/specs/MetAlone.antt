@@ -1,5 +1,5 @@
 -- What is claimed of what is wanting for a branch: where one thing alone is wanting and is met, the branch can be taken.
-use Rattle.std.specs.Prelude.{◌≡◌, ◌↔◌, ℕ, ◌-◌, ◌++◌, List, [], ◌∷◌, None, true, nat_le}
+use Rattle.std.specs.Prelude.{◌≡◌, ℕ, ◌-◌, ◌++◌, List, [], ◌∷◌, None, true, nat_le}
 use Rattle.std.specs.List.{Contains}
 use Rattle.spec_data.specs.Ranges.{last_height}
 use Rattle.spec_run.specs.declared.event.Event.{Event}

@@ -2,7 +2,9 @@
 #![tactic(auto)]
 
 ghost use Rattle.theory_next.specs.Candidates.{CanIsMeant, OffersAreCandidates, OffersAreSaid};
+ghost use Rattle.theory_next.specs.FirstLines.{FirstLinesAreARun};
 ghost use Rattle.theory_next.specs.MetAlone.{MetAloneTheorem};
+ghost use Rattle.theory_next.specs.Once.{CandidatesStandOnce};
 ghost use Rattle.theory_next.specs.Ready.{ReadyComesTheorem};
 ghost use Rattle.theory_next.specs.Wants.{WantsAreExactTheorem};
 
@@ -14,6 +16,11 @@ pub fn can_is_meant()
 /// Everything that may be taken by the calculus is among the candidates.
 pub fn offers_are_candidates()
     ensures { OffersAreCandidates }
+{}
+
+/// After a run each candidate stands once in the list.
+pub fn candidates_stand_once()
+    ensures { CandidatesStandOnce }
 {}
 
 /// After a run it is said of all that may be taken by the calculus that it can come, unless it halts the run.
@@ -36,4 +43,10 @@ pub fn ready_comes()
 /// can come, and after it the branch can be taken, unless that halts the run.
 pub fn met_alone()
     ensures { MetAloneTheorem }
+{}
+
+/// The first lines of a run that are printed of a contract, with the bytes of its secrets filled in, are the text of the
+/// run that begins the contract.
+pub fn first_lines_are_a_run()
+    ensures { FirstLinesAreARun }
 {}

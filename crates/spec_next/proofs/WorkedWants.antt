@@ -43,7 +43,8 @@ pub escrow_needs_endorsement : next_answer small_hash (Some (goes_on (codes "r")
     codes "waits A" ∷
     codes "waits B" ∷
     []))
-unfolding is_name word_front number_front symbol_front read_contract advert_of_all advert_at entries_at entry_at head_at deposit_at secret_at
+unfolding is_name word_front number_front symbol_front read_contract advert_of_all advert_at entries_at entry_at head_at deposit_at
+    secret_at
     fee_at choice_with branches_at branch_at parts_at auth_at after_at put_at reveal_at split_at reveals_at puts_at put_reveals_at
     headed_at one_branch_at condition_at names_from test_at comparison_at formula_at constant_at length_at withdraw_at digits label_text
     stripped marked compact places_list sequences_list outputs_list preimage position_script script_meaning ops_of number_of_item
@@ -58,7 +59,8 @@ pub escrow_needs_signature : next_answer small_hash (Some (goes_on (codes "r") (
     codes "needs B inits 0" ∷
     codes "waits B" ∷
     []))
-unfolding is_name word_front number_front symbol_front read_contract advert_of_all advert_at entries_at entry_at head_at deposit_at secret_at
+unfolding is_name word_front number_front symbol_front read_contract advert_of_all advert_at entries_at entry_at head_at deposit_at
+    secret_at
     fee_at choice_with branches_at branch_at parts_at auth_at after_at put_at reveal_at split_at reveals_at puts_at put_reveals_at
     headed_at one_branch_at condition_at names_from test_at comparison_at formula_at constant_at length_at withdraw_at digits label_text
     stripped marked compact places_list sequences_list outputs_list preimage position_script script_meaning ops_of number_of_item
@@ -99,7 +101,8 @@ pub no_deposit_fits : next_answer small_hash (Some (goes_on (codes "r") (codes "
     codes "waits A" ∷
     codes "waits B" ∷
     []))
-unfolding is_name word_front number_front symbol_front read_contract advert_of_all advert_at entries_at entry_at head_at deposit_at secret_at
+unfolding is_name word_front number_front symbol_front read_contract advert_of_all advert_at entries_at entry_at head_at deposit_at
+    secret_at
     fee_at choice_with branches_at branch_at parts_at auth_at after_at put_at reveal_at split_at reveals_at puts_at put_reveals_at
     headed_at one_branch_at condition_at names_from test_at comparison_at formula_at constant_at length_at withdraw_at digits label_text
     stripped marked compact places_list sequences_list outputs_list preimage position_script script_meaning ops_of number_of_item
@@ -107,7 +110,8 @@ unfolding is_name word_front number_front symbol_front read_contract advert_of_a
 no_deposit_fits = refl
 
 -- a party that isn't honest adds its digests itself
-pub digest_is_wanting : next_answer small_hash (Some (goes_on (codes "r") (codes "c" ∷ []))) (got foreign_advertised ∷ got foreign_secret ∷ [])
+pub digest_is_wanting : next_answer small_hash (Some (goes_on (codes "r") (codes "c" ∷ [])))
+    (got foreign_advertised ∷ got foreign_secret ∷ [])
     ≡ prints 0 (lines (
     codes "can commit 0 A" ∷
     codes "cannot commit 0 B WrongNames" ∷
@@ -132,7 +136,8 @@ pub digest_is_wanting : next_answer small_hash (Some (goes_on (codes "r") (codes
     codes "waits A" ∷
     codes "waits B" ∷
     []))
-unfolding is_name word_front number_front symbol_front read_contract advert_of_all advert_at entries_at entry_at head_at deposit_at secret_at
+unfolding is_name word_front number_front symbol_front read_contract advert_of_all advert_at entries_at entry_at head_at deposit_at
+    secret_at
     fee_at choice_with branches_at branch_at parts_at auth_at after_at put_at reveal_at split_at reveals_at puts_at put_reveals_at
     headed_at one_branch_at condition_at names_from test_at comparison_at formula_at constant_at length_at withdraw_at digits label_text
     stripped marked compact places_list sequences_list outputs_list preimage position_script script_meaning ops_of number_of_item
@@ -142,13 +147,15 @@ digest_is_wanting = refl
 -- ---- once it has begun
 
 -- the revealed length makes the predicate false
-pub predicate_is_false : next_answer small_hash (Some (goes_on (codes "r") (codes "c" ∷ []))) (got long_secret_revealed ∷ got long_secret ∷ [])
+pub predicate_is_false : next_answer small_hash (Some (goes_on (codes "r") (codes "c" ∷ [])))
+    (got long_secret_revealed ∷ got long_secret ∷ [])
     ≡ prints 0 (lines (
     codes "cannot fire #1 0 ScriptFalse 0" ∷
     codes "never: predicate false" ∷
     codes "can fire #1 1" ∷
     []))
-unfolding is_name word_front number_front symbol_front read_contract advert_of_all advert_at entries_at entry_at head_at deposit_at secret_at
+unfolding is_name word_front number_front symbol_front read_contract advert_of_all advert_at entries_at entry_at head_at deposit_at
+    secret_at
     fee_at choice_with branches_at branch_at parts_at auth_at after_at put_at reveal_at split_at reveals_at puts_at put_reveals_at
     headed_at one_branch_at condition_at names_from test_at comparison_at formula_at constant_at length_at withdraw_at digits label_text
     stripped marked compact places_list sequences_list outputs_list preimage position_script script_meaning ops_of number_of_item
@@ -162,7 +169,8 @@ pub put_is_gone : next_answer small_hash (Some (goes_on (codes "r") (codes "c" �
     codes "needs put z gone" ∷
     codes "can fire #2 1" ∷
     []))
-unfolding is_name word_front number_front symbol_front read_contract advert_of_all advert_at entries_at entry_at head_at deposit_at secret_at
+unfolding is_name word_front number_front symbol_front read_contract advert_of_all advert_at entries_at entry_at head_at deposit_at
+    secret_at
     fee_at choice_with branches_at branch_at parts_at auth_at after_at put_at reveal_at split_at reveals_at puts_at put_reveals_at
     headed_at one_branch_at condition_at names_from test_at comparison_at formula_at constant_at length_at withdraw_at digits label_text
     stripped marked compact places_list sequences_list outputs_list preimage position_script script_meaning ops_of number_of_item
@@ -179,7 +187,8 @@ read_failed = refl
 
 pub contract_too_long : next_answer small_hash (Some (begins (codes "c"))) (too_long ∷ [])
     ≡ prints 1 (lines (codes "contract 0 refused limit Text 1048576" ∷ []))
-unfolding is_name word_front number_front symbol_front read_contract advert_of_all advert_at entries_at entry_at head_at deposit_at secret_at
+unfolding is_name word_front number_front symbol_front read_contract advert_of_all advert_at entries_at entry_at head_at deposit_at
+    secret_at
     fee_at choice_with branches_at branch_at parts_at auth_at after_at put_at reveal_at split_at reveals_at puts_at put_reveals_at
     headed_at one_branch_at condition_at names_from test_at comparison_at formula_at constant_at length_at withdraw_at digits label_text
     stripped marked compact places_list sequences_list outputs_list preimage position_script script_meaning ops_of number_of_item
@@ -188,7 +197,8 @@ contract_too_long = refl
 
 pub run_too_long : next_answer small_hash (Some (goes_on (codes "r") (codes "c" ∷ []))) (too_long ∷ got escrow ∷ [])
     ≡ prints 6 (lines (codes "run refused limit Size line 0" ∷ []))
-unfolding is_name word_front number_front symbol_front read_contract advert_of_all advert_at entries_at entry_at head_at deposit_at secret_at
+unfolding is_name word_front number_front symbol_front read_contract advert_of_all advert_at entries_at entry_at head_at deposit_at
+    secret_at
     fee_at choice_with branches_at branch_at parts_at auth_at after_at put_at reveal_at split_at reveals_at puts_at put_reveals_at
     headed_at one_branch_at condition_at names_from test_at comparison_at formula_at constant_at length_at withdraw_at digits label_text
     stripped marked compact places_list sequences_list outputs_list preimage position_script script_meaning ops_of number_of_item

@@ -63,4 +63,5 @@ apart_added names (x ∷ new) h = apart_added (add_new names x) new (by_test (is
     by_test true e = h
     by_test false e =
         apart_append names (x ∷ []) h ((λ i. absurd i), tt)
-        (λ y a b. elim b [ inl q ↦ let k : is_among x names ≡ true = subst (λ z. is_among z names ≡ true) q (among_in y names a) in cc | inr q ↦ absurd q ])
+        (λ y a b. elim b [ inl q ↦ let k : is_among x names ≡ true = subst (λ z. is_among z names ≡ true) q
+            (among_in y names a) in cc | inr q ↦ absurd q ])

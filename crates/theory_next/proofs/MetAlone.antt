@@ -112,7 +112,8 @@ module _ (g : Configuration) (n i k : ℕ) (pre : List Pre) (b : term.Guarded) (
   all = asked_for g n i k pre b
 
   abbrev behind_asks : List Condition
-  behind_asks = put_in g k (puts_of (core b)) ++ (revealed g k pre (reveals_of (core b)) ++ (undecided_or_true g k pre (core b), wants.Predicate) ∷ [])
+  behind_asks = put_in g k (puts_of (core b)) ++ (revealed g k pre (reveals_of (core b)) ++ (undecided_or_true g k pre
+      (core b), wants.Predicate) ∷ [])
 
   -- whether it is no want of a put, a secret or a predicate
   record IsOther : Type 0 where
@@ -171,7 +172,8 @@ module _ (s : Setup) (es : List Event) (run : IsRun s es) (on : first_halt s es 
   tracks : Tracks s (run_posts s es) g w
   tracks =
       let z = run_posts s es in
-      (kept_at_end s (spends_with_leave s) (KeptAll s z) es (keeps_all s run.setup z) run.events (opening_all s es run z)).holds.honest.run.tracks
+      (kept_at_end s (spends_with_leave s) (KeptAll s z) es (keeps_all s run.setup z) run.events
+          (opening_all s es run z)).holds.honest.run.tracks
 
   -- a branch of an active contract is one of what is held
   branch_held : (n i : ℕ) (b : term.Guarded) → branch_at g n i ≡ Some b
@@ -182,11 +184,13 @@ module _ (s : Setup) (es : List Event) (run : IsRun s es) (on : first_halt s es 
       look = ap (λ xs. active_at xs n) tracks.money.active ∙ active-at n w.outputs
 
       same : (held : ContractPosition) (v : ℕ) (cs : List Advert) → cs ≡ s.contracts
-          → branch_of cs (Some (record { number = n; contract = held.contract; position = held.position; balance = v })) i ≡ position_branch s held i
+          → branch_of cs (Some (record { number = n; contract = held.contract; position = held.position; balance = v })) i ≡
+              position_branch s held i
       same held v cs e = by_contract (contract_at s.contracts held.contract) refl
         where
           by_contract : (o : Option Advert) → contract_at s.contracts held.contract ≡ o
-              → branch_of cs (Some (record { number = n; contract = held.contract; position = held.position; balance = v })) i ≡ position_branch s held i
+              → branch_of cs (Some (record { number = n; contract = held.contract; position = held.position; balance = v })) i ≡
+                  position_branch s held i
           by_contract None c = rw (e, c) refl
           by_contract (Some a) c = rw (e, c) refl
 
@@ -235,7 +239,8 @@ module _ (s : Setup) (es : List Event) (run : IsRun s es) (on : first_halt s es 
 
     asked : (b : term.Guarded) → IsAlone wanting (unmet (asked_for g n i number entries b)) → is_among party (asks b) ≡ true
     asked b a =
-        let f = is_failing (asked_for g n i number entries b) wanting (in_from_contains (unmet (asked_for g n i number entries b)) wanting a.there) in
+        let f = is_failing (asked_for g n i number entries b) wanting (in_from_contains (unmet
+            (asked_for g n i number entries b)) wanting a.there) in
         by_place f.condition (in_from_contains (asked_for g n i number entries b) f.condition f.there) f.wanting
       where
         by_place : (c : Condition) → Is_in c (asked_for g n i number entries b) → c.1 ≡ wanting → is_among party (asks b) ≡ true
@@ -252,8 +257,10 @@ module _ (s : Setup) (es : List Event) (run : IsRun s es) (on : first_halt s es 
         → met (asked_for signed_configuration n i number entries b) ≡ true
     all_signed b a =
         let cs = asked_for g n i number entries b in
-        let height : nat_le (lock b) g.time ≡ true = by_height (met_or cs wanting a (nat_le (lock b) g.time, wants.Height (lock b)) (inl refl)) in
-        and_from _ _ height (met_both (authorised signed_configuration n i (asks b)) _ (all_from (authorised signed_configuration n i (asks b)) each)
+        let height : nat_le (lock b) g.time ≡ true = by_height (met_or cs wanting a (nat_le (lock b) g.time, wants.Height
+            (lock b)) (inl refl)) in
+        and_from _ _ height (met_both (authorised signed_configuration n i (asks b)) _ (all_from
+            (authorised signed_configuration n i (asks b)) each)
         (behind_met g n i number entries b wanting a (other b)))
       where
         by_height : (nat_le (lock b) g.time ≡ true) ⊎ (wants.Height (lock b) ≡ wanting) → nat_le (lock b) g.time ≡ true
@@ -286,7 +293,8 @@ module _ (s : Setup) (es : List Event) (run : IsRun s es) (on : first_halt s es 
           is_run = longer;
           goes_on = one_more.goes_on s es run on signing declared signed_world d;
           comes = enabled_comes s (es ++ signing ∷ []) longer (events.Fire n i)
-              (subst (λ c. Enabled c (events.Fire n i)) (sym (one_more.last_configuration_is s es run on signing declared signed_world d)) enabled);
+              (subst (λ c. Enabled c (events.Fire n i)) (sym (one_more.last_configuration_is s es run on signing declared
+                  signed_world d)) enabled);
         }
 
     pub authorisation_met : AloneWanting s es n i wanting → TurnsAround s es signing n i
@@ -326,7 +334,8 @@ module _ (s : Setup) (es : List Event) (run : IsRun s es) (on : first_halt s es 
 
     awaited : (b : term.Guarded) → IsAlone reaching (unmet (asked_for g n i contract pres b)) → Awaits b
     awaited b a =
-        let f = is_failing (asked_for g n i contract pres b) reaching (in_from_contains (unmet (asked_for g n i contract pres b)) reaching a.there) in
+        let f = is_failing (asked_for g n i contract pres b) reaching (in_from_contains (unmet
+            (asked_for g n i contract pres b)) reaching a.there) in
         by_place f.condition (in_from_contains (asked_for g n i contract pres b) f.condition f.there) f.wanting f.fails
       where
         by_place : (c : Condition) → Is_in c (asked_for g n i contract pres b) → c.1 ≡ reaching → c.0 ≡ false → Awaits b
@@ -366,7 +375,8 @@ module _ (s : Setup) (es : List Event) (run : IsRun s es) (on : first_halt s es 
           let e : later_configuration.time ≡ lock b = ap (λ m. m + blocks) same_time ∙ reaches_it ∙ sym awaits.is_lock in
           subst (λ m. nat_le (lock b) m ≡ true) (sym e) (le-leb (lock b) (lock b) (omega arith))
 
-      all_reached : IsAlone reaching (unmet (asked_for g n i contract pres b)) → met (asked_for later_configuration n i contract pres b) ≡ true
+      all_reached : IsAlone reaching (unmet (asked_for g n i contract pres b))
+          → met (asked_for later_configuration n i contract pres b) ≡ true
       all_reached a =
           and_from _ _ is_reached (met_both (authorised g n i (asks b)) _ (all_from (authorised g n i (asks b)) each)
           (behind_met g n i contract pres b reaching a (rest_other b)))
@@ -397,7 +407,8 @@ module _ (s : Setup) (es : List Event) (run : IsRun s es) (on : first_halt s es 
           is_run = longer;
           goes_on = one_more.goes_on s es run on mining some later_world d;
           comes = enabled_comes s (es ++ mining ∷ []) longer (events.Fire n i)
-              (subst (λ c. Enabled c (events.Fire n i)) (sym (one_more.last_configuration_is s es run on mining some later_world d)) enabled);
+              (subst (λ c. Enabled c (events.Fire n i)) (sym (one_more.last_configuration_is s es run on mining some later_world
+                  d)) enabled);
         }
 
     pub height_met : AloneWanting s es n i reaching → TurnsAround s es mining n i

@@ -26,7 +26,8 @@ use Rattle.spec_run.specs.Setup.{Setup}
 use Rattle.spec_run.specs.World.{World}
 use Rattle.spec_run.specs.Translation.{opening_configuration, last_configuration, last_world, in_order, translated}
 use Rattle.spec_run.specs.Statements.{spends_with_leave}
-use Rattle.spec_next.specs.Candidates.{advertising, committing, endorsing, starting, revealing, authorising, taking, taking_active, actives_of}
+use Rattle.spec_next.specs.Candidates.{advertising, committing, endorsing, starting}
+use Rattle.spec_next.specs.Candidates.{revealing, authorising, taking, taking_active, actives_of}
 use Rattle.spec_next.specs.Candidates.{candidates, candidates_from, all_candidates}
 use Rattle.theory_calculus.specs.Members.{Is_in}
 use Rattle.theory_calculus.proofs.Members.{in_append, in_filter, all_in, in_from_contains}
@@ -166,7 +167,8 @@ abbrev ascends : List ActiveContract → Bool
 ascends xs = are_ascending (map (λ (x : ActiveContract). x.number) xs)
 
 -- the first has another number than those behind it
-front_apart : (x : ActiveContract) (xs : List ActiveContract) (b : ActiveContract) → ascends (x ∷ xs) ≡ true → Is_in b xs → x.number ≡ b.number → ⊥
+front_apart : (x : ActiveContract) (xs : List ActiveContract) (b : ActiveContract) → ascends (x ∷ xs) ≡ true → Is_in b xs
+    → x.number ≡ b.number → ⊥
 front_apart x xs b h i e =
     let numbers = map (λ (y : ActiveContract). y.number) xs in
     let l = all_in (λ y. nat_lt x.number y) numbers b.number (and_parts (list_all (λ y. nat_lt x.number y) numbers) _ h).0
@@ -314,7 +316,8 @@ module _ (s : Setup) (g : Configuration) (w : World) (ordered : ascends g.active
 
     candidates_apart : are_different (map name_in c.pre) ≡ true → Apart (candidates s g w k c)
     candidates_apart names =
-        let a6 = actives_apart g (actives_of g k) (filtered_ascends (λ (x : ActiveContract). x.number) (λ a. a.contract == k) g.active ordered) in
+        let a6 = actives_apart g (actives_of g k) (filtered_ascends (λ (x : ActiveContract). x.number)
+            (λ a. a.contract == k) g.active ordered) in
         let a5 = apart_append (revealing s k (secrets c.pre)) l6
             (apart_map (λ (x : List ℕ × List ℕ). events.Reveal k (x.1) (x.0)) (λ e. (secret_in e, who e)) (λ x. refl) _
             (apart_filter _ (secrets c.pre) (secrets_apart c.pre names))) a6 (λ e x y. below 5 e (is5 e x).0 (from6 e y)) in
@@ -379,9 +382,11 @@ candidates_stand_once s es run =
     let g = last_configuration s es in
     let w = last_world s es in
     let z = run_posts s es in
-    let tracks = (kept_at_end s (spends_with_leave s) (KeptAll s z) es (keeps_all s run.setup z) run.events (opening_all s es run z)).holds.honest.run.tracks in
+    let tracks = (kept_at_end s (spends_with_leave s) (KeptAll s z) es (keeps_all s run.setup z) run.events
+        (opening_all s es run z)).holds.honest.run.tracks in
     let sim = simulation s es run in
     let opened = opening_numbered s.header.parties s.header.honest s.header.deposits s.contracts in
-    let numbered : IsNumbered g = subst IsNumbered sim.leads (numbered_steps (opening_configuration s) (in_order (translated s es)) opened) in
+    let numbered : IsNumbered g = subst IsNumbered sim.leads (numbered_steps (opening_configuration s) (in_order
+        (translated s es)) opened) in
     once_from (all_candidates s g w) (all_apart s g w numbered.active 0 g.contracts
     (subst (λ cs. AllByRecursion IsWellFormed cs) (sym tracks.constant.contracts) run.setup.contracts))

@@ -27,7 +27,8 @@ use Rattle.spec_run.specs.Setup.{Setup}
 use Rattle.spec_run.specs.Translation.{last_configuration, last_world}
 use Rattle.spec_run.specs.Offers.{Offer, offers_of, offers}
 use Rattle.spec_next.specs.declared.want.Want.TheVariants as wants
-use Rattle.spec_next.specs.Wants.{Condition, agreed, isnt_gone, started, authorised, put_in, revealed, undecided_or_true, asked_for, asked_by_branch, conditions}
+use Rattle.spec_next.specs.Wants.{Condition, agreed, isnt_gone, started, authorised}
+use Rattle.spec_next.specs.Wants.{put_in, revealed, undecided_or_true, asked_for, asked_by_branch, conditions}
 use Rattle.theory_calculus.proofs.Members.{all_map, in_from_contains, contains_from_in}
 use Rattle.theory_calculus.proofs.Offered.{every_enabled}
 use Rattle.theory_calculus.specs.Members.{Is_in}
@@ -61,7 +62,8 @@ offered : (g : Configuration) (step : Step) (o : Offer) → is_contract_step ste
     → Contains (offers g) o
 offered g step o kind e one =
     contains_from_in (offers g) o
-    (in_flat_map offers_of _ step o (in_from_contains _ step ((every_enabled g step).1 (kind, e))) (subst (λ os. Is_in o os) (sym one) (inl refl)))
+    (in_flat_map offers_of _ step o (in_from_contains _ step ((every_enabled g step).1 (kind, e))) (subst (λ os. Is_in o os)
+        (sym one) (inl refl)))
 
 -- ---- cores
 
@@ -111,7 +113,8 @@ module _ (g : Configuration) (n i : ℕ) where
       agreed_to =
           sym (all_map (λ (c : Condition). c.0) _ (asks b)) ∙ (met_parts (authorised g n i (asks b)) _ (and_parts _ _ all).1).0
 
-      rest : met (put_in g k (puts_of (core b)) ++ (revealed g k pre (reveals_of (core b)) ++ (undecided_or_true g k pre (core b), wants.Predicate) ∷ [])) ≡ true
+      rest : met (put_in g k (puts_of (core b)) ++ (revealed g k pre (reveals_of (core b)) ++ (undecided_or_true g k pre
+          (core b), wants.Predicate) ∷ [])) ≡ true
       rest = (met_parts (authorised g n i (asks b)) _ (and_parts _ _ all).1).1
 
       puts_there : are_there g.deposits (bindings_of g.advertised k) (puts_of (core b)) ≡ true

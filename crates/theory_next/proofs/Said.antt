@@ -85,7 +85,8 @@ module _ (s : Setup) (g : Configuration) (w : World) where
   said_from k [] e h t = absurd h
   said_from k (c ∷ cs) e h t = elim (in_append e (candidates s g w k c) (candidates_from s g w (k + 1) cs) h) [
     | inl a ↦
-    (outlook s g w k c, inl refl, in_map (prospect s g w) _ e (filter_has (λ x. is_shown s w x (ruling s w x)) (candidates s g w k c) e a t))
+    (outlook s g w k c, inl refl, in_map (prospect s g w) _ e (filter_has (λ x. is_shown s w x (ruling s w x))
+        (candidates s g w k c) e a t))
     | inr a ↦ let r = said_from (k + 1) cs e a t in (r.0, inr r.1, r.2)
   ]
 

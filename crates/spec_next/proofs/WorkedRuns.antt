@@ -193,3 +193,40 @@ foreign_advertised =
     codes "--" ∷
     codes "advertise 0 x=#0 y=#1" ∷
     [])
+
+-- a run in which a secret is guessed
+abbrev pub guessing : List ℕ
+guessing =
+    lines (
+    codes "party A" ∷
+    codes "party B" ∷
+    codes "honest A" ∷
+    codes "honest B" ∷
+    codes "secret A a 00112233445566778899aabbccddeeff" ∷
+    codes "deposit A 100000000" ∷
+    codes "deposit B 0" ∷
+    codes "--" ∷
+    codes "post 00112233445566778899aabbccddeeff" ∷
+    [])
+
+-- a contract of one party
+abbrev pub lone : List ℕ
+lone =
+    lines (
+    codes "{A:! 5 @ x} withdraw A" ∷
+    [])
+
+-- its opening
+abbrev pub lone_run : List ℕ
+lone_run =
+    lines (
+    codes "party A" ∷
+    codes "honest A" ∷
+    codes "deposit A 5" ∷
+    codes "--" ∷
+    codes "advertise 0 x=#0" ∷
+    codes "commit 0 A" ∷
+    codes "endorse 0 A" ∷
+    codes "init 0 A" ∷
+    codes "fire init 0" ∷
+    [])

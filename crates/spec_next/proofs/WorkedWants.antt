@@ -25,6 +25,7 @@ use Rattle.spec_next.specs.OutlookText.{next_text}
 use Rattle.spec_next.specs.FirstLines.{begin_text}
 use Rattle.spec_next.specs.NextAnswer.{begins, goes_on, next_answer}
 use Rattle.spec_next.proofs.WorkedRuns.{lines, commitment_header, escrow, escrow_endorsed, escrow_started, escrow_poor}
+use Rattle.spec_next.proofs.WorkedRuns.{commitment, guessing, lone, lone_run}
 use Rattle.spec_next.proofs.WorkedRuns.{long_secret, long_secret_revealed, putting, putting_gone, foreign_secret, foreign_advertised}
 
 -- ---- before a contract begins
@@ -204,3 +205,45 @@ unfolding is_name word_front number_front symbol_front read_contract advert_of_a
     stripped marked compact places_list sequences_list outputs_list preimage position_script script_meaning ops_of number_of_item
     signed_bytes item_of_number play_text next_text begin_text
 run_too_long = refl
+
+-- a halted run has its last line alone
+pub guessed_run : next_answer small_hash (Some (goes_on (codes "r") (codes "c" ∷ []))) (got guessing ∷ got commitment ∷ [])
+    ≡ prints 7 (lines (codes "guessed A a" ∷ []))
+unfolding is_name word_front number_front symbol_front read_contract advert_of_all advert_at entries_at entry_at head_at deposit_at
+    secret_at
+    fee_at choice_with branches_at branch_at parts_at auth_at after_at put_at reveal_at split_at reveals_at puts_at put_reveals_at
+    headed_at one_branch_at condition_at names_from test_at comparison_at formula_at constant_at length_at withdraw_at digits label_text
+    stripped marked compact places_list sequences_list outputs_list preimage position_script script_meaning ops_of number_of_item
+    signed_bytes item_of_number play_text next_text begin_text
+guessed_run = refl
+
+-- ---- several contracts
+
+-- the first has begun with the only deposit, and the second finds none
+pub two_contracts : next_answer small_hash (Some (goes_on (codes "r") (codes "c" ∷ codes "d" ∷ [])))
+    (got lone_run ∷ got lone ∷ got lone ∷ [])
+    ≡ prints 0 (lines (
+    codes "can fire #1 0" ∷
+    codes "cannot advertise 1 WrongNames" ∷
+    codes "needs deposit x" ∷
+    codes "cannot commit 1 A NotAdvertised" ∷
+    codes "needs advertise 1" ∷
+    codes "cannot endorse 1 A NotAllCommitted" ∷
+    codes "needs advertise 1" ∷
+    codes "needs A commits 1" ∷
+    codes "cannot init 1 A NotAllCommitted" ∷
+    codes "needs advertise 1" ∷
+    codes "needs A commits 1" ∷
+    codes "cannot fire init 1 NotCompiled" ∷
+    codes "needs advertise 1" ∷
+    codes "needs A commits 1" ∷
+    codes "needs A inits 1" ∷
+    codes "waits A" ∷
+    []))
+unfolding is_name word_front number_front symbol_front read_contract advert_of_all advert_at entries_at entry_at head_at deposit_at
+    secret_at
+    fee_at choice_with branches_at branch_at parts_at auth_at after_at put_at reveal_at split_at reveals_at puts_at put_reveals_at
+    headed_at one_branch_at condition_at names_from test_at comparison_at formula_at constant_at length_at withdraw_at digits label_text
+    stripped marked compact places_list sequences_list outputs_list preimage position_script script_meaning ops_of number_of_item
+    signed_bytes item_of_number play_text next_text begin_text
+two_contracts = refl

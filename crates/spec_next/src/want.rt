@@ -13,13 +13,25 @@ pub enum Want {
     /// No live deposit fits the one of this name, or the one that was bound is gone.
     Deposit(Name),
     /// The digest of a secret that its party, which isn't honest, is to hand in.
-    Digest { party: Name, secret: Name },
+    Digest {
+        party: Name,
+        secret: Name,
+    },
     /// The party hasn't committed.
-    Commitment { party: Name, contract: u32 },
+    Commitment {
+        party: Name,
+        contract: u32,
+    },
     /// The party hasn't endorsed the branch at this path.
-    Endorsement { path: Path, party: Name },
+    Endorsement {
+        path: Path,
+        party: Name,
+    },
     /// The party hasn't signed its deposits of the initial transaction.
-    Start { party: Name, contract: u32 },
+    Start {
+        party: Name,
+        contract: u32,
+    },
     /// The contract hasn't begun.
     Beginning(u32),
     Height(u32),
@@ -32,7 +44,10 @@ pub enum Want {
     /// The deposit that is put in is gone.
     Put(Name),
     /// The secret isn't revealed.
-    Secret { party: Name, secret: Name },
+    Secret {
+        party: Name,
+        secret: Name,
+    },
     /// The predicate is false of the revealed lengths, so nothing can be done.
     Predicate,
 }

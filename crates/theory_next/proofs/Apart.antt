@@ -18,9 +18,9 @@ Apart (x ∷ xs) = (Is_in x xs → ⊥) × Apart xs
 pub apart_append : {A : Type 0} (xs ys : List A) → Apart xs → Apart ys → ((x : A) → Is_in x xs → Is_in x ys → ⊥) → Apart (xs ++ ys)
 apart_append [] ys h k never = k
 apart_append (x ∷ xs) ys h k never = (
-    λ i. elim (in_append x xs ys i) [ inl a ↦ h.0 a | inr b ↦ never x (inl refl) b ],
-    apart_append xs ys h.1 k (λ y a b. never y (inr a) b),
-  )
+  λ i. elim (in_append x xs ys i) [ inl a ↦ h.0 a | inr b ↦ never x (inl refl) b ],
+  apart_append xs ys h.1 k (λ y a b. never y (inr a) b),
+)
 
 pub apart_filter : {A : Type 0} (p : A → Bool) (xs : List A) → Apart xs → Apart (filter p xs)
 apart_filter p [] h = tt
@@ -34,9 +34,9 @@ apart_filter p (x ∷ xs) h = by_test (p x) (apart_filter p xs h.1)
 pub apart_map : {A B : Type 0} (f : A → B) (back : B → A) → ((x : A) → back (f x) ≡ x) → (xs : List A) → Apart xs → Apart (map f xs)
 apart_map f back e [] h = tt
 apart_map f back e (x ∷ xs) h = (
-    λ i. let m = from_map f xs (f x) i in h.0 (subst (λ z. Is_in z xs) (sym (ap back m.2 ∙ e m.0) ∙ e x) m.1),
-    apart_map f back e xs h.1,
-  )
+  λ i. let m = from_map f xs (f x) i in h.0 (subst (λ z. Is_in z xs) (sym (ap back m.2 ∙ e m.0) ∙ e x) m.1),
+  apart_map f back e xs h.1,
+)
 
 -- ---- names
 
@@ -63,5 +63,8 @@ apart_added names (x ∷ new) h = apart_added (add_new names x) new (by_test (is
     by_test true e = h
     by_test false e =
         apart_append names (x ∷ []) h ((λ i. absurd i), tt)
-        (λ y a b. elim b [ inl q ↦ let k : is_among x names ≡ true = subst (λ z. is_among z names ≡ true) q
-            (among_in y names a) in cc | inr q ↦ absurd q ])
+        (λ y a b. elim b [
+          | inl q ↦ let k : is_among x names ≡ true = subst (λ z. is_among z names ≡ true) q
+              (among_in y names a) in cc
+          | inr q ↦ absurd q
+        ])

@@ -145,12 +145,12 @@ module _ (s : Setup) (g : Configuration) (w : World) where
   all_takings_there (a ∷ rest) x o all h q =
       elim (in_append x (takings a.number 0 (branches_of g.contracts a)) (all_takings g.contracts rest) h) [
         | inl t ↦
-        let same : a.contract + 0 ≡ a.contract = omega arith in
-        let mine = filter_has (λ (z : ActiveContract). z.contract == a.contract + 0) g.active a (all a (inl refl))
+            let same : a.contract + 0 ≡ a.contract = omega arith in
+            let mine = filter_has (λ (z : ActiveContract). z.contract == a.contract + 0) g.active a (all a (inl refl))
             (eq-eqb a.contract (a.contract + 0) (sym same)) in
-        goes_on_there 0 a.contract g.contracts o.event (is_there a x t)
-        (in_flat_map (taking_active g) (actives_of g (a.contract + 0)) a o.event mine
-        (takings_there a.number 0 (branches_of g.contracts a) x o t q))
+            goes_on_there 0 a.contract g.contracts o.event (is_there a x t)
+            (in_flat_map (taking_active g) (actives_of g (a.contract + 0)) a o.event mine
+            (takings_there a.number 0 (branches_of g.contracts a) x o t q))
         | inr t ↦ all_takings_there rest x o (λ z i. all z (inr i)) t q
       ]
 

@@ -63,7 +63,10 @@ pub exact : WantsAreExactTheorem
 exact s g w e =
     let cs = conditions s g w e in
     record {
-      failing = λ x. (λ h. is_failing cs x (in_from_contains (wants_of s g w e) x h), λ f. contains_from_in (wants_of s g w e) x
-          (is_unmet cs x f));
+      failing = λ x. (
+        λ h. is_failing cs x (in_from_contains (wants_of s g w e) x h),
+        λ f. contains_from_in (wants_of s g w e) x
+            (is_unmet cs x f),
+      );
       nothing = (λ h. all_met cs h, λ h. none_unmet cs h);
     }

@@ -19,7 +19,7 @@ behind : (a b c d e f : List ℕ) → a ++ (b ++ (c ++ (d ++ (e ++ f)))) ≡ (a 
 behind a b c d e f =
     sym (append_assoc a (b ++ (c ++ (d ++ e))) f
     ∙ ap (λ t. a ++ t) (append_assoc b (c ++ (d ++ e)) f ∙ ap (λ t. b ++ t) (append_assoc c (d ++ e) f
-        ∙ ap (λ t. c ++ t) (append_assoc d e f))))
+    ∙ ap (λ t. c ++ t) (append_assoc d e f))))
 
 pub first_lines_are_a_run : FirstLinesAreARun
 unfolding begin_text
@@ -28,10 +28,10 @@ first_lines_are_a_run = record {
   filled = λ advert strings.
       ap (λ t. flat_map party_text (participants advert) ++ (flat_map honest_text (participants advert) ++ (t
       ++ (flat_map deposit_text (owned (deposits advert.pre)) ++ ((codes "--" ++ newline) ++ flat_map
-          (λ e. event_text e ++ newline) (first_events advert))))))
+      (λ e. event_text e ++ newline) (first_events advert))))))
       (secrets_filled (secrets advert.pre) strings)
       ∙ behind (flat_map party_text (participants advert)) (flat_map honest_text (participants advert))
       (flat_map secret_text (held (secrets advert.pre) strings)) (flat_map deposit_text (owned (deposits advert.pre)))
-          (codes "--" ++ newline)
+      (codes "--" ++ newline)
       (flat_map (λ e. event_text e ++ newline) (first_events advert));
 }

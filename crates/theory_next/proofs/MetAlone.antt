@@ -112,8 +112,11 @@ module _ (g : Configuration) (n i k : ℕ) (pre : List Pre) (b : term.Guarded) (
   all = asked_for g n i k pre b
 
   abbrev behind_asks : List Condition
-  behind_asks = put_in g k (puts_of (core b)) ++ (revealed g k pre (reveals_of (core b)) ++ (undecided_or_true g k pre
-      (core b), wants.Predicate) ∷ [])
+  behind_asks = put_in g k (puts_of (core b)) ++ (revealed g k pre (reveals_of (core b)) ++ (
+    undecided_or_true g k pre
+        (core b),
+    wants.Predicate,
+  ) ∷ [])
 
   -- whether it is no want of a put, a secret or a predicate
   record IsOther : Type 0 where
@@ -173,7 +176,7 @@ module _ (s : Setup) (es : List Event) (run : IsRun s es) (on : first_halt s es 
   tracks =
       let z = run_posts s es in
       (kept_at_end s (spends_with_leave s) (KeptAll s z) es (keeps_all s run.setup z) run.events
-          (opening_all s es run z)).holds.honest.run.tracks
+      (opening_all s es run z)).holds.honest.run.tracks
 
   -- a branch of an active contract is one of what is held
   branch_held : (n i : ℕ) (b : term.Guarded) → branch_at g n i ≡ Some b
@@ -185,12 +188,12 @@ module _ (s : Setup) (es : List Event) (run : IsRun s es) (on : first_halt s es 
 
       same : (held : ContractPosition) (v : ℕ) (cs : List Advert) → cs ≡ s.contracts
           → branch_of cs (Some (record { number = n; contract = held.contract; position = held.position; balance = v })) i ≡
-              position_branch s held i
+          position_branch s held i
       same held v cs e = by_contract (contract_at s.contracts held.contract) refl
         where
           by_contract : (o : Option Advert) → contract_at s.contracts held.contract ≡ o
               → branch_of cs (Some (record { number = n; contract = held.contract; position = held.position; balance = v })) i ≡
-                  position_branch s held i
+              position_branch s held i
           by_contract None c = rw (e, c) refl
           by_contract (Some a) c = rw (e, c) refl
 
@@ -240,16 +243,16 @@ module _ (s : Setup) (es : List Event) (run : IsRun s es) (on : first_halt s es 
     asked : (b : term.Guarded) → IsAlone wanting (unmet (asked_for g n i number entries b)) → is_among party (asks b) ≡ true
     asked b a =
         let f = is_failing (asked_for g n i number entries b) wanting (in_from_contains (unmet
-            (asked_for g n i number entries b)) wanting a.there) in
+        (asked_for g n i number entries b)) wanting a.there) in
         by_place f.condition (in_from_contains (asked_for g n i number entries b) f.condition f.there) f.wanting
       where
         by_place : (c : Condition) → Is_in c (asked_for g n i number entries b) → c.1 ≡ wanting → is_among party (asks b) ≡ true
         by_place c (inl e) q = let z : wants.Height (lock b) ≡ wanting = sym (ap (λ (d : Condition). d.1) e) ∙ q in cc
         by_place c (inr h) q = elim (in_append c (authorised g n i (asks b)) _ h) [
           | inl r ↦
-          let m = from_map _ (asks b) c r in
-          let z : m.0 ≡ party = ap party_in (sym (ap (λ (d : Condition). d.1) m.2) ∙ q) in
-          subst (λ p. is_among p (asks b) ≡ true) z (among_in m.0 (asks b) m.1)
+              let m = from_map _ (asks b) c r in
+              let z : m.0 ≡ party = ap party_in (sym (ap (λ (d : Condition). d.1) m.2) ∙ q) in
+              subst (λ p. is_among p (asks b) ≡ true) z (among_in m.0 (asks b) m.1)
           | inr r ↦ absurd (none g n i number entries b wanting a (other b) c r q)
         ]
 
@@ -257,10 +260,13 @@ module _ (s : Setup) (es : List Event) (run : IsRun s es) (on : first_halt s es 
         → met (asked_for signed_configuration n i number entries b) ≡ true
     all_signed b a =
         let cs = asked_for g n i number entries b in
-        let height : nat_le (lock b) g.time ≡ true = by_height (met_or cs wanting a (nat_le (lock b) g.time, wants.Height
-            (lock b)) (inl refl)) in
+        let height : nat_le (lock b) g.time ≡ true = by_height (met_or cs wanting a (
+          nat_le (lock b) g.time,
+          wants.Height
+              (lock b),
+        ) (inl refl)) in
         and_from _ _ height (met_both (authorised signed_configuration n i (asks b)) _ (all_from
-            (authorised signed_configuration n i (asks b)) each)
+        (authorised signed_configuration n i (asks b)) each)
         (behind_met g n i number entries b wanting a (other b)))
       where
         by_height : (nat_le (lock b) g.time ≡ true) ⊎ (wants.Height (lock b) ≡ wanting) → nat_le (lock b) g.time ≡ true
@@ -294,7 +300,7 @@ module _ (s : Setup) (es : List Event) (run : IsRun s es) (on : first_halt s es 
           goes_on = one_more.goes_on s es run on signing declared signed_world d;
           comes = enabled_comes s (es ++ signing ∷ []) longer (events.Fire n i)
               (subst (λ c. Enabled c (events.Fire n i)) (sym (one_more.last_configuration_is s es run on signing declared
-                  signed_world d)) enabled);
+              signed_world d)) enabled);
         }
 
     pub authorisation_met : AloneWanting s es n i wanting → TurnsAround s es signing n i
@@ -335,7 +341,7 @@ module _ (s : Setup) (es : List Event) (run : IsRun s es) (on : first_halt s es 
     awaited : (b : term.Guarded) → IsAlone reaching (unmet (asked_for g n i contract pres b)) → Awaits b
     awaited b a =
         let f = is_failing (asked_for g n i contract pres b) reaching (in_from_contains (unmet
-            (asked_for g n i contract pres b)) reaching a.there) in
+        (asked_for g n i contract pres b)) reaching a.there) in
         by_place f.condition (in_from_contains (asked_for g n i contract pres b) f.condition f.there) f.wanting f.fails
       where
         by_place : (c : Condition) → Is_in c (asked_for g n i contract pres b) → c.1 ≡ reaching → c.0 ≡ false → Awaits b
@@ -345,8 +351,8 @@ module _ (s : Setup) (es : List Event) (run : IsRun s es) (on : first_halt s es 
         }
         by_place c (inr h) q z = elim (in_append c (authorised g n i (asks b)) _ h) [
           | inl r ↦
-          let m = from_map _ (asks b) c r in
-          let no : wants.Authorisation m.0 n i ≡ reaching = sym (ap (λ (d : Condition). d.1) m.2) ∙ q in cc
+              let m = from_map _ (asks b) c r in
+              let no : wants.Authorisation m.0 n i ≡ reaching = sym (ap (λ (d : Condition). d.1) m.2) ∙ q in cc
           | inr r ↦ absurd (none g n i contract pres b reaching a (rest_other b) c r q)
         ]
 
@@ -408,7 +414,7 @@ module _ (s : Setup) (es : List Event) (run : IsRun s es) (on : first_halt s es 
           goes_on = one_more.goes_on s es run on mining some later_world d;
           comes = enabled_comes s (es ++ mining ∷ []) longer (events.Fire n i)
               (subst (λ c. Enabled c (events.Fire n i)) (sym (one_more.last_configuration_is s es run on mining some later_world
-                  d)) enabled);
+              d)) enabled);
         }
 
     pub height_met : AloneWanting s es n i reaching → TurnsAround s es mining n i

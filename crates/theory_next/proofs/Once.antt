@@ -140,9 +140,9 @@ module _ (g : Configuration) (n : ℕ) where
   takes_of i (b ∷ bs) e h = elim (in_append e (authorising g n i b) (events.Fire n i ∷ taking g n (i + 1) bs) h) [
     | inl a ↦ let r = authorises i b e a in record { kinds = omega (arith, r.0); here = r.1; later = omega (arith, r.2) }
     | inr (inl q) ↦
-    let x : kind e ≡ 7 = ap kind q in
-    let y : branch_no e ≡ i = ap branch_no q in
-    record { kinds = omega (arith, x); here = ap home q; later = omega (arith, y) }
+        let x : kind e ≡ 7 = ap kind q in
+        let y : branch_no e ≡ i = ap branch_no q in
+        record { kinds = omega (arith, x); here = ap home q; later = omega (arith, y) }
     | inr (inr t) ↦ let r = takes_of (i + 1) bs e t in record { kinds = r.kinds; here = r.here; later = omega (arith, r.later) }
   ]
 
@@ -172,7 +172,7 @@ front_apart : (x : ActiveContract) (xs : List ActiveContract) (b : ActiveContrac
 front_apart x xs b h i e =
     let numbers = map (λ (y : ActiveContract). y.number) xs in
     let l = all_in (λ y. nat_lt x.number y) numbers b.number (and_parts (list_all (λ y. nat_lt x.number y) numbers) _ h).0
-        (in_map (λ (y : ActiveContract). y.number) xs b i) in
+    (in_map (λ (y : ActiveContract). y.number) xs b i) in
     less_not_same x.number b.number l e
 
 unique_at : (xs : List ActiveContract) (a b : ActiveContract) → ascends xs ≡ true → Is_in a xs → Is_in b xs → a.number ≡ b.number → a ≡ b
@@ -202,9 +202,9 @@ actives_apart g (a ∷ xs) h =
     (apart_append (taking_active g a) (flat_map (taking_active g) xs) (takes_apart g a.number 0 (branches_of g.contracts a))
     (actives_apart g xs (and_parts _ (ascends xs) h).1)
     (λ e x y.
-        let t = takes_of g a.number 0 (branches_of g.contracts a) e x in
-        let u = goes_on_by g xs e y in
-        front_apart a xs u.active h u.there (sym t.here ∙ u.here)))
+    let t = takes_of g a.number 0 (branches_of g.contracts a) e x in
+    let u = goes_on_by g xs e y in
+    front_apart a xs u.active h u.there (sym t.here ∙ u.here)))
 
 -- ---- secrets
 
@@ -317,19 +317,19 @@ module _ (s : Setup) (g : Configuration) (w : World) (ordered : ascends g.active
     candidates_apart : are_different (map name_in c.pre) ≡ true → Apart (candidates s g w k c)
     candidates_apart names =
         let a6 = actives_apart g (actives_of g k) (filtered_ascends (λ (x : ActiveContract). x.number)
-            (λ a. a.contract == k) g.active ordered) in
+        (λ a. a.contract == k) g.active ordered) in
         let a5 = apart_append (revealing s k (secrets c.pre)) l6
-            (apart_map (λ (x : List ℕ × List ℕ). events.Reveal k (x.1) (x.0)) (λ e. (secret_in e, who e)) (λ x. refl) _
-            (apart_filter _ (secrets c.pre) (secrets_apart c.pre names))) a6 (λ e x y. below 5 e (is5 e x).0 (from6 e y)) in
+        (apart_map (λ (x : List ℕ × List ℕ). events.Reveal k (x.1) (x.0)) (λ e. (secret_in e, who e)) (λ x. refl) _
+        (apart_filter _ (secrets c.pre) (secrets_apart c.pre names))) a6 (λ e x y. below 5 e (is5 e x).0 (from6 e y)) in
         let a4 : Apart l4 = ((λ h. below 4 (events.FireInit k) refl (from5 (events.FireInit k) h)), a5) in
         let a3 = apart_append (starting s w k (participants c)) l4
-            (apart_map (λ party. events.Init k party) who (λ x. refl) _ (apart_filter _ (participants c) people_apart)) a4
-            (λ e x y. below 3 e (is3 e x).0 (from4 e y)) in
+        (apart_map (λ party. events.Init k party) who (λ x. refl) _ (apart_filter _ (participants c) people_apart)) a4
+        (λ e x y. below 3 e (is3 e x).0 (from4 e y)) in
         let a2 = apart_append (endorsing s w k (participants c)) l3
-            (apart_map (λ party. events.Endorse k party) who (λ x. refl) _ (apart_filter _ (participants c) people_apart)) a3
-            (λ e x y. below 2 e (is2 e x).0 (from3 e y)) in
+        (apart_map (λ party. events.Endorse k party) who (λ x. refl) _ (apart_filter _ (participants c) people_apart)) a3
+        (λ e x y. below 2 e (is2 e x).0 (from3 e y)) in
         let a1 = apart_append (map (committing k) (participants c)) l2
-            (apart_map (committing k) who (λ x. refl) (participants c) people_apart) a2 (λ e x y. below 1 e (is1 e x).0 (from2 e y)) in
+        (apart_map (committing k) who (λ x. refl) (participants c) people_apart) a2 (λ e x y. below 1 e (is1 e x).0 (from2 e y)) in
         ((λ h. below 0 (advertising s w k c) refl (from1 (advertising s w k c) h)), a1)
 
   -- ---- all contracts
@@ -363,9 +363,9 @@ module _ (s : Setup) (g : Configuration) (w : World) (ordered : ascends g.active
       apart_append (candidates s g w k c) (candidates_from s g w (k + 1) cs) (candidates_apart k c (different_names c h.0))
       (all_apart (k + 1) cs h.1)
       (λ e x y.
-          let f = of_further (k + 1) cs e y in
-          let same = one_contract k f.number e (from0 k c e x).is f.is in
-          absurd (omega (arith, f.further, same)))
+      let f = of_further (k + 1) cs e y in
+      let same = one_contract k f.number e (from0 k c e x).is f.is in
+      absurd (omega (arith, f.further, same)))
 
 -- ---- runs
 
@@ -383,10 +383,10 @@ candidates_stand_once s es run =
     let w = last_world s es in
     let z = run_posts s es in
     let tracks = (kept_at_end s (spends_with_leave s) (KeptAll s z) es (keeps_all s run.setup z) run.events
-        (opening_all s es run z)).holds.honest.run.tracks in
+    (opening_all s es run z)).holds.honest.run.tracks in
     let sim = simulation s es run in
     let opened = opening_numbered s.header.parties s.header.honest s.header.deposits s.contracts in
     let numbered : IsNumbered g = subst IsNumbered sim.leads (numbered_steps (opening_configuration s) (in_order
-        (translated s es)) opened) in
+    (translated s es)) opened) in
     once_from (all_candidates s g w) (all_apart s g w numbered.active 0 g.contracts
     (subst (λ cs. AllByRecursion IsWellFormed cs) (sym tracks.constant.contracts) run.setup.contracts))

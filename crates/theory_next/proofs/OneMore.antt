@@ -84,4 +84,4 @@ module _ (s : Setup) (es : List Event) (run : IsRun s es) (on : first_halt s es 
       ∙ reached_more s (run_posts s es) (played s es).passed (passing s w e) g o
       ∙ ap (λ x. (turn_of s (run_posts s es) (last_configuration s es) x (passing s w e)).configuration) (sym left)
       ∙ ap (λ (d : Draft). (turn_of s (run_posts s es) (last_configuration s es) w
-          (record { event = e; draft = d; world = settled w d })).configuration) is_done
+      (record { event = e; draft = d; world = settled w d })).configuration) is_done

@@ -63,7 +63,7 @@ offered : (g : Configuration) (step : Step) (o : Offer) → is_contract_step ste
 offered g step o kind e one =
     contains_from_in (offers g) o
     (in_flat_map offers_of _ step o (in_from_contains _ step ((every_enabled g step).1 (kind, e))) (subst (λ os. Is_in o os)
-        (sym one) (inl refl)))
+    (sym one) (inl refl)))
 
 -- ---- cores
 
@@ -113,8 +113,11 @@ module _ (g : Configuration) (n i : ℕ) where
       agreed_to =
           sym (all_map (λ (c : Condition). c.0) _ (asks b)) ∙ (met_parts (authorised g n i (asks b)) _ (and_parts _ _ all).1).0
 
-      rest : met (put_in g k (puts_of (core b)) ++ (revealed g k pre (reveals_of (core b)) ++ (undecided_or_true g k pre
-          (core b), wants.Predicate) ∷ [])) ≡ true
+      rest : met (put_in g k (puts_of (core b)) ++ (revealed g k pre (reveals_of (core b)) ++ (
+        undecided_or_true g k pre
+            (core b),
+        wants.Predicate,
+      ) ∷ [])) ≡ true
       rest = (met_parts (authorised g n i (asks b)) _ (and_parts _ _ all).1).1
 
       puts_there : are_there g.deposits (bindings_of g.advertised k) (puts_of (core b)) ≡ true
@@ -207,8 +210,10 @@ beginning_enabled g k h all =
       kind = refl;
       enabled = no_premise 1 (premises g (steps.Init k)) (
         and_from _ _ h committed,
-        (all_there g k q.0 ds (sym (all_map (λ (c : Condition). c.0) _ ds) ∙ r.0),
-        (all_started g k q.0 ds (sym (all_map (λ (c : Condition). c.0) _ ds) ∙ r.1), tt)),
+        (
+          all_there g k q.0 ds (sym (all_map (λ (c : Condition). c.0) _ ds) ∙ r.0),
+          (all_started g k q.0 ds (sym (all_map (λ (c : Condition). c.0) _ ds) ∙ r.1), tt),
+        ),
       );
       leads = refl;
     }

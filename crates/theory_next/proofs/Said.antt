@@ -46,9 +46,9 @@ goes s w e (Went d next) q h = record { draft = d; next = next; went = q; passed
 
 pub can_is_meant : CanIsMeant
 can_is_meant s w e = (
-    λ h. goes s w e (event s w e) refl h,
-    λ (h : GoesThrough s w e). ap ruling_of h.went ∙ goes_by h.draft.outcome h.passed,
-  )
+  λ h. goes s w e (event s w e) refl h,
+  λ (h : GoesThrough s w e). ap ruling_of h.went ∙ goes_by h.draft.outcome h.passed,
+)
 
 -- ---- what leads to a step goes through or halts
 
@@ -84,18 +84,20 @@ module _ (s : Setup) (g : Configuration) (w : World) where
       → (o : Outlook) × Is_in o (outlooks_from s g w k cs) × Is_in (prospect s g w e) o.prospects
   said_from k [] e h t = absurd h
   said_from k (c ∷ cs) e h t = elim (in_append e (candidates s g w k c) (candidates_from s g w (k + 1) cs) h) [
-    | inl a ↦
-    (outlook s g w k c, inl refl, in_map (prospect s g w) _ e (filter_has (λ x. is_shown s w x (ruling s w x))
-        (candidates s g w k c) e a t))
+    | inl a ↦ (
+      outlook s g w k c,
+      inl refl,
+      in_map (prospect s g w) _ e (filter_has (λ x. is_shown s w x (ruling s w x))
+          (candidates s g w k c) e a t),
+    )
     | inr a ↦ let r = said_from (k + 1) cs e a t in (r.0, inr r.1, r.2)
   ]
 
   pub is_said : (e : Event) → Contains (all_candidates s g w) e → Comes (ruling s w e) → IsSaid s g w e
   is_said e h c =
-      let r = said_from 0 g.contracts e (in_from_contains (all_candidates s g w) e h) (shown_by s w e (ruling s w e) c) in
-      (
+      let r = said_from 0 g.contracts e (in_from_contains (all_candidates s g w) e h) (shown_by s w e (ruling s w e) c) in (
         contains_from_in (all_prospects s g w) (prospect s g w e)
-        (in_flat_map (λ (o : Outlook). o.prospects) (outlooks s g w) r.0 (prospect s g w e) r.1 r.2),
+            (in_flat_map (λ (o : Outlook). o.prospects) (outlooks s g w) r.0 (prospect s g w e) r.1 r.2),
         c,
       )
 

@@ -40,7 +40,7 @@ apart_map f back e (x ∷ xs) h = (
 
 -- ---- names
 
-among_in : (p : List ℕ) (ps : List (List ℕ)) → Is_in p ps → is_among p ps ≡ true
+pub among_in : (p : List ℕ) (ps : List (List ℕ)) → Is_in p ps → is_among p ps ≡ true
 among_in p [] h = absurd h
 among_in p (q ∷ ps) (inl e) = or_left _ _ (subst (λ y. bytes_eq y p ≡ true) e (bytes_refl p))
 among_in p (q ∷ ps) (inr i) = or_right (bytes_eq q p) _ (among_in p ps i)

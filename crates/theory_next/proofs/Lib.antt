@@ -7,3 +7,4 @@ pub mod MetAlone
 pub mod Apart
 pub mod Once
 pub mod FirstLines
+pub mod FirstRun

@@ -4,3 +4,4 @@ pub mod Ready
 pub mod MetAlone
 pub mod Once
 pub mod FirstLines
+pub mod FirstRun

@@ -3,6 +3,7 @@
 
 ghost use Rattle.theory_next.specs.Candidates.{CanIsMeant, OffersAreCandidates, OffersAreSaid};
 ghost use Rattle.theory_next.specs.FirstLines.{FirstLinesAreARun};
+ghost use Rattle.theory_next.specs.FirstRun.{FirstRunIsARun};
 ghost use Rattle.theory_next.specs.MetAlone.{MetAloneTheorem};
 ghost use Rattle.theory_next.specs.Once.{CandidatesStandOnce};
 ghost use Rattle.theory_next.specs.Ready.{ReadyComesTheorem};
@@ -49,4 +50,10 @@ pub fn met_alone()
 /// run that begins the contract.
 pub fn first_lines_are_a_run()
     ensures { FirstLinesAreARun }
+{}
+
+/// With any secrets that differ it is a run of which the theorems on runs speak, unless its opening collides, where a
+/// run file has room for the parties, secrets and deposits of the contract.
+pub fn first_run_is_a_run()
+    ensures { FirstRunIsARun }
 {}

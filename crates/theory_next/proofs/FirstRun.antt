@@ -26,7 +26,8 @@ use Rattle.theory_next.proofs.Apart.{Apart, among_in, apart_added}
 
 from_among : (p : List ℕ) (ps : List (List ℕ)) → is_among p ps ≡ true → Is_in p ps
 from_among p [] h = cc
-from_among p (q ∷ ps) h = elim (or_cases (bytes_eq q p) (is_among p ps) h) [ inl a ↦ inl (sym (bytes-true q p a)) | inr b ↦ inr (from_among p ps b) ]
+from_among p (q ∷ ps) h = elim (or_cases (bytes_eq q p) (is_among p ps) h) [ inl a ↦ inl (sym (bytes-true q p a)) | inr b ↦ inr
+    (from_among p ps b) ]
 
 apart_different : (xs : List (List ℕ)) → Apart xs → are_different xs ≡ true
 apart_different [] h = refl
@@ -50,9 +51,11 @@ module _ (ps : List (List ℕ)) where
       → list_all (λ (d : List ℕ × ℕ). is_among (d.0) ps) (owned (deposits pre)) ≡ true
   owners_known [] h = refl
   owners_known (Persistent party value name ∷ es) h =
-      and_from _ _ (h party (among_in party (party ∷ people_of es) (inl refl))) (owners_known es (λ p k. h p (or_right (bytes_eq party p) _ k)))
+      and_from _ _ (h party (among_in party (party ∷ people_of es) (inl refl))) (owners_known es (λ p k. h p (or_right
+          (bytes_eq party p) _ k)))
   owners_known (Volatile party value name ∷ es) h =
-      and_from _ _ (h party (among_in party (party ∷ people_of es) (inl refl))) (owners_known es (λ p k. h p (or_right (bytes_eq party p) _ k)))
+      and_from _ _ (h party (among_in party (party ∷ people_of es) (inl refl))) (owners_known es (λ p k. h p (or_right
+          (bytes_eq party p) _ k)))
   owners_known (Secret party name ∷ es) h = owners_known es (λ p k. h p (or_right (bytes_eq party p) _ k))
 
   holders_known : (pre : List Pre) (strings : List (List ℕ)) → ((p : List ℕ) → is_among p (people_of pre) ≡ true → is_among p ps ≡ true)
@@ -88,7 +91,8 @@ unheld party name (Secret p n ∷ es) (bytes ∷ strings) h =
     both true false c d e f = f e
     both false false c d e f = f e
 
-held_apart : (pre : List Pre) (strings : List (List ℕ)) → are_different (map name_in pre) ≡ true → are_held_apart (held (secrets pre) strings) ≡ true
+held_apart : (pre : List Pre) (strings : List (List ℕ)) → are_different (map name_in pre) ≡ true
+    → are_held_apart (held (secrets pre) strings) ≡ true
 held_apart [] strings h = refl
 held_apart (Persistent p v n ∷ es) strings h = held_apart es strings (and_parts (not (is_among n (map name_in es))) _ h).1
 held_apart (Volatile p v n ∷ es) strings h = held_apart es strings (and_parts (not (is_among n (map name_in es))) _ h).1
@@ -119,7 +123,8 @@ owned_number (d ∷ ds) = let e = owned_number ds in omega (arith, e)
 
 -- ---- the events
 
-all_both : (s : Setup) (xs ys : List Event) → AllByRecursion (IsEvent s) xs → AllByRecursion (IsEvent s) ys → AllByRecursion (IsEvent s) (xs ++ ys)
+all_both : (s : Setup) (xs ys : List Event) → AllByRecursion (IsEvent s) xs → AllByRecursion (IsEvent s) ys
+    → AllByRecursion (IsEvent s) (xs ++ ys)
 all_both s [] ys h k = k
 all_both s (x ∷ xs) ys h k = (h.0, all_both s xs ys h.1 k)
 

@@ -1,0 +1,3 @@
+pub mod WorkedRuns
+pub mod Worked
+pub mod WorkedWants

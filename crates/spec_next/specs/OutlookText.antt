@@ -1,0 +1,41 @@
+-- How what comes next is printed.
+use Rattle.std.specs.Prelude.{ℕ, List, [], ◌∷◌, ◌++◌, map, filter, flat_map, not, codes}
+use Rattle.std.specs.Str.{bytes_eq}
+use Rattle.spec_run.specs.declared.event.Event.{Event}
+use Rattle.spec_run.specs.Setup.{Setup}
+use Rattle.spec_run.specs.Translation.{last_world, last_configuration}
+use Rattle.spec_text.specs.RunText.{newline, event_text}
+use Rattle.spec_text.specs.OutcomeText.{reason_text}
+use Rattle.spec_next.specs.declared.outlook.Ruling.{Ruling}
+use Rattle.spec_next.specs.declared.outlook.Ruling.TheVariants as rulings
+use Rattle.spec_next.specs.declared.outlook.Prospect.{Prospect}
+use Rattle.spec_next.specs.declared.outlook.Outlook.{Outlook}
+use Rattle.spec_next.specs.WantText.{want_line}
+use Rattle.spec_next.specs.Prospects.{outlooks}
+
+-- `can EVENT`, `cannot EVENT REASON`, and `cannot EVENT halts` where it would halt the run
+abbrev pub ruling_line : Event → Ruling → List ℕ
+ruling_line e rulings.Can = codes "can " ++ (event_text e ++ newline)
+ruling_line e (rulings.Cannot reason) = codes "cannot " ++ (event_text e ++ (codes " " ++ (reason_text reason ++ newline)))
+ruling_line e rulings.Halts = codes "cannot " ++ (event_text e ++ (codes " halts" ++ newline))
+
+-- each line once, where it first stands
+abbrev pub once : List (List ℕ) → List (List ℕ)
+once [] = []
+once (line ∷ more) = line ∷ filter (λ other. not (bytes_eq other line)) (once more)
+
+-- an event and what is wanting for it
+abbrev pub prospect_text : Prospect → List ℕ
+prospect_text p = ruling_line p.event p.ruling ++ flat_map (λ line. line) (once (map want_line p.wants))
+
+-- `waits A`
+abbrev pub waits_line : List ℕ → List ℕ
+waits_line party = codes "waits " ++ (party ++ newline)
+
+-- a contract
+abbrev pub outlook_text : Outlook → List ℕ
+outlook_text o = flat_map prospect_text o.prospects ++ flat_map waits_line o.waits
+
+-- what comes next after these events, contract by contract
+unfoldable pub next_text : Setup → List Event → List ℕ
+next_text s es = flat_map outlook_text (outlooks s (last_configuration s es) (last_world s es))

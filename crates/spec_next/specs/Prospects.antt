@@ -1,0 +1,128 @@
+-- What may come next of the contracts of a run: what each candidate would come to, what is wanting for it, and on whom something waits.
+use Rattle.std.specs.Prelude.{ℕ, ◌+◌, List, [], ◌∷◌, map, filter, Bool, true, false, not, Option, Some, None}
+use Rattle.std.specs.List.{flat_map}
+use Rattle.spec_data.specs.Lists.{is_among, has_number}
+use Rattle.spec_terms.specs.Advert.{Advert}
+use Rattle.spec_terms.specs.Parties.{participants}
+use Rattle.spec_calculus.specs.Configuration.{Configuration}
+use Rattle.spec_run.specs.declared.event.Event.{Event}
+use Rattle.spec_run.specs.declared.event.Event.TheVariants as events
+use Rattle.spec_run.specs.declared.outcome.Outcome.{Outcome}
+use Rattle.spec_run.specs.declared.outcome.Outcome.TheVariants as outcomes
+use Rattle.spec_run.specs.Setup.{Setup}
+use Rattle.spec_run.specs.World.{World, is_advertised, has_promised}
+use Rattle.spec_run.specs.Draft.{Answer, Went, Halted}
+use Rattle.spec_run.specs.Revealing.{own_secret}
+use Rattle.spec_run.specs.Event.{event}
+use Rattle.spec_next.specs.declared.want.Want.{Want}
+use Rattle.spec_next.specs.declared.want.Want.TheVariants as wants
+use Rattle.spec_next.specs.declared.outlook.Ruling.{Ruling}
+use Rattle.spec_next.specs.declared.outlook.Ruling.TheVariants as rulings
+use Rattle.spec_next.specs.declared.outlook.Prospect.{Prospect}
+use Rattle.spec_next.specs.declared.outlook.Outlook.{Outlook}
+use Rattle.spec_next.specs.Candidates.{candidates}
+use Rattle.spec_next.specs.Wants.{wants_of}
+
+-- ---- what an event would come to
+
+abbrev pub ruling_by : Outcome → Ruling
+ruling_by outcomes.Done = rulings.Can
+ruling_by (outcomes.Accepted spent made lock) = rulings.Can
+ruling_by (outcomes.Refused reason) = rulings.Cannot reason
+
+abbrev pub ruling_of : Answer → Ruling
+ruling_of (Halted halt) = rulings.Halts
+ruling_of (Went d next) = ruling_by d.outcome
+
+-- what the event would come to in this world, by the definition of runs
+abbrev pub ruling : Setup → World → Event → Ruling
+ruling s w e = ruling_of (event s w e)
+
+-- ---- which are shown
+
+-- whether a refused event is still ahead of its contract: what is advertised, committed, begun or revealed isn't
+abbrev pub is_ahead : Setup → World → Event → Bool
+is_ahead s w (events.Advertise k bindings) = not (is_advertised w k)
+is_ahead s w (events.Commit k party digests) = not (has_promised w k party)
+is_ahead s w (events.Endorse k party) = not (has_number k w.begun)
+is_ahead s w (events.Init k party) = not (has_number k w.begun)
+is_ahead s w (events.FireInit k) = not (has_number k w.begun)
+is_ahead s w (events.Reveal k party secret) = not (is_among (own_secret s party secret) w.posted)
+is_ahead s w (events.Authorise party n i) = true
+is_ahead s w (events.Fire n i) = true
+is_ahead s w (events.Post bytes) = false
+is_ahead s w (events.Sign party label digest) = false
+is_ahead s w (events.Give party inputs outputs) = false
+is_ahead s w (events.Append bytes) = false
+is_ahead s w (events.Mine blocks) = false
+
+abbrev pub is_shown : Setup → World → Event → Ruling → Bool
+is_shown s w e rulings.Can = true
+is_shown s w e (rulings.Cannot reason) = is_ahead s w e
+is_shown s w e rulings.Halts = true
+
+-- ---- prospects
+
+-- nothing is wanting for what can come
+abbrev pub wants_by : List Want → Ruling → List Want
+wants_by wanted rulings.Can = []
+wants_by wanted (rulings.Cannot reason) = wanted
+wants_by wanted rulings.Halts = []
+
+abbrev pub prospect : Setup → Configuration → World → Event → Prospect
+prospect s g w e = record { event = e; ruling = ruling s w e; wants = wants_by (wants_of s g w e) (ruling s w e) }
+
+-- the prospects of these candidates
+abbrev pub prospects_of : Setup → Configuration → World → List Event → List Prospect
+prospects_of s g w es = map (prospect s g w) (filter (λ e. is_shown s w e (ruling s w e)) es)
+
+-- ---- on whom something waits
+
+-- the party that is to do what is wanting
+abbrev pub awaited : Want → Option (List ℕ)
+awaited (wants.Advert k) = None
+awaited (wants.Deposit x) = None
+awaited (wants.Digest party secret) = Some party
+awaited (wants.Commitment party k) = Some party
+awaited (wants.Endorsement path party) = Some party
+awaited (wants.Start party k) = Some party
+awaited (wants.Beginning k) = None
+awaited (wants.Height height) = None
+awaited (wants.Authorisation party n i) = Some party
+awaited (wants.Put x) = None
+awaited (wants.Secret party secret) = Some party
+awaited wants.Predicate = None
+
+abbrev pub onto_awaited : Option (List ℕ) → List (List ℕ) → List (List ℕ)
+onto_awaited None parties = parties
+onto_awaited (Some party) parties = party ∷ parties
+
+abbrev pub all_awaited : List Want → List (List ℕ)
+all_awaited [] = []
+all_awaited (x ∷ xs) = onto_awaited (awaited x) (all_awaited xs)
+
+-- all that is wanting for these prospects
+abbrev pub all_wants : List Prospect → List Want
+all_wants ps = flat_map (λ p. p.wants) ps
+
+-- those of these people on whom one of the prospects waits
+abbrev pub waits : List (List ℕ) → List Prospect → List (List ℕ)
+waits people ps = filter (λ party. is_among party (all_awaited (all_wants ps))) people
+
+-- ---- contracts
+
+abbrev pub outlook_by : List (List ℕ) → List Prospect → Outlook
+outlook_by people ps = record { prospects = ps; waits = waits people ps }
+
+-- what comes next of contract k
+abbrev pub outlook : Setup → Configuration → World → ℕ → Advert → Outlook
+outlook s g w k advert = outlook_by (participants advert) (prospects_of s g w (candidates s g w k advert))
+
+-- of the contracts from number k on
+abbrev pub outlooks_from : Setup → Configuration → World → ℕ → List Advert → List Outlook
+outlooks_from s g w k [] = []
+outlooks_from s g w k (advert ∷ adverts) = outlook s g w k advert ∷ outlooks_from s g w (k + 1) adverts
+
+-- of all contracts
+abbrev pub outlooks : Setup → Configuration → World → List Outlook
+outlooks s g w = outlooks_from s g w 0 g.contracts

@@ -1,0 +1,26 @@
+-- How what is wanting is printed.
+use Rattle.std.specs.Prelude.{ℕ, List, ◌++◌, codes}
+use Rattle.std.specs.Fmt.{decimal}
+use Rattle.spec_bitcoin.specs.Keys.{path_text}
+use Rattle.spec_text.specs.RunText.{newline}
+use Rattle.spec_text.specs.StepText.{branch_text}
+use Rattle.spec_next.specs.declared.want.Want.{Want}
+use Rattle.spec_next.specs.declared.want.Want.TheVariants as wants
+
+-- `needs ..`, and of a predicate that is false that it never comes
+abbrev pub want_text : Want → List ℕ
+want_text (wants.Advert k) = codes "needs advertise " ++ decimal k
+want_text (wants.Deposit x) = codes "needs deposit " ++ x
+want_text (wants.Digest party secret) = codes "needs digest " ++ (secret ++ (codes " of " ++ party))
+want_text (wants.Commitment party k) = codes "needs " ++ (party ++ (codes " commits " ++ decimal k))
+want_text (wants.Endorsement path party) = codes "needs endorsement " ++ (path_text path ++ (codes " " ++ party))
+want_text (wants.Start party k) = codes "needs " ++ (party ++ (codes " inits " ++ decimal k))
+want_text (wants.Beginning k) = codes "needs fire init " ++ decimal k
+want_text (wants.Height height) = codes "needs height " ++ decimal height
+want_text (wants.Authorisation party n i) = codes "needs " ++ (party ++ (codes " authorises " ++ branch_text n i))
+want_text (wants.Put x) = codes "needs put " ++ (x ++ codes " gone")
+want_text (wants.Secret party secret) = codes "needs secret " ++ (secret ++ (codes " of " ++ party))
+want_text wants.Predicate = codes "never: predicate false"
+
+abbrev pub want_line : Want → List ℕ
+want_line want = want_text want ++ newline

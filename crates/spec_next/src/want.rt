@@ -1,0 +1,144 @@
+//! What is wanting for an event that can't come now.
+
+ghost use Rattle.std.specs.Prelude.{◌≡◌, IfOk};
+
+use spec_data::{Name, OutOfMemory, Seq};
+use spec_terms::Path;
+use std::alloc::Global;
+
+/// What is wanting. Heights are in blocks.
+pub enum Want {
+    /// The contract isn't advertised.
+    Advert(u32),
+    /// No live deposit fits the one of this name, or the one that was bound is gone.
+    Deposit(Name),
+    /// The digest of a secret that its party, which isn't honest, is to hand in.
+    Digest {
+        party: Name,
+        secret: Name,
+    },
+    /// The party hasn't committed.
+    Commitment {
+        party: Name,
+        contract: u32,
+    },
+    /// The party hasn't endorsed the branch at this path.
+    Endorsement {
+        path: Path,
+        party: Name,
+    },
+    /// The party hasn't signed its deposits of the initial transaction.
+    Start {
+        party: Name,
+        contract: u32,
+    },
+    /// The contract hasn't begun.
+    Beginning(u32),
+    Height(u32),
+    /// The party hasn't authorised the branch.
+    Authorisation {
+        party: Name,
+        output: u32,
+        branch: u32,
+    },
+    /// The deposit that is put in is gone.
+    Put(Name),
+    /// The secret isn't revealed.
+    Secret {
+        party: Name,
+        secret: Name,
+    },
+    /// The predicate is false of the revealed lengths, so nothing can be done.
+    Predicate,
+}
+
+impl Drop for Want {
+    fn drop(self) {
+        match self {
+            Want::Advert(_)
+            | Want::Deposit(_)
+            | Want::Digest {
+                party: _,
+                secret: _,
+            }
+            | Want::Commitment {
+                party: _,
+                contract: _,
+            }
+            | Want::Endorsement { path: _, party: _ }
+            | Want::Start {
+                party: _,
+                contract: _,
+            }
+            | Want::Beginning(_)
+            | Want::Height(_)
+            | Want::Authorisation {
+                party: _,
+                output: _,
+                branch: _,
+            }
+            | Want::Put(_)
+            | Want::Secret {
+                party: _,
+                secret: _,
+            }
+            | Want::Predicate => {}
+        }
+    }
+}
+
+impl Want {
+    /// An equal one.
+    pub fn copy(&self, alloc: Global) -> Result<Want, OutOfMemory>
+        ensures { IfOk result (λ want. want ≡ self.now) }
+    {
+        Ok(match self {
+            Want::Advert(contract) => Want::Advert(*contract),
+            Want::Deposit(name) => Want::Deposit(*name),
+            Want::Digest { party, secret } => Want::Digest {
+                party: *party,
+                secret: *secret,
+            },
+            Want::Commitment { party, contract } => Want::Commitment {
+                party: *party,
+                contract: *contract,
+            },
+            Want::Endorsement { path, party } => Want::Endorsement {
+                path: path.copy(alloc)?,
+                party: *party,
+            },
+            Want::Start { party, contract } => Want::Start {
+                party: *party,
+                contract: *contract,
+            },
+            Want::Beginning(contract) => Want::Beginning(*contract),
+            Want::Height(height) => Want::Height(*height),
+            Want::Authorisation {
+                party,
+                output,
+                branch,
+            } => Want::Authorisation {
+                party: *party,
+                output: *output,
+                branch: *branch,
+            },
+            Want::Put(name) => Want::Put(*name),
+            Want::Secret { party, secret } => Want::Secret {
+                party: *party,
+                secret: *secret,
+            },
+            Want::Predicate => Want::Predicate,
+        })
+    }
+}
+
+/// Equal ones, in the same order.
+pub fn copy_wants(alloc: Global, wants: &[Want]) -> Result<Seq<Want>, OutOfMemory>
+    ensures { IfOk result (λ list. list ≡ wants.now) }
+{
+    let mut list = Seq::new(alloc);
+    for want in wants {
+        list.push(want.copy(alloc)?)?;
+    }
+    Ok(list)
+}

@@ -1,0 +1,10 @@
+pub mod Complete
+pub mod Said
+pub mod Exact
+pub mod Ready
+pub mod OneMore
+pub mod MetAlone
+pub mod Apart
+pub mod Once
+pub mod FirstLines
+pub mod FirstRun

@@ -1,0 +1,59 @@
+//! What follows of what comes next in a run: each theorem is the contract of a function that does nothing.
+#![tactic(auto)]
+
+ghost use Rattle.theory_next.specs.Candidates.{CanIsMeant, OffersAreCandidates, OffersAreSaid};
+ghost use Rattle.theory_next.specs.FirstLines.{FirstLinesAreARun};
+ghost use Rattle.theory_next.specs.FirstRun.{FirstRunIsARun};
+ghost use Rattle.theory_next.specs.MetAlone.{MetAloneTheorem};
+ghost use Rattle.theory_next.specs.Once.{CandidatesStandOnce};
+ghost use Rattle.theory_next.specs.Ready.{ReadyComesTheorem};
+ghost use Rattle.theory_next.specs.Wants.{WantsAreExactTheorem};
+
+/// An event is said to be one that can come exactly where it is done or accepted, and halts nothing.
+pub fn can_is_meant()
+    ensures { CanIsMeant }
+{}
+
+/// Everything that may be taken by the calculus is among the candidates.
+pub fn offers_are_candidates()
+    ensures { OffersAreCandidates }
+{}
+
+/// After a run each candidate stands once in the list.
+pub fn candidates_stand_once()
+    ensures { CandidatesStandOnce }
+{}
+
+/// After a run it is said of all that may be taken by the calculus that it can come, unless it halts the run.
+pub fn offers_are_said()
+    ensures { OffersAreSaid }
+{}
+
+/// What is wanting for an event is exactly what fails of its conditions, and nothing is wanting exactly where all are met.
+pub fn wants_are_exact()
+    ensures { WantsAreExactTheorem }
+{}
+
+/// After a run a contract begins, and a branch of an active contract is taken, wherever nothing is wanting for it, unless
+/// it halts the run: so of a beginning or a branch that can't come something is always wanting.
+pub fn ready_comes()
+    ensures { ReadyComesTheorem }
+{}
+
+/// After a run that doesn't halt, where an authorisation or a height alone is wanting for a branch, the event that meets it
+/// can come, and after it the branch can be taken, unless that halts the run.
+pub fn met_alone()
+    ensures { MetAloneTheorem }
+{}
+
+/// The first lines of a run that are printed of a contract, with the bytes of its secrets filled in, are the text of the
+/// run that begins the contract.
+pub fn first_lines_are_a_run()
+    ensures { FirstLinesAreARun }
+{}
+
+/// With any secrets that differ it is a run of which the theorems on runs speak, unless its opening collides, where a
+/// run file has room for the parties, secrets and deposits of the contract.
+pub fn first_run_is_a_run()
+    ensures { FirstRunIsARun }
+{}

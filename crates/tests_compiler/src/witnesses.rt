@@ -24,10 +24,24 @@ fn is_second_of_three(alloc: Global, script: &[u8]) -> Result<bool, OutOfMemory>
     Ok(chooses_the_second(&items, script))
 }
 
+fn pushes(op: &Op, bytes: &[u8]) -> bool {
+    match op {
+        Op::Push(pushed) => pushed.as_slice() == bytes,
+        _ => false,
+    }
+}
+
+fn is_checksig(op: &Op) -> bool {
+    match op {
+        Op::Code(code) => *code == 0xac,
+        _ => false,
+    }
+}
+
 // Whether the operations are a push of the key and CHECKSIG.
 fn asks_a_signature(ops: &[Op], key: &[u8]) -> bool {
     match ops {
-        [Op::Push(pushed), Op::Code(0xac)] => pushed.as_slice() == key,
+        [first, second] => pushes(first, key) && is_checksig(second),
         _ => false,
     }
 }

@@ -26,8 +26,11 @@ use Rattle.theory_next.proofs.Apart.{Apart, among_in, apart_added}
 
 from_among : (p : List ℕ) (ps : List (List ℕ)) → is_among p ps ≡ true → Is_in p ps
 from_among p [] h = cc
-from_among p (q ∷ ps) h = elim (or_cases (bytes_eq q p) (is_among p ps) h) [ inl a ↦ inl (sym (bytes-true q p a)) | inr b ↦ inr
-    (from_among p ps b) ]
+from_among p (q ∷ ps) h = elim (or_cases (bytes_eq q p) (is_among p ps) h) [
+  | inl a ↦ inl (sym (bytes-true q p a))
+  | inr b ↦ inr
+      (from_among p ps b)
+]
 
 apart_different : (xs : List (List ℕ)) → Apart xs → are_different xs ≡ true
 apart_different [] h = refl
@@ -52,10 +55,10 @@ module _ (ps : List (List ℕ)) where
   owners_known [] h = refl
   owners_known (Persistent party value name ∷ es) h =
       and_from _ _ (h party (among_in party (party ∷ people_of es) (inl refl))) (owners_known es (λ p k. h p (or_right
-          (bytes_eq party p) _ k)))
+      (bytes_eq party p) _ k)))
   owners_known (Volatile party value name ∷ es) h =
       and_from _ _ (h party (among_in party (party ∷ people_of es) (inl refl))) (owners_known es (λ p k. h p (or_right
-          (bytes_eq party p) _ k)))
+      (bytes_eq party p) _ k)))
   owners_known (Secret party name ∷ es) h = owners_known es (λ p k. h p (or_right (bytes_eq party p) _ k))
 
   holders_known : (pre : List Pre) (strings : List (List ℕ)) → ((p : List ℕ) → is_among p (people_of pre) ≡ true → is_among p ps ≡ true)

@@ -1,11 +1,11 @@
 -- What stands in the log after reads that are made one after another.
-use Rattle.std.proofs.Common.{◌≡◌, ℕ, zero, suc, ◌+◌, ◌<◌, ◌≤◌, ◌-◌, ◌^◌, min, List, [], ◌∷◌, ◌++◌, length, take, get_or, map, Option, Some}
+use Rattle.std.proofs.Common.{◌≡◌, ℕ, suc, ◌+◌, ◌<◌, ◌≤◌, List, [], ◌∷◌, ◌++◌, length, take, get_or, map, Option, Some}
 use Rattle.std.proofs.Common.{None}
-use Rattle.std.proofs.Common.{Result, Ok, Err, refl, sym, ap, subst, ◌∙◌, arith, append_assoc, append-nil, length-append, add-one}
+use Rattle.std.proofs.Common.{Err, refl, sym, ap, subst, ◌∙◌, arith, append_assoc, append-nil, length-append, add-one}
 use Rattle.std.proofs.Math.Seq.{take-suc}
 use Rattle.std.proofs.lemmas.List.{map-append, length-map}
 use Rattle.std.specs.Borrow.{Bor}
-use Rattle.bm_io.specs.Counts.{RoseBy, last_count}
+use Rattle.bm_io.specs.Counts.{RoseBy}
 use Rattle.bm_io.specs.Logs.{Reply, reply_of}
 use Rattle.bm_io.specs.declared.files.ReadError.TheVariants.{Memory}
 use Rattle.spec_tool.specs.Reads.{Asked, Read, Text, failed}

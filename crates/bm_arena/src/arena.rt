@@ -11,7 +11,6 @@ use std::marker::Model;
 
 /// The nodes of a contract: node 0 is its own choice, each choice stands before its branches, and all follow the order of
 /// the text. Contracts see an arena as the list of its nodes.
-#[derive(Drop)]
 pub struct Arena {
     nodes: Vec<Node>,
 }
@@ -31,6 +30,12 @@ impl Model for Arena {
     ghost view = { λ a. map node_view a.nodes.items };
 
     ghost invariant = { λ a. length a.nodes.items < 2 ^ 32 };
+}
+
+impl Drop for Arena {
+    fn drop(self) {
+        let Arena { nodes: _ } = self;
+    }
 }
 
 // How many branches a choice's node has.

@@ -3,7 +3,6 @@
 use bm_syntax::{Name, Path, Pred};
 
 /// A choice at a position, or a branch.
-#[derive(Drop)]
 pub enum Node {
     /// Where the choice stands, and the numbers of its branches in order.
     Choice {
@@ -19,8 +18,24 @@ pub enum Node {
     },
 }
 
+impl Drop for Node {
+    fn drop(self) {
+        match self {
+            Node::Choice {
+                position: _,
+                branches: _,
+            }
+            | Node::Branch {
+                path: _,
+                asks: _,
+                lock: _,
+                core: _,
+            } => {}
+        }
+    }
+}
+
 /// What a branch does.
-#[derive(Drop)]
 pub enum Core {
     /// Goes on with the choice of number `next`.
     PutReveal {
@@ -36,4 +51,19 @@ pub enum Core {
     Split {
         parts: Vec<(u64, u32)>,
     },
+}
+
+impl Drop for Core {
+    fn drop(self) {
+        match self {
+            Core::PutReveal {
+                puts: _,
+                reveals: _,
+                test: _,
+                next: _,
+            }
+            | Core::Withdraw { party: _ }
+            | Core::Split { parts: _ } => {}
+        }
+    }
 }

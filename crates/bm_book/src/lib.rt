@@ -21,7 +21,6 @@ fn pair_of(key: &[u8; 33], digest: &[u8; 32]) -> Pair
 }
 
 /// The different pairs of key and digest, in order of signing.
-#[derive(Drop)]
 pub struct Book {
     pairs: IndexSet<Pair>,
 }
@@ -36,6 +35,12 @@ impl Model for Book {
     ghost view = { λ b. b.pairs.keys };
 
     ghost invariant = { λ b. are_keys b.pairs.keys ≡ true };
+}
+
+impl Drop for Book {
+    fn drop(self) {
+        let Book { pairs: _ } = self;
+    }
 }
 
 impl Book {

@@ -21,9 +21,14 @@ use std::marker::Model;
 
 /// What the calculus knows at a moment: steps have led to it from an opening with checked contracts
 /// and no more than all money, and so no sum of it is more than that.
-#[derive(Drop)]
 pub struct Config {
     state: State,
+}
+
+impl Drop for Config {
+    fn drop(self) {
+        let Config { state: _ } = self;
+    }
 }
 
 /// An active contract: the contract's place, the position that it stands at, and its balance in satoshi.

@@ -17,7 +17,6 @@ use std::alloc::Global;
 use std::marker::Model;
 
 /// Active contracts by ascending numbers, and so each is found by halving. Clauses see the list.
-#[derive(Drop)]
 pub struct ActiveContracts {
     items: Vec<ActiveContract>,
 }
@@ -32,6 +31,12 @@ impl Model for ActiveContracts {
     ghost view = { λ a. a.items.items };
 
     ghost invariant = { λ a. are_ascending (map (λ d. d.number) a.items.items) ≡ true };
+}
+
+impl Drop for ActiveContracts {
+    fn drop(self) {
+        let ActiveContracts { items: _ } = self;
+    }
 }
 
 impl ActiveContracts {

@@ -23,7 +23,6 @@ use std::marker::Model;
 
 /// Live deposits by ascending numbers, and so each is found by halving. Clauses see the list.
 /// The oldest mostly go first, and in a deque what follows them stays where it is.
-#[derive(Drop)]
 pub struct Deposits {
     items: VecDeque<Deposit>,
 }
@@ -38,6 +37,12 @@ impl Model for Deposits {
     ghost view = { λ a. a.items.items };
 
     ghost invariant = { λ a. are_ascending (map (λ d. d.number) a.items.items) ≡ true };
+}
+
+impl Drop for Deposits {
+    fn drop(self) {
+        let Deposits { items: _ } = self;
+    }
 }
 
 impl Deposits {

@@ -23,7 +23,6 @@ use std::alloc::Global;
 use std::marker::Model;
 
 /// What the calculus knows at a moment, whichever steps led to it.
-#[derive(Drop)]
 pub struct State {
     pub alloc: Global,
     pub time: u32,
@@ -65,6 +64,27 @@ impl Model for State {
       honest = a.honest.items;
       contracts = a.contracts.items;
     } };
+}
+
+impl Drop for State {
+    fn drop(self) {
+        let State {
+            alloc: _,
+            time: _,
+            next: _,
+            deposits: _,
+            active: _,
+            advertised: _,
+            committed: _,
+            revealed: _,
+            init_authorised: _,
+            branch_authorised: _,
+            move_authorised: _,
+            parties: _,
+            honest: _,
+            contracts: _,
+        } = self;
+    }
 }
 
 impl State {

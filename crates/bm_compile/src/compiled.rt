@@ -18,7 +18,6 @@ use theory_script::{paths_are_listed, scripts_are_listed};
 
 /// A contract's nodes, its initial transaction, the transaction of each path and the witness script (BIP 141) of each
 /// position, both in the order of the text. What a node is compiled to is found by the node's number, without a search.
-#[derive(Drop)]
 pub struct Compiled {
     arena: Arena,
     init: Prepared,
@@ -40,6 +39,19 @@ impl Model for Compiled {
     ghost view = { λ c. record { nodes = c.arena; init = c.init; paths = c.paths; scripts = c.scripts } };
 
     ghost invariant = { λ c. IsIndexed c.arena c.paths c.scripts c.branches c.choices };
+}
+
+impl Drop for Compiled {
+    fn drop(self) {
+        let Compiled {
+            arena: _,
+            init: _,
+            paths: _,
+            scripts: _,
+            branches: _,
+            choices: _,
+        } = self;
+    }
 }
 
 // What stands at the place of this number.

@@ -16,7 +16,6 @@ use std::marker::Model;
 
 /// The posted strings, the contracts that are advertised with their bindings, and the commitments. The digests of all
 /// commitments are kept with an index, since each commitment asks for each of its digests whether it was used before.
-#[derive(Drop)]
 pub struct Exchange {
     alloc: Global,
     posted: Strings,
@@ -35,6 +34,18 @@ impl Model for Exchange {
     ghost view = { λ e. record { posted = e.posted; advertised = e.advertised; promises = e.promises } };
 
     ghost invariant = { λ e. e.used ≡ used_digests e.promises };
+}
+
+impl Drop for Exchange {
+    fn drop(self) {
+        let Exchange {
+            alloc: _,
+            posted: _,
+            advertised: _,
+            promises: _,
+            used: _,
+        } = self;
+    }
 }
 
 // The bindings of the contract.

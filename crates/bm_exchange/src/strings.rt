@@ -12,7 +12,6 @@ use std::collections::BTreeMap;
 use std::marker::Model;
 
 /// Strings in order. A string may stand more than once; whether it is there is answered by the index.
-#[derive(Drop)]
 pub struct Strings {
     alloc: Global,
     strings: Pieces,
@@ -28,6 +27,16 @@ impl Model for Strings {
     ghost view = { λ s. s.strings };
 
     ghost invariant = { λ s. IsPlaced s.strings s.places };
+}
+
+impl Drop for Strings {
+    fn drop(self) {
+        let Strings {
+            alloc: _,
+            strings: _,
+            places: _,
+        } = self;
+    }
 }
 
 impl Strings {

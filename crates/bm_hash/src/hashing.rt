@@ -63,10 +63,19 @@ impl Hash32 for Toy {
 }
 
 /// SHA-256, but of `first` in place of `second`.
-#[derive(Debug, Drop)]
+#[derive(Debug)]
 pub struct Twin {
     pub first: Bytes,
     pub second: Bytes,
+}
+
+impl Drop for Twin {
+    fn drop(self) {
+        let Twin {
+            first: _,
+            second: _,
+        } = self;
+    }
 }
 
 impl Twin {

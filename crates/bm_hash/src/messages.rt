@@ -47,7 +47,6 @@ impl From<AllocError> for TrailError {
 }
 
 /// The different messages that were hashed, in order.
-#[derive(Drop)]
 pub struct Trail<H: Hash32> {
     hasher: H,
     messages: Pieces,
@@ -64,6 +63,17 @@ impl<H: Hash32> Model for Trail<H> {
     ghost view = { λ t. record { hasher = t.hasher; messages = t.messages } };
 
     ghost invariant = { λ t. IsTrail (H.digest_of t.hasher) t.messages (place_in t.index) t.collision };
+}
+
+impl<H: Hash32 + Drop> Drop for Trail<H> {
+    fn drop(self) {
+        let Trail {
+            hasher: _,
+            messages: _,
+            index: _,
+            collision: _,
+        } = self;
+    }
 }
 
 // Adds a message with its digest.

@@ -8,7 +8,6 @@ use std::alloc::Global;
 use std::marker::Model;
 
 /// Byte strings one after another in one buffer, with the end of each. A million strings so take two allocations and not a million.
-#[derive(Drop)]
 pub struct Pieces {
     bytes: Vec<u8>,
     ends: Vec<usize>,
@@ -23,6 +22,12 @@ impl Model for Pieces {
     ghost view = { λ p. pieces_from 0 p.bytes.items p.ends.items };
 
     ghost invariant = { λ p. AreEnds 0 p.ends.items (length p.bytes.items) };
+}
+
+impl Drop for Pieces {
+    fn drop(self) {
+        let Pieces { bytes: _, ends: _ } = self;
+    }
 }
 
 // Where the string of this number begins: where the one before it ends.

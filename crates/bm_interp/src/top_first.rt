@@ -10,7 +10,6 @@ use std::alloc::Global;
 use std::marker::Model;
 
 /// A stack.
-#[derive(Drop)]
 pub struct Stack<T> {
     items: Vec<T>,
 }
@@ -21,6 +20,12 @@ impl<T> Model for Stack<T> {
     ghost Value = { List T };
 
     ghost view = { λ s. reverse s.items.items };
+}
+
+impl<T: Drop> Drop for Stack<T> {
+    fn drop(self) {
+        let Stack { items: _ } = self;
+    }
 }
 
 impl<T: Drop> Stack<T> {

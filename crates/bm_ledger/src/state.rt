@@ -22,7 +22,6 @@ use std::alloc::Global;
 use std::marker::Model;
 
 /// The live outputs and the height. An output's birth number says how many outputs were made before it.
-#[derive(Drop)]
 pub struct Ledger {
     alloc: Global,
     tip: u32,
@@ -40,6 +39,17 @@ impl Model for Ledger {
     ghost view = { λ l. record { tip = l.tip; births = l.births; live = l.outputs } };
 
     ghost invariant = { λ l. AreInOrder 0 l.births l.outputs × (l.births < 2 ^ 32) };
+}
+
+impl Drop for Ledger {
+    fn drop(self) {
+        let Ledger {
+            alloc: _,
+            tip: _,
+            births: _,
+            outputs: _,
+        } = self;
+    }
 }
 
 impl Ledger {

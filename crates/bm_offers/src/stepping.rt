@@ -15,7 +15,6 @@ use spec_run::Event;
 use std::marker::Model;
 
 /// A contract step that may be taken now, and the event that it is taken by.
-#[derive(Drop)]
 pub struct Offer {
     pub step: Step,
     pub event: Event,
@@ -30,6 +29,12 @@ impl Model for Offer {
     ghost coded = { Prim.hlevel (codes) };
 
     ghost view = { λ o. record { step = o.step; event = o.event } };
+}
+
+impl Drop for Offer {
+    fn drop(self) {
+        let Offer { step: _, event: _ } = self;
+    }
 }
 
 /// The step that takes a branch with this core.

@@ -10,7 +10,6 @@ use std::alloc::Global;
 use std::marker::Model;
 
 /// What a contract needs beforehand, the fee that each of its transactions leaves to the miner, in satoshi, and the contract.
-#[derive(Drop)]
 pub struct Advert {
     pub pre: Vec<Pre>,
     pub fee: u64,
@@ -28,6 +27,16 @@ impl Model for Advert {
     ghost coded = { Prim.hlevel (codes, coded_choice) };
 
     ghost view = { λ a. record { pre = a.pre.items; fee = a.fee; root = contract a.root } };
+}
+
+impl Drop for Advert {
+    fn drop(self) {
+        let Advert {
+            pre: _,
+            fee: _,
+            root: _,
+        } = self;
+    }
 }
 
 impl Advert {

@@ -3,14 +3,19 @@
 use spec_data::Name;
 
 /// The branches of a contract in order, of which one is taken.
-#[derive(Drop)]
 #[cycle(contract)]
 pub struct Contract {
     pub branches: Vec<Guarded>,
 }
 
+impl Drop for Contract {
+    #[cycle(letting_go)]
+    fn drop(self) {
+        let Contract { branches: _ } = self;
+    }
+}
+
 /// A branch.
-#[derive(Drop)]
 #[cycle(contract)]
 pub enum Guarded {
     /// The branch, once the party has authorised it.
@@ -40,16 +45,39 @@ pub enum Guarded {
     },
 }
 
+impl Drop for Guarded {
+    #[cycle(letting_go)]
+    fn drop(self) {
+        match self {
+            Guarded::Auth { party: _, body: _ }
+            | Guarded::After { height: _, body: _ }
+            | Guarded::PutReveal {
+                puts: _,
+                reveals: _,
+                test: _,
+                next: _,
+            }
+            | Guarded::Withdraw { party: _ }
+            | Guarded::Split { parts: _ } => {}
+        }
+    }
+}
+
 /// A part of a split, with its value in satoshi.
-#[derive(Drop)]
 #[cycle(contract)]
 pub struct Part {
     pub value: u64,
     pub next: Contract,
 }
 
+impl Drop for Part {
+    #[cycle(letting_go)]
+    fn drop(self) {
+        let Part { value: _, next: _ } = self;
+    }
+}
+
 /// A predicate of the lengths of secrets.
-#[derive(Drop)]
 pub enum Pred {
     True,
     And(Box<Pred>, Box<Pred>),
@@ -58,12 +86,27 @@ pub enum Pred {
     Less(Expr, Expr),
 }
 
+impl Drop for Pred {
+    fn drop(self) {
+        match self {
+            Pred::True | Pred::And(_, _) | Pred::Not(_) | Pred::Equal(_, _) | Pred::Less(_, _) => {}
+        }
+    }
+}
+
 /// An expression of the lengths of secrets.
-#[derive(Drop)]
 pub enum Expr {
     Const(u32),
     /// The length of the secret of this name.
     Length(Name),
     Plus(Box<Expr>, Box<Expr>),
     Minus(Box<Expr>, Box<Expr>),
+}
+
+impl Drop for Expr {
+    fn drop(self) {
+        match self {
+            Expr::Const(_) | Expr::Length(_) | Expr::Plus(_, _) | Expr::Minus(_, _) => {}
+        }
+    }
 }

@@ -19,15 +19,23 @@ use std::marker::Model;
 
 /// A secret of a contract: the one string that fits what is committed for it in the end, where that is known, and whether it is posted so
 /// far.
-#[derive(Drop)]
 pub struct Watched {
     pub secret: Revealed,
     pub string: Option<Bytes>,
     pub posted: bool,
 }
 
+impl Drop for Watched {
+    fn drop(self) {
+        let Watched {
+            secret: _,
+            string: _,
+            posted: _,
+        } = self;
+    }
+}
+
 /// All secrets of a run, by contract and precondition.
-#[derive(Drop)]
 pub struct Secrets {
     watched: Vec<Watched>,
 }
@@ -39,6 +47,12 @@ impl Model for Secrets {
     ghost Value = { List Plain };
 
     ghost view = { λ a. a.watched.items };
+}
+
+impl Drop for Secrets {
+    fn drop(self) {
+        let Secrets { watched: _ } = self;
+    }
 }
 
 // The digest of this name among these.

@@ -10,7 +10,6 @@ use std::alloc::Global;
 use std::marker::Model;
 
 /// An advert that may have come from the reader, without a fault and within all limits. Contracts see it as the advert.
-#[derive(Drop)]
 pub struct Checked {
     advert: Advert,
     parties: Vec<Name>,
@@ -31,6 +30,15 @@ impl Model for Checked {
     ghost view = { λ c. c.advert };
 
     ghost invariant = { λ c. IsWellFormed c.advert × (c.parties.items ≡ participants c.advert) };
+}
+
+impl Drop for Checked {
+    fn drop(self) {
+        let Checked {
+            advert: _,
+            parties: _,
+        } = self;
+    }
 }
 
 impl Checked {

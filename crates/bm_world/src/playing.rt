@@ -74,7 +74,7 @@ fn attempt<H: Hash32 + Drop>(
     let (drafted, entry) = answer;
     settle(alloc, board, trace, event, &drafted)?;
     place(alloc, &mut board.compiled, entry);
-    Ok(drafted.outcome)
+    Ok(drafted.into_outcome())
 }
 
 /// One event. After a halt only the trail is changed.

@@ -36,7 +36,6 @@ use std::marker::Model;
 use theory_nodes::choices_are_found;
 
 /// The world of a run: the ledger with its contract outputs, what is signed, what the parties have told each other, and the records so far.
-#[derive(Drop)]
 pub struct World<H: Hash32> {
     alloc: Global,
     trail: Trail<H>,
@@ -66,6 +65,18 @@ impl<H: Hash32> Model for World<H> {
     } };
 
     ghost invariant = { λ w. IsWorld (setup_of (H.digest_of w.trail.hasher) w.board) w.board w.trail.messages w.trace w.halt };
+}
+
+impl<H: Hash32 + Drop> Drop for World<H> {
+    fn drop(self) {
+        let World {
+            alloc: _,
+            trail: _,
+            board: _,
+            trace: _,
+            halt: _,
+        } = self;
+    }
 }
 
 // The halt, kept for later calls.

@@ -15,7 +15,6 @@ use spec_data::{Name, Seq};
 use spec_run::Header;
 
 /// The world but for its messages, with what never changes.
-#[derive(Drop)]
 pub struct Board {
     pub header: Header,
     /// The contracts by their number.
@@ -29,6 +28,21 @@ pub struct Board {
     pub begun: Seq<u32>,
     /// What the contracts are compiled to by their number, `None` where not all participants have committed.
     pub compiled: Seq<Option<Compiled>>,
+}
+
+impl Drop for Board {
+    fn drop(self) {
+        let Board {
+            header: _,
+            contracts: _,
+            coins: _,
+            book: _,
+            exchange: _,
+            accounts: _,
+            begun: _,
+            compiled: _,
+        } = self;
+    }
 }
 
 /// Whether the name is one of these.

@@ -14,14 +14,21 @@ use spec_run::{Outcome, Reason};
 use std::alloc::Global;
 
 /// What a transaction is to the contracts: what its outputs stand for, and the contract that it begins.
-#[derive(Drop)]
 pub struct Purpose {
     pub positions: NewPositions,
     pub begins: Option<u32>,
 }
 
+impl Drop for Purpose {
+    fn drop(self) {
+        let Purpose {
+            positions: _,
+            begins: _,
+        } = self;
+    }
+}
+
 /// A transaction that is accepted, the numbers of what it spends, and what it is to the contracts.
-#[derive(Drop)]
 pub struct Appending {
     pub tx: Tx,
     pub txid: [u8; 32],
@@ -29,16 +36,35 @@ pub struct Appending {
     pub purpose: Purpose,
 }
 
+impl Drop for Appending {
+    fn drop(self) {
+        let Appending {
+            tx: _,
+            txid: _,
+            spent: _,
+            purpose: _,
+        } = self;
+    }
+}
+
 /// A party's commitment for a contract, its digests in the precondition's order.
-#[derive(Drop)]
 pub struct Promising {
     pub contract: u32,
     pub party: Name,
     pub digests: Seq<(Name, [u8; 32])>,
 }
 
+impl Drop for Promising {
+    fn drop(self) {
+        let Promising {
+            contract: _,
+            party: _,
+            digests: _,
+        } = self;
+    }
+}
+
 /// What an event changes last, besides what it posts.
-#[derive(Drop)]
 pub enum Change {
     Nothing,
     /// So many blocks come.
@@ -51,8 +77,19 @@ pub enum Change {
     Append(Appending),
 }
 
+impl Drop for Change {
+    fn drop(self) {
+        match self {
+            Change::Nothing
+            | Change::Blocks(_)
+            | Change::Advertise(_)
+            | Change::Commit(_)
+            | Change::Append(_) => {}
+        }
+    }
+}
+
 /// What an event is to come to.
-#[derive(Drop)]
 pub struct Drafted {
     pub outcome: Outcome,
     /// The strings that it posts, in order.
@@ -60,6 +97,17 @@ pub struct Drafted {
     /// The secret that it may post, by its owner and its name.
     pub allowed: Option<(Name, Name)>,
     pub change: Change,
+}
+
+impl Drop for Drafted {
+    fn drop(self) {
+        let Drafted {
+            outcome: _,
+            posts: _,
+            allowed: _,
+            change: _,
+        } = self;
+    }
 }
 
 impl Drafted {
@@ -88,5 +136,18 @@ impl Drafted {
             allowed: None,
             change,
         }
+    }
+
+    /// The outcome, taken out.
+    pub fn into_outcome(self) -> Outcome
+        ensures { result ≡ self.outcome }
+    {
+        let Drafted {
+            outcome,
+            posts: _,
+            allowed: _,
+            change: _,
+        } = self;
+        outcome
     }
 }

@@ -25,7 +25,6 @@ use std::alloc::Global;
 use std::marker::Model;
 
 /// The ledger, and all outputs that were made, spent ones too, each at its birth number.
-#[derive(Drop)]
 pub struct Coins {
     alloc: Global,
     ledger: Ledger,
@@ -41,6 +40,16 @@ impl Model for Coins {
     ghost view = { λ c. record { tip = c.ledger.tip; outputs = c.outputs.items } };
 
     ghost invariant = { λ c. c.ledger ≡ chain (record { tip = c.ledger.tip; outputs = c.outputs.items }) };
+}
+
+impl Drop for Coins {
+    fn drop(self) {
+        let Coins {
+            alloc: _,
+            ledger: _,
+            outputs: _,
+        } = self;
+    }
 }
 
 // The txid of the transaction that made a ledger's first output; any bytes where there is none.

@@ -11,7 +11,6 @@ use std::alloc::Global;
 use std::marker::Model;
 
 /// An output that was made, spent or not. Contracts see it as the world's `Output`.
-#[derive(Drop)]
 pub struct MadeOutput {
     outpoint: OutPoint,
     value: u64,
@@ -26,6 +25,18 @@ impl Model for MadeOutput {
     ghost Value = { Output };
 
     ghost view = { λ o. record { outpoint = o.outpoint; value = o.value; script = o.script; live = o.live; holds = o.holds } };
+}
+
+impl Drop for MadeOutput {
+    fn drop(self) {
+        let MadeOutput {
+            outpoint: _,
+            value: _,
+            script: _,
+            live: _,
+            holds: _,
+        } = self;
+    }
 }
 
 impl MadeOutput {

@@ -11,7 +11,6 @@ use std::alloc::Global;
 use std::marker::Model;
 
 /// What a contract output stands for: a contract by its number, and a position of it. Contracts see it as `ContractPosition`.
-#[derive(Drop)]
 pub struct HeldPosition {
     contract: u32,
     position: Path,
@@ -23,6 +22,15 @@ impl Model for HeldPosition {
     ghost Value = { ContractPosition };
 
     ghost view = { λ h. record { contract = h.contract; position = h.position } };
+}
+
+impl Drop for HeldPosition {
+    fn drop(self) {
+        let HeldPosition {
+            contract: _,
+            position: _,
+        } = self;
+    }
 }
 
 impl HeldPosition {
@@ -68,7 +76,6 @@ impl HeldPosition {
 }
 
 /// What the outputs of a transaction stand for.
-#[derive(Drop)]
 pub enum NewPositions {
     /// They are deposits, or nobody's.
     Deposits,
@@ -76,6 +83,22 @@ pub enum NewPositions {
     Same { contract: u32, position: Path },
     /// Output k stands for the position of part k under this path.
     Parts { contract: u32, path: Path },
+}
+
+impl Drop for NewPositions {
+    fn drop(self) {
+        match self {
+            NewPositions::Deposits
+            | NewPositions::Same {
+                contract: _,
+                position: _,
+            }
+            | NewPositions::Parts {
+                contract: _,
+                path: _,
+            } => {}
+        }
+    }
 }
 
 // The position of this part under the path.

@@ -1,97 +1,44 @@
-#!/usr/bin/env python3
-"""show_place.py ANSWER WORD..: where a file was refused, its line, with a mark under the place.
-
-ANSWER is the program's text, WORD.. are the words that it was given. Where the text names no place
-of a file, nothing is written.
-"""
+"""Shows a line of a file with a mark under the place where it was refused."""
 import re
-import sys
 
-TOKEN = re.compile(rb'[A-Za-z][A-Za-z0-9_]*|[0-9]+|->|[^ \t\r\n]')
+from contract_places import Places
+from run_words import declared, fault
+
 # The limits whose place is a byte; those of whole positions; the others tell a number.
 AT_A_BYTE = {'Name', 'Number', 'Depth', 'Branches', 'Choice', 'Split', 'Deposits', 'Secrets'}
 AT_A_POSITION = {'Balance', 'Script'}
+# What is said of the name that stands at a fault.
+NAMES = {
+    'NameRepeated': '%s stands in an earlier entry too',
+    'UnknownDeposit': 'no entry has a deposit ? .. @ %s',
+    'UnknownSecret': 'no entry has a secret %s',
+    'PrefixRepeated': '%s stands twice',
+    'PredicateSecret': '%s is no secret of this reveal',
+}
 WIDTH = 100
 
 
-class Places:
-    """Where each branch, position and entry of a contract text begins. The text keeps the grammar."""
-
-    def __init__(self, text):
-        self.tokens = [(m.group(), m.start()) for m in TOKEN.finditer(text)]
-        self.at, self.branches, self.positions, self.entries = 0, {}, {}, []
-        self.skip()
-        while self.word() != b'}':
-            self.entries.append(self.here())
-            while self.word() not in (b'|', b'}'):
-                self.skip()
-            if self.word() == b'|':
-                self.skip()
-        self.skip()
-        if self.word() == b'fee':
-            self.skip(2)
-        self.choice('r')
-
-    def word(self, ahead=0):
-        return self.tokens[self.at + ahead][0] if self.at + ahead < len(self.tokens) else b''
-
-    def here(self):
-        return self.tokens[self.at][1]
-
-    def skip(self, count=1):
-        self.at += count
-
-    def choice(self, position):
-        self.positions[position] = self.here()
-        if self.word() != b'(':
-            return self.branch(position + '.0')
-        number = 0
-        while self.word() in (b'(', b'+'):
-            self.skip()
-            self.branch('%s.%d' % (position, number))
-            number += 1
-        self.skip()
-
-    def branch(self, path):
-        self.branches[path] = self.here()
-        while self.word() == b'after' or self.word(1) == b':':
-            self.skip(3 if self.word() == b'after' else 2)
-        if self.word() == b'withdraw':
-            self.skip(2)
-        elif self.word() == b'split':
-            number = 0
-            while self.word() in (b'split', b','):
-                self.skip(4 if self.word() == b'split' else 3)
-                self.choice('%s/%d' % (path, number))
-                number += 1
-            self.skip()
-        else:
-            while self.word() != b'.':
-                self.skip()
-            self.skip()
-            self.choice(path)
-
-    def party(self, name):
-        return next((at for word, at in self.tokens if word == name.encode()), None)
-
-
 def place_in(text, reason):
-    """The byte that a refusal of a contract names, or None."""
+    """The byte that a refusal of a contract names, and what is to be said of it; None where there is none."""
     kind, *rest = reason.split(' ')
     if kind in ('byte', 'syntax'):
-        return int(rest[0])
+        return int(rest[0]), None
     if kind == 'limit' and rest[0] in AT_A_BYTE:
-        return int(rest[1])
+        return int(rest[1]), None
     if kind == 'limit' and rest[0] in ('Text', 'Participants'):
-        return None
+        return None, None
     where, places = rest[-1], Places(text)
-    if rest[-2] == 'pre':
-        return places.entries[int(where)]
+    if rest[1] in NAMES:
+        name, at = places.named(rest[1], where)
+        return at, NAMES[rest[1]] % name.decode()
     if where == 'r' or where.startswith('r.'):
         both = [places.positions, places.branches]
         first, second = both if rest[0] in AT_A_POSITION else reversed(both)
-        return first.get(where, second.get(where))
-    return places.party(where)
+        said = None
+        if rest[1] == 'SplitSum':
+            said = 'the parts and the fee sum to %d, the balance is %d' % places.splits[where]
+        return first.get(where, second.get(where)), said
+    return places.party(where), None
 
 
 def shown(text):
@@ -117,62 +64,14 @@ def show(file, text, place):
 
 
 def show_line(file, text, number):
-    """Marks the first word of a line, or the end of the text where there is no such line."""
+    """Marks the word at fault in a line, or the end of the text where there is no such line, and gives what is to be said of it."""
     lines = text.split(b'\n')
     if number > len(lines) or number == len(lines) and not lines[-1]:
-        return show(file, text, len(text))
+        show(file, text, len(text))
+        return 'the line -- that ends the header is missing' if b'--' not in [line.strip() for line in lines] else None
     line = lines[number - 1]
     before = sum(len(x) + 1 for x in lines[:number - 1])
-    show(file, text, before + len(line) - len(line.lstrip(b' \t')))
-
-
-def hint(answer, file, text):
-    """What is wrong with the file as a whole, where that can be told."""
-    if text.startswith(b'\xef\xbb\xbf'):
-        return 'begins with a byte order mark, which is no part of the text'
-    if answer.startswith('psbt'):
-        if text.startswith(b'psbt\xff'):
-            return 'is in the binary form: base64 -w0 %s writes the one that is read' % file
-        if len(text.split()) > 1:
-            return "has line breaks or blanks: tr -d ' \\r\\n' <%s writes it without" % file
-    elif answer.startswith('run') and text.lstrip()[:1] == b'{':
-        return 'looks like a contract: the run file is the first word'
-    elif answer.startswith('contract') and b'--' in text.split():
-        return 'looks like a run file, which is the first word'
-    return None
-
-
-def main():
-    answer, command, *files = sys.argv[1:]
-    contract = re.match(r'contract (\d+) refused (.*)', answer)
-    other = re.match(r'(run|strategy) refused (?:limit \w+ )?line (\d+)', answer)
-    if contract:
-        number = int(contract.group(1)) + (command != 'check')
-    elif other:
-        number = 0 if other.group(1) == 'run' else 2
-    elif re.match(r'psbt refused (\d)', answer):
-        number = int(re.match(r'psbt refused (\d)', answer).group(1))
-    else:
-        return
-    with open(files[number], 'rb') as file:
-        text = file.read()
-    why = hint(answer, files[number], text)
-    if why:
-        print('%s: %s' % (files[number], why))
-    if not contract and not other:
-        return
-    if contract:
-        place = place_in(text, contract.group(2))
-        if place is not None:
-            show(files[number], text, place)
-    elif int(other.group(2)) > 0:
-        show_line(files[number], text, int(other.group(2)))
-
-
-if __name__ == '__main__':
-    sys.setrecursionlimit(10_000)
-    try:
-        main()
-    except (OSError, ValueError, IndexError, KeyError):
-        # What can't be shown is left out: the program's own answer stands.
-        pass
+    words = [(m.group(), m.start()) for m in re.finditer(rb'[^ \t\r]+', line)]
+    at, said = fault([word for word, _ in words], declared(lines[:number - 1])) if words else (0, None)
+    show(file, text, before + (words[at][1] if at < len(words) else len(line.rstrip())))
+    return said

@@ -1,0 +1,77 @@
+#!/usr/bin/env python3
+"""hints.py ANSWER WORD..: what is said beside an answer of the program, on standard error.
+
+ANSWER is the program's text, WORD.. are the words that it was given. Where a file was refused, its
+line is shown with a mark under the place, and what is wrong there as far as the answer tells it.
+"""
+import re
+import sys
+
+from show_place import place_in, show, show_line
+
+
+def hint(answer, file, text):
+    """What is wrong with the file as a whole, where that can be told."""
+    if text.startswith(b'\xef\xbb\xbf'):
+        return 'begins with a byte order mark, which is no part of the text'
+    if answer.startswith('psbt'):
+        if text.startswith(b'psbt\xff'):
+            return 'is in the binary form: base64 -w0 %s writes the one that is read' % file
+        if len(text.split()) > 1:
+            return "has line breaks or blanks: tr -d ' \\r\\n' <%s writes it without" % file
+    elif answer.startswith('run') and text.lstrip()[:1] == b'{':
+        return 'looks like a contract: the run file is the first word'
+    elif answer.startswith('contract') and b'--' in text.split():
+        return 'looks like a run file, which is the first word'
+    return None
+
+
+def say_beside(answer, command, files):
+    """What must be known of transactions before they are used."""
+    if len(files) < 2 or files[1].endswith('.psbt'):
+        return
+    if answer.startswith('contract 0 not compiled') or '"transactions":[]' in answer:
+        print('bitml: not all participants have committed by the end of the run, so nothing is compiled')
+    elif command != 'weigh':
+        print("bitml: the keys are a model's: pay nothing to these scripts (docs/limits.md)")
+
+
+def main():
+    answer, command, *files = sys.argv[1:]
+    if command in ('plan', 'psbt', 'weigh') and not re.match(r'\w+ refused|contract \d+ (refused|no path)', answer):
+        return say_beside(answer, command, files)
+    contract = re.match(r'contract (\d+) refused (.*)', answer)
+    other = re.match(r'(run|strategy) refused (?:limit \w+ )?line (\d+)', answer)
+    if contract:
+        number = int(contract.group(1)) + (command != 'check')
+    elif other:
+        number = 0 if other.group(1) == 'run' else 2
+    elif re.match(r'psbt refused (\d)', answer):
+        number = int(re.match(r'psbt refused (\d)', answer).group(1))
+    else:
+        return
+    with open(files[number], 'rb') as file:
+        text = file.read()
+    why = hint(answer, files[number], text)
+    if why:
+        print('%s: %s' % (files[number], why))
+    if not contract and not other:
+        return
+    said = None
+    if contract:
+        place, said = place_in(text, contract.group(2))
+        if place is not None:
+            show(files[number], text, place)
+    elif int(other.group(2)) > 0:
+        said = show_line(files[number], text, int(other.group(2)))
+    if said:
+        print('%s: %s' % (files[number], said))
+
+
+if __name__ == '__main__':
+    sys.setrecursionlimit(10_000)
+    try:
+        main()
+    except (OSError, ValueError, IndexError, KeyError):
+        # What can't be shown is left out: the program's own answer stands.
+        pass

@@ -4,8 +4,8 @@ use Rattle.std.proofs.Common.{refl, sym, ap, ◌∙◌, append_assoc, append-nil
 use Rattle.spec_terms.specs.declared.path.PathStep.{PathStep}
 use Rattle.spec_data.specs.Digits.{onto}
 use Rattle.spec_text.specs.Words.{◌>>=◌, step_mark, step, steps_from, steps}
+use Rattle.theory_text.proofs.Lines.PathsBack.{from_mark, from_elim, no_mark}
 use Rattle.bm_runfile.proofs.Chains.{IsChain, joined}
-use Rattle.bm_runfile.proofs.StepLemmas.{from_mark, from_elim, no_mark}
 use Rattle.bm_runfile.specs.Steps.{step_length, with_rest, step_at}
 
 abbrev whole_step : Bool → List ℕ → List ℕ → Option (List PathStep)

@@ -33,10 +33,11 @@ use Rattle.spec_tool.specs.declared.rule.Rule.{Rule}
 use Rattle.spec_tool.specs.Weights.{last_branch, position_of}
 use Rattle.spec_tool.specs.Turns.{stands_at, standing_from, standing_at, taken_at, act_event}
 use Rattle.theory_text.proofs.Options.{some, some_is, none_some, came, given_is}
+use Rattle.theory_text.proofs.Lines.Decimals.{small_back}
 use Rattle.theory_text.proofs.Lines.LineBytes.{LineWord, name_line, name_short, decimal_line, spaced_ends, line_is, line_ends}
 use Rattle.theory_text.proofs.Lines.Separated.{spaced, spaced_words}
 use Rattle.theory_text.proofs.Lines.ValidRuns.{an_event}
-use Rattle.theory_generator.proofs.NumberWords.{small_back, line_word, output_word, not_long}
+use Rattle.theory_generator.proofs.NumberWords.{line_word, output_word, not_long}
 use Rattle.theory_world.proofs.Contracts.Checking.{contract_checked}
 use Rattle.theory_world.proofs.Labels.{path_fine}
 use Rattle.theory_auto.specs.Continued.{AreTaken}

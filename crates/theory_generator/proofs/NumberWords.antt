@@ -1,47 +1,17 @@
--- Numbers are read again from their decimals, and which words may stand in a line, by a test.
-use Rattle.std.proofs.Common.{◌≡◌, ℕ, zero, suc, ◌<◌, ◌≤◌, ◌^◌, Bool, true, false, List, [], ◌∷◌, length, Some}
-use Rattle.std.proofs.Common.{refl, sym, subst, arith, get_or}
-use Rattle.std.specs.Prelude.{◌==◌, ◌&&◌, not, nat_le, if◌then◌else◌}
+-- Which words may stand in a line, by a test.
+use Rattle.std.proofs.Common.{◌≡◌, ℕ, ◌<◌, ◌≤◌, ◌^◌, Bool, true, List, [], ◌∷◌, length}
+use Rattle.std.proofs.Common.{refl, arith}
+use Rattle.std.specs.Prelude.{◌&&◌, not, nat_le, if◌then◌else◌}
 use Rattle.std.specs.Fmt.{decimal}
 use Rattle.std.specs.List.{list_all, AllByRecursion}
-use Rattle.std.proofs.lemmas.Bool.{lt-ltb, le-ltb}
-use Rattle.std.proofs.lemmas.Bool.Decides.{nat_tests}
-use Rattle.std.proofs.lemmas.Fmt.{decimal_digit, first_decimal}
-use Rattle.spec_data.specs.Digits.{is_plain, number_below}
+use Rattle.std.proofs.lemmas.Bool.{le-ltb}
 use Rattle.spec_text.specs.Limits.{most_line_bytes}
 use Rattle.spec_text.specs.Lines.{is_space}
 use Rattle.spec_text.specs.RunFile.{is_long}
-use Rattle.spec_text.specs.Words.{small, amount}
 use Rattle.theory_text.proofs.ListFacts.{and_left, and_right, not_yes}
-use Rattle.theory_text.proofs.Lines.Decimals.{AllDigits, decimal-digits, decimal-value}
 use Rattle.theory_text.proofs.Lines.LineBytes.{ends_line, LineWord, decimal_line}
 use Rattle.theory_text.proofs.Lines.Separated.{Lacks}
 use Rattle.theory_text.proofs.Printed.Tests.{le_is}
-
--- ---- numbers
-
-plain_zero : is_plain (48 ∷ []) ≡ true
-plain_zero = refl
-
-plain_digits : (digits : List ℕ) → AllDigits digits → 48 < get_or digits 0 0 → is_plain digits ≡ true
-plain_digits [] h first = absurd (omega arith)
-plain_digits (b ∷ bytes) h first = rw (above b first) h
-  where
-    above : (b : ℕ) → 48 < b → (b == 48) ≡ false
-    above b h = grind (arith, nat_tests)
-
-plain_decimal : (n : ℕ) → n < 2 ^ 64 → is_plain (decimal n) ≡ true
-plain_decimal zero h = subst (λ (digits : List ℕ). is_plain digits ≡ true) (sym (decimal_digit 0 (omega arith))) plain_zero
-plain_decimal (suc n) h = plain_digits (decimal (suc n)) (decimal-digits (suc n) h) (first_decimal (suc n) (omega arith) h)
-
-number_back : (bound n : ℕ) → n < bound → n < 2 ^ 64 → number_below bound (decimal n) ≡ Some n
-number_back bound n less small = rw (plain_decimal n small, decimal-value n small, lt-ltb n bound less) refl
-
-pub small_back : (n : ℕ) → n < 2 ^ 32 → small (decimal n) ≡ Some n
-small_back n h = number_back (2 ^ 32) n h (omega arith)
-
-pub amount_back : (n : ℕ) → n < 2 ^ 64 → amount (decimal n) ≡ Some n
-amount_back n h = number_back (2 ^ 64) n h h
 
 -- ---- words
 

@@ -11,11 +11,12 @@ use Rattle.spec_run.specs.declared.event.Event.TheVariants as events
 use Rattle.spec_text.specs.EventLines.{event_of}
 use Rattle.spec_text.specs.RunText.{event_text}
 use Rattle.spec_text.specs.Generator.{party_a, party_b, secret_name, first_events}
+use Rattle.theory_text.proofs.Lines.Decimals.{small_back, amount_back}
 use Rattle.theory_text.proofs.Lines.LineBytes.{LineWord, name_line, decimal_line}
 use Rattle.theory_text.proofs.Lines.Separated.{spaced}
 use Rattle.theory_text.proofs.Printed.Tests.{le_is}
 use Rattle.theory_generator.proofs.Names.{secret_named, secret_short}
-use Rattle.theory_generator.proofs.NumberWords.{is_line_word, small_back, amount_back, all_line_words, line_word, output_word}
+use Rattle.theory_generator.proofs.NumberWords.{is_line_word, all_line_words, line_word, output_word}
 use Rattle.theory_generator.proofs.Participants.{both_parties}
 
 -- the words of the canonical line of an event, from which it is read

@@ -15,11 +15,12 @@ use Rattle.spec_tool.specs.Commands.{which_of}
 use Rattle.spec_tool.specs.Listed.{which_text}
 use Rattle.spec_tool.specs.Psbt.{is_unsigned, unsigned_of}
 use Rattle.theory_psbt.proofs.PartBytes.{unsigned_again}
+use Rattle.theory_text.proofs.Lines.PathsBack.{path_back}
 use Rattle.theory_text.proofs.Options.{some}
 use Rattle.theory_report.specs.Lines.{Words, number, by_digits}
 use Rattle.theory_report.specs.Printable.{IsWide, IsNamed}
 use Rattle.theory_report.proofs.LineWords.{IsPlain, ArePlain, known_word}
-use Rattle.theory_report.proofs.Paths.{path_back, path_plain}
+use Rattle.theory_report.proofs.Paths.{path_plain}
 use Rattle.theory_report.proofs.WordsBack.{number_back, number_plain, name_back, name_plain, bytes_back, bytes_plain}
 use Rattle.theory_lines.specs.PlanLines.{PlanLine, plan_said}
 use Rattle.theory_lines.specs.PlanLines as line

@@ -22,6 +22,7 @@ use Rattle.spec_text.specs.StepText.{owner_text, length_text, step_words}
 use Rattle.spec_text.specs.PlayText.{shown_word}
 use Rattle.theory_text.proofs.Options.{some}
 use Rattle.theory_text.proofs.Lines.LineBytes.{ends_line, lined, lines_again}
+use Rattle.theory_text.proofs.Lines.PathsBack.{path_back}
 use Rattle.theory_text.proofs.Lines.Separated.{Lacks, lacks_append, part_more, parts_joined}
 use Rattle.theory_report.specs.Lines.{Said, ShownSecret, Words, number, an_output, an_owner, a_length, is_shown, said, said_by}
 use Rattle.theory_report.specs.Lines.{accepted_of, reason_of, step_of, Stepped, offered, by_digits}
@@ -29,7 +30,7 @@ use Rattle.theory_report.specs.Lines as line
 use Rattle.theory_report.specs.Printable.{IsWide, IsNamed, IsOwner, IsSpelledEvent, IsOutcome, IsOffered, IsSecret, IsSaid, IsShownStep}
 use Rattle.theory_report.specs.Printable.{made_beside}
 use Rattle.theory_report.proofs.LineWords.{is_blank, IsPlain, ArePlain, known_word, lacks_where, line_of, cut_line, line_ends}
-use Rattle.theory_report.proofs.Paths.{path_back, path_plain}
+use Rattle.theory_report.proofs.Paths.{path_plain}
 use Rattle.theory_report.proofs.Reasons.{IsRead, reason_read, accepted_read, accepted_is}
 use Rattle.theory_report.proofs.StepsRead.{step_read}
 use Rattle.theory_report.proofs.Texts.{said_line}

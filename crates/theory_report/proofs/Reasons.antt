@@ -13,6 +13,7 @@ use Rattle.spec_run.specs.declared.outcome.Reason.TheVariants as reason
 use Rattle.spec_text.specs.Words.{◌>>=◌, all_of}
 use Rattle.spec_text.specs.RunText.{output_text, outputs_text}
 use Rattle.spec_text.specs.OutcomeText.{reason_text, with_name, with_number, accepted_text}
+use Rattle.theory_text.proofs.Lines.PathsBack.{path_back}
 use Rattle.theory_text.proofs.Options.{some}
 use Rattle.theory_report.specs.Lines.{a_party}
 use Rattle.theory_report.specs.Lines.{Words, number, an_output, pairs_of, cut_at, one_number}
@@ -20,7 +21,7 @@ use Rattle.theory_report.specs.Lines.{plain_reasons, named_reasons, numbered_rea
 use Rattle.theory_report.specs.Printable.{IsWide, IsNamed, IsReason}
 use Rattle.theory_report.proofs.LineWords.{ArePlain, known_word, is_plain_word, line_of, pair_words, then_line, pairs_then}
 use Rattle.theory_report.proofs.LineWords.{plain_append, plain_map, plain_pairs}
-use Rattle.theory_report.proofs.Paths.{path_back, path_plain}
+use Rattle.theory_report.proofs.Paths.{path_plain}
 use Rattle.theory_report.proofs.WordsBack.{number_back, number_plain, number_begins, output_back, output_plain, no_number}
 use Rattle.theory_report.proofs.WordsBack.{party_back, party_plain, name_plain, name_begins, all_back, pairs_back, NoneIs, cut_back}
 

@@ -19,11 +19,10 @@ use Rattle.spec_text.specs.StepText.{owner_text, length_text}
 use Rattle.std.proofs.lemmas.Fmt.{decimal_nonempty}
 use Rattle.theory_text.proofs.ListFacts.{and_left, and_right, or_left, or_right, or_yes, and_is, not_yes, bytes_ne-back}
 use Rattle.theory_text.proofs.Options.{some, none_some}
-use Rattle.theory_text.proofs.Lines.Decimals.{decimal-digits}
+use Rattle.theory_text.proofs.Lines.Decimals.{decimal-digits, amount_back}
 use Rattle.theory_text.proofs.Lines.LineBytes.{ends_line, name_line, decimal_line}
 use Rattle.theory_text.proofs.Lines.PrintedWords.{same_bytes}
 use Rattle.theory_text.proofs.Lines.Separated.{Lacks, lacks_append, part_last, part_more}
-use Rattle.theory_generator.proofs.NumberWords.{amount_back}
 use Rattle.theory_report.specs.Lines.{number, an_output, begins_number, an_owner, a_length, pairs_of, cut_at, digit_value, by_digits, Words}
 use Rattle.theory_report.specs.Lines.{a_party}
 use Rattle.theory_report.specs.Printable.{IsParty, IsWide, IsNamed, IsOwner, IsLength}

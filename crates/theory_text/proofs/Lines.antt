@@ -6,7 +6,9 @@ pub mod Headers
 pub mod Hex
 pub mod HexBack
 pub mod Labels
+pub mod LabelsBack
 pub mod LineBytes
+pub mod PathsBack
 pub mod PrintedWords
 pub mod ReadHeaders
 pub mod Separated

@@ -1,12 +1,15 @@
--- Plain decimals are what numbers are written as.
-use Rattle.std.proofs.Common.{◌≡◌, ℕ, suc, ◌<◌, ◌≤◌, ◌^◌, Bool, true, false, List, [], ◌∷◌, length, Option, None, refl, sym, ap, ◌∙◌, arith, get_or}
+-- Plain decimals are what numbers are written as, and are read again from.
+use Rattle.std.proofs.Common.{◌≡◌, ℕ, zero, suc, ◌<◌, ◌≤◌, ◌^◌, Bool, true, false, List, [], ◌∷◌, length, Option, Some, None}
+use Rattle.std.proofs.Common.{refl, sym, ap, subst, ◌∙◌, arith, get_or}
 use Rattle.std.specs.Prelude.{◌==◌, ◌&&◌, if◌then◌else◌, nat_lt}
 use Rattle.std.specs.Fmt.{decimal}
 use Rattle.std.specs.List.{list_all}
+use Rattle.std.proofs.lemmas.Bool.{lt-ltb}
 use Rattle.std.proofs.lemmas.Bool.Decides.{nat_tests}
-use Rattle.std.proofs.lemmas.Fmt.{digits_decimal, digits_value-decimal, decimal-digits_value}
+use Rattle.std.proofs.lemmas.Fmt.{digits_decimal, digits_value-decimal, decimal-digits_value, decimal_digit, first_decimal}
 use Rattle.std.proofs.lemmas.Str.Parse.{IsDigitsTest, FoldsDigits, IsNumeralModel, numerals_by_fold}
 use Rattle.spec_data.specs.Digits.{is_digit, value_from, decimal_value, is_plain, below, number_below}
+use Rattle.spec_text.specs.Words.{small, amount}
 use Rattle.theory_text.proofs.ListFacts.{and_is, and_left, and_right}
 use Rattle.theory_text.proofs.Options.{some, some_is, none_some}
 
@@ -103,3 +106,28 @@ number_less bound word n h =
     let g = guarded (is_plain word) (below bound (decimal_value word)) n h in
     let b = below_is (nat_lt (decimal_value word) bound) bound (decimal_value word) n (less_is (decimal_value word) bound) g.then' in
     omega (arith, b.less, b.same)
+
+-- ---- numbers read again
+
+plain_zero : is_plain (48 ∷ []) ≡ true
+plain_zero = refl
+
+plain_digits : (digits : List ℕ) → AllDigits digits → 48 < get_or digits 0 0 → is_plain digits ≡ true
+plain_digits [] h first = absurd (omega arith)
+plain_digits (b ∷ bytes) h first = rw (above b first) h
+  where
+    above : (b : ℕ) → 48 < b → (b == 48) ≡ false
+    above b h = grind (arith, nat_tests)
+
+plain_decimal : (n : ℕ) → n < 2 ^ 64 → is_plain (decimal n) ≡ true
+plain_decimal zero h = subst (λ (digits : List ℕ). is_plain digits ≡ true) (sym (decimal_digit 0 (omega arith))) plain_zero
+plain_decimal (suc n) h = plain_digits (decimal (suc n)) (decimal-digits (suc n) h) (first_decimal (suc n) (omega arith) h)
+
+number_back : (bound n : ℕ) → n < bound → n < 2 ^ 64 → number_below bound (decimal n) ≡ Some n
+number_back bound n less small = rw (plain_decimal n small, decimal-value n small, lt-ltb n bound less) refl
+
+pub small_back : (n : ℕ) → n < 2 ^ 32 → small (decimal n) ≡ Some n
+small_back n h = number_back (2 ^ 32) n h (omega arith)
+
+pub amount_back : (n : ℕ) → n < 2 ^ 64 → amount (decimal n) ≡ Some n
+amount_back n h = number_back (2 ^ 64) n h h

@@ -3,6 +3,7 @@
 ghost use Rattle.std.specs.Prelude.{◌≡◌};
 ghost use Rattle.spec_picture.specs.Words as spec;
 
+use bm_runfile::refusal_name;
 use spec_calculus::Step;
 use spec_run::Reason;
 
@@ -61,17 +62,6 @@ pub(crate) fn reason_name(reason: &Reason) -> &'static [u8]
         Reason::NotCompiled => b"NotCompiled",
         Reason::SecretUnknown(_) => b"SecretUnknown",
         Reason::TimeLimit => b"TimeLimit",
-        Reason::NoInput => b"NoInput",
-        Reason::NoOutput => b"NoOutput",
-        Reason::InputRepeated => b"InputRepeated",
-        Reason::MissingInput(_) => b"MissingInput",
-        Reason::ValueLimit => b"ValueLimit",
-        Reason::InsufficientIn => b"InsufficientIn",
-        Reason::NotFinal => b"NotFinal",
-        Reason::ScriptSigNotEmpty(_) => b"ScriptSigNotEmpty",
-        Reason::NotWitnessScript(_) => b"NotWitnessScript",
-        Reason::ScriptMismatch(_) => b"ScriptMismatch",
-        Reason::ItemTooLong(_) => b"ItemTooLong",
-        Reason::ScriptFalse(_) => b"ScriptFalse",
+        Reason::Ledger(refusal) => refusal_name(*refusal),
     }
 }

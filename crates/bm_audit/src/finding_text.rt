@@ -3,14 +3,12 @@
 ghost use Rattle.std.specs.Prelude.{◌≡◌, ◌++◌, codes, OnOk};
 ghost use Rattle.std.specs.Fmt.{decimal};
 ghost use Rattle.std.specs.List.{flat_map};
-ghost use Rattle.spec_run.specs.Ledger.{reason_of};
-ghost use Rattle.spec_text.specs.OutcomeText.{reason_text};
+ghost use Rattle.spec_text.specs.OutcomeText.{refusal_text};
 ghost use Rattle.spec_text.specs.StepText.{branch_text};
 ghost use Rattle.spec_tool.specs.AuditText as spec;
 
 use crate::name_text::put_names;
-use crate::refusal_text::put_refusal;
-use bm_runfile::put_branch;
+use bm_runfile::{put_branch, put_refusal};
 use bm_text::{put, put_decimal};
 use spec_bitcoin::Refusal;
 use spec_data::OutOfMemory;
@@ -32,7 +30,7 @@ fn put_now_branch(
 
 #[tactic(auto, using(std::proofs::Common::append_assoc))]
 fn put_now_refused(alloc: Global, out: &mut Vec<u8>, refusal: Refusal) -> Result<(), OutOfMemory>
-    ensures { OnOk result (out.new.items ≡ out.old.items ++ (codes "now refused " ++ reason_text (reason_of refusal))) }
+    ensures { OnOk result (out.new.items ≡ out.old.items ++ (codes "now refused " ++ refusal_text refusal)) }
 {
     put(out, b"now refused ")?;
     put_refusal(alloc, out, refusal)

@@ -8,7 +8,6 @@ mod judging;
 mod lines;
 mod list_text;
 mod name_text;
-mod refusal_text;
 mod replying;
 mod report;
 mod report_text;

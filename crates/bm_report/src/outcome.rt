@@ -8,7 +8,7 @@ ghost use Rattle.spec_text.specs.OutcomeText as spec;
 
 use crate::piece::put_made;
 use bm_keys::put_path;
-use bm_runfile::put_outputs;
+use bm_runfile::{put_outputs, put_refusal};
 use bm_text::{put, put_decimal};
 use spec_data::{Name, OutOfMemory};
 use spec_run::{Outcome, Reason};
@@ -83,18 +83,7 @@ fn put_reason(alloc: Global, out: &mut Vec<u8>, reason: &Reason) -> Result<(), O
         Reason::NotCompiled => put(out, b"NotCompiled"),
         Reason::SecretUnknown(name) => put_name(out, b"SecretUnknown", name),
         Reason::TimeLimit => put(out, b"TimeLimit"),
-        Reason::NoInput => put(out, b"NoInput"),
-        Reason::NoOutput => put(out, b"NoOutput"),
-        Reason::InputRepeated => put(out, b"InputRepeated"),
-        Reason::MissingInput(k) => put_number(alloc, out, b"MissingInput", *k as u64),
-        Reason::ValueLimit => put(out, b"ValueLimit"),
-        Reason::InsufficientIn => put(out, b"InsufficientIn"),
-        Reason::NotFinal => put(out, b"NotFinal"),
-        Reason::ScriptSigNotEmpty(k) => put_number(alloc, out, b"ScriptSigNotEmpty", *k as u64),
-        Reason::NotWitnessScript(k) => put_number(alloc, out, b"NotWitnessScript", *k as u64),
-        Reason::ScriptMismatch(k) => put_number(alloc, out, b"ScriptMismatch", *k as u64),
-        Reason::ItemTooLong(k) => put_number(alloc, out, b"ItemTooLong", *k as u64),
-        Reason::ScriptFalse(k) => put_number(alloc, out, b"ScriptFalse", *k as u64),
+        Reason::Ledger(refusal) => put_refusal(alloc, out, *refusal),
     }
 }
 

@@ -12,6 +12,7 @@ mod paths;
 mod pieces;
 mod print;
 mod read;
+mod refusals;
 mod words;
 
 pub use error::{RunError, WordError};
@@ -24,6 +25,7 @@ pub use pieces::{
 };
 pub use print::{print_event, print_header, put_event};
 pub use read::read_run;
+pub use refusals::{put_refusal, refusal_name};
 pub use spec_run::{Event, Header, HeldSecret, Run};
 pub use spec_text::RunLimit;
 pub use words::{a_name, one_of};

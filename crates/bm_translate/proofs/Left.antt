@@ -25,7 +25,7 @@ use Rattle.spec_run.specs.Signing.{with_pairs, endorsing_pairs, endorse_row, ini
 use Rattle.spec_run.specs.Revealing.{own_secret, reveal_row}
 use Rattle.spec_run.specs.Giving.{give_row, given_pairs, gift}
 use Rattle.spec_run.specs.Firing.{initial_by, taking_of_position, reaches_if, fire_init_row, fire_row}
-use Rattle.spec_run.specs.Ledger.{verdict_in, strings_of, reason_of, judged, reaches}
+use Rattle.spec_run.specs.Ledger.{verdict_in, strings_of, judged, reaches}
 use Rattle.spec_run.specs.Event.{append_read, mine_row, draft}
 use Rattle.bm_translate.specs.Shown.{posts_by}
 
@@ -91,7 +91,7 @@ module _ (s : Setup) (w : World) where
   reaching e pairs tx = by_verdict (verdict_in s (with_pairs w pairs) tx)
     where
       by_verdict : (v : Verdict) → Left s w e (judged s w (with_pairs w pairs) tx v)
-      by_verdict (verdicts.Refused r) = refusal e (strings_of s (with_pairs w pairs) tx) (reason_of r)
+      by_verdict (verdicts.Refused r) = refusal e (strings_of s (with_pairs w pairs) tx) (reason.Ledger r)
       by_verdict (verdicts.Accepted spent made) =
           record { posts = refl; promises = sym (append-nil w.promises); advertised = sym (append-nil w.advertised); fresh = tt }
 

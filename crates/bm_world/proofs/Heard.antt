@@ -26,7 +26,7 @@ module _ (s : Setup) (setup : IsSetup s) (g : Configuration) (w : World) (keeps 
   book_heard =
       subst (λ posted. KeptBook s g (record w { hashed = noted_all w.hashed xs; posted = posted })) (append-nil w.posted)
       (refused_after s setup.hash setup.few_contracts [] g w keeps.book (checks s setup g w keeps) keeps.clear (events.Mine 1) xs
-      reason.NoInput apart)
+      reason.NotActive apart)
 
   pub books_heard : KeptBooks s g (record w { hashed = noted_all w.hashed xs })
   books_heard = record {

@@ -11,7 +11,7 @@ use Rattle.spec_run.specs.Event.{append_read}
 use Rattle.spec_run.specs.Setup.{Setup}
 use Rattle.spec_run.specs.World.{World}
 use Rattle.spec_run.specs.Draft.{Draft, refused}
-use Rattle.spec_run.specs.Ledger.{live_from, chain_of, strings_of, items_of, judged, reason_of}
+use Rattle.spec_run.specs.Ledger.{live_from, chain_of, strings_of, items_of, judged}
 use Rattle.bm_hash.specs.declared.messages.TrailError.{TrailError}
 use Rattle.bm_hash.specs.Messages.{evidence_of}
 use Rattle.bm_hash.specs.Trails.{Hashed, Stops}
@@ -41,7 +41,7 @@ module _ (s : Setup) (w : World) (tx : Tx) where
   stops_in_items old mid new e none a h = subst (λ o. Stops s.hash old new ((by_refusal o).hashes) e) (sym none) (Stops-then s.hash old mid new (strings_of s w tx) (items_of tx) e a h)
 
   pub reach_refused : (old new : List (List ℕ)) (r : Refusal) (x : Drafted) → refusal ≡ Some r → Hashed s.hash old new (strings_of s w tx)
-      → ((v : World) (hashes : List (List ℕ)) → as_draft v hashes x ≡ refused v hashes (reason_of r)) → x.change ≡ Nothing → Drafts s.hash w old new (reaches_in s w tx) x
+      → ((v : World) (hashes : List (List ℕ)) → as_draft v hashes x ≡ refused v hashes (reason.Ledger r)) → x.change ≡ Nothing → Drafts s.hash w old new (reaches_in s w tx) x
   reach_refused old new r x some h same nothing = subst (λ o. Drafts s.hash w old new (by_refusal o) x) (sym some) (record {
     same = same w (strings_of s w tx);
     hashed = h;

@@ -13,30 +13,10 @@ use crate::board::Board;
 use crate::drafted::{Appending, Change, Drafted, Purpose};
 use bm_hash::{Hash32, Trail, TrailError, hash_all};
 use bm_ledger::Ledger;
-use spec_bitcoin::{Refusal, Tx, TxIn, TxOut};
+use spec_bitcoin::{Tx, TxIn, TxOut};
 use spec_data::{Bytes, OutOfMemory, Seq};
 use spec_run::{Outcome, Reason};
 use std::alloc::Global;
-
-// A refusal of the ledger as the reason of an event.
-fn reason_of(refusal: Refusal) -> Reason
-    ensures { result ≡ run.reason_of refusal }
-{
-    match refusal {
-        Refusal::NoInput => Reason::NoInput,
-        Refusal::NoOutput => Reason::NoOutput,
-        Refusal::InputRepeated => Reason::InputRepeated,
-        Refusal::MissingInput(k) => Reason::MissingInput(k),
-        Refusal::ValueLimit => Reason::ValueLimit,
-        Refusal::InsufficientIn => Reason::InsufficientIn,
-        Refusal::NotFinal => Reason::NotFinal,
-        Refusal::ScriptSigNotEmpty(k) => Reason::ScriptSigNotEmpty(k),
-        Refusal::NotWitnessScript(k) => Reason::NotWitnessScript(k),
-        Refusal::ScriptMismatch(k) => Reason::ScriptMismatch(k),
-        Refusal::ItemTooLong(k) => Reason::ItemTooLong(k),
-        Refusal::ScriptFalse(k) => Reason::ScriptFalse(k),
-    }
-}
 
 // The birth number of the output that an input spends, 0 where it isn't live.
 fn spent_number(ledger: &Ledger, input: &TxIn) -> u32
@@ -176,7 +156,7 @@ pub fn reach<H: Hash32 + Drop>(
 {
     let judged = board.coins.examine(trail, &board.book, &tx)?;
     if let Some(refusal) = judged.refusal {
-        return Ok(Drafted::refused(alloc, reason_of(refusal)));
+        return Ok(Drafted::refused(alloc, Reason::Ledger(refusal)));
     }
     let drafted = accept(alloc, trail, board, tx, judged.txid, purpose)?;
     Ok(drafted)

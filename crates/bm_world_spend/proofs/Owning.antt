@@ -3,6 +3,7 @@ use Rattle.std.proofs.Common.{◌≡◌, ℕ, List, [], ◌∷◌, map, Bool, no
 use Rattle.std.specs.Prelude.{if◌then◌else◌, is_some, slice_get}
 use Rattle.std.specs.Str.{bytes_eq}
 use Rattle.spec_data.specs.Lists.{first_reason}
+use Rattle.spec_bitcoin.specs.declared.verdict.Refusal.TheVariants.{InputRepeated, ValueLimit, InsufficientIn}
 use Rattle.spec_bitcoin.specs.Verdict.{number_or_zero}
 use Rattle.spec_calculus.specs.declared.step.Owner.TheVariants.{Party, Outside}
 use Rattle.spec_calculus.specs.Same.{owner_eq}
@@ -36,8 +37,8 @@ abbrev pub refused_by : Option ℕ → Option ℕ → Bool → Bool → Bool →
 refused_by dead foreign distinct above short = first_reason (
     (is_some dead, reason.NotLiveOutput (number_or_zero dead))
     ∷ (is_some foreign, reason.NotOwnerOutput (number_or_zero foreign))
-    ∷ (not distinct, reason.InputRepeated)
-    ∷ (above, reason.ValueLimit)
-    ∷ (short, reason.InsufficientIn)
+    ∷ (not distinct, reason.Ledger InputRepeated)
+    ∷ (above, reason.Ledger ValueLimit)
+    ∷ (short, reason.Ledger InsufficientIn)
     ∷ []
     )

@@ -15,6 +15,7 @@ ghost use Rattle.bm_world_spend.specs.Gifts as by;
 use bm_repeats::are_distinct;
 use bm_world_board::{Board, owner_of_script};
 use bm_world_coins::Coins;
+use spec_bitcoin::Refusal;
 use spec_calculus::Owner;
 use spec_data::{MAX_MONEY, Name};
 use spec_run::Reason;
@@ -140,13 +141,13 @@ pub(crate) fn give_refusal(
         return Some(Reason::NotOwnerOutput(number));
     }
     if !are_distinct(alloc, inputs) {
-        return Some(Reason::InputRepeated);
+        return Some(Reason::Ledger(Refusal::InputRepeated));
     }
     let Some(total) = value_out(outputs) else {
-        return Some(Reason::ValueLimit);
+        return Some(Reason::Ledger(Refusal::ValueLimit));
     };
     if is_short(board, inputs, total) {
-        return Some(Reason::InsufficientIn);
+        return Some(Reason::Ledger(Refusal::InsufficientIn));
     }
     None
 }

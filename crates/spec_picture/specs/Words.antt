@@ -8,6 +8,7 @@ use Rattle.spec_run.specs.declared.outcome.Outcome.TheVariants.{Done, Accepted, 
 use Rattle.spec_run.specs.declared.outcome.Reason.{Reason}
 use Rattle.spec_run.specs.declared.outcome.Reason.TheVariants as reason
 use Rattle.spec_text.specs.Canonical.{joined}
+use Rattle.spec_text.specs.OutcomeText.{refusal_name}
 use Rattle.spec_tool.specs.declared.which.Which.{Which}
 use Rattle.spec_tool.specs.Listed.{which_text}
 
@@ -66,18 +67,7 @@ reason_name (reason.BadTx place) = codes "BadTx"
 reason_name reason.NotCompiled = codes "NotCompiled"
 reason_name (reason.SecretUnknown a) = codes "SecretUnknown"
 reason_name reason.TimeLimit = codes "TimeLimit"
-reason_name reason.NoInput = codes "NoInput"
-reason_name reason.NoOutput = codes "NoOutput"
-reason_name reason.InputRepeated = codes "InputRepeated"
-reason_name (reason.MissingInput k) = codes "MissingInput"
-reason_name reason.ValueLimit = codes "ValueLimit"
-reason_name reason.InsufficientIn = codes "InsufficientIn"
-reason_name reason.NotFinal = codes "NotFinal"
-reason_name (reason.ScriptSigNotEmpty k) = codes "ScriptSigNotEmpty"
-reason_name (reason.NotWitnessScript k) = codes "NotWitnessScript"
-reason_name (reason.ScriptMismatch k) = codes "ScriptMismatch"
-reason_name (reason.ItemTooLong k) = codes "ItemTooLong"
-reason_name (reason.ScriptFalse k) = codes "ScriptFalse"
+reason_name (reason.Ledger r) = refusal_name r
 
 -- that a transaction was accepted, and its name where it is one of the contract's
 abbrev pub accepted_text : Option Which → List ℕ

@@ -5,6 +5,7 @@ use Rattle.spec_terms.specs.Term.{no_branch, branch, after, put_reveal, withdraw
 use Rattle.spec_terms.specs.Advert.{Advert}
 use Rattle.spec_terms.specs.declared.pre.Pre.TheVariants.{Persistent, Secret}
 use Rattle.spec_bitcoin.specs.declared.label.Label.TheVariants as labels
+use Rattle.spec_bitcoin.specs.declared.verdict.Refusal.TheVariants.{NotFinal}
 use Rattle.spec_bitcoin.specs.Spelling.{compact, stripped}
 use Rattle.spec_bitcoin.specs.Digests.{places_list, sequences_list, outputs_list, preimage}
 use Rattle.spec_bitcoin.specs.Keys.{label_text}
@@ -226,7 +227,7 @@ waits =
     ∷ events.Init 0 a ∷ events.Init 0 b ∷ events.FireInit 0 ∷ events.Mine 999 ∷ events.Fire 2 1 ∷ events.Mine 1 ∷ []
 
 too_early : outcomes timed waits
-    ≡ Done ∷ Done ∷ Done ∷ Done ∷ Done ∷ Done ∷ Done ∷ Accepted (0 ∷ 1 ∷ []) ((2, 100000000) ∷ []) 0 ∷ Done ∷ Refused reason.NotFinal ∷ Done ∷ []
+    ≡ Done ∷ Done ∷ Done ∷ Done ∷ Done ∷ Done ∷ Done ∷ Accepted (0 ∷ 1 ∷ []) ((2, 100000000) ∷ []) 0 ∷ Done ∷ Refused (reason.Ledger NotFinal) ∷ Done ∷ []
 unfolding label_text stripped compact places_list sequences_list outputs_list preimage script_meaning ops_of number_of_item signed_bytes item_of_number position_script digits
 too_early = refl
 

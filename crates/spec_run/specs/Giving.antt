@@ -4,6 +4,7 @@ use Rattle.spec_data.specs.Lists.{are_distinct, first_reason}
 use Rattle.spec_bitcoin.specs.declared.tx.TxIn.{TxIn}
 use Rattle.spec_bitcoin.specs.declared.tx.TxOut.{TxOut}
 use Rattle.spec_bitcoin.specs.declared.tx.Tx.{Tx}
+use Rattle.spec_bitcoin.specs.declared.verdict.Refusal.TheVariants.{InputRepeated, ValueLimit, InsufficientIn}
 use Rattle.spec_bitcoin.specs.Digests.{digest}
 use Rattle.spec_bitcoin.specs.Keys.{Pair, signature_of}
 use Rattle.spec_bitcoin.specs.Verdict.{number_or_zero}
@@ -48,9 +49,9 @@ abbrev pub give_row : Setup → World → List ℕ → List ℕ → List (List �
 give_row s w party inputs outputs =
     (is_some (first_dead w inputs), reason.NotLiveOutput (number_or_zero (first_dead w inputs)))
     ∷ (is_some (first_foreign s w party inputs), reason.NotOwnerOutput (number_or_zero (first_foreign s w party inputs)))
-    ∷ (not (are_distinct inputs), reason.InputRepeated)
-    ∷ (nat_lt max_money (value_out outputs), reason.ValueLimit)
-    ∷ (nat_lt (value_in w inputs) (value_out outputs), reason.InsufficientIn)
+    ∷ (not (are_distinct inputs), reason.Ledger InputRepeated)
+    ∷ (nat_lt max_money (value_out outputs), reason.Ledger ValueLimit)
+    ∷ (nat_lt (value_in w inputs) (value_out outputs), reason.Ledger InsufficientIn)
     ∷ []
 
 -- ---- the transaction

@@ -14,8 +14,6 @@ use Rattle.spec_terms.specs.declared.path.PathStep.TheVariants.{Branch as To, Pa
 use Rattle.spec_bitcoin.specs.declared.tx.TxIn.{TxIn}
 use Rattle.spec_bitcoin.specs.declared.tx.TxOut.{TxOut}
 use Rattle.spec_bitcoin.specs.declared.tx.Tx.{Tx}
-use Rattle.spec_bitcoin.specs.declared.verdict.Refusal.{Refusal}
-use Rattle.spec_bitcoin.specs.declared.verdict.Refusal.TheVariants as refusal
 use Rattle.spec_bitcoin.specs.declared.verdict.Verdict.{Verdict}
 use Rattle.spec_bitcoin.specs.declared.verdict.Verdict.TheVariants as verdicts
 use Rattle.spec_bitcoin.specs.Digests.{txid}
@@ -25,7 +23,6 @@ use Rattle.spec_compiler.specs.Instance.{Instance}
 use Rattle.spec_compiler.specs.Transactions.{tx_of, initial_unsigned}
 use Rattle.spec_compiler.specs.Witness.{chosen_by}
 use Rattle.spec_run.specs.declared.outcome.Outcome.TheVariants as outcomes
-use Rattle.spec_run.specs.declared.outcome.Reason.{Reason}
 use Rattle.spec_run.specs.declared.outcome.Reason.TheVariants as reason
 use Rattle.spec_run.specs.Setup.{Setup, contract_at}
 use Rattle.spec_run.specs.World.{ContractPosition, Output, World, live_position_at}
@@ -206,24 +203,9 @@ accepted s signed tx spent = record {
   allowed = None;
 }
 
--- a refusal of the ledger as the reason of an event
-abbrev pub reason_of : Refusal → Reason
-reason_of refusal.NoInput = reason.NoInput
-reason_of refusal.NoOutput = reason.NoOutput
-reason_of refusal.InputRepeated = reason.InputRepeated
-reason_of (refusal.MissingInput k) = reason.MissingInput k
-reason_of refusal.ValueLimit = reason.ValueLimit
-reason_of refusal.InsufficientIn = reason.InsufficientIn
-reason_of refusal.NotFinal = reason.NotFinal
-reason_of (refusal.ScriptSigNotEmpty k) = reason.ScriptSigNotEmpty k
-reason_of (refusal.NotWitnessScript k) = reason.NotWitnessScript k
-reason_of (refusal.ScriptMismatch k) = reason.ScriptMismatch k
-reason_of (refusal.ItemTooLong k) = reason.ItemTooLong k
-reason_of (refusal.ScriptFalse k) = reason.ScriptFalse k
-
 abbrev pub judged : Setup → World → World → Tx → Verdict → Draft
 judged s w signed tx (verdicts.Accepted spent made) = accepted s signed tx spent
-judged s w signed tx (verdicts.Refused r) = refused w (strings_of s signed tx) (reason_of r)
+judged s w signed tx (verdicts.Refused r) = refused w (strings_of s signed tx) (reason.Ledger r)
 
 -- whatever reaches the ledger: w is the world before the event, and the other one has what the event has signed
 abbrev pub reaches : Setup → World → World → Tx → Draft

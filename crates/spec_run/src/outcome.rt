@@ -3,7 +3,7 @@
 ghost use Rattle.std.specs.Prelude.{◌≡◌, IfOk};
 
 use crate::event::Event;
-use spec_bitcoin::Tx;
+use spec_bitcoin::{Refusal, Tx};
 use spec_data::{Name, OutOfMemory, Seq};
 use spec_terms::Path;
 use std::alloc::Global;
@@ -40,18 +40,8 @@ pub enum Reason {
     NotCompiled,
     SecretUnknown(Name),
     TimeLimit,
-    NoInput,
-    NoOutput,
-    InputRepeated,
-    MissingInput(u32),
-    ValueLimit,
-    InsufficientIn,
-    NotFinal,
-    ScriptSigNotEmpty(u32),
-    NotWitnessScript(u32),
-    ScriptMismatch(u32),
-    ItemTooLong(u32),
-    ScriptFalse(u32),
+    /// The ledger refuses the transaction, or a gift that it would refuse so isn't made.
+    Ledger(Refusal),
 }
 
 impl Drop for Reason {
@@ -87,18 +77,7 @@ impl Drop for Reason {
             | Reason::NotCompiled
             | Reason::SecretUnknown(_)
             | Reason::TimeLimit
-            | Reason::NoInput
-            | Reason::NoOutput
-            | Reason::InputRepeated
-            | Reason::MissingInput(_)
-            | Reason::ValueLimit
-            | Reason::InsufficientIn
-            | Reason::NotFinal
-            | Reason::ScriptSigNotEmpty(_)
-            | Reason::NotWitnessScript(_)
-            | Reason::ScriptMismatch(_)
-            | Reason::ItemTooLong(_)
-            | Reason::ScriptFalse(_) => {}
+            | Reason::Ledger(_) => {}
         }
     }
 }
@@ -183,18 +162,7 @@ impl Reason {
             Reason::NotCompiled => Reason::NotCompiled,
             Reason::SecretUnknown(name) => Reason::SecretUnknown(*name),
             Reason::TimeLimit => Reason::TimeLimit,
-            Reason::NoInput => Reason::NoInput,
-            Reason::NoOutput => Reason::NoOutput,
-            Reason::InputRepeated => Reason::InputRepeated,
-            Reason::MissingInput(number) => Reason::MissingInput(*number),
-            Reason::ValueLimit => Reason::ValueLimit,
-            Reason::InsufficientIn => Reason::InsufficientIn,
-            Reason::NotFinal => Reason::NotFinal,
-            Reason::ScriptSigNotEmpty(number) => Reason::ScriptSigNotEmpty(*number),
-            Reason::NotWitnessScript(number) => Reason::NotWitnessScript(*number),
-            Reason::ScriptMismatch(number) => Reason::ScriptMismatch(*number),
-            Reason::ItemTooLong(number) => Reason::ItemTooLong(*number),
-            Reason::ScriptFalse(number) => Reason::ScriptFalse(*number),
+            Reason::Ledger(refusal) => Reason::Ledger(*refusal),
         })
     }
 }

@@ -1,12 +1,53 @@
 -- How outcomes and their reasons are printed.
-use Rattle.std.specs.Prelude.{ℕ, List, ◌++◌, flat_map, codes}
+use Rattle.std.specs.Prelude.{ℕ, List, [], ◌++◌, flat_map, Option, Some, None, codes}
 use Rattle.std.specs.Fmt.{decimal}
+use Rattle.spec_bitcoin.specs.declared.verdict.Refusal.{Refusal}
+use Rattle.spec_bitcoin.specs.declared.verdict.Refusal.TheVariants as refusal
 use Rattle.spec_bitcoin.specs.Keys.{path_text}
 use Rattle.spec_run.specs.declared.outcome.Outcome.{Outcome}
 use Rattle.spec_run.specs.declared.outcome.Outcome.TheVariants.{Done, Accepted, Refused}
 use Rattle.spec_run.specs.declared.outcome.Reason.{Reason}
 use Rattle.spec_run.specs.declared.outcome.Reason.TheVariants as reason
 use Rattle.spec_text.specs.RunText.{output_text, outputs_text}
+
+-- ---- refusals of the ledger
+
+abbrev pub refusal_name : Refusal → List ℕ
+refusal_name refusal.NoInput = codes "NoInput"
+refusal_name refusal.NoOutput = codes "NoOutput"
+refusal_name refusal.InputRepeated = codes "InputRepeated"
+refusal_name (refusal.MissingInput k) = codes "MissingInput"
+refusal_name refusal.ValueLimit = codes "ValueLimit"
+refusal_name refusal.InsufficientIn = codes "InsufficientIn"
+refusal_name refusal.NotFinal = codes "NotFinal"
+refusal_name (refusal.ScriptSigNotEmpty k) = codes "ScriptSigNotEmpty"
+refusal_name (refusal.NotWitnessScript k) = codes "NotWitnessScript"
+refusal_name (refusal.ScriptMismatch k) = codes "ScriptMismatch"
+refusal_name (refusal.ItemTooLong k) = codes "ItemTooLong"
+refusal_name (refusal.ScriptFalse k) = codes "ScriptFalse"
+
+-- the input at fault, where it is an input's
+abbrev pub faulty_input : Refusal → Option ℕ
+faulty_input refusal.NoInput = None
+faulty_input refusal.NoOutput = None
+faulty_input refusal.InputRepeated = None
+faulty_input (refusal.MissingInput k) = Some k
+faulty_input refusal.ValueLimit = None
+faulty_input refusal.InsufficientIn = None
+faulty_input refusal.NotFinal = None
+faulty_input (refusal.ScriptSigNotEmpty k) = Some k
+faulty_input (refusal.NotWitnessScript k) = Some k
+faulty_input (refusal.ScriptMismatch k) = Some k
+faulty_input (refusal.ItemTooLong k) = Some k
+faulty_input (refusal.ScriptFalse k) = Some k
+
+abbrev pub input_text : Option ℕ → List ℕ
+input_text None = []
+input_text (Some k) = codes " " ++ decimal k
+
+-- what runs and audits show; a picture has the name alone
+abbrev pub refusal_text : Refusal → List ℕ
+refusal_text r = refusal_name r ++ input_text (faulty_input r)
 
 -- ---- reasons
 
@@ -50,18 +91,7 @@ reason_text (reason.BadTx place) = with_number (codes "BadTx") place
 reason_text reason.NotCompiled = codes "NotCompiled"
 reason_text (reason.SecretUnknown a) = with_name (codes "SecretUnknown") a
 reason_text reason.TimeLimit = codes "TimeLimit"
-reason_text reason.NoInput = codes "NoInput"
-reason_text reason.NoOutput = codes "NoOutput"
-reason_text reason.InputRepeated = codes "InputRepeated"
-reason_text (reason.MissingInput k) = with_number (codes "MissingInput") k
-reason_text reason.ValueLimit = codes "ValueLimit"
-reason_text reason.InsufficientIn = codes "InsufficientIn"
-reason_text reason.NotFinal = codes "NotFinal"
-reason_text (reason.ScriptSigNotEmpty k) = with_number (codes "ScriptSigNotEmpty") k
-reason_text (reason.NotWitnessScript k) = with_number (codes "NotWitnessScript") k
-reason_text (reason.ScriptMismatch k) = with_number (codes "ScriptMismatch") k
-reason_text (reason.ItemTooLong k) = with_number (codes "ItemTooLong") k
-reason_text (reason.ScriptFalse k) = with_number (codes "ScriptFalse") k
+reason_text (reason.Ledger r) = refusal_text r
 
 -- ---- outcomes
 

@@ -6,12 +6,11 @@ use Rattle.spec_bitcoin.specs.Keys.{label_text}
 use Rattle.spec_compiler.specs.Instance.{Instance}
 use Rattle.spec_run.specs.Setup.{Setup}
 use Rattle.spec_run.specs.World.{World}
-use Rattle.spec_run.specs.Ledger.{reason_of}
 use Rattle.spec_run.specs.Compiled.{compiled_instance}
 use Rattle.spec_run.specs.declared.event.Event.{Event}
 use Rattle.spec_run.specs.Translation.{last_world}
 use Rattle.spec_text.specs.RunText.{newline, output_text}
-use Rattle.spec_text.specs.OutcomeText.{reason_text}
+use Rattle.spec_text.specs.OutcomeText.{refusal_text}
 use Rattle.spec_text.specs.PlayText.{collided_line}
 use Rattle.spec_tool.specs.declared.which.Which.{Which}
 use Rattle.spec_tool.specs.declared.which.Which.TheVariants as names
@@ -32,7 +31,7 @@ abbrev pub now_text : Now → List ℕ
 now_text (nows.Init contract) = codes "now init"
 now_text (nows.Branch output branch) = codes "now branch " ++ (output_text output ++ (codes " " ++ decimal branch))
 now_text nows.Move = codes "now move"
-now_text (nows.Refused refusal) = codes "now refused " ++ reason_text (reason_of refusal)
+now_text (nows.Refused refusal) = codes "now refused " ++ refusal_text refusal
 
 -- `init`, or the paths behind `path`, or `foreign`; no path's transaction is the initial one, so that stands alone
 abbrev pub names_text : List Which → List ℕ

@@ -22,7 +22,7 @@ use Rattle.spec_run.specs.Draft.{settled, unless}
 use Rattle.spec_run.specs.Signing.{signed_all, with_pairs}
 use Rattle.spec_run.specs.Giving.{give_row, given_pairs, gift, give_draft}
 use Rattle.spec_run.specs.Firing.{initial_by, taking_of_position, reaches_if, fire_init_row, fire_row}
-use Rattle.spec_run.specs.Ledger.{verdict_in, strings_of, items_of, reason_of, accepted, judged, reaches, initial_of}
+use Rattle.spec_run.specs.Ledger.{verdict_in, strings_of, items_of, accepted, judged, reaches, initial_of}
 use Rattle.spec_run.specs.HonestDeposits.{gives, SpendsWithLeave}
 use Rattle.spec_run.specs.Event.{append_read, draft, record_of}
 use Rattle.theory_world.proofs.Ledger.Worth.{accepted_by}
@@ -57,7 +57,7 @@ module _ (s : Setup) (setup : IsSetup s) (z : List (List ℕ)) (before : List Re
     reaches_offers tx same calm = by_verdict (verdict_in s w tx) refl same calm
       where
         by_verdict : (v : Verdict) → verdict_in s w tx ≡ v → draft s w e ≡ judged s w w tx v → collision s.hash w.hashed (judged s w w tx v).hashes ≡ None → OffersKept s z g w books.book more e (judged s w w tx v)
-        by_verdict (verdicts.Refused r) h d c = refused_offers s z g w books.book more e (strings_of s w tx) (reason_of r)
+        by_verdict (verdicts.Refused r) h d c = refused_offers s z g w books.book more e (strings_of s w tx) (reason.Ledger r)
         by_verdict (verdicts.Accepted spent made) h d c =
             accepted_every s z g w books.book more tx spent (accepted_by s w tx spent made h) e (begins_ready tx spent made h d c)
 
@@ -96,7 +96,7 @@ module _ (s : Setup) (setup : IsSetup s) (z : List (List ℕ)) (before : List Re
 
     given_offers : NoneTrue (give_row s w party inputs outputs) → (v : Verdict) → verdict_in s (with_pairs w pairs) given ≡ v → collision s.hash w.hashed (judged s w (with_pairs w pairs) given v).hashes ≡ None
         → OffersKept s z g w books.book more giving (judged s w (with_pairs w pairs) given v)
-    given_offers row (verdicts.Refused r) h calm = refused_offers s z g w books.book more giving (strings_of s (with_pairs w pairs) given) (reason_of r)
+    given_offers row (verdicts.Refused r) h calm = refused_offers s z g w books.book more giving (strings_of s (with_pairs w pairs) given) (reason.Ledger r)
     given_offers row (verdicts.Accepted spent made) h calm =
         let hs = noted_all w.hashed (strings_of s w given ++ items_of given) in
         let signed : KeptBook s g (record w { book = signed_all w.book pairs; hashed = hs }) =

@@ -17,9 +17,10 @@ use Rattle.spec_bitcoin.specs.Keys.{Pair}
 use Rattle.spec_bitcoin.specs.Live.{Entry, at_place}
 use Rattle.spec_bitcoin.specs.Verdict.{first_missing, number_or_zero, total_of, whole_row, input_row, input_refusal, inputs_refusal}
 use Rattle.spec_bitcoin.specs.Verdict.{refusal_of, spent_number, verdict_for}
+use Rattle.spec_run.specs.declared.outcome.Reason.TheVariants as reason
 use Rattle.spec_run.specs.Setup.{Setup}
 use Rattle.spec_run.specs.World.{World}
-use Rattle.spec_run.specs.Ledger.{live_from, chain_of, made_with_values, reason_of, judged, reaches}
+use Rattle.spec_run.specs.Ledger.{live_from, chain_of, made_with_values, judged, reaches}
 use Rattle.theory_calculus.proofs.Members.{get_below}
 use Rattle.theory_world.proofs.Ledger.Found.{found}
 use Rattle.theory_report.specs.Printable.{IsWide, IsReason, IsOutcome}
@@ -52,7 +53,7 @@ placed p k (x ∷ xs) n e = by_test (p x) e (placed p (k + 1) xs n)
     by_test false q ih = let r = ih q in omega (arith, r)
 
 abbrev IsRefusal : Refusal → Type 0
-IsRefusal r = IsReason (reason_of r)
+IsRefusal r = IsReason (reason.Ledger r)
 
 -- a transaction with numbers that may be shown
 pub record IsHanded (tx : Tx) : Type 0 where

@@ -5,6 +5,8 @@ use Rattle.std.specs.Fmt.{decimal}
 use Rattle.std.specs.List.{AllByRecursion}
 use Rattle.std.specs.Str.{bytes_eq}
 use Rattle.spec_data.specs.Lists.{look_up}
+use Rattle.spec_bitcoin.specs.declared.verdict.Refusal.{Refusal}
+use Rattle.spec_bitcoin.specs.declared.verdict.Refusal.TheVariants as refusal
 use Rattle.spec_bitcoin.specs.Keys.{path_text}
 use Rattle.spec_run.specs.declared.outcome.Outcome.{Outcome}
 use Rattle.spec_run.specs.declared.outcome.Outcome.TheVariants.{Accepted}
@@ -12,7 +14,7 @@ use Rattle.spec_run.specs.declared.outcome.Reason.{Reason}
 use Rattle.spec_run.specs.declared.outcome.Reason.TheVariants as reason
 use Rattle.spec_text.specs.Words.{◌>>=◌, all_of}
 use Rattle.spec_text.specs.RunText.{output_text, outputs_text}
-use Rattle.spec_text.specs.OutcomeText.{reason_text, with_name, with_number, accepted_text}
+use Rattle.spec_text.specs.OutcomeText.{refusal_text, reason_text, with_name, with_number, accepted_text}
 use Rattle.theory_text.proofs.Lines.PathsBack.{path_back}
 use Rattle.theory_text.proofs.Options.{some}
 use Rattle.theory_report.specs.Lines.{a_party}
@@ -62,6 +64,26 @@ numbered_reason make word n is plain found h = record {
   back = rw (number_begins n h, found, number_back n h) refl;
 }
 
+refusal_read : (r : Refusal) → IsReason (reason.Ledger r) → IsRead reason_of (refusal_text r) (reason.Ledger r)
+refusal_read refusal.NoInput h = plain_reason _ (codes "NoInput") refl refl refl
+refusal_read refusal.NoOutput h = plain_reason _ (codes "NoOutput") refl refl refl
+refusal_read refusal.InputRepeated h = plain_reason _ (codes "InputRepeated") refl refl refl
+refusal_read (refusal.MissingInput n) h =
+    numbered_reason (λ n. reason.Ledger (refusal.MissingInput n)) (codes "MissingInput") n refl refl refl h
+refusal_read refusal.ValueLimit h = plain_reason _ (codes "ValueLimit") refl refl refl
+refusal_read refusal.InsufficientIn h = plain_reason _ (codes "InsufficientIn") refl refl refl
+refusal_read refusal.NotFinal h = plain_reason _ (codes "NotFinal") refl refl refl
+refusal_read (refusal.ScriptSigNotEmpty n) h =
+    numbered_reason (λ n. reason.Ledger (refusal.ScriptSigNotEmpty n)) (codes "ScriptSigNotEmpty") n refl refl refl h
+refusal_read (refusal.NotWitnessScript n) h =
+    numbered_reason (λ n. reason.Ledger (refusal.NotWitnessScript n)) (codes "NotWitnessScript") n refl refl refl h
+refusal_read (refusal.ScriptMismatch n) h =
+    numbered_reason (λ n. reason.Ledger (refusal.ScriptMismatch n)) (codes "ScriptMismatch") n refl refl refl h
+refusal_read (refusal.ItemTooLong n) h =
+    numbered_reason (λ n. reason.Ledger (refusal.ItemTooLong n)) (codes "ItemTooLong") n refl refl refl h
+refusal_read (refusal.ScriptFalse n) h =
+    numbered_reason (λ n. reason.Ledger (refusal.ScriptFalse n)) (codes "ScriptFalse") n refl refl refl h
+
 pub reason_read : (r : Reason) → IsReason r → IsRead reason_of (reason_text r) r
 reason_read reason.NoContract h = plain_reason _ (codes "NoContract") refl refl refl
 reason_read reason.AdvertFull h = plain_reason _ (codes "AdvertFull") refl refl refl
@@ -100,19 +122,7 @@ reason_read (reason.BadTx n) h = numbered_reason (λ n. reason.BadTx n) (codes "
 reason_read reason.NotCompiled h = plain_reason _ (codes "NotCompiled") refl refl refl
 reason_read (reason.SecretUnknown a) h = named_reason (λ a. reason.SecretUnknown a) (codes "SecretUnknown") a refl refl refl h
 reason_read reason.TimeLimit h = plain_reason _ (codes "TimeLimit") refl refl refl
-reason_read reason.NoInput h = plain_reason _ (codes "NoInput") refl refl refl
-reason_read reason.NoOutput h = plain_reason _ (codes "NoOutput") refl refl refl
-reason_read reason.InputRepeated h = plain_reason _ (codes "InputRepeated") refl refl refl
-reason_read (reason.MissingInput n) h = numbered_reason (λ n. reason.MissingInput n) (codes "MissingInput") n refl refl refl h
-reason_read reason.ValueLimit h = plain_reason _ (codes "ValueLimit") refl refl refl
-reason_read reason.InsufficientIn h = plain_reason _ (codes "InsufficientIn") refl refl refl
-reason_read reason.NotFinal h = plain_reason _ (codes "NotFinal") refl refl refl
-reason_read (reason.ScriptSigNotEmpty n) h =
-    numbered_reason (λ n. reason.ScriptSigNotEmpty n) (codes "ScriptSigNotEmpty") n refl refl refl h
-reason_read (reason.NotWitnessScript n) h = numbered_reason (λ n. reason.NotWitnessScript n) (codes "NotWitnessScript") n refl refl refl h
-reason_read (reason.ScriptMismatch n) h = numbered_reason (λ n. reason.ScriptMismatch n) (codes "ScriptMismatch") n refl refl refl h
-reason_read (reason.ItemTooLong n) h = numbered_reason (λ n. reason.ItemTooLong n) (codes "ItemTooLong") n refl refl refl h
-reason_read (reason.ScriptFalse n) h = numbered_reason (λ n. reason.ScriptFalse n) (codes "ScriptFalse") n refl refl refl h
+reason_read (reason.Ledger r) h = refusal_read r h
 
 -- ---- what the ledger accepted
 

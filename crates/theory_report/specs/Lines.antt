@@ -10,6 +10,7 @@ use Rattle.spec_calculus.specs.declared.step.Owner.TheVariants.{Party, Outside}
 use Rattle.spec_calculus.specs.declared.step.Move.{Move}
 use Rattle.spec_calculus.specs.declared.step.Step.{Step}
 use Rattle.spec_calculus.specs.declared.step.Step.TheVariants as steps
+use Rattle.spec_bitcoin.specs.declared.verdict.Refusal.TheVariants as refusal
 use Rattle.spec_run.specs.declared.event.Event.{Event}
 use Rattle.spec_run.specs.declared.event.Event.TheVariants as events
 use Rattle.spec_run.specs.declared.outcome.Outcome.{Outcome}
@@ -118,8 +119,8 @@ plain_reasons =
     ∷ (codes "NotAsked", reason.NotAsked) ∷ (codes "NotHonest", reason.NotHonest) ∷ (codes "NotCommitted", reason.NotCommitted)
     ∷ (codes "NotBegun", reason.NotBegun) ∷ (codes "AlreadyRevealed", reason.AlreadyRevealed) ∷ (codes "Honest", reason.Honest)
     ∷ (codes "NotOwner", reason.NotOwner) ∷ (codes "NotCompiled", reason.NotCompiled) ∷ (codes "TimeLimit", reason.TimeLimit)
-    ∷ (codes "NoInput", reason.NoInput) ∷ (codes "NoOutput", reason.NoOutput) ∷ (codes "InputRepeated", reason.InputRepeated)
-    ∷ (codes "ValueLimit", reason.ValueLimit) ∷ (codes "InsufficientIn", reason.InsufficientIn) ∷ (codes "NotFinal", reason.NotFinal)
+    ∷ (codes "NoInput", reason.Ledger refusal.NoInput) ∷ (codes "NoOutput", reason.Ledger refusal.NoOutput) ∷ (codes "InputRepeated", reason.Ledger refusal.InputRepeated)
+    ∷ (codes "ValueLimit", reason.Ledger refusal.ValueLimit) ∷ (codes "InsufficientIn", reason.Ledger refusal.InsufficientIn) ∷ (codes "NotFinal", reason.Ledger refusal.NotFinal)
     ∷ []
 
 -- with a name behind them
@@ -134,10 +135,10 @@ named_reasons =
 abbrev pub numbered_reasons : List (List ℕ × (ℕ → Reason))
 numbered_reasons =
     (codes "NotLive", λ n. reason.NotLiveOutput n) ∷ (codes "NotOwner", λ n. reason.NotOwnerOutput n)
-    ∷ (codes "BadTx", λ n. reason.BadTx n) ∷ (codes "MissingInput", λ n. reason.MissingInput n)
-    ∷ (codes "ScriptSigNotEmpty", λ n. reason.ScriptSigNotEmpty n) ∷ (codes "NotWitnessScript", λ n. reason.NotWitnessScript n)
-    ∷ (codes "ScriptMismatch", λ n. reason.ScriptMismatch n) ∷ (codes "ItemTooLong", λ n. reason.ItemTooLong n)
-    ∷ (codes "ScriptFalse", λ n. reason.ScriptFalse n) ∷ []
+    ∷ (codes "BadTx", λ n. reason.BadTx n) ∷ (codes "MissingInput", λ n. reason.Ledger (refusal.MissingInput n))
+    ∷ (codes "ScriptSigNotEmpty", λ n. reason.Ledger (refusal.ScriptSigNotEmpty n)) ∷ (codes "NotWitnessScript", λ n. reason.Ledger (refusal.NotWitnessScript n))
+    ∷ (codes "ScriptMismatch", λ n. reason.Ledger (refusal.ScriptMismatch n)) ∷ (codes "ItemTooLong", λ n. reason.Ledger (refusal.ItemTooLong n))
+    ∷ (codes "ScriptFalse", λ n. reason.Ledger (refusal.ScriptFalse n)) ∷ []
 
 abbrev pub reason_of : Words → Option Reason
 reason_of (word ∷ []) = look_up word plain_reasons

@@ -18,6 +18,7 @@ use Rattle.spec_text.specs.declared.entry.Entry.{Entry}
 use Rattle.spec_text.specs.Lines.{words_of}
 use Rattle.spec_text.specs.EventLines.{event_of}
 use Rattle.spec_text.specs.RunText.{event_text}
+use Rattle.spec_text.specs.OutcomeText.{faulty_input}
 use Rattle.spec_text.specs.StepText.{made_by}
 use Rattle.spec_text.specs.PlayText.{Ending, whole, guessed, collided}
 use Rattle.theory_report.specs.Lines.{Said, ShownSecret, no_move}
@@ -111,12 +112,7 @@ IsReason (reason.NotLiveOutput n) = IsWide n
 IsReason (reason.NotOwnerOutput n) = IsWide n
 IsReason (reason.BadTx place) = IsWide place
 IsReason (reason.SecretUnknown a) = IsNamed a
-IsReason (reason.MissingInput k) = IsWide k
-IsReason (reason.ScriptSigNotEmpty k) = IsWide k
-IsReason (reason.NotWitnessScript k) = IsWide k
-IsReason (reason.ScriptMismatch k) = IsWide k
-IsReason (reason.ItemTooLong k) = IsWide k
-IsReason (reason.ScriptFalse k) = IsWide k
+IsReason (reason.Ledger r) = IsLength (faulty_input r)
 IsReason reason = Unit {0}
 
 abbrev pub IsOutcome : Outcome → Type 0

@@ -10,12 +10,13 @@ use Rattle.spec_calculus.specs.Steps.{after_steps}
 use Rattle.spec_compiler.specs.Instance.{Instance}
 use Rattle.spec_compiler.specs.Endorsements.{is_endorsed}
 use Rattle.spec_run.specs.declared.event.Event.{Event}
+use Rattle.spec_run.specs.declared.outcome.Reason.TheVariants as reason
 use Rattle.spec_run.specs.Setup.{Setup}
 use Rattle.spec_run.specs.World.{World}
 use Rattle.spec_run.specs.Compiled.{instance_of, compiled_instance}
 use Rattle.spec_run.specs.Draft.{settled}
 use Rattle.spec_data.specs.Messages.{noted_all}
-use Rattle.spec_run.specs.Ledger.{Kind, verdict_in, strings_of, items_of, reason_of, accepted, judged, reaches, initial_of, new_position, begun_after, kind_of, spend_from, made_from}
+use Rattle.spec_run.specs.Ledger.{Kind, verdict_in, strings_of, items_of, accepted, judged, reaches, initial_of, new_position, begun_after, kind_of, spend_from, made_from}
 use Rattle.spec_run.specs.Signing.{signed_all, with_pairs}
 use Rattle.spec_run.specs.Steps.{accepted_steps, steps_of}
 use Rattle.theory_world.proofs.Ledger.Worth.{IsAccepted, accepted_by}
@@ -57,7 +58,7 @@ module _ (s : Setup) (z : List (List ℕ)) (g : Configuration) (w : World) (kept
   reaches_every e tx endorsed = by_verdict (verdict_in s w tx) refl
     where
       by_verdict : (v : Verdict) → verdict_in s w tx ≡ v → KeptOffers s (after_steps g (steps_of s z g w (settled w (judged s w w tx v)) e (judged s w w tx v))) (settled w (judged s w w tx v))
-      by_verdict (verdicts.Refused r) h = refused_offers s z g w kept more e (strings_of s w tx) (reason_of r)
+      by_verdict (verdicts.Refused r) h = refused_offers s z g w kept more e (strings_of s w tx) (reason.Ledger r)
       by_verdict (verdicts.Accepted spent made) h = accepted_every tx spent (accepted_by s w tx spent made h) e endorsed
 
 -- a transaction whose signatures come with it, and which begins no contract; what is kept may rest on what it hashes
@@ -99,5 +100,5 @@ module _ (s : Setup) (z : List (List ℕ)) (g : Configuration) (w : World) (kept
   given_every e tx begins = by_verdict (verdict_in s (with_pairs w pairs) tx) refl
     where
       by_verdict : (v : Verdict) → verdict_in s (with_pairs w pairs) tx ≡ v → KeptOffers s (after_steps g (steps_of s z g w (settled w (judged s w (with_pairs w pairs) tx v)) e (judged s w (with_pairs w pairs) tx v))) (settled w (judged s w (with_pairs w pairs) tx v))
-      by_verdict (verdicts.Refused r) h = refused_offers s z g w kept more e (strings_of s (with_pairs w pairs) tx) (reason_of r)
+      by_verdict (verdicts.Refused r) h = refused_offers s z g w kept more e (strings_of s (with_pairs w pairs) tx) (reason.Ledger r)
       by_verdict (verdicts.Accepted spent made) h = given_accepted e tx spent (accepted_by s seen tx spent made h) begins

@@ -22,7 +22,7 @@ use Rattle.spec_run.specs.World.{ContractPosition, World, live_position_at}
 use Rattle.spec_run.specs.Compiled.{compiled_instance}
 use Rattle.spec_run.specs.Conditions.{HashesBytes, IsPiece}
 use Rattle.spec_run.specs.Draft.{settled}
-use Rattle.spec_run.specs.Ledger.{verdict_in, strings_of, reason_of, accepted, judged, reaches, contract_in, position_path, position_branch, branch_in}
+use Rattle.spec_run.specs.Ledger.{verdict_in, strings_of, accepted, judged, reaches, contract_in, position_path, position_branch, branch_in}
 use Rattle.spec_run.specs.Firing.{initial_by, initial_witnesses, initial_transaction, taking_of_parts, taking_witnesses, taking_transaction, taking_of_position, reaches_if, fire_init_row, fire_init_draft, fire_row, fire_draft}
 use Rattle.spec_run.specs.Signing.{prepared_if_compiled}
 use Rattle.spec_run.specs.Event.{append_read}
@@ -59,7 +59,7 @@ module _ (s : Setup) (size : HashesBytes s.hash) (few_contracts : length s.contr
   reaches_after e tx fine = by_verdict (verdict_in s w tx) refl
     where
       by_verdict : (v : Verdict) → verdict_in s w tx ≡ v → KeptAfter s size few_contracts strings g w kept check clear e (judged s w w tx v)
-      by_verdict (verdicts.Refused r) h = refused_after s size few_contracts strings g w kept check clear e (strings_of s w tx) (reason_of r)
+      by_verdict (verdicts.Refused r) h = refused_after s size few_contracts strings g w kept check clear e (strings_of s w tx) (reason.Ledger r)
       by_verdict (verdicts.Accepted spent made) h = λ apart.
           let xs = steps_of s strings g w (settled w (accepted s w tx spent)) e (accepted s w tx spent) in
           reached_kept s size few_contracts g (after_steps g xs) w kept fit check (inits_stay xs g) (asked_stay xs g) tx fine spent (accepted_by s w tx spent made h) clear apart

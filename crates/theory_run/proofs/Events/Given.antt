@@ -28,6 +28,7 @@ use Rattle.spec_compiler.specs.Instance.{Instance, branch_label, deposit_key, pe
 use Rattle.spec_compiler.specs.Transactions.{Standing, party_script}
 use Rattle.spec_compiler.specs.ByPath.{position_at}
 use Rattle.spec_run.specs.declared.event.Event.{Event}
+use Rattle.spec_run.specs.declared.outcome.Reason.TheVariants as reason
 use Rattle.spec_run.specs.Setup.{Setup, is_declared}
 use Rattle.spec_data.specs.Messages.{noted_all, collision}
 use Rattle.spec_run.specs.World.{Output, World, output_at, is_deposit}
@@ -35,7 +36,7 @@ use Rattle.spec_run.specs.Owners.{deposit_value}
 use Rattle.spec_run.specs.Compiled.{outpoint_of, compiled_instance}
 use Rattle.spec_run.specs.Conditions.{HashesBytes}
 use Rattle.spec_run.specs.Draft.{settled}
-use Rattle.spec_run.specs.Ledger.{verdict_in, items_of, strings_of, reason_of, spend_from, made_from, kind_of, new_position, accepted, judged, reaches}
+use Rattle.spec_run.specs.Ledger.{verdict_in, items_of, strings_of, spend_from, made_from, kind_of, new_position, accepted, judged, reaches}
 use Rattle.spec_run.specs.Signing.{with_pairs, label_party}
 use Rattle.spec_run.specs.Giving.{first_dead, value_out, give_row, given_input, given_output, unsigned_gift, given_digest, signed_input, given_pairs, gift, give_draft}
 use Rattle.spec_run.specs.Steps.{steps_of}
@@ -303,7 +304,7 @@ module _ (s : Setup) (size : HashesBytes s.hash) (few_contracts : length s.contr
       (λ r. by_verdict (no_reason-none_true (give_row s w party inputs outputs) r) (verdict_in s next (gift s w party inputs outputs)) refl)
     where
       by_verdict : NoneTrue (give_row s w party inputs outputs) → (v : Verdict) → verdict_in s next (gift s w party inputs outputs) ≡ v → KeptAfter s size few_contracts strings g w kept check clear e (judged s w next (gift s w party inputs outputs) v)
-      by_verdict row (verdicts.Refused r) h = refused_after s size few_contracts strings g w kept check clear e (strings_of s next (gift s w party inputs outputs)) (reason_of r)
+      by_verdict row (verdicts.Refused r) h = refused_after s size few_contracts strings g w kept check clear e (strings_of s next (gift s w party inputs outputs)) (reason.Ledger r)
       by_verdict row (verdicts.Accepted spent made) h = λ apart.
           let xs = steps_of s strings g w (settled w (accepted s next (gift s w party inputs outputs) spent)) e (accepted s next (gift s w party inputs outputs) spent) in
           accepted_kept few row spent made h apart (after_steps g xs) (inits_stay xs g) (asked_stay xs g)

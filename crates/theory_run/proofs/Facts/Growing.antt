@@ -29,7 +29,7 @@ use Rattle.spec_run.specs.Signing.{with_pairs, endorsing_pairs, endorse_row, ini
 use Rattle.spec_run.specs.Revealing.{own_secret, reveal_row}
 use Rattle.spec_run.specs.Giving.{give_row, given_pairs, gift}
 use Rattle.spec_run.specs.Firing.{initial_by, taking_of_position, reaches_if, fire_init_row, fire_row}
-use Rattle.spec_run.specs.Ledger.{verdict_in, strings_of, reason_of, accepted, judged, reaches, new_position, kind_of, made_from}
+use Rattle.spec_run.specs.Ledger.{verdict_in, strings_of, accepted, judged, reaches, new_position, kind_of, made_from}
 use Rattle.spec_run.specs.World as world
 use Rattle.spec_run.specs.Event.{append_read, mine_row, draft}
 use Rattle.theory_calculus.proofs.Names.{all_among}
@@ -75,7 +75,7 @@ module _ (s : Setup) (g : Configuration) (w : World) (kept : KeptBook s g w) whe
   reaching pairs tx = by_verdict (verdict_in s (with_pairs w pairs) tx)
     where
       by_verdict : (v : Verdict) → Grows s w (settled w (judged s w (with_pairs w pairs) tx v))
-      by_verdict (verdicts.Refused r) = refusal (strings_of s (with_pairs w pairs) tx) (reason_of r)
+      by_verdict (verdicts.Refused r) = refusal (strings_of s (with_pairs w pairs) tx) (reason.Ledger r)
       by_verdict (verdicts.Accepted spent made) =
           let d = accepted s (with_pairs w pairs) tx spent in
           grows_by (settled w d) [] [] (sym (append-nil w.advertised)) (sym (append-nil w.promises)) (lasts_spent spent w.outputs (made_from (new_position s (kind_of s (with_pairs w pairs) tx spent)) (txid s.hash tx) 0 tx.outputs)) (λ k st h. refl)

@@ -33,7 +33,7 @@ use Rattle.spec_run.specs.Signing.{with_pairs, endorsing_pairs, endorse_row, ini
 use Rattle.spec_run.specs.Revealing.{own_secret, reveal_row}
 use Rattle.spec_run.specs.Giving.{first_foreign, give_row, given_pairs, gift}
 use Rattle.spec_run.specs.Firing.{initial_by, taking_of_position, reaches_if, fire_init_row, fire_row}
-use Rattle.spec_run.specs.Ledger.{verdict_in, strings_of, items_of, reason_of, accepted, judged, reaches, spend_from, made_from, kind_of, new_position}
+use Rattle.spec_run.specs.Ledger.{verdict_in, strings_of, items_of, accepted, judged, reaches, spend_from, made_from, kind_of, new_position}
 use Rattle.spec_run.specs.HonestDeposits.{gives, by_transaction, SpendsWithLeave}
 use Rattle.spec_run.specs.Event.{append_read, mine_row, draft, record_of}
 use Rattle.theory_calculus.proofs.Names.{bytes-true, bytes_refl}
@@ -131,7 +131,7 @@ module _ (s : Setup) (setup : IsSetup s) (before : List Record) (g : Configurati
   reaches_claim e tx fits = by_verdict (verdict_in s w tx) refl
     where
       by_verdict : (v : Verdict) → verdict_in s w tx ≡ v → Claims e (judged s w w tx v)
-      by_verdict (verdicts.Refused r) h = still e (refused w (strings_of s w tx) (reason_of r)) refl
+      by_verdict (verdicts.Refused r) h = still e (refused w (strings_of s w tx) (reason.Ledger r)) refl
       by_verdict (verdicts.Accepted spent made) h = accepted_claim e tx fits spent made h
 
   reaches_if_claim : (e : Event) (o : Option Tx) → ((tx : Tx) → o ≡ Some tx → IsNumbered tx) → Claims e (reaches_if s w o)
@@ -164,7 +164,7 @@ module _ (s : Setup) (setup : IsSetup s) (before : List Record) (g : Configurati
       by_verdict (no_reason-none_true (give_row s w party inputs outputs) r) (verdict_in s (with_pairs w (given_pairs s w party inputs outputs)) (gift s w party inputs outputs)) refl)
     where
       by_verdict : NoneTrue (give_row s w party inputs outputs) → (v : Verdict) → verdict_in s (with_pairs w (given_pairs s w party inputs outputs)) (gift s w party inputs outputs) ≡ v → Claims (events.Give party inputs outputs) (judged s w (with_pairs w (given_pairs s w party inputs outputs)) (gift s w party inputs outputs) v)
-      by_verdict row (verdicts.Refused r) h = still (events.Give party inputs outputs) (refused w (strings_of s (with_pairs w (given_pairs s w party inputs outputs)) (gift s w party inputs outputs)) (reason_of r)) refl
+      by_verdict row (verdicts.Refused r) h = still (events.Give party inputs outputs) (refused w (strings_of s (with_pairs w (given_pairs s w party inputs outputs)) (gift s w party inputs outputs)) (reason.Ledger r)) refl
       by_verdict row (verdicts.Accepted spent made) h = λ apart a n honest own gone.
           let tx = gift s w party inputs outputs in
           let next = with_pairs w (given_pairs s w party inputs outputs) in

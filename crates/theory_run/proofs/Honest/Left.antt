@@ -37,7 +37,7 @@ use Rattle.spec_run.specs.Signing.{with_pairs, endorsing_pairs, endorse_row, end
 use Rattle.spec_run.specs.Revealing.{own_secret, reveal_row}
 use Rattle.spec_run.specs.Giving.{give_row, given_pairs, gift, give_draft}
 use Rattle.spec_run.specs.Firing.{initial_by, taking_of_position, reaches_if, fire_init_row, fire_row}
-use Rattle.spec_run.specs.Ledger.{verdict_in, strings_of, items_of, reason_of, accepted, judged, reaches, position_branch, position_path, branch_in}
+use Rattle.spec_run.specs.Ledger.{verdict_in, strings_of, items_of, accepted, judged, reaches, position_branch, position_path, branch_in}
 use Rattle.spec_run.specs.Event.{append_read, mine_row, draft, record_of}
 use Rattle.spec_run.specs.Steps.{init_steps, steps_of}
 use Rattle.theory_calculus.proofs.Names.{bytes-true, bytes_refl}
@@ -182,7 +182,7 @@ module _ (s : Setup) (size : HashesBytes s.hash) (few_contracts : length s.contr
       by_verdict : NoneTrue (give_row s w party inputs outputs) → (v : Verdict) → verdict_in s (with_pairs w (given_pairs s w party inputs outputs)) (gift s w party inputs outputs) ≡ v
           → give_draft s w party inputs outputs ≡ judged s w (with_pairs w (given_pairs s w party inputs outputs)) (gift s w party inputs outputs) v
           → After (events.Give party inputs outputs) (judged s w (with_pairs w (given_pairs s w party inputs outputs)) (gift s w party inputs outputs) v)
-      by_verdict row (verdicts.Refused r) v q = quiet_leave s strings before g w kept leave (events.Give party inputs outputs) (refused w _ (reason_of r)) q refl
+      by_verdict row (verdicts.Refused r) v q = quiet_leave s strings before g w kept leave (events.Give party inputs outputs) (refused w _ (reason.Ledger r)) q refl
       by_verdict row (verdicts.Accepted spent made) v q = λ apart.
           given_leave s size few_contracts strings before g w kept fit check clear leave party declared inputs outputs few row spent made v apart q
 
@@ -190,7 +190,7 @@ module _ (s : Setup) (size : HashesBytes s.hash) (few_contracts : length s.contr
   reaches_leave e tx q = by_verdict (verdict_in s w tx) q
     where
       by_verdict : (v : Verdict) → draft s w e ≡ judged s w w tx v → After e (judged s w w tx v)
-      by_verdict (verdicts.Refused r) q = quiet_leave s strings before g w kept leave e (refused w (strings_of s w tx) (reason_of r)) q refl
+      by_verdict (verdicts.Refused r) q = quiet_leave s strings before g w kept leave e (refused w (strings_of s w tx) (reason.Ledger r)) q refl
       by_verdict (verdicts.Accepted spent made) q = quiet_leave s strings before g w kept leave e (accepted s w tx spent) q refl
 
   reaches_if_leave : (e : Event) (o : Option Tx) → draft s w e ≡ reaches_if s w o → After e (reaches_if s w o)

@@ -20,7 +20,7 @@ use Rattle.spec_run.specs.Secrets.{all_secrets}
 use Rattle.spec_run.specs.Signing.{signed_all, with_pairs}
 use Rattle.spec_run.specs.Giving.{give_row, given_pairs, gift, give_draft}
 use Rattle.spec_run.specs.Firing.{initial_by, taking_of_position, reaches_if, fire_init_row, fire_row}
-use Rattle.spec_run.specs.Ledger.{verdict_in, strings_of, items_of, reason_of, judged, reaches}
+use Rattle.spec_run.specs.Ledger.{verdict_in, strings_of, items_of, judged, reaches}
 use Rattle.spec_run.specs.Event.{append_read, draft}
 use Rattle.theory_world.proofs.Hashed.{all_more}
 use Rattle.theory_run.proofs.Facts.Secrets.{different_secrets}
@@ -46,7 +46,7 @@ module _ (s : Setup) (setup : IsSetup s) (z : List (List ℕ)) (apart : differen
   reaches_tracked e tx fits = by_verdict (verdict_in s w tx) refl
     where
       by_verdict : (v : Verdict) → verdict_in s w tx ≡ v → Tracked s z g w e (judged s w w tx v)
-      by_verdict (verdicts.Refused r) h = refused_tracked s z apart g w tracks e (strings_of s w tx) (reason_of r)
+      by_verdict (verdicts.Refused r) h = refused_tracked s z apart g w tracks e (strings_of s w tx) (reason.Ledger r)
       by_verdict (verdicts.Accepted spent made) h = λ clear unguessed begins.
           accepted_tracked s setup z apart g w tracks w.book w.hashed kept fit check named tx fits spent (accepted_by s w tx spent made h) clear unguessed (λ t k. all_more w.hashed (strings_of s w tx ++ items_of tx) t k) begins e
 
@@ -70,7 +70,7 @@ module _ (s : Setup) (setup : IsSetup s) (z : List (List ℕ)) (apart : differen
     given = gift s w party inputs outputs
 
     given_tracked : NoneTrue (give_row s w party inputs outputs) → (v : Verdict) → verdict_in s (with_pairs w pairs) given ≡ v → Tracked s z g w giving (judged s w (with_pairs w pairs) given v)
-    given_tracked row (verdicts.Refused r) h = refused_tracked s z apart g w tracks giving (strings_of s (with_pairs w pairs) given) (reason_of r)
+    given_tracked row (verdicts.Refused r) h = refused_tracked s z apart g w tracks giving (strings_of s (with_pairs w pairs) given) (reason.Ledger r)
     given_tracked row (verdicts.Accepted spent made) h = λ clear unguessed begins.
         let hs = noted_all w.hashed (strings_of s w given ++ items_of given) in
         let signed : KeptBook s g (record w { book = signed_all w.book pairs; hashed = hs }) =

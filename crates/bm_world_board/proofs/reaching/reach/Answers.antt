@@ -14,7 +14,7 @@ pub returns-in-Some-clause-ok : goal.returns-in-Some-clause-ok
 returns-in-Some-clause-ok g c =
     let hash = g.H.Hash32.digest_of c.args.trail.now.hasher in
     reach_refused (setup_of hash c.args.board.now) (world_of c.args.board.now c.args.trail.now.messages) c.args.tx _ _ c.in-Some.refusal c.refused.result (sym c.in_ok-judged.ensures.refusal ∙ c.in-Some.is) c.in_ok-judged.ensures.trail.1
-    (rw c.reason_of.ensures at c.refused.ensures.same) c.refused.ensures.change
+    c.refused.ensures.same c.refused.ensures.change
 
 pub returns-in_err-drafted-clause-err : goal.returns-in_err-drafted-clause-err
 returns-in_err-drafted-clause-err g c =

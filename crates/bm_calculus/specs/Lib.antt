@@ -1,3 +1,4 @@
 pub mod Answers
 pub mod Reached
 pub mod Takings
+pub mod Undecided

@@ -184,8 +184,8 @@ fn bound_to(bindings: &[(Name, u32)], name: &Name) -> Option<u32>
     None
 }
 
-// Whether the name is bound to a live deposit.
-fn is_there(deposits: &Deposits, bindings: &[(Name, u32)], name: &Name) -> bool
+/// Whether the name is bound to a live deposit.
+pub fn is_there(deposits: &Deposits, bindings: &[(Name, u32)], name: &Name) -> bool
     ensures { result ≡ spec.is_there deposits.now (look_up name.now bindings.now) }
 {
     match bound_to(bindings, name) {

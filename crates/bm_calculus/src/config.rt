@@ -8,6 +8,7 @@ ghost use Rattle.spec_calculus.specs.Beginning as beginning;
 ghost use Rattle.spec_calculus.specs.Steps as steps;
 ghost use Rattle.bm_calculus.specs.Answers.{Leads, RefusesFor, seen, owner_and_value, shown, parts_of, advertised_with, with_revealed};
 
+mod asked;
 mod listed;
 
 use crate::secrets::{is_revealed, length_at};

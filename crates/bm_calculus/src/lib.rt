@@ -14,6 +14,7 @@ mod same;
 mod secrets;
 mod state;
 mod takings;
+mod undecided;
 
 pub use config::{Active, Config, StepError};
 pub use spec_calculus::{Move, Owner, Step};

@@ -64,7 +64,8 @@ fn party_of(pre: &[Pre], secret: &Name) -> Option<Name>
     None
 }
 
-fn is_revealed_by(revealed: &[Revealed], contract: u32, pre: &[Pre], secret: &Name) -> bool
+/// Whether the secret of this name of a precondition is revealed.
+pub fn is_revealed_by(revealed: &[Revealed], contract: u32, pre: &[Pre], secret: &Name) -> bool
     ensures { result ≡ spec.is_revealed_by revealed.now contract (look_up secret.now (secrets pre.now)) secret.now }
 {
     match party_of(pre, secret) {

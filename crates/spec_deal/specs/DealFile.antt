@@ -16,6 +16,9 @@ use Rattle.spec_text.specs.Words.{◌>>=◌, given, small, one_of, digest}
 use Rattle.spec_deal.specs.declared.deal.Deal.{Deal}
 use Rattle.spec_deal.specs.declared.deal.Needed.{Needed}
 use Rattle.spec_deal.specs.declared.deal.Needed.TheVariants as needs
+use Rattle.spec_deal.specs.declared.entry.Value.{Value}
+use Rattle.spec_deal.specs.declared.entry.Value.TheVariants.{Key as key, Place as place, Hash as hash}
+use Rattle.spec_deal.specs.declared.entry.Entry.{Entry}
 use Rattle.spec_deal.specs.declared.fault.DealReason.{DealReason}
 use Rattle.spec_deal.specs.declared.fault.DealReason.TheVariants as reasons
 use Rattle.spec_deal.specs.declared.fault.DealFault.{DealFault}
@@ -25,12 +28,6 @@ use Rattle.spec_deal.specs.Needed.{needed, needed_labels, needed_deposits, neede
 use Rattle.spec_deal.specs.Setting.{no_key}
 
 -- ---- what a line gives
-
--- a key, a place or a hash
-pub data Value : Type 0 where
-  key : (bytes : List ℕ) → Value
-  place : (outpoint : OutPoint) → Value
-  hash : (bytes : List ℕ) → Value
 
 abbrev pub same_value : Value → Value → Bool
 same_value (key a) (key b) = bytes_eq a b
@@ -42,12 +39,6 @@ same_value (place a) (key b) = false
 same_value (place a) (hash b) = false
 same_value (hash a) (key b) = false
 same_value (hash a) (place b) = false
-
--- what the line of this number gives, and to what
-pub record Entry : Type 0 where
-  pub line : ℕ
-  pub needed : Needed
-  pub value : Value
 
 -- ---- words
 

@@ -1,0 +1,43 @@
+-- What the readers of lines answer, against what reading gives.
+use Rattle.std.specs.Prelude.{◌≡◌, ◌×◌, ℕ, List, [], ◌∷◌, ◌++◌, Option, Some, None, Result, Ok, Err}
+use Rattle.spec_deal.specs.declared.deal.Deal.{Deal}
+use Rattle.spec_deal.specs.declared.entry.Entry.{Entry}
+use Rattle.spec_deal.specs.declared.fault.DealFault.{DealFault}
+use Rattle.spec_deal.specs.declared.fault.DealFault.TheVariants as faults
+use Rattle.spec_deal.specs.DealFile.{Line, empty, bad, gives}
+use Rattle.deal_file.specs.declared.error.DealError.{DealError}
+use Rattle.deal_file.specs.declared.error.DealError.TheVariants as deals
+use Rattle.deal_file.specs.declared.error.LineError.{LineError}
+use Rattle.deal_file.specs.declared.error.LineError.TheVariants as lines
+
+-- a line doesn't count where the code says so, unless memory ran out
+abbrev pub Stops : LineError → Line → Type 0
+Stops (lines.Bad reason) line = line ≡ bad reason
+Stops lines.Memory line = Unit {0}
+
+-- what the code says of a line is what the line says
+abbrev pub Says : Result (Option Entry) LineError → Line → Type 0
+Says (Ok None) line = line ≡ empty
+Says (Ok (Some entry)) line = line ≡ gives entry
+Says (Err e) line = Stops e line
+
+-- what a line adds to the entries before it
+abbrev pub Added : List Entry → List Entry → Line → Type 0
+Added old new empty = new ≡ old
+Added old new (gives entry) = new ≡ old ++ entry ∷ []
+Added old new (bad reason) = ⊥
+
+-- a line is taken, or why it isn't
+abbrev pub Takes : {U : Type 0} → List Entry → List Entry → Result U LineError → Line → Type 0
+Takes old new (Ok done) line = Added old new line
+Takes old new (Err e) line = Stops e line
+
+-- a text is refused where the code says so, unless memory ran out
+abbrev pub Refuses : {Y : Type 0} → DealError → Result Y DealFault → Type 0
+Refuses (deals.Refused fault) read = read ≡ Err fault
+Refuses deals.Memory read = Unit {0}
+
+-- what a function returned, seen by view, is what the text gives, unless memory ran out
+abbrev pub Gives : {X Y : Type 0} → (X → Y) → Result X DealError → Result Y DealFault → Type 0
+Gives view (Ok x) read = read ≡ Ok (view x)
+Gives view (Err e) read = Refuses e read

@@ -1,0 +1,4 @@
+pub mod Needs
+pub mod Keying
+pub mod Gives
+pub mod Entries

@@ -1,5 +1,7 @@
 -- Entries as they are found: by what they are given to, and by their values.
 use Rattle.spec_deal.specs.declared.entry.Entry.{Entry}
+use Rattle.std.specs.Prelude.{◌≡◌, List, map}
+use Rattle.deal_file.specs.declared.entries.Entries.{Entries}
 use Rattle.deal_file.specs.declared.keying.Given.{Given}
 use Rattle.deal_file.specs.declared.keying.Need.{Need}
 use Rattle.deal_file.specs.declared.keying.Worth.{Worth}
@@ -13,3 +15,11 @@ entry_in given = given.entry
 
 abbrev pub worth_of : Entry → Worth
 worth_of entry = record { line = entry.line; value = entry.value }
+
+-- the entries in order
+abbrev pub told : Entries → List Entry
+told entries = map entry_in entries.given
+
+-- each value is found by the entry that gives it
+abbrev pub IsTied : Entries → Type 0
+IsTied entries = entries.worth ≡ map worth_of (told entries)

@@ -1,10 +1,15 @@
 -- What the readers of lines answer, against what reading gives.
-use Rattle.std.specs.Prelude.{◌≡◌, ◌×◌, ℕ, List, [], ◌∷◌, ◌++◌, Option, Some, None, Result, Ok, Err}
-use Rattle.spec_deal.specs.declared.deal.Deal.{Deal}
+use Rattle.std.specs.Prelude.{◌≡◌, ℕ, List, [], ◌∷◌, ◌++◌, map, Option, Some, None, Result, Ok, Err}
+use Rattle.std.specs.List.{find}
+use Rattle.std.specs.Str.{bytes_eq}
 use Rattle.spec_deal.specs.declared.entry.Entry.{Entry}
 use Rattle.spec_deal.specs.declared.fault.DealFault.{DealFault}
 use Rattle.spec_deal.specs.declared.fault.DealFault.TheVariants as faults
-use Rattle.spec_deal.specs.DealFile.{Line, empty, bad, gives}
+use Rattle.spec_deal.specs.declared.deal.Needed.{Needed}
+use Rattle.spec_deal.specs.DealFile.{Line, empty, bad, gives, if_new}
+use Rattle.deal_file.specs.Keying.{need_key}
+use Rattle.deal_file.specs.Entries.{needed_in}
+use Rattle.deal_file.specs.declared.keying.Need.{Need}
 use Rattle.deal_file.specs.declared.error.DealError.{DealError}
 use Rattle.deal_file.specs.declared.error.DealError.TheVariants as deals
 use Rattle.deal_file.specs.declared.error.LineError.{LineError}
@@ -15,11 +20,20 @@ abbrev pub Stops : LineError → Line → Type 0
 Stops (lines.Bad reason) line = line ≡ bad reason
 Stops lines.Memory line = Unit {0}
 
--- what the code says of a line is what the line says
-abbrev pub Says : Result (Option Entry) LineError → Line → Type 0
-Says (Ok None) line = line ≡ empty
-Says (Ok (Some entry)) line = line ≡ gives entry
-Says (Err e) line = Stops e line
+-- what is found by this key
+abbrev pub found_need : List Need → List ℕ → Option Needed
+found_need needs key = find (λ what. bytes_eq (need_key what) key) (map needed_in needs)
+
+-- what the code says that a line gives, that it gives, if it is new behind these entries
+abbrev pub Leads : List Entry → Result Entry LineError → Line → Type 0
+Leads entries (Ok entry) line = line ≡ if_new entries entry
+Leads entries (Err e) line = Stops e line
+
+-- the same of a line that may have no words
+abbrev pub LeadsOn : List Entry → Result (Option Entry) LineError → Line → Type 0
+LeadsOn entries (Ok None) line = line ≡ empty
+LeadsOn entries (Ok (Some entry)) line = line ≡ if_new entries entry
+LeadsOn entries (Err e) line = Stops e line
 
 -- what a line adds to the entries before it
 abbrev pub Added : List Entry → List Entry → Line → Type 0
@@ -41,3 +55,8 @@ Refuses deals.Memory read = Unit {0}
 abbrev pub Gives : {X Y : Type 0} → (X → Y) → Result X DealError → Result Y DealFault → Type 0
 Gives view (Ok x) read = read ≡ Ok (view x)
 Gives view (Err e) read = Refuses e read
+
+-- why a text is refused, by its line
+abbrev pub at_line : LineError → ℕ → DealError
+at_line (lines.Bad reason) n = deals.Refused (faults.Line n reason)
+at_line lines.Memory n = deals.Memory

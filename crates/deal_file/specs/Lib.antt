@@ -1,4 +1,7 @@
 pub mod Needs
 pub mod Keying
-pub mod Gives
 pub mod Entries
+pub mod Gives
+pub mod Building
+pub mod Texts
+pub mod Refusals

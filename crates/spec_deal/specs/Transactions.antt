@@ -7,7 +7,7 @@ use Rattle.spec_bitcoin.specs.Spelling.{stripped}
 use Rattle.spec_compiler.specs.Keyed.Keys.{Keys, key_in}
 use Rattle.spec_compiler.specs.Keyed.Instance.{Instance}
 use Rattle.spec_compiler.specs.declared.unsigned.Spent.{Spent}
-use Rattle.spec_compiler.specs.Keyed.Transactions.{tx_of, digest_of_spent}
+use Rattle.spec_compiler.specs.Keyed.Transactions.{tx_of, digest_of_spent, pays}
 use Rattle.spec_tool.specs.declared.which.Which.{Which}
 use Rattle.spec_tool.specs.Keyed.Listed.{Listed, listed}
 use Rattle.spec_deal.specs.declared.transaction.Signer.{Signer}
@@ -23,6 +23,7 @@ signer hash keys advert which label = record { label = label; key = key_in hash 
 abbrev pub input : (List ℕ → List ℕ) → Keys → Advert → Listed → Spent → List Label → Input
 input hash keys advert l spent labels = record {
   spent = spent;
+  output = pays hash spent.script spent.value;
   digest = digest_of_spent hash (tx_of l.draft) spent;
   signers = map (signer hash keys advert l.which) labels;
 }

@@ -3,7 +3,7 @@
 ghost use Rattle.std.specs.Prelude.{◌≡◌, IfOk};
 
 use crate::finish::Verb;
-use spec_bitcoin::{Label, Tx};
+use spec_bitcoin::{Label, Tx, TxOut};
 use spec_compiler::Spent;
 use spec_data::{Bytes, OutOfMemory, Seq};
 use spec_tool::Which;
@@ -26,9 +26,10 @@ impl Drop for Signer {
     }
 }
 
-/// An input: what it spends, the digest that its signatures are of, and who signs it, in order.
+/// An input: what it spends, the output that this is, the digest that its signatures are of, and who signs it, in order.
 pub struct Input {
     pub spent: Spent,
+    pub output: TxOut,
     pub digest: [u8; 32],
     pub signers: Seq<Signer>,
 }
@@ -37,6 +38,7 @@ impl Drop for Input {
     fn drop(self) {
         let Input {
             spent: _,
+            output: _,
             digest: _,
             signers: _,
         } = self;

@@ -1,5 +1,7 @@
 -- The transactions of a deal, each with what its inputs spend, the digests to be signed, and who signs by which key.
-use Rattle.std.specs.Prelude.{ℕ, List, [], ◌∷◌, map}
+use Rattle.std.specs.Prelude.{ℕ, ◌+◌, List, [], ◌∷◌, ◌++◌, map, Bool, ◌&&◌, ◌==◌}
+use Rattle.std.specs.List.{flat_map}
+use Rattle.std.specs.Str.{bytes_eq}
 use Rattle.spec_terms.specs.Advert.{Advert}
 use Rattle.spec_bitcoin.specs.declared.label.Label.{Label}
 use Rattle.spec_bitcoin.specs.Digests.{txid}
@@ -10,6 +12,7 @@ use Rattle.spec_compiler.specs.declared.unsigned.Spent.{Spent}
 use Rattle.spec_compiler.specs.Keyed.Transactions.{tx_of, digest_of_spent, pays}
 use Rattle.spec_tool.specs.declared.which.Which.{Which}
 use Rattle.spec_tool.specs.Keyed.Listed.{Listed, listed}
+use Rattle.spec_deal.specs.declared.signed.Signed.{Signed}
 use Rattle.spec_deal.specs.declared.transaction.Signer.{Signer}
 use Rattle.spec_deal.specs.declared.transaction.Input.{Input}
 use Rattle.spec_deal.specs.declared.transaction.Transaction.{Transaction}
@@ -47,3 +50,31 @@ transaction hash keys advert l = record {
 -- the initial transaction, and then those of the paths in the order of the text
 abbrev pub transactions : (List ℕ → List ℕ) → Keys → Instance → List Transaction
 transactions hash keys s = map (transaction hash keys s.advert) (listed hash keys s)
+
+-- ---- where signatures are wanted
+
+-- of an input of the transaction with these bytes, by this key
+pub record Spot : Type 0 where
+  pub tx : List ℕ
+  pub input : ℕ
+  pub key : List ℕ
+
+-- of input k
+abbrev pub input_spots : List ℕ → ℕ → Input → List Spot
+input_spots tx k i = map (λ (s : Signer). record { tx = tx; input = k; key = s.key }) i.signers
+
+-- of the inputs from number k on
+abbrev pub inputs_spots : List ℕ → ℕ → List Input → List Spot
+inputs_spots tx k [] = []
+inputs_spots tx k (i ∷ is) = input_spots tx k i ++ inputs_spots tx (k + 1) is
+
+abbrev pub transaction_spots : Transaction → List Spot
+transaction_spots t = inputs_spots t.bytes 0 t.inputs
+
+-- of all transactions, in order
+abbrev pub spots : List Transaction → List Spot
+spots ts = flat_map transaction_spots ts
+
+-- whether a signature is there
+abbrev pub is_at : Spot → Signed → Bool
+is_at spot g = bytes_eq g.tx spot.tx && (g.input == spot.input && bytes_eq g.key spot.key)

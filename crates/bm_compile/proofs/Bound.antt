@@ -1,17 +1,17 @@
 -- Each deposit that a checked contract puts is bound where its deposits are, and no split has too many parts.
-use Rattle.std.proofs.Common.{◌≡◌, ℕ, ◌+◌, ◌≤◌, List, [], ◌∷◌, length, Bool, true, false, not, refl, subst, arith}
-use Rattle.std.specs.Prelude.{nat_le, ◌&&◌}
+use Rattle.std.proofs.Common.{◌≡◌, ℕ, ◌+◌, ◌≤◌, List, [], ◌∷◌, length, Bool, true, refl, arith}
+use Rattle.std.specs.Prelude.{nat_le}
 use Rattle.std.specs.List.{list_all}
 use Rattle.std.proofs.lemmas.Bool.{and_parts, and_from, le-leb}
 use Rattle.spec_terms.specs.Advert.{Advert}
 use Rattle.spec_terms.specs.Core.{core, puts_of}
-use Rattle.spec_terms.specs.Faults.{IsWellFormed, are_among, puts_unknown}
+use Rattle.spec_terms.specs.Faults.{IsWellFormed, are_among}
 use Rattle.spec_terms.specs.Precondition.{volatile, deposits, names_of}
 use Rattle.spec_terms.specs.Term.{Guarded, Contract, Parts, auth, after, put_reveal, withdraw, split, no_branch, branch, no_part, part}
 use Rattle.spec_terms.specs.declared.pre.Pre.{Pre}
 use Rattle.spec_terms.specs.declared.pre.Pre.TheVariants.{Persistent, Volatile, Secret}
 use Rattle.spec_bitcoin.specs.declared.tx.OutPoint.{OutPoint}
-use Rattle.spec_nodes.specs.Nodes.{Deed, nodes_of, deed_of, part_numbers, branches_count, branch_count, parts_count, choice_count}
+use Rattle.spec_nodes.specs.Nodes.{nodes_of, deed_of, part_numbers, branches_count, branch_count, parts_count, choice_count}
 use Rattle.theory_calculus.proofs.Faultless.{no_fault, of_core, core_says}
 use Rattle.theory_calculus.proofs.Names.{all_among}
 use Rattle.theory_nodes.specs.Walk.{deed_puts}

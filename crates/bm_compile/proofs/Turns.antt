@@ -9,61 +9,63 @@ use Rattle.bm_hash.specs.Messages.{Message}
 use Rattle.bm_hash.specs.Trails.{Hashed, Stops}
 use Rattle.spec_terms.specs.declared.path.PathStep.{PathStep}
 use Rattle.spec_compiler.specs.declared.unsigned.Unsigned.{Unsigned}
-use Rattle.spec_compiler.specs.declared.prepared.Prepared.{Prepared}
-use Rattle.spec_compiler.specs.Instance.{Instance}
+use Rattle.spec_compiler.specs.Keyed.Keys.{Keys}
+use Rattle.spec_compiler.specs.Keyed.Instance.{Instance}
 use Rattle.spec_nodes.specs.Nodes.{Node}
 use Rattle.theory_nodes.specs.declared.waiting.Waiting.{Waiting}
-use Rattle.theory_nodes.specs.Walk.{walk, next_stack, made_by}
-use Rattle.theory_nodes.proofs.Walking.{walk-step}
-use Rattle.bm_compile.specs.Passes.{ready, ready_strings}
+use Rattle.theory_nodes.specs.Keyed.Walk.{walk, next_stack, made_by}
+use Rattle.theory_nodes.proofs.Keyed.Walking.{walk-step}
+use Rattle.bm_compile.specs.declared.detailed.Detailed.{Detailed}
+use Rattle.bm_compile.specs.Keyed.Detailed.{ready}
+use Rattle.bm_compile.specs.Passes.{ready_strings}
 use Rattle.bm_compile.specs.Seen.{is_payable}
 use Rattle.bm_compile.proofs.Chains.{all_drop}
 use Rattle.bm_compile.proofs.Walks.{Walked, walked_more, walked_stops}
 
-module _ {H X : Type 0} (view : X → Node) (digest : H → Message → Message) (s : Instance) (script : ℕ → List ℕ) (first here : H) (same : here ≡ first)
-    (xs : List X) (i : ℕ) (x : X) (lt : i < length xs) (at : x ≡ get_or xs i x) (stack : List Waiting) (old mid new : List Message) (all : List (List PathStep × Unsigned)) (made : List (List PathStep × Prepared)) where
+module _ {H X : Type 0} (view : X → Node) (digest : H → Message → Message) (keys : Keys) (s : Instance) (script : ℕ → List ℕ) (first here : H) (same : here ≡ first)
+    (xs : List X) (i : ℕ) (x : X) (lt : i < length xs) (at : x ≡ get_or xs i x) (stack : List Waiting) (old mid new : List Message) (all : List (List PathStep × Unsigned)) (made : List (List PathStep × Detailed)) where
   abbrev hash : Message → Message
   hash = digest first
 
   -- what this node makes, and then what the others make
   abbrev rest : List Waiting → List (List PathStep × Unsigned)
-  rest after = walk hash s script (map view (drop (i + 1) xs)) after
+  rest after = walk hash keys s script (map view (drop (i + 1) xs)) after
 
-  parted : walk hash s script (map view (drop i xs)) stack ≡ made_by hash s script (view x) stack ++ rest (next_stack hash s script (view x) stack)
+  parted : walk hash keys s script (map view (drop i xs)) stack ≡ made_by hash keys s script (view x) stack ++ rest (next_stack hash keys s script (view x) stack)
   parted =
       let cut : drop i xs ≡ x ∷ drop (i + 1) xs = drop_more xs i x lt ∙ ap (λ z. z ∷ drop (i + 1) xs) (sym at) in
-      ap (λ l. walk hash s script (map view l) stack) cut ∙ walk-step hash s script (view x) (map view (drop (i + 1) xs)) stack
+      ap (λ l. walk hash keys s script (map view l) stack) cut ∙ walk-step hash keys s script (view x) (map view (drop (i + 1) xs)) stack
 
-  pub turn_more : (after : List Waiting) (more : List (List PathStep × Prepared)) → Walked (ready hash) (ready_strings hash) hash old mid all (walk hash s script (map view (drop i xs)) stack) made
-      → after ≡ next_stack (digest here) s script (view x) stack
-      → more ≡ made ++ map (ready (digest here)) (made_by (digest here) s script (view x) stack)
-      → Hashed (digest here) mid new (flat_map (ready_strings (digest here)) (made_by (digest here) s script (view x) stack))
-      → Walked (ready hash) (ready_strings hash) hash old new all (walk hash s script (map view (drop (i + 1) xs)) after) more
+  pub turn_more : (after : List Waiting) (more : List (List PathStep × Detailed)) → Walked (ready hash) (ready_strings hash) hash old mid all (walk hash keys s script (map view (drop i xs)) stack) made
+      → after ≡ next_stack (digest here) keys s script (view x) stack
+      → more ≡ made ++ map (ready (digest here)) (made_by (digest here) keys s script (view x) stack)
+      → Hashed (digest here) mid new (flat_map (ready_strings (digest here)) (made_by (digest here) keys s script (view x) stack))
+      → Walked (ready hash) (ready_strings hash) hash old new all (walk hash keys s script (map view (drop (i + 1) xs)) after) more
   turn_more after more w e m h =
-      let after_is : after ≡ next_stack hash s script (view x) stack = rw same at e in
+      let after_is : after ≡ next_stack hash keys s script (view x) stack = rw same at e in
       let now = subst (λ r. Walked (ready hash) (ready_strings hash) hash old mid all r made) parted w in
       subst (λ a. Walked (ready hash) (ready_strings hash) hash old new all (rest a) more) (sym after_is)
-      (walked_more (ready hash) (ready_strings hash) hash all old mid new (made_by hash s script (view x) stack) (rest (next_stack hash s script (view x) stack)) made more now (rw same at m) (rw same at h))
+      (walked_more (ready hash) (ready_strings hash) hash all old mid new (made_by hash keys s script (view x) stack) (rest (next_stack hash keys s script (view x) stack)) made more now (rw same at m) (rw same at h))
 
-  pub turn_stops : (e : TrailError) → Walked (ready hash) (ready_strings hash) hash old mid all (walk hash s script (map view (drop i xs)) stack) made
-      → Stops (digest here) mid new (flat_map (ready_strings (digest here)) (made_by (digest here) s script (view x) stack)) e
+  pub turn_stops : (e : TrailError) → Walked (ready hash) (ready_strings hash) hash old mid all (walk hash keys s script (map view (drop i xs)) stack) made
+      → Stops (digest here) mid new (flat_map (ready_strings (digest here)) (made_by (digest here) keys s script (view x) stack)) e
       → Stops hash old new (flat_map (ready_strings hash) all) e
   turn_stops e w stops =
-      walked_stops (ready hash) (ready_strings hash) hash all old mid new (made_by hash s script (view x) stack) (rest (next_stack hash s script (view x) stack)) made e
+      walked_stops (ready hash) (ready_strings hash) hash all old mid new (made_by hash keys s script (view x) stack) (rest (next_stack hash keys s script (view x) stack)) made e
       (subst (λ r. Walked (ready hash) (ready_strings hash) hash old mid all r made) parted w) (rw same at stops)
 
   -- the transaction that this node makes is payable where all are
-  pub turn_payable : Walked (ready hash) (ready_strings hash) hash old mid all (walk hash s script (map view (drop i xs)) stack) made → list_all is_payable all ≡ true
-      → list_all is_payable (made_by (digest here) s script (view x) stack) ≡ true
+  pub turn_payable : Walked (ready hash) (ready_strings hash) hash old mid all (walk hash keys s script (map view (drop i xs)) stack) made → list_all is_payable all ≡ true
+      → list_all is_payable (made_by (digest here) keys s script (view x) stack) ≡ true
   turn_payable w h =
       let now = subst (λ r. Walked (ready hash) (ready_strings hash) hash old mid all r made) parted w in
       let left = subst (λ l. list_all is_payable l ≡ true) now.rest_is (all_drop is_payable (length made) all h) in
-      let others = rest (next_stack hash s script (view x) stack) in
-      let p = and_parts (list_all is_payable (made_by hash s script (view x) stack)) (list_all is_payable others) (sym (list_all-append is_payable (made_by hash s script (view x) stack) others) ∙ left) in
-      subst (λ k. list_all is_payable (made_by (digest k) s script (view x) stack) ≡ true) (sym same) p.0
+      let others = rest (next_stack hash keys s script (view x) stack) in
+      let p = and_parts (list_all is_payable (made_by hash keys s script (view x) stack)) (list_all is_payable others) (sym (list_all-append is_payable (made_by hash keys s script (view x) stack) others) ∙ left) in
+      subst (λ k. list_all is_payable (made_by (digest k) keys s script (view x) stack) ≡ true) (sym same) p.0
 
 -- no node is left
-pub turn_end : {X : Type 0} (view : X → Node) (hash : Message → Message) (s : Instance) (script : ℕ → List ℕ) (xs : List X) (i : ℕ) (stack : List Waiting) (old now : List Message) (all : List (List PathStep × Unsigned)) (made : List (List PathStep × Prepared))
-    → length xs ≤ i → Walked (ready hash) (ready_strings hash) hash old now all (walk hash s script (map view (drop i xs)) stack) made → Walked (ready hash) (ready_strings hash) hash old now all [] made
-turn_end view hash s script xs i stack old now all made past w =
-    subst (λ r. Walked (ready hash) (ready_strings hash) hash old now all r made) (ap (λ l. walk hash s script (map view l) stack) (drop_all i xs past)) w
+pub turn_end : {X : Type 0} (view : X → Node) (hash : Message → Message) (keys : Keys) (s : Instance) (script : ℕ → List ℕ) (xs : List X) (i : ℕ) (stack : List Waiting) (old now : List Message) (all : List (List PathStep × Unsigned)) (made : List (List PathStep × Detailed))
+    → length xs ≤ i → Walked (ready hash) (ready_strings hash) hash old now all (walk hash keys s script (map view (drop i xs)) stack) made → Walked (ready hash) (ready_strings hash) hash old now all [] made
+turn_end view hash keys s script xs i stack old now all made past w =
+    subst (λ r. Walked (ready hash) (ready_strings hash) hash old now all r made) (ap (λ l. walk hash keys s script (map view l) stack) (drop_all i xs past)) w

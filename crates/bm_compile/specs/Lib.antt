@@ -1,3 +1,4 @@
+pub mod Keyed
 pub mod Numbered
 pub mod Passes
 pub mod Limits

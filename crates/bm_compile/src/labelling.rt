@@ -4,16 +4,17 @@ ghost use Rattle.std.specs.Prelude.{◌≡◌, ◌++◌, [], ◌∷◌, map, Non
 ghost use Rattle.std.specs.List.{flat_map};
 ghost use Rattle.bm_hash.specs.Messages.{evidence_of};
 ghost use Rattle.bm_hash.specs.Trails.{Hashes};
-ghost use Rattle.spec_bitcoin.specs.Keys.{key_of, label_text};
-ghost use Rattle.spec_compiler.specs.Instance.{branch_label, branch_keys};
-ghost use Rattle.spec_compiler.specs.Hashed.{path_labels};
+ghost use Rattle.spec_compiler.specs.Keyed.Keys.{key_in};
+ghost use Rattle.spec_compiler.specs.Keyed.Instance.{branch_label, branch_keys};
 ghost use Rattle.bm_arena.specs.NodeView.{node_view};
-ghost use Rattle.bm_compile.specs.Passes.{keys_of_node, labels_of_node};
+ghost use Rattle.bm_compile.specs.Keyed.Sources.{label_strings};
+ghost use Rattle.bm_compile.specs.Passes.{keys_of_node, labels_of_path, labels_of_node};
 
 use crate::setting::Setting;
+use crate::sourcing::KeySource;
 use bm_arena::Node;
 use bm_hash::{Hash32, Trail, TrailError};
-use bm_keys::{Label, key};
+use bm_keys::Label;
 use bm_syntax::Path;
 use spec_data::{Name, OutOfMemory, Seq};
 use std::alloc::Global;
@@ -28,12 +29,13 @@ fn label_of(alloc: Global, contract: u32, path: &Path, party: &Name) -> Result<L
     })
 }
 
-// The key of a party for the branch at a path, put to the others. All that can fail after the string is hashed is done
+// The key of a party for the branch at a path, put to the others. All that can fail after its strings are hashed is done
 // here, so that a loop over the parties has one way to end early.
 #[tactic(auto, using(bm_hash::proofs::HashesLemmas::stops_early, bm_hash::proofs::HashesLemmas::stops_late))]
-fn put_key<H: Hash32 + Drop>(
+fn put_key<H: Hash32 + Drop, K: KeySource>(
     alloc: Global,
     trail: &mut Trail<H>,
+    source: &K,
     keys: &mut Seq<[u8; 33]>,
     contract: u32,
     path: &Path,
@@ -41,105 +43,117 @@ fn put_key<H: Hash32 + Drop>(
 ) -> Result<(), TrailError>
     requires clear { evidence_of (H.digest_of trail.old.hasher) trail.old.messages ≡ None }
     ensures keys { let label = branch_label contract path.now party.now in
-        OnOk result (keys.new ≡ keys.old ++ key_of (H.digest_of trail.old.hasher) label ∷ []) }
-    ensures trail { Hashes H.digest_of trail.old trail.new (label_text (branch_label contract path.now party.now) ∷ []) result }
+        OnOk result (keys.new ≡ keys.old ++ key_in (H.digest_of trail.old.hasher) (K.keys source.now) label ∷ []) }
+    ensures trail { Hashes H.digest_of trail.old trail.new (label_strings (K.keys source.now) (branch_label contract path.now party.now)) result }
 {
     let label = label_of(alloc, contract, path, party)?;
-    let made = key(alloc, trail, &label)?;
+    let made = source.key(alloc, trail, &label)?;
     keys.push(made)?;
     Ok(())
 }
 
-// The key of each of these parties for the branch at a path, in order. It hashes the text of each one's label.
+// The key of each of these parties for the branch at a path, in order.
 #[tactic(auto, using(bm_hash::proofs::HashesLemmas::hashed_none))]
-fn party_keys<H: Hash32 + Drop>(
+fn party_keys<H: Hash32 + Drop, K: KeySource>(
     alloc: Global,
     trail: &mut Trail<H>,
+    source: &K,
     contract: u32,
     path: &Path,
     parties: &[Name],
 ) -> Result<Seq<[u8; 33]>, TrailError>
     requires clear { evidence_of (H.digest_of trail.old.hasher) trail.old.messages ≡ None }
     ensures keys { let hash = H.digest_of trail.old.hasher in
-        IfOk result (λ keys. keys ≡ map (λ party. key_of hash (branch_label contract path.now party)) parties.now) }
+        IfOk result (λ keys. keys ≡ map (λ party. key_in hash (K.keys source.now) (branch_label contract path.now party)) parties.now) }
     ensures trail { Hashes H.digest_of trail.old trail.new
-        (map (λ party. label_text (branch_label contract path.now party)) parties.now) result }
+        (flat_map (λ party. label_strings (K.keys source.now) (branch_label contract path.now party)) parties.now) result }
 {
     let mut keys = Seq::new(alloc);
     for party in parties {
-        put_key(alloc, trail, &mut keys, contract, path, party)?;
+        put_key(alloc, trail, source, &mut keys, contract, path, party)?;
     }
     Ok(keys)
 }
 
-// The keys of the branch at a path, in the order of the participants. It hashes the texts of their labels.
-fn path_keys<H: Hash32 + Drop>(
+// The keys of the branch at a path, in the order of the participants.
+fn path_keys<H: Hash32 + Drop, K: KeySource>(
     alloc: Global,
     trail: &mut Trail<H>,
+    source: &K,
     setting: &Setting,
     path: &Path,
 ) -> Result<Seq<[u8; 33]>, TrailError>
     requires clear { evidence_of (H.digest_of trail.old.hasher) trail.old.messages ≡ None }
-    ensures keys { IfOk result (λ keys. keys ≡ branch_keys (H.digest_of trail.old.hasher) setting.now path.now) }
-    ensures trail { Hashes H.digest_of trail.old trail.new (path_labels setting.now path.now) result }
+    ensures keys { IfOk result (λ keys. keys ≡ branch_keys (H.digest_of trail.old.hasher) (K.keys source.now) setting.now path.now) }
+    ensures trail { Hashes H.digest_of trail.old trail.new (labels_of_path (K.keys source.now) setting.now path.now) result }
 {
-    party_keys(alloc, trail, setting.contract(), path, setting.parties())
+    party_keys(
+        alloc,
+        trail,
+        source,
+        setting.contract(),
+        path,
+        setting.parties(),
+    )
 }
 
 // The keys of a node: those of a branch, and none of a choice.
 #[tactic(auto, using(bm_hash::proofs::HashesLemmas::hashed_none))]
-fn node_keys<H: Hash32 + Drop>(
+fn node_keys<H: Hash32 + Drop, K: KeySource>(
     alloc: Global,
     trail: &mut Trail<H>,
+    source: &K,
     setting: &Setting,
     node: &Node,
 ) -> Result<Seq<[u8; 33]>, TrailError>
     requires clear { evidence_of (H.digest_of trail.old.hasher) trail.old.messages ≡ None }
-    ensures keys { IfOk result (λ keys. keys ≡ keys_of_node (H.digest_of trail.old.hasher) setting.now (node_view node.now)) }
-    ensures trail { Hashes H.digest_of trail.old trail.new (labels_of_node setting.now (node_view node.now)) result }
+    ensures keys { IfOk result (λ keys. keys ≡ keys_of_node (H.digest_of trail.old.hasher) (K.keys source.now) setting.now (node_view node.now)) }
+    ensures trail { Hashes H.digest_of trail.old trail.new (labels_of_node (K.keys source.now) setting.now (node_view node.now)) result }
 {
     match node {
         Node::Choice { .. } => Ok(Seq::new(alloc)),
-        Node::Branch { path, .. } => path_keys(alloc, trail, setting, path),
+        Node::Branch { path, .. } => path_keys(alloc, trail, source, setting, path),
     }
 }
 
 // The keys of one more node.
 #[tactic(auto, using(bm_hash::proofs::HashesLemmas::stops_late))]
-fn put_keys<H: Hash32 + Drop>(
+fn put_keys<H: Hash32 + Drop, K: KeySource>(
     alloc: Global,
     trail: &mut Trail<H>,
+    source: &K,
     setting: &Setting,
     table: &mut Seq<Seq<[u8; 33]>>,
     node: &Node,
 ) -> Result<(), TrailError>
     requires clear { evidence_of (H.digest_of trail.old.hasher) trail.old.messages ≡ None }
-    ensures keys { let made = keys_of_node (H.digest_of trail.old.hasher) setting.now (node_view node.now) in
+    ensures keys { let made = keys_of_node (H.digest_of trail.old.hasher) (K.keys source.now) setting.now (node_view node.now) in
         OnOk result (table.new ≡ table.old ++ made ∷ []) }
-    ensures trail { Hashes H.digest_of trail.old trail.new (labels_of_node setting.now (node_view node.now)) result }
+    ensures trail { Hashes H.digest_of trail.old trail.new (labels_of_node (K.keys source.now) setting.now (node_view node.now)) result }
 {
-    let made = node_keys(alloc, trail, setting, node)?;
+    let made = node_keys(alloc, trail, source, setting, node)?;
     table.push(made)?;
     Ok(())
 }
 
-/// The keys of each node, in order. It hashes the texts of their labels.
+/// The keys of each node, in order. What it takes to have them is hashed.
 #[tactic(auto, using(bm_hash::proofs::HashesLemmas::hashed_none))]
-pub(crate) fn key_table<H: Hash32 + Drop>(
+pub(crate) fn key_table<H: Hash32 + Drop, K: KeySource>(
     alloc: Global,
     trail: &mut Trail<H>,
+    source: &K,
     setting: &Setting,
     nodes: &[Node],
 ) -> Result<Seq<Seq<[u8; 33]>>, TrailError>
     requires clear { evidence_of (H.digest_of trail.old.hasher) trail.old.messages ≡ None }
     ensures keys { let hash = H.digest_of trail.old.hasher in
-        IfOk result (λ table. table ≡ map (λ node. keys_of_node hash setting.now (node_view node)) nodes.now) }
+        IfOk result (λ table. table ≡ map (λ node. keys_of_node hash (K.keys source.now) setting.now (node_view node)) nodes.now) }
     ensures trail { Hashes H.digest_of trail.old trail.new
-        (flat_map (λ node. labels_of_node setting.now (node_view node)) nodes.now) result }
+        (flat_map (λ node. labels_of_node (K.keys source.now) setting.now (node_view node)) nodes.now) result }
 {
     let mut table = Seq::new(alloc);
     for node in nodes {
-        put_keys(alloc, trail, setting, &mut table, node)?;
+        put_keys(alloc, trail, source, setting, &mut table, node)?;
     }
     Ok(table)
 }

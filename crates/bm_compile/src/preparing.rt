@@ -7,7 +7,9 @@ ghost use Rattle.bm_hash.specs.Trails.{Hashes};
 ghost use Rattle.bm_sighash.specs.Shared.{hashes_of};
 ghost use Rattle.spec_compiler.specs.Transactions as spec;
 ghost use Rattle.spec_compiler.specs.Hashed.{spent_strings, unsigned_strings};
+ghost use Rattle.bm_compile.specs.Keyed.Detailed.{detailed};
 
+use crate::detailed::Detailed;
 use bm_hash::{Hash32, Trail, TrailError};
 use bm_sighash::{ListHashes, digest_of_input, shared};
 use bm_tx::txid;
@@ -96,9 +98,9 @@ fn digests_of<H: Hash32 + Drop>(
     Ok(digests)
 }
 
-/// A transaction with its txid and the digest of each input. It hashes the strings of the txid, of the three lists, and
-/// of each input.
-pub(crate) fn prepare<H: Hash32 + Drop>(
+// A transaction with its txid and the digest of each input. It hashes the strings of the txid, of the three lists, and
+// of each input.
+fn prepare<H: Hash32 + Drop>(
     alloc: Global,
     trail: &mut Trail<H>,
     unsigned: &Unsigned,
@@ -112,4 +114,19 @@ pub(crate) fn prepare<H: Hash32 + Drop>(
     let lists = shared(alloc, trail, &tx)?;
     let digests = digests_of(alloc, trail, &tx, &lists, unsigned.spends.as_slice())?;
     Ok(Prepared { tx, txid, digests })
+}
+
+/// A transaction ready to be signed, with what it does and spends. It hashes the strings of the txid, of the three lists, and of
+/// each input.
+pub(crate) fn detail<H: Hash32 + Drop>(
+    alloc: Global,
+    trail: &mut Trail<H>,
+    draft: Unsigned,
+) -> Result<Detailed, TrailError>
+    requires clear { evidence_of (H.digest_of trail.old.hasher) trail.old.messages ≡ None }
+    ensures detailed { IfOk result (λ d. d ≡ detailed (H.digest_of trail.old.hasher) draft) }
+    ensures trail { Hashes H.digest_of trail.old trail.new (unsigned_strings (H.digest_of trail.old.hasher) draft) result }
+{
+    let prepared = prepare(alloc, trail, &draft)?;
+    Ok(Detailed { draft, prepared })
 }

@@ -6,7 +6,8 @@ ghost use Rattle.spec_bitcoin.specs.Meaning.{is_short_push};
 ghost use Rattle.spec_terms.specs.Term.{always};
 ghost use Rattle.spec_compiler.specs.Scripts as spec;
 ghost use Rattle.spec_compiler.specs.Scripts.{demands};
-ghost use Rattle.theory_nodes.specs.Walk.{deed_demands, node_demands};
+ghost use Rattle.spec_compiler.specs.Keyed.Keys.{Keys};
+ghost use Rattle.theory_nodes.specs.Keyed.Walk.{deed_demands, node_demands};
 ghost use Rattle.bm_hash.specs.Messages.{evidence_of};
 ghost use Rattle.bm_hash.specs.Trails.{Hashes};
 ghost use Rattle.bm_arena.specs.NodeView.{node_view, deed_view};
@@ -14,6 +15,7 @@ ghost use Rattle.bm_compile.specs.Passes.{keys_of_node, choice_script, script_of
 ghost use Rattle.bm_compile.specs.Passes.{has_short_reveals, are_short_reveals};
 
 use crate::setting::Setting;
+use crate::sourcing::KeySource;
 use bm_arena::{Core, Node};
 use bm_branch::{output_script, prefix_script};
 use bm_hash::{Hash32, Trail, TrailError};
@@ -66,8 +68,8 @@ fn branch_ops(
     number: u32,
 ) -> Result<Vec<Op>, OutOfMemory>
     requires { list_all (λ node. has_short_reveals (node_view node)) nodes.now ≡ true }
-    ensures operations { (hash : List ℕ → List ℕ) → keys.now ≡ map (λ node. keys_of_node hash setting.now (node_view node)) nodes.now
-        → IfOk result (λ ops. ops.items ≡ spec.branch_ops (node_demands hash setting.now (slice_get (map node_view nodes.now) number))) }
+    ensures operations { (hash : List ℕ → List ℕ) (all : Keys) → keys.now ≡ map (λ node. keys_of_node hash all setting.now (node_view node)) nodes.now
+        → IfOk result (λ ops. ops.items ≡ spec.branch_ops (node_demands hash all setting.now (slice_get (map node_view nodes.now) number))) }
     ensures short { IfOk result (λ ops. list_all is_short_push ops.items ≡ true) }
 {
     match nodes.get(number as usize) {
@@ -90,8 +92,8 @@ fn choice_script(
     branches: &[u32],
 ) -> Result<Bytes, OutOfMemory>
     requires { list_all (λ node. has_short_reveals (node_view node)) nodes.now ≡ true }
-    ensures { (hash : List ℕ → List ℕ) → keys.now ≡ map (λ node. keys_of_node hash setting.now (node_view node)) nodes.now
-        → IfOk result (λ script. script ≡ choice_script hash setting.now (map node_view nodes.now) branches.now) }
+    ensures { (hash : List ℕ → List ℕ) (all : Keys) → keys.now ≡ map (λ node. keys_of_node hash all setting.now (node_view node)) nodes.now
+        → IfOk result (λ script. script ≡ choice_script hash all setting.now (map node_view nodes.now) branches.now) }
 {
     let mut ops = Vec::new(alloc);
     for number in branches {
@@ -102,9 +104,10 @@ fn choice_script(
 
 // The script of a position with these branches, put to the others. It is hashed.
 #[tactic(auto, using(bm_hash::proofs::HashesLemmas::stops_early, bm_hash::proofs::HashesLemmas::stops_late))]
-fn put_choice_script<H: Hash32 + Drop>(
+fn put_choice_script<H: Hash32 + Drop, K: KeySource>(
     alloc: Global,
     trail: &mut Trail<H>,
+    source: &K,
     setting: &Setting,
     nodes: &[Node],
     keys: &[Seq<[u8; 33]>],
@@ -114,10 +117,10 @@ fn put_choice_script<H: Hash32 + Drop>(
     requires clear { evidence_of (H.digest_of trail.old.hasher) trail.old.messages ≡ None }
     requires few { list_all (λ node. has_short_reveals (node_view node)) nodes.now ≡ true }
     requires keys { let hash = H.digest_of trail.old.hasher in
-        keys.now ≡ map (λ node. keys_of_node hash setting.now (node_view node)) nodes.now }
-    ensures scripts { let made = choice_script (H.digest_of trail.old.hasher) setting.now (map node_view nodes.now) branches.now in
+        keys.now ≡ map (λ node. keys_of_node hash (K.keys source.now) setting.now (node_view node)) nodes.now }
+    ensures scripts { let made = choice_script (H.digest_of trail.old.hasher) (K.keys source.now) setting.now (map node_view nodes.now) branches.now in
         OnOk result (scripts.new ≡ scripts.old ++ made ∷ []) }
-    ensures trail { let made = choice_script (H.digest_of trail.old.hasher) setting.now (map node_view nodes.now) branches.now in
+    ensures trail { let made = choice_script (H.digest_of trail.old.hasher) (K.keys source.now) setting.now (map node_view nodes.now) branches.now in
         Hashes H.digest_of trail.old trail.new (made ∷ []) result }
 {
     let script = choice_script(alloc, setting, nodes, keys, branches)?;
@@ -128,9 +131,10 @@ fn put_choice_script<H: Hash32 + Drop>(
 
 // The script of one more node, which is hashed where the node is a choice.
 #[tactic(auto, using(bm_hash::proofs::HashesLemmas::hashed_none, bm_hash::proofs::HashesLemmas::stops_early))]
-fn put_script<H: Hash32 + Drop>(
+fn put_script<H: Hash32 + Drop, K: KeySource>(
     alloc: Global,
     trail: &mut Trail<H>,
+    source: &K,
     setting: &Setting,
     nodes: &[Node],
     keys: &[Seq<[u8; 33]>],
@@ -140,15 +144,15 @@ fn put_script<H: Hash32 + Drop>(
     requires clear { evidence_of (H.digest_of trail.old.hasher) trail.old.messages ≡ None }
     requires few { list_all (λ node. has_short_reveals (node_view node)) nodes.now ≡ true }
     requires keys { let hash = H.digest_of trail.old.hasher in
-        keys.now ≡ map (λ node. keys_of_node hash setting.now (node_view node)) nodes.now }
-    ensures scripts { let made = script_of_node (H.digest_of trail.old.hasher) setting.now (map node_view nodes.now) (node_view node.now) in
+        keys.now ≡ map (λ node. keys_of_node hash (K.keys source.now) setting.now (node_view node)) nodes.now }
+    ensures scripts { let made = script_of_node (H.digest_of trail.old.hasher) (K.keys source.now) setting.now (map node_view nodes.now) (node_view node.now) in
         OnOk result (scripts.new ≡ scripts.old ++ made ∷ []) }
-    ensures trail { let made = scripts_of_node (H.digest_of trail.old.hasher) setting.now (map node_view nodes.now) (node_view node.now) in
+    ensures trail { let made = scripts_of_node (H.digest_of trail.old.hasher) (K.keys source.now) setting.now (map node_view nodes.now) (node_view node.now) in
         Hashes H.digest_of trail.old trail.new made result }
 {
     match node {
         Node::Choice { branches, .. } => put_choice_script(
-            alloc, trail, setting, nodes, keys, scripts, branches,
+            alloc, trail, source, setting, nodes, keys, scripts, branches,
         ),
         Node::Branch { .. } => {
             scripts.push(Bytes::of(Vec::new(alloc)))?;
@@ -159,9 +163,10 @@ fn put_script<H: Hash32 + Drop>(
 
 /// The script of each node: that of a position for its choice, and nothing for a branch. The scripts are hashed in order.
 #[tactic(auto, using(bm_hash::proofs::HashesLemmas::hashed_none))]
-pub(crate) fn script_table<H: Hash32 + Drop>(
+pub(crate) fn script_table<H: Hash32 + Drop, K: KeySource>(
     alloc: Global,
     trail: &mut Trail<H>,
+    source: &K,
     setting: &Setting,
     nodes: &[Node],
     keys: &[Seq<[u8; 33]>],
@@ -169,16 +174,25 @@ pub(crate) fn script_table<H: Hash32 + Drop>(
     requires clear { evidence_of (H.digest_of trail.old.hasher) trail.old.messages ≡ None }
     requires few { list_all (λ node. has_short_reveals (node_view node)) nodes.now ≡ true }
     requires keys { let hash = H.digest_of trail.old.hasher in
-        keys.now ≡ map (λ node. keys_of_node hash setting.now (node_view node)) nodes.now }
+        keys.now ≡ map (λ node. keys_of_node hash (K.keys source.now) setting.now (node_view node)) nodes.now }
     ensures scripts { let hash = H.digest_of trail.old.hasher in
-        IfOk result (λ table. table ≡ map (λ node. script_of_node hash setting.now (map node_view nodes.now) (node_view node)) nodes.now) }
+        IfOk result (λ table. table ≡ map (λ node. script_of_node hash (K.keys source.now) setting.now (map node_view nodes.now) (node_view node)) nodes.now) }
     ensures trail { let hash = H.digest_of trail.old.hasher in
         Hashes H.digest_of trail.old trail.new
-        (flat_map (λ node. scripts_of_node hash setting.now (map node_view nodes.now) (node_view node)) nodes.now) result }
+        (flat_map (λ node. scripts_of_node hash (K.keys source.now) setting.now (map node_view nodes.now) (node_view node)) nodes.now) result }
 {
     let mut scripts = Seq::new(alloc);
     for node in nodes {
-        put_script(alloc, trail, setting, nodes, keys, &mut scripts, node)?;
+        put_script(
+            alloc,
+            trail,
+            source,
+            setting,
+            nodes,
+            keys,
+            &mut scripts,
+            node,
+        )?;
     }
     Ok(scripts)
 }

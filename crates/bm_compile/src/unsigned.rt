@@ -3,14 +3,15 @@
 ghost use Rattle.std.specs.Prelude.{◌≡◌, ◌<◌, ◌+◌, ◌-◌, ◌^◌, [], ◌∷◌, map, true, IfOk};
 ghost use Rattle.std.specs.List.{list_all};
 ghost use Rattle.spec_terms.specs.Precondition as pre_spec;
-ghost use Rattle.spec_compiler.specs.Transactions as spec;
-ghost use Rattle.theory_nodes.specs.Walk as walk;
+ghost use Rattle.spec_compiler.specs.Keyed.Transactions as spec;
+ghost use Rattle.theory_nodes.specs.Keyed.Walk as walk;
 ghost use Rattle.bm_arena.specs.NodeView.{deed_view};
 ghost use Rattle.bm_compile.specs.Passes.{listed_script, initial_with};
 ghost use Rattle.bm_compile.specs.Seen.{is_bound};
 
 use crate::depositing::{add_deposits, party_script, pays, persistent_deposits, volatile_value};
 use crate::setting::Setting;
+use crate::sourcing::KeySource;
 use bm_arena::Core;
 use bm_hash::Hash32;
 use bm_syntax::{Name, Pre};
@@ -108,17 +109,18 @@ fn continued_outputs<H: Hash32>(
 }
 
 // The output of a party that withdraws.
-fn withdrawn_outputs<H: Hash32>(
+fn withdrawn_outputs<H: Hash32, K: KeySource>(
     alloc: Global,
     hasher: &H,
+    source: &K,
     setting: &Setting,
     balance: u64,
     party: &Name,
 ) -> Result<Seq<TxOut>, OutOfMemory>
     ensures { let hash = H.digest_of hasher.now in let fee = setting.now.advert.fee in
-        IfOk result (λ outputs. outputs ≡ spec.pays hash (spec.party_script hash party.now) (balance - fee) ∷ []) }
+        IfOk result (λ outputs. outputs ≡ spec.pays hash (spec.party_script hash (K.keys source.now) party.now) (balance - fee) ∷ []) }
 {
-    let script = party_script(alloc, hasher, party.bytes())?;
+    let script = party_script(alloc, hasher, source, party.bytes())?;
     let value = balance.saturating_sub(setting.advert().fee);
     let output = pays(alloc, hasher, &script, value)?;
     one(alloc, output)
@@ -142,9 +144,10 @@ fn part_outputs<H: Hash32>(
 }
 
 // The outputs of the transaction of a branch that does this, where its position has this balance in satoshi.
-fn outputs_of<H: Hash32>(
+fn outputs_of<H: Hash32, K: KeySource>(
     alloc: Global,
     hasher: &H,
+    source: &K,
     setting: &Setting,
     scripts: &[Bytes],
     balance: u64,
@@ -153,13 +156,15 @@ fn outputs_of<H: Hash32>(
     requires { let puts = walk.deed_puts (deed_view core.now) in
         balance + pre_spec.value_of_puts (pre_spec.volatile setting.now.advert.pre) puts < 2 ^ 64 }
     ensures { let deed = deed_view core.now in
-        IfOk result (λ outputs. outputs ≡ walk.deed_outputs (H.digest_of hasher.now) setting.now (listed_script scripts.now) balance deed) }
+        IfOk result (λ outputs. outputs ≡ walk.deed_outputs (H.digest_of hasher.now) (K.keys source.now) setting.now (listed_script scripts.now) balance deed) }
 {
     match core {
         Core::PutReveal { puts, next, .. } => continued_outputs(
             alloc, hasher, setting, scripts, balance, puts, *next,
         ),
-        Core::Withdraw { party } => withdrawn_outputs(alloc, hasher, setting, balance, party),
+        Core::Withdraw { party } => withdrawn_outputs(
+            alloc, hasher, source, setting, balance, party,
+        ),
         Core::Split { parts } => part_outputs(alloc, hasher, scripts, parts),
     }
 }
@@ -188,9 +193,10 @@ fn puts_of(core: &Core) -> &[Name]
 }
 
 // What the transaction of a branch that does this spends: the output of its position first.
-fn spends_of<H: Hash32>(
+fn spends_of<H: Hash32, K: KeySource>(
     alloc: Global,
     hasher: &H,
+    source: &K,
     setting: &Setting,
     scripts: &[Bytes],
     waiting: &Waiting,
@@ -199,18 +205,19 @@ fn spends_of<H: Hash32>(
     requires { list_all (is_bound setting.now.bound) (walk.deed_puts (deed_view core.now)) ≡ true }
     ensures { let puts = walk.deed_puts (deed_view core.now) in
         IfOk result (λ spends. spends
-        ≡ walk.spent_of (listed_script scripts.now) waiting.now ∷ spec.put_deposits (H.digest_of hasher.now) setting.now puts) }
+        ≡ walk.spent_of (listed_script scripts.now) waiting.now ∷ spec.put_deposits (H.digest_of hasher.now) (K.keys source.now) setting.now puts) }
 {
     let mut spends = Seq::new(alloc);
     spends.push(spent_of(alloc, scripts, waiting)?)?;
-    add_deposits(alloc, hasher, setting, &mut spends, puts_of(core))?;
+    add_deposits(alloc, hasher, source, setting, &mut spends, puts_of(core))?;
     Ok(spends)
 }
 
 /// The transaction of a branch of a choice that waits.
-pub(crate) fn branch_unsigned<H: Hash32>(
+pub(crate) fn branch_unsigned<H: Hash32, K: KeySource>(
     alloc: Global,
     hasher: &H,
+    source: &K,
     setting: &Setting,
     scripts: &[Bytes],
     waiting: &Waiting,
@@ -222,29 +229,30 @@ pub(crate) fn branch_unsigned<H: Hash32>(
     requires bound { list_all (is_bound setting.now.bound) (walk.deed_puts (deed_view core.now)) ≡ true }
     ensures { let deed = deed_view core.now in
         IfOk result (λ made. made
-        ≡ walk.node_unsigned (H.digest_of hasher.now) setting.now (listed_script scripts.now) waiting.now lock deed) }
+        ≡ walk.node_unsigned (H.digest_of hasher.now) (K.keys source.now) setting.now (listed_script scripts.now) waiting.now lock deed) }
 {
     Ok(Unsigned {
-        spends: spends_of(alloc, hasher, setting, scripts, waiting, core)?,
-        outputs: outputs_of(alloc, hasher, setting, scripts, waiting.value, core)?,
+        spends: spends_of(alloc, hasher, source, setting, scripts, waiting, core)?,
+        outputs: outputs_of(alloc, hasher, source, setting, scripts, waiting.value, core)?,
         lock,
     })
 }
 
 /// The initial transaction, by the script of the root.
-pub(crate) fn initial_unsigned<H: Hash32>(
+pub(crate) fn initial_unsigned<H: Hash32, K: KeySource>(
     alloc: Global,
     hasher: &H,
+    source: &K,
     setting: &Setting,
     scripts: &[Bytes],
 ) -> Result<Unsigned, OutOfMemory>
     ensures { let hash = H.digest_of hasher.now in
-        IfOk result (λ made. made ≡ initial_with hash setting.now (listed_script scripts.now 0)) }
+        IfOk result (λ made. made ≡ initial_with hash (K.keys source.now) setting.now (listed_script scripts.now 0)) }
 {
     let value = root_value(setting);
     let output = pays(alloc, hasher, script_at(scripts, 0), value)?;
     Ok(Unsigned {
-        spends: persistent_deposits(alloc, hasher, setting)?,
+        spends: persistent_deposits(alloc, hasher, source, setting)?,
         outputs: one(alloc, output)?,
         lock: 0,
     })

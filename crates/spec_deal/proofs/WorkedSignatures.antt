@@ -22,7 +22,7 @@ use Rattle.spec_deal.specs.declared.finish.FinishRefusal.{FinishRefusal}
 use Rattle.spec_deal.specs.DealText.{missing_text, unsigned_psbt}
 use Rattle.spec_deal.specs.Finished.{finish_refusal}
 use Rattle.spec_deal.specs.Given.{endorsements}
-use Rattle.spec_deal.specs.SecretFile.{Shown}
+use Rattle.spec_deal.specs.declared.entry.Shown.{Shown}
 use Rattle.spec_terms.specs.declared.path.PathStep.TheVariants.{Branch as To}
 use Rattle.spec_deal.specs.RefusedText.{finish_refused_line, signatures_refused_line}
 use Rattle.spec_deal.specs.SignatureFile.{read_signatures}

@@ -53,7 +53,8 @@ use Rattle.spec_deal.specs.DealText.{line_of, keys_text, plan_text, psbts_text, 
 use Rattle.spec_deal.specs.Finished.{finished, finish_refusal}
 use Rattle.spec_deal.specs.Hashed.{deal_strings}
 use Rattle.spec_deal.specs.RefusedText.{deal_refused_line, signatures_refused_line, secrets_refused_line, finish_refused_line}
-use Rattle.spec_deal.specs.SecretFile.{Shown, SecretsRead, shows, refused, collided, read_secrets}
+use Rattle.spec_deal.specs.declared.entry.Shown.{Shown}
+use Rattle.spec_deal.specs.SecretFile.{SecretsRead, shows, refused, collided, read_secrets}
 use Rattle.spec_deal.specs.Setting.{deal_keys, deal_instance}
 use Rattle.spec_deal.specs.SignatureFile.{read_signatures}
 

@@ -1,5 +1,5 @@
 -- Deal files: the deal that the lines of a text give to a contract, or why it is refused.
-use Rattle.std.specs.Prelude.{ℕ, ◌+◌, List, [], ◌∷◌, ◌++◌, length, map, reverse, Bool, false, not, ◌&&◌, ◌||◌, ◌==◌, nat_lt}
+use Rattle.std.specs.Prelude.{ℕ, ◌+◌, List, [], ◌∷◌, ◌++◌, length, map, reverse, replicate, Bool, false, not, ◌&&◌, ◌||◌, ◌==◌, nat_lt}
 use Rattle.std.specs.Prelude.{if◌then◌else◌, Option, Some, None, Result, Ok, Err, codes}
 use Rattle.std.specs.List.{find, list_any}
 use Rattle.std.specs.Option.{option_map}
@@ -10,12 +10,14 @@ use Rattle.spec_bitcoin.specs.declared.label.Label.{Label}
 use Rattle.spec_bitcoin.specs.declared.tx.OutPoint.{OutPoint}
 use Rattle.spec_bitcoin.specs.Keys.{label_text, key_bytes}
 use Rattle.spec_bitcoin.specs.Live.{same_outpoint}
-use Rattle.spec_compiler.specs.Keyed.Transactions.{outpoint_or_none}
 use Rattle.spec_text.specs.Lines.{lines_of, words_of}
 use Rattle.spec_text.specs.Words.{◌>>=◌, given, small, one_of, digest}
 use Rattle.spec_deal.specs.declared.deal.Deal.{Deal}
 use Rattle.spec_deal.specs.declared.deal.Needed.{Needed}
 use Rattle.spec_deal.specs.declared.deal.Needed.TheVariants as needs
+use Rattle.spec_deal.specs.declared.entry.Value.{Value}
+use Rattle.spec_deal.specs.declared.entry.Value.TheVariants.{Key as key, Place as place, Hash as hash}
+use Rattle.spec_deal.specs.declared.entry.Entry.{Entry}
 use Rattle.spec_deal.specs.declared.fault.DealReason.{DealReason}
 use Rattle.spec_deal.specs.declared.fault.DealReason.TheVariants as reasons
 use Rattle.spec_deal.specs.declared.fault.DealFault.{DealFault}
@@ -25,12 +27,6 @@ use Rattle.spec_deal.specs.Needed.{needed, needed_labels, needed_deposits, neede
 use Rattle.spec_deal.specs.Setting.{no_key}
 
 -- ---- what a line gives
-
--- a key, a place or a hash
-pub data Value : Type 0 where
-  key : (bytes : List ℕ) → Value
-  place : (outpoint : OutPoint) → Value
-  hash : (bytes : List ℕ) → Value
 
 abbrev pub same_value : Value → Value → Bool
 same_value (key a) (key b) = bytes_eq a b
@@ -42,12 +38,6 @@ same_value (place a) (key b) = false
 same_value (place a) (hash b) = false
 same_value (hash a) (key b) = false
 same_value (hash a) (place b) = false
-
--- what the line of this number gives, and to what
-pub record Entry : Type 0 where
-  pub line : ℕ
-  pub needed : Needed
-  pub value : Value
 
 -- ---- words
 
@@ -134,6 +124,13 @@ read_entries advert entries n (line ∷ lines) = elim (line_says advert entries 
 
 -- ---- the deal
 
+-- what stands for a place and a hash that no line gives; a whole deal has none of them
+abbrev pub no_hash : List ℕ
+no_hash = replicate 32 0
+
+abbrev pub no_place : OutPoint
+no_place = record { txid = replicate 32 0; vout = 0 }
+
 -- what the entries give to what is needed
 abbrev pub value_for : List Entry → Needed → Option Value
 value_for entries what = option_map (λ e. e.value) (find (λ e. same_needed e.needed what) entries)
@@ -145,16 +142,16 @@ key_or_none (Some (place outpoint)) = no_key
 key_or_none (Some (hash bytes)) = no_key
 
 abbrev pub place_or_none : Option Value → OutPoint
-place_or_none None = outpoint_or_none None
+place_or_none None = no_place
 place_or_none (Some (place outpoint)) = outpoint
-place_or_none (Some (key bytes)) = outpoint_or_none None
-place_or_none (Some (hash bytes)) = outpoint_or_none None
+place_or_none (Some (key bytes)) = no_place
+place_or_none (Some (hash bytes)) = no_place
 
 abbrev pub hash_or_none : Option Value → List ℕ
-hash_or_none None = []
+hash_or_none None = no_hash
 hash_or_none (Some (hash bytes)) = bytes
-hash_or_none (Some (key bytes)) = []
-hash_or_none (Some (place outpoint)) = []
+hash_or_none (Some (key bytes)) = no_hash
+hash_or_none (Some (place outpoint)) = no_hash
 
 -- the deal of these entries, in the order in which the contract needs them
 abbrev pub deal_of : Advert → List Entry → Deal

@@ -29,7 +29,8 @@ use Rattle.spec_deal.specs.declared.finish.FinishRefusal.{FinishRefusal}
 use Rattle.spec_deal.specs.declared.finish.FinishRefusal.TheVariants as refusals
 use Rattle.spec_deal.specs.Slots.{Slot, input_slots, listed_slots}
 use Rattle.spec_deal.specs.Given.{has, signature_for, first_unendorsed}
-use Rattle.spec_deal.specs.SecretFile.{Shown, string_for}
+use Rattle.spec_deal.specs.declared.entry.Shown.{Shown}
+use Rattle.spec_deal.specs.SecretFile.{string_for}
 
 -- a byte string that was looked up
 abbrev pub bytes_or_none : Option (List ℕ) → List ℕ

@@ -3,6 +3,7 @@ pub mod Needed
 pub mod Setting
 pub mod DealFile
 pub mod Slots
+pub mod Transactions
 pub mod Shape
 pub mod Given
 pub mod SignatureFile

@@ -13,6 +13,7 @@ use Rattle.spec_compiler.specs.Keyed.Keys.{Keys}
 use Rattle.spec_compiler.specs.Keyed.Instance.{Instance}
 use Rattle.spec_compiler.specs.Scripts.{digest_of}
 use Rattle.spec_text.specs.Lines.{lines_of, words_of}
+use Rattle.spec_deal.specs.declared.entry.Shown.{Shown}
 use Rattle.spec_deal.specs.declared.fault.SecretReason.{SecretReason}
 use Rattle.spec_deal.specs.declared.fault.SecretReason.TheVariants as reasons
 use Rattle.spec_deal.specs.declared.fault.SecretFault.{SecretFault}
@@ -20,12 +21,6 @@ use Rattle.spec_deal.specs.declared.fault.SecretFault.TheVariants as faults
 use Rattle.spec_deal.specs.Sizes.{most_secrets_bytes}
 use Rattle.spec_deal.specs.Needed.{needed_secrets}
 use Rattle.spec_deal.specs.Hashed.{deal_strings}
-
--- the string that the line of this number gives to a secret
-pub record Shown : Type 0 where
-  pub line : ℕ
-  pub name : List ℕ
-  pub bytes : List ℕ
 
 -- ---- lines
 

@@ -8,13 +8,10 @@ use Rattle.spec_bitcoin.specs.Keys.{key_bytes, deposit_script}
 use Rattle.spec_bitcoin.specs.Spelling.{stripped}
 use Rattle.spec_compiler.specs.Keyed.Keys.{Keys}
 use Rattle.spec_compiler.specs.Keyed.Instance.{Instance}
-use Rattle.spec_compiler.specs.declared.unsigned.Spent.{Spent}
-use Rattle.spec_compiler.specs.Keyed.Transactions.{tx_of, pays}
 use Rattle.spec_run.specs.Ledger.{same_output}
 use Rattle.spec_text.specs.Lines.{lines_of, words_of}
 use Rattle.spec_tool.specs.declared.psbt.PsbtInput.{PsbtInput}
 use Rattle.spec_tool.specs.Base64.{base64_bytes}
-use Rattle.spec_tool.specs.Keyed.Listed.{Listed, listed}
 use Rattle.spec_tool.specs.Psbt.{Psbt, Pairing}
 use Rattle.spec_tool.specs.PsbtBytes.{psbt_of}
 use Rattle.spec_deal.specs.declared.signed.Signed.{Signed}
@@ -24,8 +21,9 @@ use Rattle.spec_deal.specs.declared.fault.SignatureFault.{SignatureFault}
 use Rattle.spec_deal.specs.declared.fault.SignatureFault.TheVariants as faults
 use Rattle.spec_deal.specs.Sizes.{most_signature_bytes}
 use Rattle.spec_deal.specs.Shape.{is_strict}
-use Rattle.spec_deal.specs.Slots.{Slot, slots}
-use Rattle.spec_deal.specs.Given.{is_for}
+use Rattle.spec_deal.specs.declared.transaction.Input.{Input}
+use Rattle.spec_deal.specs.declared.transaction.Transaction.{Transaction}
+use Rattle.spec_deal.specs.Transactions.{Spot, spots, is_at, transactions}
 
 -- the signatures so far, or why a line is bad
 abbrev pub Taken : Type 0
@@ -43,18 +41,18 @@ taken_once given g None = Ok (given ++ g ∷ [])
 taken_once given g (Some earlier) = if bytes_eq earlier.signature g.signature then Ok given else Err (reasons.Conflict g.input)
 
 -- one more signature: for a key that a transaction with these bytes needs there, of the right shape, and no other than an earlier one
-abbrev pub take_signature : (List ℕ → List ℕ) → Keys → List Slot → List Signed → Signed → Taken
-take_signature hash keys wanted given g =
-    if not (list_any (λ slot. is_for hash keys slot g) wanted) then Err (reasons.Key g.input)
+abbrev pub take_signature : List Spot → List Signed → Signed → Taken
+take_signature wanted given g =
+    if not (list_any (λ spot. is_at spot g) wanted) then Err (reasons.Key g.input)
     else if not (is_strict g.signature) then Err (reasons.Signature g.input)
-    else taken_once given g (find (same_place g) given)
+    else taken_once given g (find (λ earlier. same_place earlier g) given)
 
 -- the signatures of input k in order
-abbrev pub take_signatures : (List ℕ → List ℕ) → Keys → List Slot → List ℕ → ℕ → List Signed → List Pairing → Taken
-take_signatures hash keys wanted tx k given [] = Ok given
-take_signatures hash keys wanted tx k given (p ∷ ps) =
-    elim (take_signature hash keys wanted given (record { tx = tx; input = k; key = p.0; signature = p.1 })) [
-      | Ok more ↦ take_signatures hash keys wanted tx k more ps
+abbrev pub take_signatures : List Spot → List ℕ → ℕ → List Signed → List Pairing → Taken
+take_signatures wanted tx k given [] = Ok given
+take_signatures wanted tx k given (p ∷ ps) =
+    elim (take_signature wanted given (record { tx = tx; input = k; key = p.0; signature = p.1 })) [
+      | Ok more ↦ take_signatures wanted tx k more ps
       | Err reason ↦ Err reason
     ]
 
@@ -89,60 +87,62 @@ final_signature script None = []
 final_signature script (Some []) = []
 final_signature script (Some (signature ∷ items)) = (script_key script, signature) ∷ []
 
--- an input that spends this: its records first, then its signatures in ascending order of their keys, then that of its final witness
-abbrev pub take_input : (List ℕ → List ℕ) → Keys → List Slot → List ℕ → ℕ → List Signed → Spent → PsbtInput → Taken
-take_input hash keys wanted tx k given spent input =
-    if not (spent_fits (pays hash spent.script spent.value) input.spent) then Err (reasons.Spent k)
-    else if not (script_fits spent.script input.script) then Err (reasons.Script k)
-    else if not (witness_fits spent.script input.witness) then Err (reasons.Witness k)
-    else take_signatures hash keys wanted tx k given (input.partial ++ final_signature spent.script input.witness)
+-- an input: its records first, then its signatures in ascending order of their keys, then that of its final witness
+abbrev pub take_input : List Spot → List ℕ → ℕ → List Signed → Input → PsbtInput → Taken
+take_input wanted tx k given i input =
+    if not (spent_fits i.output input.spent) then Err (reasons.Spent k)
+    else if not (script_fits i.spent.script input.script) then Err (reasons.Script k)
+    else if not (witness_fits i.spent.script input.witness) then Err (reasons.Witness k)
+    else take_signatures wanted tx k given (input.partial ++ final_signature i.spent.script input.witness)
 
 -- the inputs from number k on
-abbrev pub take_inputs : (List ℕ → List ℕ) → Keys → List Slot → List ℕ → ℕ → List Signed → List Spent → List PsbtInput → Taken
-take_inputs hash keys wanted tx k given [] inputs = Ok given
-take_inputs hash keys wanted tx k given (spent ∷ spends) [] = Ok given
-take_inputs hash keys wanted tx k given (spent ∷ spends) (input ∷ inputs) =
-    elim (take_input hash keys wanted tx k given spent input) [
-      | Ok more ↦ take_inputs hash keys wanted tx (k + 1) more spends inputs
+abbrev pub take_inputs : List Spot → List ℕ → ℕ → List Signed → List Input → List PsbtInput → Taken
+take_inputs wanted tx k given [] said = Ok given
+take_inputs wanted tx k given (i ∷ is) [] = Ok given
+take_inputs wanted tx k given (i ∷ is) (input ∷ said) =
+    elim (take_input wanted tx k given i input) [
+      | Ok more ↦ take_inputs wanted tx (k + 1) more is said
       | Err reason ↦ Err reason
     ]
 
 -- ---- a line
 
 -- whether it is the transaction with these bytes
-abbrev pub has_bytes : List ℕ → Listed → Bool
-has_bytes bytes l = bytes_eq (stripped (tx_of l.draft)) bytes
+abbrev pub has_bytes : List ℕ → Transaction → Bool
+has_bytes bytes t = bytes_eq t.bytes bytes
 
-abbrev pub take_listed : (List ℕ → List ℕ) → Keys → List Slot → List Signed → Psbt → Option Listed → Taken
-take_listed hash keys wanted given p None = Err reasons.Foreign
-take_listed hash keys wanted given p (Some l) = take_inputs hash keys wanted (stripped p.tx) 0 given l.draft.spends p.inputs
+abbrev pub take_transaction : List Spot → List Signed → Psbt → Option Transaction → Taken
+take_transaction wanted given p None = Err reasons.Foreign
+take_transaction wanted given p (Some t) = take_inputs wanted (stripped p.tx) 0 given t.inputs p.inputs
 
-abbrev pub take_psbt : (List ℕ → List ℕ) → Keys → Instance → List Signed → Option Psbt → Taken
-take_psbt hash keys s given None = Err reasons.Form
-take_psbt hash keys s given (Some p) =
-    take_listed hash keys (slots hash keys s) given p (find (has_bytes (stripped p.tx)) (listed hash keys s))
+abbrev pub take_psbt : List Transaction → List Signed → Option Psbt → Taken
+take_psbt ts given None = Err reasons.Form
+take_psbt ts given (Some p) = take_transaction (spots ts) given p (find (has_bytes (stripped p.tx)) ts)
 
-abbrev pub take_bytes : (List ℕ → List ℕ) → Keys → Instance → List Signed → Option (List ℕ) → Taken
-take_bytes hash keys s given None = Err reasons.Base64
-take_bytes hash keys s given (Some bytes) = take_psbt hash keys s given (psbt_of bytes)
+abbrev pub take_bytes : List Transaction → List Signed → Option (List ℕ) → Taken
+take_bytes ts given None = Err reasons.Base64
+take_bytes ts given (Some bytes) = take_psbt ts given (psbt_of bytes)
 
 -- the words of a line; a line without words says nothing
-abbrev pub take_words : (List ℕ → List ℕ) → Keys → Instance → List Signed → List (List ℕ) → Taken
-take_words hash keys s given [] = Ok given
-take_words hash keys s given (word ∷ []) = take_bytes hash keys s given (base64_bytes word)
-take_words hash keys s given (word ∷ (next ∷ words)) = Err reasons.Base64
+abbrev pub take_words : List Transaction → List Signed → List (List ℕ) → Taken
+take_words ts given [] = Ok given
+take_words ts given (word ∷ []) = take_bytes ts given (base64_bytes word)
+take_words ts given (word ∷ (next ∷ words)) = Err reasons.Base64
 
 -- ---- a file
 
 -- the lines from number n on
-abbrev pub take_lines : (List ℕ → List ℕ) → Keys → Instance → List Signed → ℕ → List (List ℕ) → Result (List Signed) SignatureFault
-take_lines hash keys s given n [] = Ok given
-take_lines hash keys s given n (line ∷ lines) = elim (take_words hash keys s given (words_of line)) [
-  | Ok more ↦ take_lines hash keys s more (n + 1) lines
+abbrev pub take_lines : List Transaction → List Signed → ℕ → List (List ℕ) → Result (List Signed) SignatureFault
+take_lines ts given n [] = Ok given
+take_lines ts given n (line ∷ lines) = elim (take_words ts given (words_of line)) [
+  | Ok more ↦ take_lines ts more (n + 1) lines
   | Err reason ↦ Err (faults.Line n reason)
 ]
 
--- the signatures that a file gives, or why it is refused
+-- the signatures that a file gives to these transactions, or why it is refused
+abbrev pub read_given : List Transaction → List ℕ → Result (List Signed) SignatureFault
+read_given ts text = if nat_lt most_signature_bytes (length text) then Err faults.Size else take_lines ts [] 1 (lines_of text)
+
+-- those that it gives to a deal
 abbrev pub read_signatures : (List ℕ → List ℕ) → Keys → Instance → List ℕ → Result (List Signed) SignatureFault
-read_signatures hash keys s text =
-    if nat_lt most_signature_bytes (length text) then Err faults.Size else take_lines hash keys s [] 1 (lines_of text)
+read_signatures hash keys s text = read_given (transactions hash keys s) text

@@ -32,7 +32,8 @@ use Rattle.spec_deal.specs.Commands.{DealCommand}
 use Rattle.spec_deal.specs.Finished.{finished, finish_refusal}
 use Rattle.spec_bitcoin.specs.Spelling.{spelling}
 use Rattle.spec_deal.specs.Hashed.{deal_strings}
-use Rattle.spec_deal.specs.SecretFile.{Shown, SecretsRead, shows, refused, collided}
+use Rattle.spec_deal.specs.declared.entry.Shown.{Shown}
+use Rattle.spec_deal.specs.SecretFile.{SecretsRead, shows, refused, collided}
 use Rattle.spec_deal.specs.Setting.{deal_keys, deal_instance}
 use Rattle.theory_deal.specs.Causes.{deal_statuses, reads_deal, is_refused, is_deal_refused, DealCausesTheorem}
 

@@ -37,7 +37,8 @@ use Rattle.spec_deal.specs.declared.signed.Signed.{Signed}
 use Rattle.spec_deal.specs.declared.finish.FinishRefusal.TheVariants as refusals
 use Rattle.spec_deal.specs.Slots.{Slot, input_slots, slots_from, verb_of}
 use Rattle.spec_deal.specs.Given.{is_for, signature_for}
-use Rattle.spec_deal.specs.SecretFile.{Shown, string_for}
+use Rattle.spec_deal.specs.declared.entry.Shown.{Shown}
+use Rattle.spec_deal.specs.SecretFile.{string_for}
 use Rattle.spec_deal.specs.Finished.{bytes_or_none, input_signatures, deposit_witnesses}
 use Rattle.spec_deal.specs.Finished.{strings_of, branch_witness, path_witnesses, witnesses}
 use Rattle.spec_deal.specs.Finished.{signature_refusal, secret_refusal, predicate_holds, predicate_refusal, finish_refusal}

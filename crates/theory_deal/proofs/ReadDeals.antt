@@ -23,8 +23,11 @@ use Rattle.spec_deal.specs.declared.fault.DealFault.TheVariants as faults
 use Rattle.spec_deal.specs.Sizes.{most_deal_bytes}
 use Rattle.spec_deal.specs.Needed.{needed, needed_labels, needed_deposits, needed_secrets, same_needed, same_label}
 use Rattle.spec_deal.specs.Setting.{key_at}
-use Rattle.spec_deal.specs.DealFile.{Value, key, place, hash, same_value}
-use Rattle.spec_deal.specs.DealFile.{Entry, is_key, key_of_word, place_of_words, hash_of_word, label_of_word}
+use Rattle.spec_deal.specs.declared.entry.Value.{Value}
+use Rattle.spec_deal.specs.declared.entry.Value.TheVariants.{Key as key, Place as place, Hash as hash}
+use Rattle.spec_deal.specs.declared.entry.Entry.{Entry}
+use Rattle.spec_deal.specs.DealFile.{same_value}
+use Rattle.spec_deal.specs.DealFile.{is_key, key_of_word, place_of_words, hash_of_word, label_of_word}
 use Rattle.spec_deal.specs.DealFile.{Line, empty, bad, gives, given_once, with_needed, key_line, deposit_line, hash_line, line_says}
 use Rattle.spec_deal.specs.DealFile.{read_entries, value_for, key_or_none, hash_or_none}
 use Rattle.spec_deal.specs.DealFile.{deal_of, is_given, first_missing, whole_deal, deal_judged}

@@ -16,7 +16,8 @@ use Rattle.spec_deal.specs.declared.fault.SecretFault.TheVariants as faults
 use Rattle.spec_deal.specs.Sizes.{most_secrets_bytes}
 use Rattle.spec_deal.specs.Needed.{needed_secrets}
 use Rattle.spec_deal.specs.Hashed.{deal_strings}
-use Rattle.spec_deal.specs.SecretFile.{Shown, Line, empty, bad, collides, gives}
+use Rattle.spec_deal.specs.declared.entry.Shown.{Shown}
+use Rattle.spec_deal.specs.SecretFile.{Line, empty, bad, collides, gives}
 use Rattle.spec_deal.specs.SecretFile.{if_fits, hashed_line, has_length, if_new, with_bytes, named_line}
 use Rattle.spec_deal.specs.SecretFile.{line_says, SecretsRead, shows, refused, collided, read_lines}
 use Rattle.theory_calculus.proofs.Members.{all_append}

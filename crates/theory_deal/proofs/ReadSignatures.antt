@@ -8,12 +8,9 @@ use Rattle.spec_bitcoin.specs.Spelling.{stripped}
 use Rattle.spec_compiler.specs.Keyed.Keys.{Keys}
 use Rattle.spec_compiler.specs.Keyed.Instance.{Instance}
 use Rattle.spec_compiler.specs.Keyed.Statements.{is_short}
-use Rattle.spec_compiler.specs.declared.unsigned.Spent.{Spent}
-use Rattle.spec_compiler.specs.Keyed.Transactions.{pays}
 use Rattle.spec_text.specs.Lines.{lines_of, words_of}
 use Rattle.spec_tool.specs.declared.psbt.PsbtInput.{PsbtInput}
 use Rattle.spec_tool.specs.Base64.{base64_bytes}
-use Rattle.spec_tool.specs.Keyed.Listed.{Listed, listed}
 use Rattle.spec_tool.specs.Psbt.{Psbt, Pairing}
 use Rattle.spec_tool.specs.PsbtBytes.{psbt_of}
 use Rattle.spec_deal.specs.declared.signed.Signed.{Signed}
@@ -22,12 +19,13 @@ use Rattle.spec_deal.specs.declared.fault.SignatureReason.TheVariants as reasons
 use Rattle.spec_deal.specs.declared.fault.SignatureFault.TheVariants as faults
 use Rattle.spec_deal.specs.Sizes.{most_signature_bytes}
 use Rattle.spec_deal.specs.Shape.{is_strict}
-use Rattle.spec_deal.specs.Slots.{Slot, slots}
-use Rattle.spec_deal.specs.Given.{is_for}
+use Rattle.spec_deal.specs.declared.transaction.Input.{Input}
+use Rattle.spec_deal.specs.declared.transaction.Transaction.{Transaction}
+use Rattle.spec_deal.specs.Transactions.{Spot, spots, is_at, transactions}
 use Rattle.spec_deal.specs.SignatureFile.{Taken, same_place, taken_once, take_signature}
 use Rattle.spec_deal.specs.SignatureFile.{take_signatures, spent_fits, script_fits, witness_fits}
 use Rattle.spec_deal.specs.SignatureFile.{final_signature, take_input, take_inputs, has_bytes}
-use Rattle.spec_deal.specs.SignatureFile.{take_listed, take_psbt, take_bytes, take_words, take_lines}
+use Rattle.spec_deal.specs.SignatureFile.{take_transaction, take_psbt, take_bytes, take_words, take_lines}
 use Rattle.theory_calculus.proofs.Members.{all_append, all_then}
 use Rattle.theory_deal.proofs.Shapes.{strict_has_shape, shape_is_short}
 use Rattle.theory_deal.specs.Files.{SignaturesAreShaped}
@@ -49,92 +47,91 @@ once given g (Some earlier) h k = by_test (bytes_eq earlier.signature g.signatur
     by_test true = h
     by_test false = tt
 
-module _ (hash : List ℕ → List ℕ) (keys : Keys) where
-  one : (wanted : List Slot) (given : List Signed) (g : Signed) → Shaped given → IsShaped (take_signature hash keys wanted given g)
-  one wanted given g h = by_test (list_any (λ slot. is_for hash keys slot g) wanted) (is_strict g.signature) refl
-    where
-      by_test : (a b : Bool) → is_strict g.signature ≡ b
-          → IsShaped (cond (not a) (Err (reasons.Key g.input))
-          (cond (not b) (Err (reasons.Signature g.input)) (taken_once given g (find (same_place g) given))))
-      by_test false b e = tt
-      by_test true false e = tt
-      by_test true true e = once given g (find (same_place g) given) h e
+one : (wanted : List Spot) (given : List Signed) (g : Signed) → Shaped given → IsShaped (take_signature wanted given g)
+one wanted given g h = by_test (list_any (λ spot. is_at spot g) wanted) (is_strict g.signature) refl
+  where
+    by_test : (a b : Bool) → is_strict g.signature ≡ b
+        → IsShaped (cond (not a) (Err (reasons.Key g.input))
+        (cond (not b) (Err (reasons.Signature g.input)) (taken_once given g (find (λ earlier. same_place earlier g) given))))
+    by_test false b e = tt
+    by_test true false e = tt
+    by_test true true e = once given g (find (λ earlier. same_place earlier g) given) h e
 
-  several : (wanted : List Slot) (tx : List ℕ) (k : ℕ) (given : List Signed) (ps : List Pairing) → Shaped given
-      → IsShaped (take_signatures hash keys wanted tx k given ps)
-  several wanted tx k given [] h = h
-  several wanted tx k given (p ∷ ps) h =
-      by_taken (take_signature hash keys wanted given (record { tx = tx; input = k; key = p.0; signature = p.1 }))
-      (one wanted given (record { tx = tx; input = k; key = p.0; signature = p.1 }) h) (λ more m. several wanted tx k more ps m)
-    where
-      by_taken : (r : Taken) → IsShaped r
-          → ((more : List Signed) → Shaped more → IsShaped (take_signatures hash keys wanted tx k more ps))
-          → IsShaped {E = SignatureReason} (elim r [ Ok more ↦ take_signatures hash keys wanted tx k more ps | Err reason ↦ Err reason ])
-      by_taken (Ok more) m go = go more m
-      by_taken (Err reason) m go = tt
+several : (wanted : List Spot) (tx : List ℕ) (k : ℕ) (given : List Signed) (ps : List Pairing) → Shaped given
+    → IsShaped (take_signatures wanted tx k given ps)
+several wanted tx k given [] h = h
+several wanted tx k given (p ∷ ps) h =
+    by_taken (take_signature wanted given (record { tx = tx; input = k; key = p.0; signature = p.1 }))
+    (one wanted given (record { tx = tx; input = k; key = p.0; signature = p.1 }) h) (λ more m. several wanted tx k more ps m)
+  where
+    by_taken : (r : Taken) → IsShaped r
+        → ((more : List Signed) → Shaped more → IsShaped (take_signatures wanted tx k more ps))
+        → IsShaped {E = SignatureReason} (elim r [ Ok more ↦ take_signatures wanted tx k more ps | Err reason ↦ Err reason ])
+    by_taken (Ok more) m go = go more m
+    by_taken (Err reason) m go = tt
 
-  one_input : (wanted : List Slot) (tx : List ℕ) (k : ℕ) (given : List Signed) (spent : Spent) (input : PsbtInput) → Shaped given
-      → IsShaped (take_input hash keys wanted tx k given spent input)
-  one_input wanted tx k given spent input h =
-      by_test (spent_fits (pays hash spent.script spent.value) input.spent) (script_fits spent.script input.script)
-      (witness_fits spent.script input.witness)
-    where
-      by_test : (a b c : Bool)
-          → IsShaped (cond (not a) (Err (reasons.Spent k)) (cond (not b) (Err (reasons.Script k)) (cond (not c) (Err (reasons.Witness k))
-          (take_signatures hash keys wanted tx k given (input.partial ++ final_signature spent.script input.witness)))))
-      by_test false b c = tt
-      by_test true false c = tt
-      by_test true true false = tt
-      by_test true true true = several wanted tx k given (input.partial ++ final_signature spent.script input.witness) h
+one_input : (wanted : List Spot) (tx : List ℕ) (k : ℕ) (given : List Signed) (i : Input) (input : PsbtInput) → Shaped given
+    → IsShaped (take_input wanted tx k given i input)
+one_input wanted tx k given i input h =
+    by_test (spent_fits i.output input.spent) (script_fits i.spent.script input.script)
+    (witness_fits i.spent.script input.witness)
+  where
+    by_test : (a b c : Bool)
+        → IsShaped (cond (not a) (Err (reasons.Spent k)) (cond (not b) (Err (reasons.Script k)) (cond (not c) (Err (reasons.Witness k))
+        (take_signatures wanted tx k given (input.partial ++ final_signature i.spent.script input.witness)))))
+    by_test false b c = tt
+    by_test true false c = tt
+    by_test true true false = tt
+    by_test true true true = several wanted tx k given (input.partial ++ final_signature i.spent.script input.witness) h
 
-  inputs : (wanted : List Slot) (tx : List ℕ) (k : ℕ) (given : List Signed) (spends : List Spent) (ins : List PsbtInput) → Shaped given
-      → IsShaped (take_inputs hash keys wanted tx k given spends ins)
-  inputs wanted tx k given [] ins h = h
-  inputs wanted tx k given (spent ∷ spends) [] h = h
-  inputs wanted tx k given (spent ∷ spends) (input ∷ ins) h =
-      by_taken (take_input hash keys wanted tx k given spent input) (one_input wanted tx k given spent input h)
-      (λ more m. inputs wanted tx (k + 1) more spends ins m)
-    where
-      by_taken : (r : Taken) → IsShaped r
-          → ((more : List Signed) → Shaped more → IsShaped (take_inputs hash keys wanted tx (k + 1) more spends ins))
-          → IsShaped {E = SignatureReason} (elim r [
-            | Ok more ↦ take_inputs hash keys wanted tx
-                (k + 1) more spends ins
-            | Err reason ↦ Err reason
-          ])
-      by_taken (Ok more) m go = go more m
-      by_taken (Err reason) m go = tt
+inputs : (wanted : List Spot) (tx : List ℕ) (k : ℕ) (given : List Signed) (is : List Input) (ins : List PsbtInput) → Shaped given
+    → IsShaped (take_inputs wanted tx k given is ins)
+inputs wanted tx k given [] ins h = h
+inputs wanted tx k given (i ∷ is) [] h = h
+inputs wanted tx k given (i ∷ is) (input ∷ ins) h =
+    by_taken (take_input wanted tx k given i input) (one_input wanted tx k given i input h)
+    (λ more m. inputs wanted tx (k + 1) more is ins m)
+  where
+    by_taken : (r : Taken) → IsShaped r
+        → ((more : List Signed) → Shaped more → IsShaped (take_inputs wanted tx (k + 1) more is ins))
+        → IsShaped {E = SignatureReason} (elim r [
+          | Ok more ↦ take_inputs wanted tx
+              (k + 1) more is ins
+          | Err reason ↦ Err reason
+        ])
+    by_taken (Ok more) m go = go more m
+    by_taken (Err reason) m go = tt
 
-  of_listed : (wanted : List Slot) (given : List Signed) (p : Psbt) (o : Option Listed) → Shaped given
-      → IsShaped (take_listed hash keys wanted given p o)
-  of_listed wanted given p None h = tt
-  of_listed wanted given p (Some l) h = inputs wanted (stripped p.tx) 0 given l.draft.spends p.inputs h
+of_transaction : (wanted : List Spot) (given : List Signed) (p : Psbt) (o : Option Transaction) → Shaped given
+    → IsShaped (take_transaction wanted given p o)
+of_transaction wanted given p None h = tt
+of_transaction wanted given p (Some t) h = inputs wanted (stripped p.tx) 0 given t.inputs p.inputs h
 
-  of_psbt : (s : Instance) (given : List Signed) (o : Option Psbt) → Shaped given → IsShaped (take_psbt hash keys s given o)
-  of_psbt s given None h = tt
-  of_psbt s given (Some p) h = of_listed (slots hash keys s) given p (find (has_bytes (stripped p.tx)) (listed hash keys s)) h
+of_psbt : (ts : List Transaction) (given : List Signed) (o : Option Psbt) → Shaped given → IsShaped (take_psbt ts given o)
+of_psbt ts given None h = tt
+of_psbt ts given (Some p) h = of_transaction (spots ts) given p (find (has_bytes (stripped p.tx)) ts) h
 
-  of_bytes : (s : Instance) (given : List Signed) (o : Option (List ℕ)) → Shaped given → IsShaped (take_bytes hash keys s given o)
-  of_bytes s given None h = tt
-  of_bytes s given (Some bytes) h = of_psbt s given (psbt_of bytes) h
+of_bytes : (ts : List Transaction) (given : List Signed) (o : Option (List ℕ)) → Shaped given → IsShaped (take_bytes ts given o)
+of_bytes ts given None h = tt
+of_bytes ts given (Some bytes) h = of_psbt ts given (psbt_of bytes) h
 
-  of_words : (s : Instance) (given : List Signed) (words : List (List ℕ)) → Shaped given → IsShaped (take_words hash keys s given words)
-  of_words s given [] h = h
-  of_words s given (word ∷ []) h = of_bytes s given (base64_bytes word) h
-  of_words s given (word ∷ (next ∷ words)) h = tt
+of_words : (ts : List Transaction) (given : List Signed) (words : List (List ℕ)) → Shaped given → IsShaped (take_words ts given words)
+of_words ts given [] h = h
+of_words ts given (word ∷ []) h = of_bytes ts given (base64_bytes word) h
+of_words ts given (word ∷ (next ∷ words)) h = tt
 
-  of_lines : (s : Instance) (given : List Signed) (n : ℕ) (lines : List (List ℕ)) → Shaped given
-      → IsShaped (take_lines hash keys s given n lines)
-  of_lines s given n [] h = h
-  of_lines s given n (line ∷ lines) h =
-      by_taken (take_words hash keys s given (words_of line)) (of_words s given (words_of line) h)
-      (λ more m. of_lines s more (n + 1) lines m)
-    where
-      by_taken : (r : Taken) → IsShaped r
-          → ((more : List Signed) → Shaped more → IsShaped (take_lines hash keys s more (n + 1) lines))
-          → IsShaped (elim r [ Ok more ↦ take_lines hash keys s more (n + 1) lines | Err reason ↦ Err (faults.Line n reason) ])
-      by_taken (Ok more) m go = go more m
-      by_taken (Err reason) m go = tt
+of_lines : (ts : List Transaction) (given : List Signed) (n : ℕ) (lines : List (List ℕ)) → Shaped given
+    → IsShaped (take_lines ts given n lines)
+of_lines ts given n [] h = h
+of_lines ts given n (line ∷ lines) h =
+    by_taken (take_words ts given (words_of line)) (of_words ts given (words_of line) h)
+    (λ more m. of_lines ts more (n + 1) lines m)
+  where
+    by_taken : (r : Taken) → IsShaped r
+        → ((more : List Signed) → Shaped more → IsShaped (take_lines ts more (n + 1) lines))
+        → IsShaped (elim r [ Ok more ↦ take_lines ts more (n + 1) lines | Err reason ↦ Err (faults.Line n reason) ])
+    by_taken (Ok more) m go = go more m
+    by_taken (Err reason) m go = tt
 
 short_one : (signature : List ℕ) → is_strict signature ≡ true → is_short signature ≡ true
 short_one signature h = let n = shape_is_short signature (strict_has_shape signature h) in grind (arith, n)
@@ -148,6 +145,6 @@ signatures_are_shaped hash keys s text given e =
           (λ g h. short_one g.signature h) strict;
     }
   where
-    by_size : (b : Bool) → cond b (Err faults.Size) (take_lines hash keys s [] 1 (lines_of text)) ≡ Ok given → Shaped given
+    by_size : (b : Bool) → cond b (Err faults.Size) (take_lines (transactions hash keys s) [] 1 (lines_of text)) ≡ Ok given → Shaped given
     by_size true k = cc
-    by_size false k = subst IsShaped k (of_lines hash keys s [] 1 (lines_of text) refl)
+    by_size false k = subst IsShaped k (of_lines (transactions hash keys s) [] 1 (lines_of text) refl)

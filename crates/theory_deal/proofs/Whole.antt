@@ -16,7 +16,8 @@ use Rattle.spec_deal.specs.Answers.{unless_refused}
 use Rattle.spec_deal.specs.Finished.{finished, unendorsed_refusal, endorsement_refusal, signature_refusal, which_branch, secret_refusal}
 use Rattle.spec_deal.specs.Finished.{predicate_refusal, finish_refusal}
 use Rattle.spec_deal.specs.Given.{has, endorsements, may_start, first_unendorsed}
-use Rattle.spec_deal.specs.SecretFile.{Shown, string_for}
+use Rattle.spec_deal.specs.declared.entry.Shown.{Shown}
+use Rattle.spec_deal.specs.SecretFile.{string_for}
 use Rattle.spec_deal.specs.Setting.{deal_keys, deal_instance}
 use Rattle.spec_deal.specs.Slots.{Slot, listed_slots}
 use Rattle.theory_deal.specs.Finished.{do_fit}

@@ -10,7 +10,8 @@ use Rattle.spec_compiler.specs.Keyed.Statements.{AreKeys}
 use Rattle.spec_deal.specs.declared.deal.Deal.{Deal}
 use Rattle.spec_deal.specs.declared.signed.Signed.{Signed}
 use Rattle.spec_deal.specs.DealFile.{read_deal}
-use Rattle.spec_deal.specs.SecretFile.{Shown, shows, read_secrets}
+use Rattle.spec_deal.specs.declared.entry.Shown.{Shown}
+use Rattle.spec_deal.specs.SecretFile.{shows, read_secrets}
 use Rattle.spec_deal.specs.Setting.{deal_keys, deal_instance}
 use Rattle.spec_deal.specs.Shape.{is_strict}
 use Rattle.spec_deal.specs.SignatureFile.{read_signatures}

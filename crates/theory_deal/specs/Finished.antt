@@ -22,7 +22,7 @@ use Rattle.spec_tool.specs.Keyed.Listed.{Listed, listed_at}
 use Rattle.spec_deal.specs.declared.signed.Signed.{Signed}
 use Rattle.spec_deal.specs.Slots.{Slot, listed_slots, slot_key}
 use Rattle.spec_deal.specs.Given.{signature_for}
-use Rattle.spec_deal.specs.SecretFile.{Shown}
+use Rattle.spec_deal.specs.declared.entry.Shown.{Shown}
 use Rattle.spec_deal.specs.Finished.{bytes_or_none, witnesses, finished, finish_refusal}
 use Rattle.std.specs.Prelude.{length}
 

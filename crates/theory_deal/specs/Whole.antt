@@ -20,7 +20,8 @@ use Rattle.spec_deal.specs.Answers.{finished_answer}
 use Rattle.spec_deal.specs.DealFile.{read_deal}
 use Rattle.spec_deal.specs.Finished.{witnesses, finished, which_branch, predicate_refusal, finish_refusal}
 use Rattle.spec_deal.specs.Given.{has, may_start}
-use Rattle.spec_deal.specs.SecretFile.{Shown, shows, string_for, read_secrets}
+use Rattle.spec_deal.specs.declared.entry.Shown.{Shown}
+use Rattle.spec_deal.specs.SecretFile.{shows, string_for, read_secrets}
 use Rattle.spec_deal.specs.Setting.{deal_keys, deal_instance}
 use Rattle.spec_deal.specs.SignatureFile.{read_signatures}
 use Rattle.spec_deal.specs.Slots.{listed_slots}

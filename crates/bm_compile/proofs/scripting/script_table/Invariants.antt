@@ -8,9 +8,10 @@ use Rattle.bm_compile.proofs.scripting.script_table.Given as goal
 abbrev pub invariant-loop-node : goal.invariant-loop-node
 invariant-loop-node g l =
     let hash = g.H.Hash32.digest_of l.fn.trail.hasher in
+    let keys = g.K.KeySource.keys l.source in
     let all = map node_view l.nodes in
     record {
       hasher : l.trail.hasher ≡ l.fn.trail.hasher;
-      scripts : l.scripts ++ map (λ node. script_of_node hash l.setting all (node_view node)) (drop l.node-index l.nodes) ≡ map (λ node. script_of_node hash l.setting all (node_view node)) l.nodes;
-      trail : Hashed hash l.fn.trail.messages l.trail.messages (flat_map (λ node. scripts_of_node hash l.setting all (node_view node)) (take l.node-index l.nodes));
+      scripts : l.scripts ++ map (λ node. script_of_node hash keys l.setting all (node_view node)) (drop l.node-index l.nodes) ≡ map (λ node. script_of_node hash keys l.setting all (node_view node)) l.nodes;
+      trail : Hashed hash l.fn.trail.messages l.trail.messages (flat_map (λ node. scripts_of_node hash keys l.setting all (node_view node)) (take l.node-index l.nodes));
     }

@@ -1,0 +1,3 @@
+pub mod Detailed
+pub mod Numbered
+pub mod Sources

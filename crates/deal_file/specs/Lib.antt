@@ -1,0 +1,7 @@
+pub mod Needs
+pub mod Keying
+pub mod Entries
+pub mod Gives
+pub mod Building
+pub mod Texts
+pub mod Refusals

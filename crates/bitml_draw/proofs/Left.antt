@@ -1,6 +1,7 @@
 -- What is drawn of a run that left a world, or whose opening collides.
 use Rattle.std.proofs.Common.{◌≡◌, ℕ, List, [], ◌∷◌, length, map, get_or, Option, Some, None, sym, ap, ◌∙◌, arith}
-use Rattle.std.specs.Prelude.{slice_get}
+use Rattle.std.specs.Prelude.{slice_get, option_map}
+use Rattle.std.proofs.lemmas.Option.{same_Some}
 use Rattle.spec_terms.specs.Advert.{Advert}
 use Rattle.spec_calculus.specs.declared.step.Step.{Step}
 use Rattle.spec_run.specs.declared.event.Event.{Event}
@@ -16,11 +17,12 @@ use Rattle.spec_picture.specs.Picture.{picture_text}
 use Rattle.spec_picture.specs.Drawing.{last_of, last_status, draw_text}
 use Rattle.theory_picture.proofs.Endings.{whole_last, left_answer}
 use Rattle.bm_world.specs.Playing as world
-use Rattle.bitml_play.specs.declared.stop.Stop.{Stop}
-use Rattle.bitml_play.specs.Going.{halt_of}
+use Rattle.bm_world.specs.declared.halt.Halt.{Halt}
+use Rattle.bm_world.specs.Halts.{halt_of}
 use Rattle.bitml_play.specs.Whole.{IsLeft}
-use Rattle.bitml_shows.specs.Entries.{entries_by}
-use Rattle.bitml_reply.proofs.Left.{event_is, shown_are}
+use Rattle.bm_report.specs.Entries.{entries_by}
+use Rattle.bitml_reply.proofs.Endings.{stopped_ending}
+use Rattle.bitml_reply.proofs.Left.{shown_are}
 
 -- entries by records and steps that are these
 pub entries_same : (shown made : List Entry) (records these : List Record) (steps those : List (List Step)) → shown ≡ made → made ≡ entries_by records steps
@@ -32,12 +34,17 @@ module _ {H : Type 0} (digest : H → List ℕ → List ℕ) (s : Setup) (es : L
   pub whole_is : IsLeft digest s es left None → lasts.Whole ≡ last_of (ending s es)
   whole_is l = whole_last s es l.run.opens l.stops
 
-  pub halted_is : (n : ℕ) (stop : Stop) → IsLeft digest s es left (Some (n, stop)) → (e : Event) → slice_get es n ≡ Some e
-      → last_of (halted e (halt_of stop)) ≡ last_of (ending s es)
-  halted_is n stop l e at = ap last_of (sym (event_is digest s es left n stop l e at))
+  pub halted_is : (n : ℕ) (halt : Halt) → IsLeft digest s es left (Some (n, halt)) → (e : Event) → slice_get es n ≡ Some e → (last : Last)
+      → Some last ≡ option_map (λ h. last_of (halted e h)) (halt_of halt) → last ≡ last_of (ending s es)
+  halted_is n halt l e at last told =
+      let k = l.stops in
+      let same : k.0 ≡ e = same_Some (k.0) e (sym (k.2) ∙ at) in
+      let is : last ≡ last_of (halted e (k.1)) =
+      same_Some last (last_of (halted e (k.1))) (told ∙ ap (option_map (λ h. last_of (halted e h))) (k.3)) in
+      is ∙ ap (λ x. last_of (halted x (k.1))) (sym same) ∙ ap last_of (sym (stopped_ending digest s es left n halt l (k.1) (k.3)))
 
   -- the picture of its entries and its end is what is answered
-  pub drawn_is : (stop : Option (ℕ × Stop)) (advert : Advert) (steps : List (List Step)) (shown : List Entry) (last : Last)
+  pub drawn_is : (stop : Option (ℕ × Halt)) (advert : Advert) (steps : List (List Step)) (shown : List Entry) (last : Last)
       → IsLeft digest s es left stop → s.contracts ≡ advert ∷ []
       → steps ≡ translated s (map (λ r. r.event) left.trace) → shown ≡ entries_by left.trace steps → last ≡ last_of (ending s es)
       → prints (last_status last) (picture_text advert shown last) ≡ run_answer draw_text s es

@@ -1,51 +1,52 @@
 //! The picture of a run that is played.
 
-ghost use Rattle.std.specs.Prelude.{◌≡◌, ◌≤◌, ◌∷◌, [], length, IfOk};
+ghost use Rattle.std.specs.Prelude.{◌≡◌, ◌≤◌, ◌∷◌, [], length, option_map, Some, IfOk};
 ghost use Rattle.spec_text.specs.Limits.{most_events};
 ghost use Rattle.spec_text.specs.Played.{halted, ending};
 ghost use Rattle.theory_text.specs.RunFiles.{IsReadRun};
 ghost use Rattle.spec_tool.specs.Commands.{prints, run_answer, setup_of};
 ghost use Rattle.bitml_command.specs.Seen.{printed};
 ghost use Rattle.bm_world.specs.Playing.{setup_in};
-ghost use Rattle.bitml_play.specs.Going.{halt_of};
+ghost use Rattle.bm_world.specs.Halts.{halt_of};
 ghost use Rattle.bitml_play.specs.Whole.{IsLeft};
 ghost use Rattle.spec_picture.specs.Picture.{picture_text};
 ghost use Rattle.spec_picture.specs.Drawing as spec;
 
 use bitml_command::Reply;
 use bitml_draw_picture::{Last, draw};
-use bitml_play::{Played, Stop, play};
+use bitml_play::play;
 use bitml_reply::let_go;
 use bitml_shows::entries_by;
 use bm_hash::Hash32;
 use bm_translate_course::translate;
 use bm_wellformed::Checked;
-use bm_world::World;
+use bm_world::{Halt, World};
 use spec_data::{Bytes, OutOfMemory};
 use spec_run::{Event, Run};
 use spec_text::Entry;
-use std::alloc::Global;
+use std::alloc::{AllocError, Global};
 
 // How a run ends whose event was halted by this.
-fn halted_by(event: Event, stop: Stop) -> Last
-    ensures { result ≡ spec.last_of (halted event (halt_of stop)) }
+fn halted_by(event: Event, halt: Halt) -> Result<Last, OutOfMemory>
+    ensures { IfOk result (λ last. Some last ≡ option_map (λ h. spec.last_of (halted event h)) (halt_of halt)) }
 {
-    match stop {
-        Stop::Collided(_, _) => Last::Collided(Some(event)),
-        Stop::Guessed(party, secret) => Last::Guessed {
+    match halt {
+        Halt::Collided(_, _) => Ok(Last::Collided(Some(event))),
+        Halt::Guessed { party, secret } => Ok(Last::Guessed {
             event,
             party,
             secret,
-        },
+        }),
+        Halt::Memory => Err(AllocError),
     }
 }
 
 // How a run ends whose event was halted.
-fn halted_last(alloc: Global, event: &Event, stop: Stop) -> Result<Last, OutOfMemory>
-    ensures { IfOk result (λ last. last ≡ spec.last_of (halted event.now (halt_of stop))) }
+fn halted_last(alloc: Global, event: &Event, halt: Halt) -> Result<Last, OutOfMemory>
+    ensures { IfOk result (λ last. Some last ≡ option_map (λ h. spec.last_of (halted event.now h)) (halt_of halt)) }
 {
     let event = event.copy(alloc)?;
-    Ok(halted_by(event, stop))
+    halted_by(event, halt)
 }
 
 // How a run of these events ended that left this world.
@@ -53,14 +54,14 @@ fn last_by<H: Hash32 + Drop>(
     alloc: Global,
     world: &World<H>,
     events: &[Event],
-    stop: Option<(usize, Stop)>,
+    stop: Option<(usize, Halt)>,
 ) -> Result<Last, OutOfMemory>
     requires { IsLeft H.digest_of (setup_in H.digest_of world.now) events.now world.now stop }
     ensures { IfOk result (λ last. last ≡ spec.last_of (ending (setup_in H.digest_of world.now) events.now)) }
 {
     match stop {
         None => Ok(Last::Whole),
-        Some((number, stop)) => halted_last(alloc, &events[number], stop),
+        Some((number, halt)) => halted_last(alloc, &events[number], halt),
     }
 }
 
@@ -98,7 +99,7 @@ fn left_reply<H: Hash32 + Drop>(
     contract: &Checked,
     world: &World<H>,
     events: &[Event],
-    stop: Option<(usize, Stop)>,
+    stop: Option<(usize, Halt)>,
 ) -> Result<Reply, OutOfMemory>
     requires left { IsLeft H.digest_of (setup_in H.digest_of world.now) events.now world.now stop }
     requires contract { (setup_in H.digest_of world.now).contracts ≡ contract.now ∷ [] }
@@ -124,10 +125,10 @@ pub(crate) fn draw_reply<H: Hash32 + Drop>(
         ≡ run_answer spec.draw_text (setup_of (H.digest_of hash) run.now contracts.items) run.now.events) }
 {
     let contract = contracts[0].copy(alloc)?;
-    let played = play(alloc, hash, run, contracts)?;
-    match played {
-        Played::Unopened(_, _) => picture_reply(alloc, &contract, &[], &Last::Collided(None)),
-        Played::Opened(world, stop) => {
+    match play(alloc, hash, run, contracts) {
+        Err(Halt::Collided(_, _)) => { picture_reply(alloc, &contract, &[], &Last::Collided(None)) }
+        Err(_) => Err(AllocError),
+        Ok((world, stop)) => {
             let reply = left_reply(alloc, &contract, &world, run.events.as_slice(), stop);
             let_go(world);
             reply

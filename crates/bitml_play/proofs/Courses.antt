@@ -16,8 +16,9 @@ use Rattle.spec_run.specs.Translation.{Turn, turns_from, turn_of, world_after, l
 use Rattle.bm_world_opening.specs.Opening.{setup_with}
 use Rattle.bm_world.specs.Playing as world
 use Rattle.bm_world.specs.Playing.{setup_in}
-use Rattle.bm_world.specs.Starting.{Opens}
-use Rattle.bitml_play.specs.declared.stop.Stop.{Stop}
+use Rattle.bm_world.specs.Starting.{Opens, Unopened}
+use Rattle.bm_world.specs.declared.halt.Halt.TheVariants.{Memory}
+use Rattle.bm_world.specs.declared.halt.Halt.{Halt}
 use Rattle.bitml_play.specs.Going.{record_passed, Plays}
 use Rattle.bitml_play.specs.Whole.{IsLeft}
 use Rattle.bitml_play.proofs.OneByOne.{setup_same}
@@ -39,7 +40,7 @@ trace_is s es = records_of s (world_after (opening_world s) (played s es).passed
 last_is : (s : Setup) (es : List Event) → last_world s es ≡ world_after (opening_world s) (played s es).passed
 last_is s es = last_left s (world_after (opening_world s) (played s es).passed).posted (opening_configuration s) (opening_world s) (played s es).passed
 
-module _ {H : Type 0} (digest : H → List ℕ → List ℕ) (hash : H) (header : Header) (contracts : List Advert) (old new : world.Played H) (es : List Event) (stop : Option (ℕ × Stop)) where
+module _ {H : Type 0} (digest : H → List ℕ → List ℕ) (hash : H) (header : Header) (contracts : List Advert) (old new : world.Played H) (es : List Event) (stop : Option (ℕ × Halt)) where
   pub left_is : IsSetup (setup_with (digest hash) header contracts) → AllByRecursion (IsEvent (setup_with (digest hash) header contracts)) es
       → Opens digest hash header contracts old → Plays digest old new es stop → IsLeft digest (setup_with (digest hash) header contracts) es new stop
   left_is setup events o h =
@@ -55,3 +56,7 @@ module _ {H : Type 0} (digest : H → List ℕ → List ℕ) (hash : H) (header 
         world = p.left ∙ ap (λ (w : World). record w { hashed = new.world.hashed }) (sym (last_is s es));
         whole = λ e. p.whole e ∙ sym (last_is s es);
       }
+
+-- memory was short
+pub short_opening : (s : Setup) → Unopened s Memory
+short_opening s = record { collided = λ earlier later x. cc; unguessed = λ party secret x. cc }

@@ -1,6 +1,7 @@
 -- Events that are played one after another make a run.
 use Rattle.std.proofs.Common.{◌≡◌, ℕ, List, [], ◌∷◌, ◌++◌, map, Option, Some, None, refl, sym, ap, subst, ◌∙◌, append_assoc, append-nil, ◌+◌, ◌<◌, ◌≤◌, length, length-append, arith, zero, suc, drop, get_or, add-one}
-use Rattle.std.specs.Prelude.{slice_get}
+use Rattle.std.specs.Prelude.{slice_get, option_map, Result, Ok, Err, IfOk}
+use Rattle.std.proofs.lemmas.Option.{none-some, same_Some}
 use Rattle.std.proofs.Math.Seq.{drop-cons}
 use Rattle.std.proofs.Math.ListN.{drop_of_length-le}
 use Rattle.std.proofs.lemmas.List.{map-append, length-map}
@@ -8,13 +9,17 @@ use Rattle.spec_run.specs.declared.event.Event.{Event}
 use Rattle.spec_run.specs.declared.outcome.Record.{Record}
 use Rattle.spec_run.specs.Setup.{Setup}
 use Rattle.spec_run.specs.World.{World}
-use Rattle.spec_run.specs.Draft.{Answer, Draft, Went, Halted, Halt}
+use Rattle.spec_run.specs.Draft.{Answer, Draft, Went, Halted}
+use Rattle.spec_run.specs.Draft as run
 use Rattle.spec_run.specs.Event.{Passed, Progress, onto_passed, goes_on, played_from, record_of, event, draft}
 use Rattle.spec_run.specs.Translation.{world_after}
 use Rattle.bm_world.specs.Playing as world
-use Rattle.bm_world.specs.Playing.{most_records, setup_in, SameSetup}
-use Rattle.bitml_play.specs.declared.stop.Stop.{Stop}
-use Rattle.bitml_play.specs.Going.{halt_of, GoesOn, Stops, Steps, record_passed, behind, Midway, StopIs, Plays}
+use Rattle.bm_world.specs.Playing.{most_records, setup_in, SameSetup, Stopped}
+use Rattle.bm_world.specs.Halts.{halt_of}
+use Rattle.bm_world.specs.declared.halt.Halt.{Halt}
+use Rattle.bm_world.specs.declared.halt.Halt.TheVariants.{Memory}
+use Rattle.bm_world.proofs.Stopped.{halt_named}
+use Rattle.bitml_play.specs.Going.{GoesOn, Stops, Steps, record_passed, behind, Midway, StopIs, Plays}
 
 -- ---- lists of events that went on
 
@@ -41,6 +46,31 @@ setup_same digest old new h = λ i. record { hash = digest (h.hasher i); header 
 
 same_again : {H : Type 0} (old mid new : world.Played H) → SameSetup old mid → SameSetup mid new → SameSetup old new
 same_again old mid new h k = record { hasher = k.hasher ∙ h.hasher; header = k.header ∙ h.header; contracts = k.contracts ∙ h.contracts }
+
+-- ---- one event
+
+-- it was halted by this
+halt_there : (o : Option run.Halt) (a : Answer) → Some a ≡ option_map Halted o → (h : run.Halt) × (o ≡ Some h) × (a ≡ Halted h)
+halt_there None a e = absurd (none-some a (sym e))
+halt_there (Some h) a e = (h, refl, same_Some a (Halted h) e)
+
+pub stops_by : {H : Type 0} (digest : H → List ℕ → List ℕ) (old new : world.Played H) (e : Event) (halt : Halt) → old.halt ≡ None
+    → Stopped digest old new e halt → (halt ≡ Memory → ⊥) → Steps digest old new e (Some halt)
+stops_by digest old new e halt going h other =
+    let n = halt_named halt other in
+    record {
+      setup = h.setup;
+      stopped = ap Some ((h.cause going).cause n.0 n.1) ∙ ap (option_map Halted) (sym n.1);
+      left = h.kept;
+      trace = h.trace;
+    }
+
+pub stops_here_by : {H E : Type 0} (digest : H → List ℕ → List ℕ) (old new : world.Played H) (e : Event) (halt : Halt)
+    (r : Result (Option Halt) E) → old.halt ≡ None → Stopped digest old new e halt → IfOk r (λ stop. stop ≡ Some halt)
+    → IfOk r (λ stop. halt ≡ Memory → ⊥) → IfOk r (Steps digest old new e)
+stops_here_by digest old new e halt (Err x) going h is other = tt
+stops_here_by digest old new e halt (Ok stop) going h is other =
+    subst (Steps digest old new e) (sym is) (stops_by digest old new e halt going h other)
 
 -- ---- one event more
 
@@ -104,12 +134,13 @@ module _ {H : Type 0} (digest : H → List ℕ → List ℕ) (old mid new : worl
             ∙ ap (λ (rs : List Record). old.trace ++ rs) (sym (map-append record_passed m.front (one ∷ [])));
       }
 
-  pub no_more : (n : ℕ) (stop : Stop) → slice_get es n ≡ Some e → Stops digest mid new e stop → Plays digest old new es (Some (n, stop))
-  no_more n stop at g =
+  pub no_more : (n : ℕ) (halt : Halt) → slice_get es n ≡ Some e → Stops digest mid new e halt → Plays digest old new es (Some (n, halt))
+  no_more n halt at g =
       let same : setup_in digest mid ≡ s = setup_same digest old mid m.setup in
-      let stopped : event s mid.world e ≡ Halted (halt_of stop) =
-      subst (λ (t : Setup). event t mid.world e ≡ Halted (halt_of stop)) same g.stopped in
-      let last : Progress = record { passed = []; halt = Some (e, halt_of stop) } in
+      let k = halt_there (halt_of halt) (event (setup_in digest mid) mid.world e) g.stopped in
+      let stopped : event s mid.world e ≡ Halted (k.0) =
+      subst (λ (t : Setup). event t mid.world e ≡ Halted (k.0)) same (k.2) in
+      let last : Progress = record { passed = []; halt = Some (e, k.0) } in
       let whole : played_from s old.world es ≡ behind m.front last =
       m.joined ∙ ap (λ (a : Answer). behind m.front (goes_on e a (λ next. played_from s next rest))) stopped in
       let passed : (played_from s old.world es).passed ≡ m.front =
@@ -117,7 +148,7 @@ module _ {H : Type 0} (digest : H → List ℕ → List ℕ) (old mid new : worl
       record {
         setup = same_again old mid new m.setup g.setup;
         going = λ e. absurd (cc);
-        stops = (e, at, ap (λ (p : Progress). p.halt) whole ∙ halt-behind m.front last);
+        stops = (e, k.0, at, k.1, ap (λ (p : Progress). p.halt) whole ∙ halt-behind m.front last);
         trace = g.trace ∙ m.trace ∙ ap (λ (ps : List Passed). old.trace ++ map record_passed ps) (sym passed);
         left = g.left ∙ ap (λ (w : World). record w { hashed = new.world.hashed }) (sym m.left ∙ ap (world_after old.world) (sym passed));
         whole = λ e. absurd (cc);
@@ -128,10 +159,10 @@ module _ {H : Type 0} (digest : H → List ℕ → List ℕ) (old mid new : worl
   midway : Midway digest old mid es (e ∷ drop (n + 1) es)
   midway = subst (Midway digest old mid es) (rest_is es n e less here) m
 
-  pub goes_to_next : (o : Option Stop) → o ≡ None → Steps digest mid new e o → Midway digest old new es (drop (n + 1) es)
+  pub goes_to_next : (o : Option Halt) → o ≡ None → Steps digest mid new e o → Midway digest old new es (drop (n + 1) es)
   goes_to_next o is g = one_more digest old mid new es (drop (n + 1) es) e midway (subst (Steps digest mid new e) is g)
 
-  pub stops_here : (o : Option Stop) (stop : Stop) → o ≡ Some stop → Steps digest mid new e o → Plays digest old new es (Some (n, stop))
+  pub stops_here : (o : Option Halt) (stop : Halt) → o ≡ Some stop → Steps digest mid new e o → Plays digest old new es (Some (n, stop))
   stops_here o stop is g = no_more digest old mid new es (drop (n + 1) es) e midway n stop (found_at es n e less here) (subst (Steps digest mid new e) is g)
 
 -- after the last event

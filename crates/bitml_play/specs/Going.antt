@@ -4,28 +4,15 @@ use Rattle.spec_run.specs.declared.event.Event.{Event}
 use Rattle.spec_run.specs.declared.outcome.Record.{Record}
 use Rattle.spec_run.specs.Setup.{Setup}
 use Rattle.spec_run.specs.World.{World}
-use Rattle.spec_run.specs.Draft.{Halt, Halted}
+use Rattle.spec_run.specs.Draft.{Halted}
 use Rattle.spec_run.specs.Draft as draft
 use Rattle.spec_run.specs.Event as run
 use Rattle.spec_run.specs.Event.{Passed, Progress, onto_passed, played_from, record_of}
 use Rattle.spec_run.specs.Translation.{world_after}
 use Rattle.bm_world.specs.Playing as world
 use Rattle.bm_world.specs.Playing.{setup_in, SameSetup}
-use Rattle.bm_world.specs.declared.halt.Halt as world_halts
-use Rattle.bm_world.specs.declared.halt.Halt.TheVariants as halts
-use Rattle.bitml_play.specs.declared.stop.Stop.{Stop}
-use Rattle.bitml_play.specs.declared.stop.Stop.TheVariants.{Collided, Guessed}
-
--- what an event is halted by, as the definitions have it
-abbrev pub halt_of : Stop → Halt
-halt_of (Collided earlier later) = draft.Collided earlier later
-halt_of (Guessed party secret) = draft.Guessed party secret
-
--- what a world's answer says of it, where these two messages have one digest
-abbrev pub stop_by : world_halts.Halt → Option (List ℕ × List ℕ) → Option Stop
-stop_by halts.Collided pair = option_map (λ p. Collided (p.0) (p.1)) pair
-stop_by (halts.Guessed party secret) pair = Some (Guessed party secret)
-stop_by halts.Memory pair = None
+use Rattle.bm_world.specs.Halts.{halt_of}
+use Rattle.bm_world.specs.declared.halt.Halt.{Halt}
 
 -- ---- one event
 
@@ -37,15 +24,15 @@ pub record GoesOn {H : Type 0} (digest : H → List ℕ → List ℕ) (old new :
   pub trace : new.trace ≡ old.trace ++ record_of e (run.draft (setup_in digest old) old.world e) ∷ []
 
 -- it was halted by this, and nothing changed but the messages that were hashed
-pub record Stops {H : Type 0} (digest : H → List ℕ → List ℕ) (old new : world.Played H) (e : Event) (stop : Stop) : Type 0 where
+pub record Stops {H : Type 0} (digest : H → List ℕ → List ℕ) (old new : world.Played H) (e : Event) (halt : Halt) : Type 0 where
   pub setup : SameSetup old new
-  pub stopped : run.event (setup_in digest old) old.world e ≡ Halted (halt_of stop)
+  pub stopped : Some (run.event (setup_in digest old) old.world e) ≡ option_map Halted (halt_of halt)
   pub left : new.world ≡ record old.world { hashed = new.world.hashed }
   pub trace : new.trace ≡ old.trace
 
-abbrev pub Steps : {H : Type 0} → (H → List ℕ → List ℕ) → world.Played H → world.Played H → Event → Option Stop → Type 0
+abbrev pub Steps : {H : Type 0} → (H → List ℕ → List ℕ) → world.Played H → world.Played H → Event → Option Halt → Type 0
 Steps digest old new e None = GoesOn digest old new e
-Steps digest old new e (Some stop) = Stops digest old new e stop
+Steps digest old new e (Some halt) = Stops digest old new e halt
 
 -- ---- several
 
@@ -68,12 +55,13 @@ pub record Midway {H : Type 0} (digest : H → List ℕ → List ℕ) (old now :
   pub trace : now.trace ≡ old.trace ++ map record_passed front
 
 -- the halt of these events, with its event
-abbrev pub StopIs : List Event → Option (ℕ × Stop) → Option (Event × Halt) → Type 0
-StopIs es None halt = halt ≡ None
-StopIs es (Some stop) halt = (e : Event) × (slice_get es (stop.0) ≡ Some e) × (halt ≡ Some (e, halt_of (stop.1)))
+abbrev pub StopIs : List Event → Option (ℕ × Halt) → Option (Event × draft.Halt) → Type 0
+StopIs es None first = first ≡ None
+StopIs es (Some stop) first =
+    (e : Event) × (h : draft.Halt) × (slice_get es (stop.0) ≡ Some e) × (halt_of (stop.1) ≡ Some h) × (first ≡ Some (e, h))
 
 -- how a run of events left a world that they were played from: stopped as is said, and everything recorded
-pub record Plays {H : Type 0} (digest : H → List ℕ → List ℕ) (old new : world.Played H) (es : List Event) (stop : Option (ℕ × Stop)) : Type 0 where
+pub record Plays {H : Type 0} (digest : H → List ℕ → List ℕ) (old new : world.Played H) (es : List Event) (stop : Option (ℕ × Halt)) : Type 0 where
   pub setup : SameSetup old new
   -- the world isn't halted where none of these events was
   pub going : stop ≡ None → new.halt ≡ None

@@ -3,7 +3,5 @@
 
 mod events;
 mod played;
-mod stop;
 
-pub use played::{Played, play};
-pub use stop::Stop;
+pub use played::play;

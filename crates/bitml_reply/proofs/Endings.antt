@@ -1,22 +1,28 @@
 -- How runs end, by what halts them.
-use Rattle.std.proofs.Common.{◌≡◌, ℕ, List, Some, None, sym, ap, subst, ◌∙◌}
+use Rattle.std.proofs.Common.{◌≡◌, ℕ, List, Some, None, Result, refl, sym, ap, subst, ◌∙◌}
+use Rattle.std.specs.Prelude.{IfOk}
+use Rattle.std.proofs.lemmas.Option.{none-some, same_Some}
+use Rattle.std.proofs.lemmas.Result.{IfOk-weaker}
 use Rattle.spec_run.specs.declared.event.Event.{Event}
 use Rattle.spec_run.specs.Setup.{Setup}
-use Rattle.spec_run.specs.Draft.{Halt, Collided, Guessed}
+use Rattle.spec_run.specs.Draft as run
 use Rattle.spec_run.specs.Event.{opening_collision}
 use Rattle.spec_run.specs.Translation.{course, end_world, end_configuration, first_halt}
 use Rattle.spec_text.specs.PlanText.{unless_halted}
 use Rattle.spec_text.specs.PlayText as shown
 use Rattle.spec_text.specs.PlayText.{Ending, collided_line, guessed_line}
 use Rattle.spec_text.specs.Played.{halted, ending_by, ending_from, end_of, ending}
-use Rattle.spec_tool.specs.Commands.{prints, ending_status}
+use Rattle.spec_tool.specs.Commands.{Printed, prints, ending_status}
 use Rattle.bitml_command.specs.Seen.{printed}
 use Rattle.bitml_command.specs.declared.reply.Reply.{Reply}
 use Rattle.bm_world.specs.Playing as world
-use Rattle.bitml_play.specs.declared.stop.Stop.{Stop}
-use Rattle.bitml_play.specs.declared.stop.Stop.TheVariants as stops
+use Rattle.bm_world.specs.declared.halt.Halt.{Halt}
+use Rattle.bm_world.specs.declared.halt.Halt.TheVariants.{Collided, Guessed, Memory}
+use Rattle.bm_world.specs.Halts.{halt_of}
+use Rattle.bm_world.specs.Starting.{Unopened}
 use Rattle.bitml_play.specs.Whole.{IsLeft}
-use Rattle.bitml_reply.specs.Last.{stop_printed, IsHalted, IsWhole}
+use Rattle.bitml_reply.specs.Halting.{halt_printed}
+use Rattle.bitml_reply.specs.Last.{IsHalted, IsHaltedBy, IsWhole}
 
 -- ---- how a run ends
 
@@ -25,7 +31,7 @@ pub unopened_is : (s : Setup) (es : List Event) (earlier later : List ℕ) → o
 unopened_is s es earlier later e = ap (λ o. ending_from (end_world s (course s es)) (end_configuration s (course s es)) o (first_halt s es)) e
 
 -- an event is halted
-pub halted_is : (s : Setup) (es : List Event) (e : Event) (halt : Halt) → opening_collision s ≡ None → first_halt s es ≡ Some (e, halt) → ending s es ≡ halted e halt
+pub halted_is : (s : Setup) (es : List Event) (e : Event) (halt : run.Halt) → opening_collision s ≡ None → first_halt s es ≡ Some (e, halt) → ending s es ≡ halted e halt
 halted_is s es e halt opens h =
     ap (λ o. ending_from (end_world s (course s es)) (end_configuration s (course s es)) o (first_halt s es)) opens
     ∙ ap (ending_by (end_world s (course s es)) (end_configuration s (course s es))) h
@@ -47,22 +53,43 @@ of_ending s es reply end e h =
     let k : OfEnding (ending s es) reply = subst (λ (x : Ending). OfEnding x reply) (sym e) h in
     record { halted = k.0; replied = k.1 }
 
-pub unopened_reply : (s : Setup) (es : List Event) (reply : Reply) (earlier later : List ℕ) → opening_collision s ≡ Some (earlier, later)
-    → printed reply ≡ prints 8 (collided_line earlier later) → IsHalted s es reply
-unopened_reply s es reply earlier later e h =
-    of_ending s es reply (shown.collided None earlier later) (unopened_is s es earlier later e) ((λ f. absurd (cc)), λ text. h)
+-- the reply of a halt
+told_of : (reply : Reply) (told : Printed) → Some (printed reply) ≡ Some told → printed reply ≡ told
+told_of reply told e = same_Some (printed reply) told e
 
-collided_reply : {H : Type 0} (digest : H → List ℕ → List ℕ) (s : Setup) (es : List Event) (left : world.Played H) (reply : Reply) (n : ℕ) (earlier later : List ℕ)
-    → IsLeft digest s es left (Some (n, stops.Collided earlier later)) → printed reply ≡ prints 8 (collided_line earlier later) → IsHalted s es reply
-collided_reply digest s es left reply n earlier later l h =
-    let k = l.stops in
-    of_ending s es reply (shown.collided (Some (k.0)) earlier later) (halted_is s es (k.0) (Collided earlier later) l.run.opens (k.2)) ((λ f. absurd (cc)), λ text. h)
+-- the opening collided
+pub unopened_halts : (s : Setup) (es : List Event) (halt : Halt) → Unopened s halt → IsHaltedBy s es halt
+unopened_halts s es (Collided earlier later) u reply told =
+    of_ending s es reply (shown.collided None earlier later) (unopened_is s es earlier later (u.collided earlier later refl))
+    ((λ f. absurd (cc)), λ text. told_of reply (prints 8 (collided_line earlier later)) told)
+unopened_halts s es (Guessed party secret) u reply told = absurd (u.unguessed party secret refl)
+unopened_halts s es Memory u reply told = absurd (none-some (printed reply) (sym told))
 
-guessed_reply : {H : Type 0} (digest : H → List ℕ → List ℕ) (s : Setup) (es : List Event) (left : world.Played H) (reply : Reply) (n : ℕ) (party secret : List ℕ)
-    → IsLeft digest s es left (Some (n, stops.Guessed party secret)) → printed reply ≡ prints 7 (guessed_line party secret) → IsHalted s es reply
-guessed_reply digest s es left reply n party secret l h =
+-- an event was halted
+pub stopped_ending : {H : Type 0} (digest : H → List ℕ → List ℕ) (s : Setup) (es : List Event) (left : world.Played H) (n : ℕ) (halt : Halt)
+    → (l : IsLeft digest s es left (Some (n, halt))) → (h : run.Halt) → halt_of halt ≡ Some h → ending s es ≡ halted (l.stops.0) h
+stopped_ending digest s es left n halt l h named =
     let k = l.stops in
-    of_ending s es reply (shown.guessed (k.0) party secret) (halted_is s es (k.0) (Guessed party secret) l.run.opens (k.2)) ((λ f. absurd (cc)), λ text. h)
+    let same : k.1 ≡ h = same_Some (k.1) h (sym (k.3) ∙ named) in
+    halted_is s es (k.0) h l.run.opens (k.4 ∙ ap (λ x. Some (k.0, x)) same)
+
+pub stopped_halts : {H : Type 0} (digest : H → List ℕ → List ℕ) (s : Setup) (es : List Event) (left : world.Played H) (n : ℕ) (halt : Halt)
+    → IsLeft digest s es left (Some (n, halt)) → IsHaltedBy s es halt
+stopped_halts digest s es left n (Collided earlier later) l reply told =
+    of_ending s es reply (shown.collided (Some (l.stops.0)) earlier later)
+    (stopped_ending digest s es left n (Collided earlier later) l (run.Collided earlier later) refl)
+    ((λ f. absurd (cc)), λ text. told_of reply (prints 8 (collided_line earlier later)) told)
+stopped_halts digest s es left n (Guessed party secret) l reply told =
+    of_ending s es reply (shown.guessed (l.stops.0) party secret)
+    (stopped_ending digest s es left n (Guessed party secret) l (run.Guessed party secret) refl)
+    ((λ f. absurd (cc)), λ text. told_of reply (prints 7 (guessed_line party secret)) told)
+stopped_halts digest s es left n Memory l reply told = absurd (none-some (printed reply) (sym told))
+
+-- what is replied then
+pub halted_told : {E : Type 0} (r : Result Reply E) (s : Setup) (es : List Event) (halt : Halt) (Q : Reply → Type 0) → IsHaltedBy s es halt
+    → IfOk r (λ reply. Some (printed reply) ≡ halt_printed halt) → ((reply : Reply) → IsHalted s es reply → Q reply) → IfOk r Q
+halted_told r s es halt Q h told q =
+    IfOk-weaker r (λ reply. Some (printed reply) ≡ halt_printed halt) Q (λ reply t. q reply (h reply t)) told
 
 pub whole_left : {H : Type 0} (digest : H → List ℕ → List ℕ) (s : Setup) (es : List Event) (left : world.Played H) → IsLeft digest s es left None → IsWhole digest s es left
 whole_left digest s es left l =
@@ -72,8 +99,3 @@ whole_left digest s es left l =
       told = λ text. ap (λ (x : Ending). unless_halted x text) e;
       left_is = l;
     }
-
-pub stopped_reply : {H : Type 0} (digest : H → List ℕ → List ℕ) (s : Setup) (es : List Event) (left : world.Played H) (reply : Reply) (n : ℕ) (stop : Stop)
-    → IsLeft digest s es left (Some (n, stop)) → printed reply ≡ stop_printed stop → IsHalted s es reply
-stopped_reply digest s es left reply n (stops.Collided earlier later) l h = collided_reply digest s es left reply n earlier later l h
-stopped_reply digest s es left reply n (stops.Guessed party secret) l h = guessed_reply digest s es left reply n party secret l h

@@ -1,6 +1,7 @@
 -- What is read off the world that a run left.
 use Rattle.std.proofs.Common.{◌≡◌, ℕ, ◌<◌, ◌^◌, List, length, map, Option, Some, None, refl, sym, ap, subst, ◌∙◌}
 use Rattle.std.specs.Prelude.{slice_get, option_map}
+use Rattle.std.proofs.lemmas.Option.{same_Some}
 use Rattle.spec_bitcoin.specs.Live.{Chain}
 use Rattle.spec_calculus.specs.declared.step.Step.{Step}
 use Rattle.spec_calculus.specs.Configuration.{Configuration}
@@ -15,18 +16,18 @@ use Rattle.spec_text.specs.PlayText.{Ending, whole}
 use Rattle.spec_text.specs.Played.{entries, ending, halted, live_outputs}
 use Rattle.bm_world.specs.Playing as world
 use Rattle.bm_world.specs.Playing.{setup_in}
-use Rattle.bitml_play.specs.declared.stop.Stop.{Stop}
-use Rattle.bitml_play.specs.Going.{halt_of}
+use Rattle.bm_world.specs.declared.halt.Halt.{Halt}
+use Rattle.bm_world.specs.Halts.{halt_of}
 use Rattle.bitml_play.specs.Whole.{IsLeft}
-use Rattle.bitml_shows.specs.Entries.{entries_by}
+use Rattle.bm_report.specs.Entries.{entries_by}
 use Rattle.bitml_shows.specs.Live.{number_and_value}
 use Rattle.bitml_shows.proofs.Shown.{live_of_chain}
 use Rattle.bitml_reply.specs.Counted.{run_counts}
 use Rattle.bitml_reply.proofs.Contracts.{contracts_are_few}
-use Rattle.bitml_reply.proofs.Endings.{halted_is, whole_is}
+use Rattle.bitml_reply.proofs.Endings.{stopped_ending, whole_is}
 use Rattle.bitml_reply.proofs.Reports.{recorded, steps_are, configuration_is, one_each, entries_are, whole_end}
 
-module _ {H : Type 0} (digest : H → List ℕ → List ℕ) (s : Setup) (es : List Event) (left : world.Played H) (stop : Option (ℕ × Stop)) (l : IsLeft digest s es left stop) where
+module _ {H : Type 0} (digest : H → List ℕ → List ℕ) (s : Setup) (es : List Event) (left : world.Played H) (stop : Option (ℕ × Halt)) (l : IsLeft digest s es left stop) where
   -- it is left by these events of its own setup
   pub of_its_own : IsLeft digest (setup_in digest left) es left stop
   of_its_own = subst (λ (t : Setup). IsLeft digest t es left stop) (sym l.setup) l
@@ -53,12 +54,14 @@ module _ {H : Type 0} (digest : H → List ℕ → List ℕ) (s : Setup) (es : L
 
 -- ---- of a run that was halted
 
-module _ {H : Type 0} (digest : H → List ℕ → List ℕ) (s : Setup) (es : List Event) (left : world.Played H) (n : ℕ) (stop : Stop) (l : IsLeft digest s es left (Some (n, stop))) where
+module _ {H : Type 0} (digest : H → List ℕ → List ℕ) (s : Setup) (es : List Event) (left : world.Played H) (n : ℕ) (halt : Halt) (l : IsLeft digest s es left (Some (n, halt))) where
   -- the event that was halted is there
-  pub event_is : (e : Event) → slice_get es n ≡ Some e → ending s es ≡ halted e (halt_of stop)
-  event_is e at =
-      halted_is s es e (halt_of stop) l.run.opens
-      (l.stops.2 ∙ ap (λ (o : Option Event). option_map (λ (x : Event). (x, halt_of stop)) o) (sym l.stops.1 ∙ at))
+  pub event_is : (e : Event) (end : Ending) → slice_get es n ≡ Some e → Some end ≡ option_map (halted e) (halt_of halt) → end ≡ ending s es
+  event_is e end at told =
+      let k = l.stops in
+      let same : k.0 ≡ e = same_Some (k.0) e (sym (k.2) ∙ at) in
+      let is : end ≡ halted e (k.1) = same_Some end (halted e (k.1)) (told ∙ ap (option_map (halted e)) (k.3)) in
+      is ∙ ap (λ x. halted x (k.1)) (sym same) ∙ sym (stopped_ending digest s es left n halt l (k.1) (k.3))
 
 -- ---- of one that wasn't
 

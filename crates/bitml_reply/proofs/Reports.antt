@@ -1,5 +1,7 @@
 -- What `play` answers, by the end of a run and its entries.
-use Rattle.std.proofs.Common.{◌≡◌, ℕ, List, length, map, Some, sym, ap, ◌∙◌}
+use Rattle.std.proofs.Common.{◌≡◌, ℕ, List, length, map, Some, Result, Ok, Err, refl, sym, ap, ◌∙◌}
+use Rattle.std.specs.Prelude.{IfOk}
+use Rattle.std.proofs.lemmas.Option.{none-some, same_Some}
 use Rattle.std.proofs.lemmas.List.{length-map}
 use Rattle.spec_calculus.specs.declared.step.Step.{Step}
 use Rattle.spec_calculus.specs.Configuration.{Configuration}
@@ -15,22 +17,37 @@ use Rattle.spec_text.specs.declared.entry.Entry.{Entry}
 use Rattle.spec_text.specs.PlayText.{Ending, whole, collided_line, report_text}
 use Rattle.spec_text.specs.Played.{entries, ending, end_of, play_text}
 use Rattle.spec_tool.specs.Commands.{prints, ending_status, run_answer}
+use Rattle.bitml_command.specs.Seen.{printed}
+use Rattle.bitml_command.specs.declared.reply.Reply.{Reply}
+use Rattle.bm_world.specs.declared.halt.Halt.{Halt}
+use Rattle.bm_world.specs.declared.halt.Halt.TheVariants.{Collided, Guessed, Memory}
+use Rattle.bm_world.specs.Starting.{Unopened}
 use Rattle.bm_world.specs.Playing as world
 use Rattle.bitml_play.specs.Going.{record_passed}
 use Rattle.bitml_play.proofs.Again.{same_steps, same_configuration}
 use Rattle.bitml_play.proofs.Courses.{trace_is}
-use Rattle.bitml_shows.specs.Entries.{entries_by}
+use Rattle.bm_report.specs.Entries.{entries_by}
 use Rattle.bitml_shows.specs.Live.{number_and_value}
 use Rattle.bitml_shows.proofs.Shown.{entries_of_turns, live_of_chain}
+use Rattle.bitml_reply.specs.Halting.{halt_printed}
 use Rattle.bitml_reply.proofs.Endings.{unopened_is}
 
 -- ---- the whole text
 
-pub unopened_answer : (s : Setup) (es : List Event) (earlier later : List ℕ) → opening_collision s ≡ Some (earlier, later)
+unopened_answer : (s : Setup) (es : List Event) (earlier later : List ℕ) → opening_collision s ≡ Some (earlier, later)
     → prints 8 (collided_line earlier later) ≡ run_answer play_text s es
 unfolding play_text
 unopened_answer s es earlier later e =
     sym (ap (λ (end : Ending). prints (ending_status end) (report_text s.header.deposits (entries s es) end)) (unopened_is s es earlier later e))
+
+pub unopened_told : {E : Type 0} (r : Result Reply E) (s : Setup) (es : List Event) (halt : Halt) → Unopened s halt
+    → IfOk r (λ reply. Some (printed reply) ≡ halt_printed halt) → IfOk r (λ reply. printed reply ≡ run_answer play_text s es)
+unopened_told (Err e) s es halt u told = tt
+unopened_told (Ok reply) s es (Collided earlier later) u told =
+    same_Some (printed reply) (prints 8 (collided_line earlier later)) told
+    ∙ unopened_answer s es earlier later (u.collided earlier later refl)
+unopened_told (Ok reply) s es (Guessed party secret) u told = absurd (u.unguessed party secret refl)
+unopened_told (Ok reply) s es Memory u told = absurd (none-some (printed reply) (sym told))
 
 pub left_answer : (s : Setup) (es : List Event) (shown : List Entry) (end : Ending) → shown ≡ entries s es → end ≡ ending s es
     → prints (ending_status end) (report_text s.header.deposits shown end) ≡ run_answer play_text s es

@@ -1,43 +1,23 @@
-//! What is replied where a call on a run's world halts.
+//! What is replied where a run halts.
 
-ghost use Rattle.std.specs.Prelude.{◌≡◌, Some, IsSome, IfOk, option_map};
-ghost use Rattle.bm_hash.specs.Messages.{evidence_of};
+ghost use Rattle.std.specs.Prelude.{◌≡◌, Some, IfOk};
 ghost use Rattle.bitml_command.specs.Seen.{printed};
-ghost use Rattle.bm_world.specs.declared.halt.Halt.TheVariants as halts;
-ghost use Rattle.bitml_reply.specs.Halting.{collided_printed, halt_printed};
+ghost use Rattle.bitml_reply.specs.Halting.{halt_printed};
 
 use bitml_command::Reply;
 use bitml_shows::{collided_reply, guessed_reply};
-use bm_hash::Hash32;
-use bm_world::{Halt, World};
+use bm_world::Halt;
 use spec_data::OutOfMemory;
 use std::alloc::{AllocError, Global};
 
-// The two messages that the world's trail shows.
-fn shown_reply<H: Hash32 + Drop>(alloc: Global, world: &World<H>) -> Result<Reply, OutOfMemory>
-    requires { IsSome (evidence_of (H.digest_of world.now.hasher) world.now.world.hashed) }
-    ensures { IfOk result (λ reply. Some (printed reply)
-        ≡ option_map collided_printed (evidence_of (H.digest_of world.now.hasher) world.now.world.hashed)) }
-{
-    match world.trail().evidence() {
-        Some((earlier, later)) => collided_reply(alloc, earlier, later),
-        None => unreachable!(),
-    }
-}
-
-/// What is replied where a call on this world halts so: the line of the two messages that its trail shows, or of the secret that is
-/// guessed.
-pub fn halt_reply<H: Hash32 + Drop>(
-    alloc: Global,
-    world: &World<H>,
-    halt: &Halt,
-) -> Result<Reply, OutOfMemory>
-    requires { halt.now ≡ halts.Collided → IsSome (evidence_of (H.digest_of world.now.hasher) world.now.world.hashed) }
-    ensures { IfOk result (λ reply. Some (printed reply)
-        ≡ halt_printed halt.now (evidence_of (H.digest_of world.now.hasher) world.now.world.hashed)) }
+/// What is replied where this halts a run: the line of the two messages that collide, or of the secret that is guessed.
+pub fn halt_reply(alloc: Global, halt: &Halt) -> Result<Reply, OutOfMemory>
+    ensures { IfOk result (λ reply. Some (printed reply) ≡ halt_printed halt.now) }
 {
     match halt {
-        Halt::Collided => shown_reply(alloc, world),
+        Halt::Collided(earlier, later) => {
+            collided_reply(alloc, earlier.as_slice(), later.as_slice())
+        }
         Halt::Guessed { party, secret } => guessed_reply(alloc, party, secret),
         Halt::Memory => Err(AllocError),
     }

@@ -10,7 +10,7 @@ mod psbt;
 mod weigh;
 
 pub use halting::halt_reply;
-pub use last::{Last, let_go, play_to_end};
+pub use last::{let_go, play_to_end};
 pub use made::made_reply;
 pub use plan::plan_reply;
 pub use play::play_reply;

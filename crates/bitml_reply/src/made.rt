@@ -13,7 +13,8 @@ ghost use Rattle.bm_world.specs.Playing.{setup_in};
 ghost use Rattle.bitml_play.specs.Whole.{IsLeft};
 ghost use Rattle.bitml_reply.specs.Counted.{run_counts};
 
-use crate::last::{Last, let_go, play_to_end};
+use crate::halting::halt_reply;
+use crate::last::{let_go, play_to_end};
 use bitml_command::Reply;
 use bitml_shows::live_outputs;
 use bm_hash::Hash32;
@@ -99,10 +100,9 @@ pub fn made_reply<H: Hash32 + Drop>(
     ensures { IfOk result (λ reply. printed reply
         ≡ run_answer spec.make_text (setup_of (H.digest_of hash) run.now contracts.items) run.now.events) }
 {
-    let last = play_to_end(alloc, hash, run, contracts)?;
-    match last {
-        Last::Halted(reply) => Ok(reply),
-        Last::Whole(world) => {
+    match play_to_end(alloc, hash, run, contracts) {
+        Err(halt) => halt_reply(alloc, &halt),
+        Ok(world) => {
             let reply = counted(alloc, &world, run.events.as_slice());
             let_go(world);
             reply

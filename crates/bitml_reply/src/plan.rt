@@ -10,7 +10,8 @@ ghost use Rattle.spec_tool.specs.Commands.{prints, run_answer, setup_of};
 ghost use Rattle.bitml_command.specs.Seen.{printed};
 ghost use Rattle.bm_world.specs.Playing.{setup_in};
 
-use crate::last::{Last, let_go, play_to_end};
+use crate::halting::halt_reply;
+use crate::last::{let_go, play_to_end};
 use bitml_command::Reply;
 use bm_hash::Hash32;
 use bm_plan::plan_text;
@@ -45,10 +46,9 @@ pub fn plan_reply<H: Hash32 + Drop>(
     ensures { IfOk result (λ reply. printed reply
         ≡ run_answer spec.plan_text (setup_of (H.digest_of hash) run.now contracts.items) run.now.events) }
 {
-    let last = play_to_end(alloc, hash, run, contracts)?;
-    match last {
-        Last::Halted(reply) => Ok(reply),
-        Last::Whole(world) => {
+    match play_to_end(alloc, hash, run, contracts) {
+        Err(halt) => halt_reply(alloc, &halt),
+        Ok(world) => {
             let reply = planned(alloc, &world);
             let_go(world);
             reply

@@ -1,6 +1,6 @@
 //! What `play` replies.
 
-ghost use Rattle.std.specs.Prelude.{◌≡◌, ◌≤◌, length, IfOk};
+ghost use Rattle.std.specs.Prelude.{◌≡◌, ◌≤◌, length, option_map, Some, IfOk};
 ghost use Rattle.spec_data.specs.Ranges.{most_contracts};
 ghost use Rattle.spec_run.specs.Translation as run_of;
 ghost use Rattle.spec_text.specs.Limits.{most_events};
@@ -11,50 +11,52 @@ ghost use Rattle.bitml_command.specs.Seen.{printed};
 ghost use Rattle.bm_report.specs.Endings.{ending_of, IsNumbered};
 ghost use Rattle.bm_translate_course.specs.Courses.{events_of};
 ghost use Rattle.bm_world.specs.Playing.{setup_in};
-ghost use Rattle.bitml_play.specs.Going.{halt_of};
+ghost use Rattle.bm_world.specs.Halts.{halt_of};
 ghost use Rattle.bitml_play.specs.Whole.{IsLeft};
 
+use crate::halting::halt_reply;
 use crate::last::let_go;
 use bitml_command::Reply;
-use bitml_play::{Played, Stop, play};
-use bitml_shows::{collided_reply, entries_by, report_reply, whole_ending};
+use bitml_play::play;
+use bitml_shows::{report_reply, whole_ending};
 use bm_calculus::Config;
 use bm_hash::Hash32;
 use bm_report::Ending;
 use bm_translate_course::translate;
 use bm_wellformed::Checked;
-use bm_world::World;
+use bm_world::{Halt, World};
 use spec_calculus::Step;
 use spec_data::{OutOfMemory, Seq};
 use spec_run::{Event, Run};
-use std::alloc::Global;
+use std::alloc::{AllocError, Global};
 
 // The end of a run whose event was halted by this.
-fn halted_by(event: Event, stop: Stop) -> Ending
-    ensures ending { ending_of result ≡ halted event (halt_of stop) }
-    ensures numbered { IsNumbered result }
+fn halted_by(event: Event, halt: Halt) -> Result<Ending, OutOfMemory>
+    ensures ending { IfOk result (λ ending. Some (ending_of ending) ≡ option_map (halted event) (halt_of halt)) }
+    ensures numbered { IfOk result IsNumbered }
 {
-    match stop {
-        Stop::Collided(first, second) => Ending::Collided {
+    match halt {
+        Halt::Collided(first, second) => Ok(Ending::Collided {
             event: Some(event),
             first,
             second,
-        },
-        Stop::Guessed(party, secret) => Ending::Guessed {
+        }),
+        Halt::Guessed { party, secret } => Ok(Ending::Guessed {
             event,
             party,
             secret,
-        },
+        }),
+        Halt::Memory => Err(AllocError),
     }
 }
 
 // The end of a run whose event was halted.
-fn halted_ending(alloc: Global, event: &Event, stop: Stop) -> Result<Ending, OutOfMemory>
-    ensures ending { IfOk result (λ ending. ending_of ending ≡ halted event.now (halt_of stop)) }
+fn halted_ending(alloc: Global, event: &Event, halt: Halt) -> Result<Ending, OutOfMemory>
+    ensures ending { IfOk result (λ ending. Some (ending_of ending) ≡ option_map (halted event.now) (halt_of halt)) }
     ensures numbered { IfOk result IsNumbered }
 {
     let event = event.copy(alloc)?;
-    Ok(halted_by(event, stop))
+    halted_by(event, halt)
 }
 
 // The end of a run of these events that left this world.
@@ -63,7 +65,7 @@ fn ending_by<H: Hash32 + Drop>(
     world: &World<H>,
     events: &[Event],
     last: Config,
-    stop: Option<(usize, Stop)>,
+    stop: Option<(usize, Halt)>,
 ) -> Result<Ending, OutOfMemory>
     requires left { IsLeft H.digest_of (setup_in H.digest_of world.now) events.now world.now stop }
     requires last { last ≡ run_of.last_configuration (setup_in H.digest_of world.now) events.now }
@@ -72,7 +74,7 @@ fn ending_by<H: Hash32 + Drop>(
 {
     match stop {
         None => whole_ending(alloc, world.ledger(), last),
-        Some((number, stop)) => halted_ending(alloc, &events[number], stop),
+        Some((number, halt)) => halted_ending(alloc, &events[number], halt),
     }
 }
 
@@ -90,8 +92,7 @@ fn shown_reply<H: Hash32 + Drop>(
     requires numbered { IsNumbered end.now }
     ensures { IfOk result (λ reply. printed reply ≡ run_answer play_text (setup_in H.digest_of world.now) events.now) }
 {
-    let entries = entries_by(alloc, world.trace(), steps)?;
-    report_reply(alloc, world.header(), &entries, end)
+    report_reply(alloc, world.header(), world.trace(), steps, end)
 }
 
 // What is replied to a run of these events that left this world.
@@ -99,7 +100,7 @@ fn left_reply<H: Hash32 + Drop>(
     alloc: Global,
     world: &World<H>,
     events: &[Event],
-    stop: Option<(usize, Stop)>,
+    stop: Option<(usize, Halt)>,
 ) -> Result<Reply, OutOfMemory>
     requires { IsLeft H.digest_of (setup_in H.digest_of world.now) events.now world.now stop }
     ensures { IfOk result (λ reply. printed reply ≡ run_answer play_text (setup_in H.digest_of world.now) events.now) }
@@ -122,12 +123,9 @@ pub fn play_reply<H: Hash32 + Drop>(
     ensures { IfOk result (λ reply. printed reply
         ≡ run_answer play_text (setup_of (H.digest_of hash) run.now contracts.items) run.now.events) }
 {
-    let played = play(alloc, hash, run, contracts)?;
-    match played {
-        Played::Unopened(earlier, later) => {
-            collided_reply(alloc, earlier.as_slice(), later.as_slice())
-        }
-        Played::Opened(world, stop) => {
+    match play(alloc, hash, run, contracts) {
+        Err(halt) => halt_reply(alloc, &halt),
+        Ok((world, stop)) => {
             let reply = left_reply(alloc, &world, run.events.as_slice(), stop);
             let_go(world);
             reply

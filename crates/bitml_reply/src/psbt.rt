@@ -10,7 +10,8 @@ ghost use Rattle.bitml_command.specs.Seen.{printed};
 ghost use Rattle.bm_world.specs.Playing.{setup_in};
 ghost use Rattle.bitml_reply.specs.Last.{IsLeftBySome};
 
-use crate::last::{Last, let_go, play_to_end};
+use crate::halting::halt_reply;
+use crate::last::{let_go, play_to_end};
 use bitml_command::Reply;
 use bm_hash::Hash32;
 use bm_psbt_plan::psbt_text;
@@ -78,10 +79,9 @@ pub fn psbt_reply<H: Hash32 + Drop>(
     ensures { IfOk result (λ reply. printed reply
         ≡ if_whole (printed_of (spec.psbt_text which.now)) (setup_of (H.digest_of hash) run.now contracts.items) run.now.events) }
 {
-    let last = play_to_end(alloc, hash, run, contracts)?;
-    match last {
-        Last::Halted(reply) => Ok(reply),
-        Last::Whole(world) => {
+    match play_to_end(alloc, hash, run, contracts) {
+        Err(halt) => halt_reply(alloc, &halt),
+        Ok(world) => {
             let reply = signed(alloc, &world, which);
             let_go(world);
             reply

@@ -13,7 +13,7 @@ use Rattle.spec_run.specs.Translation.{Turn, record_in}
 use Rattle.spec_text.specs.declared.entry.Entry.{Entry}
 use Rattle.spec_text.specs.Played as shown
 use Rattle.spec_text.specs.Played.{entry_of, live_outputs}
-use Rattle.bitml_shows.specs.Entries.{entry_by, entries_by}
+use Rattle.bm_report.specs.Entries.{entry_by, entries_by}
 use Rattle.bitml_shows.specs.Live.{number_and_value}
 
 -- ---- entries

@@ -16,12 +16,12 @@ use spec_run::Event;
 use std::alloc::Global;
 
 // The events of offers.
-fn events_of(alloc: Global, offers: &[Offer]) -> Result<Vec<Event>, OutOfMemory>
-    ensures { IfOk result (λ v. v.items ≡ map (λ o. o.event) offers.now) }
+fn events_of(alloc: Global, offers: Vec<Offer>) -> Result<Vec<Event>, OutOfMemory>
+    ensures { IfOk result (λ v. v.items ≡ map (λ o. o.event) offers.items) }
 {
     let mut events = Vec::new(alloc);
     for offer in offers {
-        events.push(offer.event.copy(alloc)?)?;
+        events.push(offer.into_event())?;
     }
     Ok(events)
 }
@@ -36,7 +36,7 @@ pub fn whole_ending(alloc: Global, ledger: &Ledger, config: Config) -> Result<En
 {
     let offered = offers(alloc, &config)?;
     let live = live_outputs(alloc, ledger)?;
-    let events = events_of(alloc, &offered)?;
+    let events = events_of(alloc, offered)?;
     Ok(Ending::Whole {
         tip: ledger.tip(),
         live: Seq::of(live),

@@ -1,7 +1,7 @@
 //! What is shown of each event.
 
 ghost use Rattle.std.specs.Prelude.{◌≡◌, length, IfOk};
-ghost use Rattle.bitml_shows.specs.Entries.{entry_by, entries_by};
+ghost use Rattle.bm_report.specs.Entries.{entry_by, entries_by};
 
 use spec_calculus::Step;
 use spec_data::{OutOfMemory, Seq};

@@ -1,16 +1,17 @@
 //! The reply to a run that is shown event by event.
 
-ghost use Rattle.std.specs.Prelude.{◌≡◌, IfOk};
+ghost use Rattle.std.specs.Prelude.{◌≡◌, length, IfOk};
 ghost use Rattle.spec_text.specs.PlayText.{report_text};
 ghost use Rattle.spec_tool.specs.Commands.{prints, ending_status};
 ghost use Rattle.bitml_command.specs.Seen.{printed};
 ghost use Rattle.bm_report.specs.Endings.{ending_of, IsNumbered};
+ghost use Rattle.bm_report.specs.Entries.{entries_by};
 
 use bitml_command::Reply;
 use bm_report::{Ending, report};
-use spec_data::{Bytes, OutOfMemory};
-use spec_run::Header;
-use spec_text::Entry;
+use spec_calculus::Step;
+use spec_data::{Bytes, OutOfMemory, Seq};
+use spec_run::{Header, Record};
 use std::alloc::Global;
 
 // 0 where all events were played, 7 where a secret was guessed, 8 where strings collided.
@@ -28,14 +29,17 @@ fn ending_status(ending: &Ending) -> u8
 pub fn report_reply(
     alloc: Global,
     header: &Header,
-    entries: &[Entry],
+    records: &[Record],
+    steps: &[Seq<Step>],
     ending: &Ending,
 ) -> Result<Reply, OutOfMemory>
-    requires { IsNumbered ending.now }
+    requires each { length steps.now ≡ length records.now }
+    requires numbered { IsNumbered ending.now }
     ensures { IfOk result (λ reply. printed reply
-        ≡ prints (ending_status (ending_of ending.now)) (report_text header.now.deposits entries.now (ending_of ending.now))) }
+        ≡ prints (ending_status (ending_of ending.now))
+        (report_text header.now.deposits (entries_by records.now steps.now) (ending_of ending.now))) }
 {
-    let text = report(alloc, header, entries, ending)?;
+    let text = report(alloc, header, records, steps, ending)?;
     Ok(Reply {
         status: ending_status(ending),
         text: Bytes::of(text),

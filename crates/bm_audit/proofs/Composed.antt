@@ -141,20 +141,19 @@ module _ {H : Type 0} (digest : H → List ℕ → List ℕ) where
       cause = λ none.
           let why = h.cause (m.hears.halt ∙ none) in
           record {
-            collided = λ e.
-                let p = why.collided e in
+            collided = λ earlier later e.
                 let same : collision (digest mid.hasher) mid.world.hashed (given_strings (setup_in digest mid) mid.world given)
                 ≡ collision (digest old.hasher) mid.world.hashed (given_strings s w given) =
                 (λ i. collision (hash_same i) mid.world.hashed (same_strings i)) in
-                let shown : IsSome (collision (digest old.hasher) mid.world.hashed (given_strings s w given)) = subst IsSome same p.1 in
-                let whole : collision (digest old.hasher) mid.world.hashed (given_strings s w given)
-                ≡ collision (digest old.hasher) old.world.hashed (text_strings s w text) =
-                sym (collision-shown (digest old.hasher) mid.world.hashed (given_strings s w given) (text_strings s w more) shown)
-                ∙ ap (collision (digest old.hasher) mid.world.hashed) (sym strings_cut)
-                ∙ m.calm in (
-                  ap (λ (hash : List ℕ → List ℕ). evidence_of hash new.world.hashed) (sym hash_same) ∙ p.0 ∙ same ∙ whole,
-                  subst IsSome whole shown,
-                );
+                let here : collision (digest old.hasher) mid.world.hashed (given_strings s w given) ≡ Some (earlier, later) =
+                sym same ∙ why.collided earlier later e in
+                let shown : IsSome (collision (digest old.hasher) mid.world.hashed (given_strings s w given)) = subst IsSome (sym here) refl in
+                sym m.calm
+                ∙ ap (collision (digest old.hasher) mid.world.hashed) strings_cut
+                ∙ collision-shown (digest old.hasher) mid.world.hashed (given_strings s w given) (text_strings s w more) shown
+                ∙ here;
+            shown = λ earlier later e.
+                ap (λ (hash : List ℕ → List ℕ). evidence_of hash new.world.hashed) (sym hash_same) ∙ why.shown earlier later e;
             unguessed = why.unguessed;
           };
     }

@@ -1,7 +1,8 @@
 -- Worlds in which only more was hashed.
-use Rattle.std.proofs.Common.{◌≡◌, ℕ, List, [], ◌∷◌, ◌++◌, Option, Some, None, refl, sym, ap, ◌∙◌, inl, inr}
+use Rattle.std.proofs.Common.{◌≡◌, ℕ, List, [], ◌∷◌, ◌++◌, Option, Some, None, refl, sym, ap, ◌∙◌, inr}
 use Rattle.std.specs.Prelude.{IsSome}
 use Rattle.std.specs.Option.{option_or}
+use Rattle.std.proofs.lemmas.Option.{none-some}
 use Rattle.spec_data.specs.Messages.{noted, noted_all, clash, collision}
 use Rattle.spec_bitcoin.specs.declared.tx.Tx.{Tx}
 use Rattle.spec_run.specs.World.{World}
@@ -9,6 +10,8 @@ use Rattle.spec_run.specs.Ledger.{strings_of}
 use Rattle.bm_world.specs.declared.halt.Halt.{Halt}
 use Rattle.bm_world.specs.declared.halt.Halt.TheVariants.{Collided, Guessed, Memory}
 use Rattle.bm_world.specs.Playing.{Played, SameSetup, setup_in, OnlyHears, StoppedJudging}
+use Rattle.bm_world.specs.Halts.{IsAgain}
+use Rattle.bm_world.proofs.Stopped.{stopped_again, kept_halt}
 use Rattle.bm_audit.specs.Heard.{Hears, Stopped}
 use Rattle.bm_audit.specs.Found.{Calm}
 
@@ -88,28 +91,25 @@ module _ {H : Type 0} (digest : H → List ℕ → List ℕ) where
     setup = h.setup;
     kept = h.kept;
     trace = h.trace;
-    halted = λ _. h.halted;
-    again = λ earlier e. inl ((h.again earlier e).0);
-    cause = λ none. let why = h.cause none in record { collided = why.collided; unguessed = why.unguessed };
+    halted = kept_halt old new halt _ h;
+    again = λ earlier e. (h.again earlier e).0;
+    cause = λ none. let why = h.cause none in record { collided = why.collided; shown = why.shown; unguessed = why.unguessed };
   }
 
   -- ---- a run that has halted
 
-  pub halted_before : (old : Played H) (strings : List (List ℕ)) (halt : Halt) → old.halt ≡ Some halt → Stopped digest old old strings halt
-  halted_before old strings halt h = record {
-    setup = record { hasher = refl; header = refl; contracts = refl };
-    kept = refl;
-    trace = refl;
-    halted = λ _. h;
-    again = λ earlier e. inl (same earlier (sym h ∙ e));
-    cause = λ none. absurd (apart (sym none ∙ h));
-  }
-    where
-      same : (earlier : Halt) → Some halt ≡ Some earlier → halt ≡ earlier
-      same earlier q = cc
-
-      apart : None ≡ Some halt → ⊥
-      apart q = cc
+  pub halted_before : (old : Played H) (strings : List (List ℕ)) (kept halt : Halt) → old.halt ≡ Some kept → IsAgain kept halt
+      → Stopped digest old old strings halt
+  halted_before old strings kept halt at again =
+      let h = stopped_again old kept halt (Unit {0}) at again in
+      record {
+        setup = h.setup;
+        kept = h.kept;
+        trace = h.trace;
+        halted = kept_halt old old halt (Unit {0}) h;
+        again = λ earlier e. (h.again earlier e).0;
+        cause = λ none. absurd (none-some kept (sym none ∙ at));
+      }
 
   -- ---- want of memory
 
@@ -122,13 +122,14 @@ module _ {H : Type 0} (digest : H → List ℕ → List ℕ) where
     halted = λ f. absurd (f e);
     again = λ earlier q. inr e;
     cause = λ none. record {
-      collided = λ c. absurd (not_collided (sym e ∙ c));
+      collided = λ earlier later c. absurd (not_collided earlier later (sym e ∙ c));
+      shown = λ earlier later c. absurd (not_collided earlier later (sym e ∙ c));
       unguessed = λ party secret g. not_guessed party secret (sym e ∙ g);
     };
   }
     where
-      not_collided : Memory ≡ Collided → ⊥
-      not_collided q = cc
+      not_collided : (earlier later : List ℕ) → Memory ≡ Collided earlier later → ⊥
+      not_collided earlier later q = cc
 
       not_guessed : (party secret : List ℕ) → Memory ≡ Guessed party secret → ⊥
       not_guessed party secret q = cc

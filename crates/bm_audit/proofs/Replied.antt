@@ -1,6 +1,6 @@
 -- What is replied to an audit.
 use Rattle.std.proofs.Common.{◌≡◌, ℕ, List, [], ◌++◌, Option, Some, None, Result, Ok, Err, refl, sym, ap, subst, ◌∙◌}
-use Rattle.std.specs.Prelude.{option_map, IsSome, IfOk}
+use Rattle.std.specs.Prelude.{option_map, IfOk}
 use Rattle.std.proofs.lemmas.Option.{none-some, same_Some}
 use Rattle.spec_data.specs.Messages.{collision}
 use Rattle.spec_compiler.specs.Instance.{Instance}
@@ -9,6 +9,7 @@ use Rattle.spec_run.specs.Setup.{Setup}
 use Rattle.spec_run.specs.World.{World}
 use Rattle.spec_run.specs.Compiled.{compiled_instance}
 use Rattle.spec_run.specs.Translation.{last_world}
+use Rattle.spec_text.specs.PlayText.{collided_line}
 use Rattle.spec_tool.specs.declared.finding.AuditReport.{AuditReport}
 use Rattle.spec_tool.specs.Audit.{audit_report, audit_strings, audit_collision}
 use Rattle.spec_tool.specs.Answers.{if_whole}
@@ -18,11 +19,10 @@ use Rattle.spec_tool.specs.AuditText.{report_text, uncompiled_text, audit_text, 
 use Rattle.bitml_command.specs.Seen.{printed}
 use Rattle.bitml_command.specs.declared.reply.Reply.{Reply}
 use Rattle.bm_compile.specs.Numbered.{Numbered, numbered}
-use Rattle.bm_hash.specs.Messages.{evidence_of}
 use Rattle.bm_world.specs.declared.halt.Halt.{Halt}
 use Rattle.bm_world.specs.declared.halt.Halt.TheVariants.{Collided, Guessed, Memory}
 use Rattle.bm_world.specs.Playing.{Played, setup_in}
-use Rattle.bitml_reply.specs.Halting.{collided_printed, halt_printed}
+use Rattle.bitml_reply.specs.Halting.{halt_printed}
 use Rattle.bitml_reply.specs.Last.{IsWhole}
 use Rattle.bitml_reply.proofs.Ended.{whole_if}
 use Rattle.bm_audit.specs.Heard.{Clashes, Stopped}
@@ -47,17 +47,13 @@ found_path s w text report last r none l =
 
 -- ---- a halt
 
-collided_is : (pair : Option (List ℕ × List ℕ)) (reply : Reply) (text : List ℕ) → Some (printed reply) ≡ option_map collided_printed pair
-    → printed reply ≡ audited pair text
-collided_is None reply text h = absurd (none-some (printed reply) (sym h))
-collided_is (Some pair) reply text h = same_Some (printed reply) (collided_printed pair) h
-
 clash_is : {E : Type 0} (r : Result Reply E) (hash : List ℕ → List ℕ) (old new strings : List (List ℕ)) (halt : Halt) (text : List ℕ)
-    → Clashes hash old new strings halt → IfOk r (λ reply. Some (printed reply) ≡ halt_printed halt (evidence_of hash new))
+    → Clashes hash old new strings halt → IfOk r (λ reply. Some (printed reply) ≡ halt_printed halt)
     → IfOk r (λ reply. printed reply ≡ audited (collision hash old strings) text)
 clash_is (Err e) hash old new strings halt text c h = tt
-clash_is (Ok reply) hash old new strings Collided text c h =
-    collided_is (collision hash old strings) reply text (h ∙ ap (option_map collided_printed) ((c.collided refl).0))
+clash_is (Ok reply) hash old new strings (Collided earlier later) text c h =
+    same_Some (printed reply) (prints 8 (collided_line earlier later)) h
+    ∙ sym (ap (λ o. audited o text) (c.collided earlier later refl))
 clash_is (Ok reply) hash old new strings (Guessed party secret) text c h = absurd (c.unguessed party secret refl)
 clash_is (Ok reply) hash old new strings Memory text c h = absurd (none-some (printed reply) (sym h))
 
@@ -69,13 +65,9 @@ module _ {H : Type 0} (digest : H → List ℕ → List ℕ) (old new : Played H
   clashes : Clashes (digest new.hasher) old.world.hashed new.world.hashed strings halt
   clashes = subst (λ h. Clashes (digest h) old.world.hashed new.world.hashed strings halt) (sym t.setup.hasher) (t.cause going)
 
-  -- the messages show a collision
-  pub shows_clash : halt ≡ Collided → IsSome (evidence_of (digest new.hasher) new.world.hashed)
-  shows_clash e = let p = clashes.collided e in subst IsSome (sym p.0) p.1
-
   -- it is the one that is answered
   pub halted_is : {E : Type 0} (r : Result Reply E)
-      → IfOk r (λ reply. Some (printed reply) ≡ halt_printed halt (evidence_of (digest new.hasher) new.world.hashed))
+      → IfOk r (λ reply. Some (printed reply) ≡ halt_printed halt)
       → IfOk r (λ reply. printed reply ≡ audited (audit_collision (setup_in digest old) old.world text)
       (audit_text (setup_in digest old) old.world text))
   halted_is r h =

@@ -56,6 +56,6 @@ pub(crate) fn world_reply<H: Hash32 + Drop>(
     let compiled = is_compiled(world);
     match audit(alloc, world, 0, text) {
         Ok(report) => found_reply(alloc, &report, compiled),
-        Err(halt) => halt_reply(alloc, world, &halt),
+        Err(halt) => halt_reply(alloc, &halt),
     }
 }

@@ -11,7 +11,7 @@ ghost use Rattle.bitml_command.specs.Seen.{printed};
 
 use crate::auditing::world_reply;
 use bitml_command::Reply;
-use bitml_reply::{Last, let_go, play_to_end};
+use bitml_reply::{halt_reply, let_go, play_to_end};
 use bm_hash::Hash32;
 use bm_wellformed::Checked;
 use spec_data::{Bytes, OutOfMemory};
@@ -40,10 +40,9 @@ fn text_reply<H: Hash32 + Drop>(
     ensures { IfOk result (λ reply. printed reply
         ≡ if_whole (spec.audit_answer text.now) (setup_of (H.digest_of hash) run.now contracts.items) run.now.events) }
 {
-    let last = play_to_end(alloc, hash, run, contracts)?;
-    match last {
-        Last::Halted(reply) => Ok(reply),
-        Last::Whole(world) => {
+    match play_to_end(alloc, hash, run, contracts) {
+        Err(halt) => halt_reply(alloc, &halt),
+        Ok(world) => {
             let mut world = world;
             let reply = world_reply(alloc, &mut world, text);
             let_go(world);

@@ -88,7 +88,7 @@ pub fn audit<H: Hash32 + Drop>(
     audits_find_all();
     nothing_lacks();
     if let Some(halt) = world.halt() {
-        return Err(halt.copy());
+        return Err(halt.again(alloc));
     }
     let catalog = catalog_of(alloc, world, contract)?;
     let missing = missing_in(alloc, world, contract)?;

@@ -2,6 +2,7 @@
 use Rattle.std.proofs.Common.{◌≡◌, ℕ, zero, suc, ◌+◌, ◌<◌, ◌≤◌, List, [], ◌∷◌, ◌++◌, length, Bool, true, false, Option, Some, None, Ok, Err}
 use Rattle.std.proofs.Common.{refl, sym, ap, subst, ◌∙◌, append_assoc, append-nil, length-append, arith, inl, inr}
 use Rattle.std.proofs.lemmas.List.{length-map}
+use Rattle.std.proofs.lemmas.Option.{none-some}
 use Rattle.std.specs.Prelude.{◌==◌, ◌⊎◌, if◌then◌else◌}
 use Rattle.std.specs.List.{AllByRecursion}
 use Rattle.std.proofs.lemmas.Bool.{ne_eqb, eq-eqb}
@@ -13,12 +14,12 @@ use Rattle.spec_run.specs.Draft as run
 use Rattle.spec_tool.specs.declared.rule.Rule.{Rule}
 use Rattle.spec_tool.specs.Turns.{Progress, Progressed, round, after_events, rounds_go, rounds_on, rounds, extended}
 use Rattle.theory_auto.specs.OwnRules.{IsHonest}
-use Rattle.bm_hash.specs.Messages.{evidence_of}
 use Rattle.bm_world.specs.declared.halt.Halt.{Halt}
 use Rattle.bm_world.specs.declared.halt.Halt.TheVariants as halts
 use Rattle.bm_world.specs.Playing as world
 use Rattle.bm_world.specs.Playing.{setup_in, most_records}
 use Rattle.bm_world.specs.Reached.{events_of}
+use Rattle.bm_world.proofs.Stopped.{halt_named}
 use Rattle.bm_auto.specs.Taking.{round_takes, takes_on, rounds_take, extended_takes}
 use Rattle.bm_auto.specs.Trying.{IsCause}
 use Rattle.bm_auto.specs.Turning.{Turns, StopsTurning}
@@ -37,16 +38,12 @@ after_both front more (Ok p) =
     ap (λ (es : List Event). Ok (record { world = p.world; left = p.left; events = es })) (sym (append_assoc front more p.events))
 
 -- a halt ends all rounds
-caused_on : (front : List Event) (go : World → List Rule → Progressed) (shown : Option (List ℕ × List ℕ)) (halt : Halt) (x : Progressed) → IsCause halt shown x
-    → IsCause halt shown (after_events front (rounds_on x go))
-caused_on front go shown halts.Collided x h = (h.0, h.1, ap (λ y. after_events front (rounds_on y go)) h.2)
-caused_on front go shown (halts.Guessed party secret) x h = ap (λ y. after_events front (rounds_on y go)) h
-caused_on front go shown halts.Memory x h = tt
+caused_on : (front : List Event) (go : World → List Rule → Progressed) (halt : Halt) (x : Progressed) → IsCause halt x
+    → IsCause halt (after_events front (rounds_on x go))
+caused_on front go halt x c h is = ap (λ y. after_events front (rounds_on y go)) (c h is)
 
-caused_err : (shown : Option (List ℕ × List ℕ)) (halt : Halt) (x : Progressed) → (halt ≡ halts.Memory → ⊥) → IsCause halt shown x → (cause : run.Halt) × (x ≡ Err cause)
-caused_err shown halts.Collided x other h = (_, h.2)
-caused_err shown (halts.Guessed party secret) x other h = (_, h)
-caused_err shown halts.Memory x other h = absurd (other refl)
+caused_err : (halt : Halt) (x : Progressed) → (halt ≡ halts.Memory → ⊥) → IsCause halt x → (cause : run.Halt) × (x ≡ Err cause)
+caused_err halt x other c = let n = halt_named halt other in (n.0, c n.0 n.1)
 
 -- ---- before any round
 
@@ -97,7 +94,7 @@ module _ {H : Type 0} (digest : H → List ℕ → List ℕ) (old mid : world.Pl
     rest = rounds_take b.more s mid.world left;
     so_far = b.adds;
     grows = b.grows;
-    cause = λ none. tt;
+    cause = λ none h is. absurd (none-some h is);
     all = λ none other. absurd (other refl);
   }
 
@@ -203,9 +200,8 @@ module _ {H : Type 0} (digest : H → List ℕ → List ℕ) (old mid : world.Pl
     round_stops halt t =
         let taken_here : round_takes s mid.world left ≡ t.taken ++ t.rest = by_setup (λ x. round_takes x mid.world left ≡ t.taken ++ t.rest) t.so_far in
         let behind : List Event = takes_on (round s mid.world left) add in
-        let shown : Option (List ℕ × List ℕ) = evidence_of s.hash new.world.hashed in
-        let caused : old.halt ≡ None → IsCause halt shown (round s mid.world left) =
-        λ none. by_setup (λ x. IsCause halt (evidence_of x.hash new.world.hashed) (round x mid.world left)) (t.cause (b.halt ∙ none)) in
+        let caused : old.halt ≡ None → IsCause halt (round s mid.world left) =
+        λ none. by_setup (λ x. IsCause halt (round x mid.world left)) (t.cause (b.halt ∙ none)) in
         record {
           setup = same_again old mid new b.setup t.setup;
           again = λ earlier h. let a = t.again earlier (b.halt ∙ h) in (a.0, a.1 ∙ b.stays earlier h);
@@ -217,9 +213,9 @@ module _ {H : Type 0} (digest : H → List ℕ → List ℕ) (old mid : world.Pl
               ∙ ap (λ (es : List Event). events ++ es) (append_assoc t.taken t.rest behind)
               ∙ sym (append_assoc events t.taken (t.rest ++ behind));
           grows = t.grows ∙ ap (λ (es : List Event). es ++ t.taken) b.grows ∙ append_assoc (events_of old.trace) events t.taken;
-          cause = λ none. subst (IsCause halt shown) (sym comes_of) (caused_on events go shown halt (round s mid.world left) (caused none));
+          cause = λ none. subst (IsCause halt) (sym comes_of) (caused_on events go halt (round s mid.world left) (caused none));
           all = λ none other.
-              let err = caused_err shown halt (round s mid.world left) other (caused none) in
+              let err = caused_err halt (round s mid.world left) other (caused none) in
               ap (λ (es : List Event). es ++ takes_on (round s mid.world left) add) (t.all (b.halt ∙ none) other)
               ∙ ap (λ x. takes_on x add) err.1;
         }

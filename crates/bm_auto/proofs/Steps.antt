@@ -1,11 +1,12 @@
 -- A round, rule by rule.
 use Rattle.std.proofs.Common.{◌≡◌, ℕ, ◌+◌, ◌<◌, ◌≤◌, List, [], ◌∷◌, ◌++◌, length, map, Option, Some, None, Ok, Err, refl, sym, ap, subst, ◌∙◌}
-use Rattle.std.proofs.Common.{append_assoc, append-nil, length-append, arith, inl, inr, suc, drop, get_or, add-one}
+use Rattle.std.proofs.Common.{append_assoc, append-nil, length-append, arith, inr, suc, drop, get_or, add-one}
 use Rattle.std.proofs.Math.Seq.{drop-cons}
 use Rattle.std.proofs.Math.ListN.{drop_of_length-le}
 use Rattle.std.specs.Borrow.{Bor}
 use Rattle.std.specs.List.{AllByRecursion}
 use Rattle.std.proofs.lemmas.List.{length-map}
+use Rattle.std.proofs.lemmas.Option.{none-some}
 use Rattle.spec_run.specs.declared.event.Event.{Event}
 use Rattle.spec_run.specs.declared.outcome.Record.{Record}
 use Rattle.spec_run.specs.Setup.{Setup}
@@ -13,12 +14,12 @@ use Rattle.spec_run.specs.World.{World}
 use Rattle.spec_tool.specs.declared.rule.Rule.{Rule}
 use Rattle.spec_tool.specs.Turns.{rule_event, Progressed, keeps, takes, tried_if, round}
 use Rattle.theory_auto.specs.OwnRules.{IsHonest}
-use Rattle.bm_hash.specs.Messages.{evidence_of}
 use Rattle.bm_world.specs.declared.halt.Halt.{Halt}
 use Rattle.bm_world.specs.declared.halt.Halt.TheVariants as halts
 use Rattle.bm_world.specs.Playing as world
 use Rattle.bm_world.specs.Playing.{setup_in, SameSetup, most_records}
 use Rattle.bm_world.specs.Reached.{events_of}
+use Rattle.bm_world.proofs.Stopped.{kept_halt}
 use Rattle.bm_auto.specs.Taking.{taken_if, round_takes}
 use Rattle.bm_auto.specs.Trying.{passed_by, taken_by, kept_by, Tries, IsCause, Ends, StopsTrying}
 use Rattle.bm_auto.specs.Turning.{Stops, onto, Midway, Turns, StopsTurning}
@@ -38,11 +39,8 @@ onto_taken : (left : List Rule) (taken : List Event) (e : Event) (x : Progressed
 onto_taken left taken e (Err halt) = refl
 onto_taken left taken e (Ok p) = ap (λ (es : List Event). Ok (record { world = p.world; left = left ++ p.left; events = es })) (sym (append_assoc taken (e ∷ []) p.events))
 
-caused_onto : (left : List Rule) (taken : List Event) (shown : Option (List ℕ × List ℕ)) (halt : Halt) (x : Progressed) → IsCause halt shown x
-    → IsCause halt shown (onto left taken x)
-caused_onto left taken shown halts.Collided x h = (h.0, h.1, ap (onto left taken) h.2)
-caused_onto left taken shown (halts.Guessed party secret) x h = ap (onto left taken) h
-caused_onto left taken shown halts.Memory x h = tt
+caused_onto : (left : List Rule) (taken : List Event) (halt : Halt) (x : Progressed) → IsCause halt x → IsCause halt (onto left taken x)
+caused_onto left taken halt x c h is = ap (onto left taken) (c h is)
 
 all_and_one : {X : Type 0} (P : X → Type 0) (xs : List X) (x : X) → AllByRecursion P xs → P x → AllByRecursion P (xs ++ x ∷ [])
 all_and_one P [] x h k = (k, tt)
@@ -163,22 +161,20 @@ module _ {H : Type 0} (digest : H → List ℕ → List ℕ) (old mid : world.Pl
     -- it halts
     pub one_stops : (halt : Halt) → StopsTrying digest mid new r halt → StopsTurning digest old new rules halt
     one_stops halt t =
-        let hash_same : (setup_in digest mid).hash ≡ s.hash = ap (λ (x : Setup). x.hash) same in
         record {
           setup = same_again old mid new m.setup t.setup;
-          again = λ earlier h. let a = t.again earlier (m.halt ∙ h) in (inl a.0, a.1 ∙ m.stays earlier h);
-          kept = λ other. t.halted;
+          again = λ earlier h. let a = t.again earlier (m.halt ∙ h) in (a.0, a.1 ∙ m.stays earlier h);
+          kept = kept_halt mid new halt _ t;
           taken = m.taken;
           rest = round_takes s mid.world (r ∷ rest);
           so_far = m.adds;
           grows = ap events_of t.trace ∙ m.grows;
           cause = λ none.
               let c = t.cause (m.halt ∙ none) in
-              let here : IsCause halt (evidence_of s.hash new.world.hashed) (round s mid.world (r ∷ rest)) =
-              by_setup (λ x. IsCause halt (evidence_of x.hash new.world.hashed) (tried_if x mid.world r (rule_event x mid.world r) (λ next. round s next rest)))
+              let here : IsCause halt (round s mid.world (r ∷ rest)) =
+              by_setup (λ x. IsCause halt (tried_if x mid.world r (rule_event x mid.world r) (λ next. round s next rest)))
               (c.comes (λ next. round s next rest)) in
-              subst (IsCause halt (evidence_of s.hash new.world.hashed)) (sym m.comes)
-              (caused_onto left m.taken (evidence_of s.hash new.world.hashed) halt (round s mid.world (r ∷ rest)) here);
+              subst (IsCause halt) (sym m.comes) (caused_onto left m.taken halt (round s mid.world (r ∷ rest)) here);
           all = λ none other.
               by_setup (λ x. taken_if x mid.world (rule_event x mid.world r) (λ next. round_takes s next rest) ≡ [])
               ((t.cause (m.halt ∙ none)).adds other (λ next. round_takes s next rest));
@@ -198,7 +194,7 @@ module _ {H : Type 0} (digest : H → List ℕ → List ℕ) (old now : world.Pl
     rest = round_takes (setup_in digest old) now.world rest;
     so_far = m.adds;
     grows = m.grows;
-    cause = λ none. tt;
+    cause = λ none h is. absurd (none-some h is);
     all = λ none other. absurd (other refl);
   }
 

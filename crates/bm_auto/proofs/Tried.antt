@@ -1,8 +1,9 @@
 -- One rule is tried: an event that would go on is played, and comes to the same.
 use Rattle.std.proofs.Common.{◌≡◌, ℕ, List, [], ◌∷◌, ◌++◌, map, Bool, true, false, Option, Some, None, refl, sym, ap, subst, ◌∙◌}
 use Rattle.std.proofs.Common.{append-nil}
-use Rattle.std.specs.Prelude.{if◌then◌else◌, not, option_map}
+use Rattle.std.specs.Prelude.{if◌then◌else◌, not}
 use Rattle.std.proofs.lemmas.List.{map-append}
+use Rattle.std.proofs.lemmas.Option.{none-some}
 use Rattle.spec_data.specs.Lists.{is_among}
 use Rattle.spec_data.specs.Messages.{noted, noted_all, collision}
 use Rattle.spec_run.specs.declared.event.Event.{Event}
@@ -12,7 +13,7 @@ use Rattle.spec_run.specs.declared.outcome.Record.{Record}
 use Rattle.spec_run.specs.Setup.{Setup}
 use Rattle.spec_run.specs.World.{World}
 use Rattle.spec_run.specs.Conditions.{IsSetup, IsEvent}
-use Rattle.spec_run.specs.Draft.{Draft, Answer, Halted, guess, settle, settled}
+use Rattle.spec_run.specs.Draft.{Draft, Halted, guess, settle, settled}
 use Rattle.spec_run.specs.Draft as run
 use Rattle.spec_run.specs.Event.{draft, event, record_of}
 use Rattle.spec_run.specs.Values.{is_refused, RefusedKept}
@@ -25,12 +26,13 @@ use Rattle.theory_auto.specs.OwnRules.{IsHonest}
 use Rattle.theory_run.proofs.Events.Hashless.{carried, draft_same}
 use Rattle.theory_run.proofs.Fewer.{Within, again_calm}
 use Rattle.theory_auto.proofs.OwnRules.{done_by, declared_among, is_event}
-use Rattle.bm_hash.specs.Messages.{evidence_of}
 use Rattle.bm_world.specs.declared.halt.Halt.{Halt}
 use Rattle.bm_world.specs.declared.halt.Halt.TheVariants as halts
 use Rattle.bm_world.specs.Playing as world
-use Rattle.bm_world.specs.Playing.{setup_in, SameSetup, collided_by, Halts, Stopped, Tested, Went}
+use Rattle.bm_world.specs.Playing.{setup_in, SameSetup, Halts, Stopped, Tested, Went}
 use Rattle.bm_world.specs.Reached.{events_of}
+use Rattle.bm_world.specs.Halts.{halt_of}
+use Rattle.bm_world.proofs.Stopped.{halt_named}
 use Rattle.bm_auto.specs.Taking.{taken_before, taken_if}
 use Rattle.bm_auto.specs.Trying.{Tries, IsCause, Ends, StopsTrying}
 
@@ -124,12 +126,6 @@ not_true : (b : Bool) → not b ≡ true → b ≡ false
 not_true true h = cc
 not_true false h = refl
 
--- a collision that the messages show
-shown_collision : (o : Option (List ℕ × List ℕ)) (a : Answer) → option_map collided_by o ≡ Some a
-    → (p : List ℕ × List ℕ) × (o ≡ Some p) × (a ≡ Halted (run.Collided (p.0) (p.1)))
-shown_collision None a h = cc
-shown_collision (Some p) a h = (p, refl, cc)
-
 -- the event of an honest party's rule is one
 pub event_is : (s : Setup) (w : World) (r : Rule) (e : Event) → IsSetup s → IsHonest s.header r → rule_event s w r ≡ Some e → IsEvent s e
 event_is s w r e setup honest has =
@@ -200,11 +196,12 @@ module _ {H : Type 0} (digest : H → List ℕ → List ℕ) (old : world.Played
 
       -- nothing but want of memory can halt it then
       memory_only : (messages : List (List ℕ)) (halt : Halt) → Halts (setup_in digest mid) mid.world messages e halt → halt ≡ halts.Memory
-      memory_only messages halts.Collided h =
-          let p = shown_collision (evidence_of (setup_in digest mid).hash messages) _ (h.collided refl) in
-          absurd (not_halted s old.world r e has clear t.goes (run.Collided (p.0.0) (p.0.1)) (there (λ x w. event x w e ≡ Halted (run.Collided (p.0.0) (p.0.1))) p.2))
+      memory_only messages (halts.Collided earlier later) h =
+          absurd (not_halted s old.world r e has clear t.goes (run.Collided earlier later)
+          (there (λ x w. event x w e ≡ Halted (run.Collided earlier later)) (h.cause (run.Collided earlier later) refl)))
       memory_only messages (halts.Guessed party secret) h =
-          absurd (not_halted s old.world r e has clear t.goes (run.Guessed party secret) (there (λ x w. event x w e ≡ Halted (run.Guessed party secret)) (h.guessed party secret refl)))
+          absurd (not_halted s old.world r e has clear t.goes (run.Guessed party secret)
+          (there (λ x w. event x w e ≡ Halted (run.Guessed party secret)) (h.cause (run.Guessed party secret) refl)))
       memory_only messages halts.Memory h = refl
 
       pub event_stops : (new : world.Played H) (halt : Halt) → Stopped digest mid new e halt → StopsTrying digest old new r halt
@@ -214,29 +211,22 @@ module _ {H : Type 0} (digest : H → List ℕ → List ℕ) (old : world.Played
             setup = same_again old mid new t.hears.setup g.setup;
             kept = g.kept ∙ ap (λ (w : World). record w { hashed = new.world.hashed }) t.hears.world;
             trace = g.trace ∙ t.hears.trace;
-            halted = g.halted;
+            halted = λ none. g.halted t.hears.going.1;
             again = λ earlier h. absurd (not_both old earlier t.hears.going.0 h);
             cause = λ none. record {
-              comes = λ go. subst (λ x. IsCause x (evidence_of s.hash new.world.hashed) (tried_if s old.world r (rule_event s old.world r) go)) (sym memory) tt;
+              comes = λ go x is. absurd (none-some x (ap halt_of (sym memory) ∙ is));
               adds = λ other later. absurd (other memory);
             };
           }
 
     -- trying it halts
-    ends : (messages : List (List ℕ)) (halt : Halt) → Halts s old.world messages e halt → Ends s old.world (evidence_of s.hash messages) r halt
-    ends messages halts.Collided h =
-        let p = shown_collision (evidence_of s.hash messages) _ (h.collided refl) in
-        record {
-          comes = λ go. (p.0, p.1, ap (λ o. tried_if s old.world r o go) has ∙ ap (λ a. tried r e a go) p.2);
-          adds = λ other later. ap (λ o. taken_if s old.world o later) has ∙ ap (λ a. taken_before e a later) p.2;
-        }
-    ends messages (halts.Guessed party secret) h =
-        let p = h.guessed party secret refl in
-        record {
-          comes = λ go. ap (λ o. tried_if s old.world r o go) has ∙ ap (λ a. tried r e a go) p;
-          adds = λ other later. ap (λ o. taken_if s old.world o later) has ∙ ap (λ a. taken_before e a later) p;
-        }
-    ends messages halts.Memory h = record { comes = λ go. tt; adds = λ other later. absurd (other refl) }
+    ends : (messages : List (List ℕ)) (halt : Halt) → Halts s old.world messages e halt → Ends s old.world r halt
+    ends messages halt h = record {
+      comes = λ go x is. ap (λ o. tried_if s old.world r o go) has ∙ ap (λ a. tried r e a go) (h.cause x is);
+      adds = λ other later.
+          let n = halt_named halt other in
+          ap (λ o. taken_if s old.world o later) has ∙ ap (λ a. taken_before e a later) (h.cause n.0 n.1);
+    }
 
     pub test_stops : (new : world.Played H) (halt : Halt) → Stopped digest old new e halt → StopsTrying digest old new r halt
     test_stops new halt g = record {

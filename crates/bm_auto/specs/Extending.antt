@@ -37,4 +37,4 @@ pub record Extends {H : Type 0} (digest : H → List ℕ → List ℕ) (old new 
 -- the rounds halted, or came after a halt; the events that were taken before stand in the trace
 abbrev pub StopsExtending : {H : Type 0} → (H → List ℕ → List ℕ) → Played H → Played H → List Rule → Halt → Type 0
 StopsExtending digest old new rules halt =
-    Stops digest old new (extended (setup_in digest old) old.world rules) (extended_takes (setup_in digest old) old.world rules) halt
+    Stops old new (extended (setup_in digest old) old.world rules) (extended_takes (setup_in digest old) old.world rules) halt

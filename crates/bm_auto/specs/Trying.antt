@@ -6,9 +6,9 @@ use Rattle.spec_run.specs.World.{World}
 use Rattle.spec_run.specs.Draft as draft
 use Rattle.spec_tool.specs.declared.rule.Rule.{Rule}
 use Rattle.spec_tool.specs.Turns.{rule_event, Progressed, keeps, takes, tried_if}
-use Rattle.bm_hash.specs.Messages.{evidence_of}
 use Rattle.bm_world.specs.Playing.{Played, setup_in, SameSetup, StoppedBy}
 use Rattle.bm_world.specs.Reached.{events_of}
+use Rattle.bm_world.specs.Halts.{halt_of}
 use Rattle.bm_world.specs.declared.halt.Halt.{Halt}
 use Rattle.bm_world.specs.declared.halt.Halt.TheVariants as halts
 use Rattle.bm_auto.specs.Taking.{taken_if}
@@ -39,18 +39,15 @@ pub record Tries {H : Type 0} (digest : H → List ℕ → List ℕ) (old new : 
       ≡ taken_by taken ++ later new.world
   pub grows : events_of new.trace ≡ events_of old.trace ++ taken_by taken
 
--- the rounds end with this halt, which the messages show where they collided; want of memory may come anywhere
-abbrev pub IsCause : Halt → Option (List ℕ × List ℕ) → Progressed → Type 0
-IsCause halts.Collided shown comes = (pair : List ℕ × List ℕ) × (shown ≡ Some pair) × (comes ≡ Err (draft.Collided (pair.0) (pair.1)))
-IsCause (halts.Guessed party secret) shown comes = comes ≡ Err (draft.Guessed party secret)
-IsCause halts.Memory shown comes = Unit {0}
+-- the rounds end with this halt; want of memory may come anywhere
+abbrev pub IsCause : Halt → Progressed → Type 0
+IsCause halt comes = (h : draft.Halt) → halt_of halt ≡ Some h → comes ≡ Err h
 
 -- the event of the rule halts, whatever comes of those behind it
-pub record Ends (s : Setup) (w : World) (shown : Option (List ℕ × List ℕ)) (r : Rule) (halt : Halt) : Type 0 where
-  pub comes : (go : World → Progressed) → IsCause halt shown (tried_if s w r (rule_event s w r) go)
+pub record Ends (s : Setup) (w : World) (r : Rule) (halt : Halt) : Type 0 where
+  pub comes : (go : World → Progressed) → IsCause halt (tried_if s w r (rule_event s w r) go)
   pub adds : (halt ≡ halts.Memory → ⊥) → (later : World → List Event) → taken_if s w (rule_event s w r) later ≡ []
 
 -- the rule halted, or came after a halt
 abbrev pub StopsTrying : {H : Type 0} → (H → List ℕ → List ℕ) → Played H → Played H → Rule → Halt → Type 0
-StopsTrying digest old new r halt = StoppedBy old new halt (
-    Ends (setup_in digest old) old.world (evidence_of (setup_in digest old).hash new.world.hashed) r halt)
+StopsTrying digest old new r halt = StoppedBy old new halt (Ends (setup_in digest old) old.world r halt)

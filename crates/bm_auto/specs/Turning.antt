@@ -1,12 +1,12 @@
 -- How the rules of a strategy are tried in a round.
-use Rattle.std.specs.Prelude.{◌≡◌, ◌⊎◌, ℕ, ◌+◌, List, [], ◌++◌, length, Option, Some, None, Ok, Err}
+use Rattle.std.specs.Prelude.{◌≡◌, ℕ, ◌+◌, List, [], ◌++◌, length, Option, Some, None, Ok, Err}
 use Rattle.std.specs.List.{AllByRecursion}
 use Rattle.spec_run.specs.declared.event.Event.{Event}
 use Rattle.spec_tool.specs.declared.rule.Rule.{Rule}
 use Rattle.spec_tool.specs.Turns.{Progress, Progressed, round}
-use Rattle.bm_hash.specs.Messages.{evidence_of}
 use Rattle.bm_world.specs.Playing.{Played, setup_in, SameSetup}
 use Rattle.bm_world.specs.Reached.{events_of}
+use Rattle.bm_world.specs.Halts.{IsAgain}
 use Rattle.bm_world.specs.declared.halt.Halt.{Halt}
 use Rattle.bm_world.specs.declared.halt.Halt.TheVariants as halts
 use Rattle.theory_auto.specs.OwnRules.{IsHonest}
@@ -16,10 +16,10 @@ use Rattle.bm_auto.specs.Trying.{IsCause}
 -- ---- halts
 
 -- rounds that come to this and take these events halted, or came after a halt
-pub record Stops {H : Type 0} (digest : H → List ℕ → List ℕ) (old new : Played H) (comes : Progressed) (takes : List Event) (halt : Halt) : Type 0 where
+pub record Stops {H : Type 0} (old new : Played H) (comes : Progressed) (takes : List Event) (halt : Halt) : Type 0 where
   pub setup : SameSetup old new
   -- after a halt it is the same one, unless memory is short, and nothing changes
-  pub again : (earlier : Halt) → old.halt ≡ Some earlier → ((halt ≡ earlier) ⊎ (halt ≡ halts.Memory)) × (new ≡ old)
+  pub again : (earlier : Halt) → old.halt ≡ Some earlier → IsAgain earlier halt × (new ≡ old)
   pub kept : (halt ≡ halts.Memory → ⊥) → new.halt ≡ Some halt
   -- the events that were taken so far are recorded, and no others
   pub taken : List Event
@@ -27,7 +27,7 @@ pub record Stops {H : Type 0} (digest : H → List ℕ → List ℕ) (old new : 
   pub so_far : takes ≡ taken ++ rest
   pub grows : events_of new.trace ≡ events_of old.trace ++ taken
   -- and unless memory is short it is the halt that ends the rounds, before which these are all
-  pub cause : old.halt ≡ None → IsCause halt (evidence_of (setup_in digest old).hash new.world.hashed) comes
+  pub cause : old.halt ≡ None → IsCause halt comes
   pub all : old.halt ≡ None → (halt ≡ halts.Memory → ⊥) → rest ≡ []
 
 -- ---- a round
@@ -66,4 +66,4 @@ pub record Turns {H : Type 0} (digest : H → List ℕ → List ℕ) (old new : 
 
 abbrev pub StopsTurning : {H : Type 0} → (H → List ℕ → List ℕ) → Played H → Played H → List Rule → Halt → Type 0
 StopsTurning digest old new rules halt =
-    Stops digest old new (round (setup_in digest old) old.world rules) (round_takes (setup_in digest old) old.world rules) halt
+    Stops old new (round (setup_in digest old) old.world rules) (round_takes (setup_in digest old) old.world rules) halt

@@ -1,6 +1,6 @@
 -- What is replied of a run that goes on by the rules of a strategy.
 use Rattle.std.proofs.Common.{◌≡◌, ℕ, ◌+◌, ◌≤◌, List, [], ◌∷◌, length, map, Option, Some, None, Result, Ok, refl, sym, ap, subst, ◌∙◌, arith}
-use Rattle.std.specs.Prelude.{IfOk, IsSome, option_map}
+use Rattle.std.specs.Prelude.{IfOk}
 use Rattle.std.specs.List.{AllByRecursion}
 use Rattle.std.proofs.lemmas.List.{length-map}
 use Rattle.std.proofs.lemmas.Option.{none-some, same_Some}
@@ -11,10 +11,11 @@ use Rattle.spec_run.specs.declared.header.Header.{Header}
 use Rattle.spec_run.specs.Setup.{Setup}
 use Rattle.spec_run.specs.World.{World}
 use Rattle.spec_run.specs.Draft.{Answer, Went, Halted}
+use Rattle.spec_run.specs.Draft as draft
 use Rattle.spec_run.specs.Event.{played_from, played, goes_on, event, opening_world}
 use Rattle.spec_run.specs.Translation.{trace, last_world}
 use Rattle.spec_text.specs.Limits.{most_events}
-use Rattle.spec_text.specs.PlayText.{guessed_line}
+use Rattle.spec_text.specs.PlayText.{collided_line, guessed_line}
 use Rattle.spec_text.specs.Refusals.{run_of}
 use Rattle.spec_text.specs.RunText.{run_text}
 use Rattle.spec_tool.specs.declared.rule.Rule.{Rule}
@@ -26,7 +27,6 @@ use Rattle.spec_tool.specs.Turns.{Progress, Progressed, extended}
 use Rattle.theory_auto.specs.Continued.{StrategiesGoOn}
 use Rattle.theory_auto.specs.OwnRules.{IsHonest, StrategiesKeepToRules}
 use Rattle.theory_auto.specs.Spelled.{GoesWith, LongerRunsAreSpelled}
-use Rattle.bm_hash.specs.Messages.{evidence_of}
 use Rattle.bitml_command.specs.Seen.{printed}
 use Rattle.bitml_command.specs.declared.reply.Reply.{Reply}
 use Rattle.bm_world.specs.declared.halt.Halt.{Halt}
@@ -36,7 +36,7 @@ use Rattle.bm_world.specs.Playing.{setup_in, most_records}
 use Rattle.bitml_play.specs.Going.{record_passed}
 use Rattle.bitml_play.specs.Whole.{IsLeft}
 use Rattle.bitml_play.proofs.Courses.{trace_is}
-use Rattle.bitml_reply.specs.Halting.{collided_printed, halt_printed}
+use Rattle.bitml_reply.specs.Halting.{halt_printed}
 use Rattle.bitml_reply.specs.Last.{IsHalted, IsWhole}
 use Rattle.bitml_reply.proofs.Ended.{whole_if}
 use Rattle.bm_auto.specs.Trying.{IsCause}
@@ -64,34 +64,26 @@ few_records s es =
 
 -- ---- a halt
 
-clash_shown : (halt : Halt) (shown : Option (List ℕ × List ℕ)) (comes : Progressed) → IsCause halt shown comes → halt ≡ halts.Collided → IsSome shown
-clash_shown halt shown comes c e =
-    let k : IsCause halts.Collided shown comes = subst (λ h. IsCause h shown comes) e c in
-    subst IsSome (sym (k.1)) refl
-
-collided_is : (shown : Option (List ℕ × List ℕ)) (comes : Progressed) (c : IsCause halts.Collided shown comes) (reply : Reply)
-    → Some (printed reply) ≡ halt_printed halts.Collided shown → printed reply ≡ collided_printed (c.0)
-collided_is shown comes c reply told =
-    same_Some (printed reply) (collided_printed (c.0)) (told ∙ ap (option_map collided_printed) (c.1))
-
 -- it is what the rounds come to
-halted_by : (halt : Halt) (shown : Option (List ℕ × List ℕ)) (comes : Progressed) (h : Header) (es : List Event) (reply : Reply)
-    → IsCause halt shown comes → Some (printed reply) ≡ halt_printed halt shown → printed reply ≡ progressed_answer h es comes
-halted_by halts.Collided shown comes h es reply c told = collided_is shown comes c reply told ∙ ap (progressed_answer h es) (sym (c.2))
-halted_by (halts.Guessed party secret) shown comes h es reply c told =
-    same_Some (printed reply) (prints 7 (guessed_line party secret)) told ∙ ap (progressed_answer h es) (sym c)
-halted_by halts.Memory shown comes h es reply c told = absurd (none-some (printed reply) (sym told))
+halted_by : (halt : Halt) (comes : Progressed) (h : Header) (es : List Event) (reply : Reply)
+    → IsCause halt comes → Some (printed reply) ≡ halt_printed halt → printed reply ≡ progressed_answer h es comes
+halted_by (halts.Collided earlier later) comes h es reply c told =
+    same_Some (printed reply) (prints 8 (collided_line earlier later)) told
+    ∙ ap (progressed_answer h es) (sym (c (draft.Collided earlier later) refl))
+halted_by (halts.Guessed party secret) comes h es reply c told =
+    same_Some (printed reply) (prints 7 (guessed_line party secret)) told
+    ∙ ap (progressed_answer h es) (sym (c (draft.Guessed party secret) refl))
+halted_by halts.Memory comes h es reply c told = absurd (none-some (printed reply) (sym told))
 
 -- and has another status than 0
-not_whole : (halt : Halt) (shown : Option (List ℕ × List ℕ)) (comes : Progressed) (reply : Reply) → IsCause halt shown comes
-    → Some (printed reply) ≡ halt_printed halt shown → reply.status ≡ 0 → ⊥
-not_whole halts.Collided shown comes reply c told zero =
-    let is : reply.status ≡ 8 = ap (λ (p : Printed). p.status) (collided_is shown comes c reply told) in
+not_whole : (halt : Halt) (reply : Reply) → Some (printed reply) ≡ halt_printed halt → reply.status ≡ 0 → ⊥
+not_whole (halts.Collided earlier later) reply told zero =
+    let is : reply.status ≡ 8 = ap (λ (p : Printed). p.status) (same_Some (printed reply) (prints 8 (collided_line earlier later)) told) in
     absurd (omega (arith, is, zero))
-not_whole (halts.Guessed party secret) shown comes reply c told zero =
+not_whole (halts.Guessed party secret) reply told zero =
     let is : reply.status ≡ 7 = ap (λ (p : Printed). p.status) (same_Some (printed reply) (prints 7 (guessed_line party secret)) told) in
     absurd (omega (arith, is, zero))
-not_whole halts.Memory shown comes reply c told zero = absurd (none-some (printed reply) (sym told))
+not_whole halts.Memory reply told zero = absurd (none-some (printed reply) (sym told))
 
 -- ---- a run that wasn't halted goes on
 
@@ -148,30 +140,18 @@ module _ {H : Type 0} (digest : H → List ℕ → List ℕ) (old : world.Played
     goes_continue r theorem keeps fair h = IfOk-weaker r IsLonger (ContinuesIfWhole s run rules) (continues theorem keeps fair) h
 
   module _ (new : world.Played H) (halt : Halt) (t : StopsExtending digest old new rules halt) where
-    abbrev shown : Option (List ℕ × List ℕ)
-    shown = evidence_of (digest new.hasher) new.world.hashed
-
     abbrev Tells : Reply → Type 0
-    Tells reply = Some (printed reply) ≡ halt_printed halt shown
-
-    caused : IsCause halt shown (extended s old.world rules)
-    caused =
-        subst (λ x. IsCause halt (evidence_of (digest x) new.world.hashed) (extended s old.world rules)) (sym t.setup.hasher)
-        (t.cause (left.going refl))
-
-    pub shows_clash : halt ≡ halts.Collided → IsSome (evidence_of (digest new.hasher) new.world.hashed)
-    shows_clash = clash_shown halt shown (extended s old.world rules) caused
+    Tells reply = Some (printed reply) ≡ halt_printed halt
 
     pub halt_answer : {E : Type 0} (r : Result Reply E) → IfOk r Tells → IfOk r (λ reply. printed reply ≡ auto_answer rules s run.events)
     halt_answer r h =
         IfOk-weaker r Tells (λ reply. printed reply ≡ auto_answer rules s run.events)
-        (λ reply told. halted_by halt shown (extended s old.world rules) run.header run.events reply caused told
+        (λ reply told. halted_by halt (extended s old.world rules) run.header run.events reply (t.cause (left.going refl)) told
         ∙ answer_of (extended s old.world rules) refl) h
 
     pub halt_continues : {E : Type 0} (r : Result Reply E) → IfOk r Tells → IfOk r (ContinuesIfWhole s run rules)
     halt_continues r h =
-        IfOk-weaker r Tells (ContinuesIfWhole s run rules)
-        (λ reply told zero. absurd (not_whole halt shown (extended s old.world rules) reply caused told zero)) h
+        IfOk-weaker r Tells (ContinuesIfWhole s run rules) (λ reply told zero. absurd (not_whole halt reply told zero)) h
 
 -- ---- a run that was played
 

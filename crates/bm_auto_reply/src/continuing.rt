@@ -50,6 +50,6 @@ pub(crate) fn continued_reply<H: Hash32 + Drop>(
     strategies_keep_to_rules();
     match extend(alloc, world, rules) {
         Ok(more) => went_on(alloc, run, more),
-        Err(halt) => halt_reply(alloc, world, &halt),
+        Err(halt) => halt_reply(alloc, &halt),
     }
 }

@@ -15,7 +15,7 @@ ghost use Rattle.bm_auto_reply.specs.Continued.{ContinuesIfWhole, GoesOnBeside};
 
 use crate::continuing::continued_reply;
 use bitml_command::Reply;
-use bitml_reply::{Last, let_go, play_to_end};
+use bitml_reply::{halt_reply, let_go, play_to_end};
 use bm_auto::{StrategyJudgement, judge_strategy, strategy_refused};
 use bm_hash::Hash32;
 use bm_wellformed::Checked;
@@ -41,10 +41,9 @@ fn rules_reply<H: Hash32 + Drop>(
         ≡ if_whole (spec.auto_answer rules.now) (setup_of (H.digest_of hash) run.now contracts.items) run.now.events) }
     ensures continued { IfOk result (ContinuesIfWhole (setup_of (H.digest_of hash) run.now contracts.items) run.now rules.now) }
 {
-    let last = play_to_end(alloc, hash, run, contracts)?;
-    match last {
-        Last::Halted(reply) => Ok(reply),
-        Last::Whole(world) => {
+    match play_to_end(alloc, hash, run, contracts) {
+        Err(halt) => halt_reply(alloc, &halt),
+        Ok(world) => {
             let mut world = world;
             let reply = continued_reply(alloc, &mut world, run, rules);
             let_go(world);

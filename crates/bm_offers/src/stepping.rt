@@ -37,6 +37,16 @@ impl Drop for Offer {
     }
 }
 
+impl Offer {
+    /// Its event.
+    pub fn into_event(self) -> Event
+        ensures { result ≡ self.event }
+    {
+        let Offer { step: _, event } = self;
+        event
+    }
+}
+
 /// The step that takes a branch with this core.
 pub(crate) fn step_of(output: u32, branch: u32, core: &Guarded) -> Option<Step>
     ensures step { listed result ≡ spec.taking output branch (guarded core.now) }

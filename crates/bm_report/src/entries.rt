@@ -4,13 +4,15 @@ ghost use Rattle.std.specs.Prelude.{◌≡◌, ◌<◌, ◌≤◌, ◌+◌, ◌^
 ghost use Rattle.std.specs.Fmt.{decimal};
 ghost use Rattle.spec_text.specs.RunText.{output_text, newline};
 ghost use Rattle.spec_text.specs.PlayText as spec;
+ghost use Rattle.bm_report.specs.Entries.{entry_by, entries_by};
 
 use crate::outcome::put_outcome;
 use crate::step::put_steps;
 use bm_runfile::{Event, put_event};
 use bm_text::{put, put_decimal};
-use spec_data::{Name, OutOfMemory};
-use spec_text::Entry;
+use spec_calculus::Step;
+use spec_data::{Name, OutOfMemory, Seq};
+use spec_run::Record;
 use std::alloc::Global;
 
 #[tactic(auto, using(std::proofs::Common::append_assoc))]
@@ -77,28 +79,31 @@ fn put_entry(
     alloc: Global,
     out: &mut Vec<u8>,
     number: u64,
-    entry: &Entry,
+    record: &Record,
+    steps: &[Step],
 ) -> Result<(), OutOfMemory>
-    ensures { OnOk result (out.new.items ≡ out.old.items ++ spec.entry_text number entry.now) }
+    ensures { OnOk result (out.new.items ≡ out.old.items ++ spec.entry_text number (entry_by record.now steps.now)) }
 {
-    put_event_line(alloc, out, number, &entry.event)?;
-    put_outcome(alloc, out, &entry.outcome)?;
+    put_event_line(alloc, out, number, &record.event)?;
+    put_outcome(alloc, out, &record.outcome)?;
     put(out, b"\n")?;
-    put_steps(alloc, out, &entry.outcome, entry.steps.as_slice())
+    put_steps(alloc, out, &record.outcome, steps)
 }
 
-/// Entries, numbered from 1 on.
+/// What the records came to, numbered from 1 on, each with its steps.
 #[tactic(auto, using(std::proofs::Common::append_assoc))]
 pub(crate) fn put_entries(
     alloc: Global,
     out: &mut Vec<u8>,
-    entries: &[Entry],
+    records: &[Record],
+    steps: &[Seq<Step>],
 ) -> Result<(), OutOfMemory>
-    ensures { OnOk result (out.new.items ≡ out.old.items ++ spec.entries_text 1 entries.now) }
+    requires { length steps.now ≡ length records.now }
+    ensures { OnOk result (out.new.items ≡ out.old.items ++ spec.entries_text 1 (entries_by records.now steps.now)) }
 {
     let mut number = 1u64;
-    for entry in entries {
-        put_entry(alloc, out, number, entry)?;
+    for (place, record) in records.iter().enumerate() {
+        put_entry(alloc, out, number, record, steps[place].as_slice())?;
         number += 1;
     }
     Ok(())

@@ -4,6 +4,7 @@ ghost use Rattle.std.specs.Prelude.{◌≡◌, ◌<◌, ◌^◌, ◌++◌, codes
 ghost use Rattle.std.specs.Fmt.{decimal};
 ghost use Rattle.spec_text.specs.RunText.{newline};
 ghost use Rattle.spec_text.specs.PlayText as spec;
+ghost use Rattle.bm_report.specs.Entries.{entries_by};
 ghost use Rattle.spec_text.specs.PlayText.{whole};
 
 use crate::entries::{put_entries, put_start};
@@ -11,8 +12,9 @@ use crate::last::{put_moment, put_offers, put_tip};
 use crate::secrets::put_all_secrets;
 use bm_calculus::Config;
 use bm_runfile::{Event, Header};
-use spec_data::OutOfMemory;
-use spec_text::Entry;
+use spec_calculus::Step;
+use spec_data::{OutOfMemory, Seq};
+use spec_run::Record;
 use std::alloc::Global;
 
 /// The last configuration: the height, the deposits and contracts, and the lines of the secrets.
@@ -56,19 +58,21 @@ fn put_end(
 pub(crate) fn whole_text(
     alloc: Global,
     header: &Header,
-    entries: &[Entry],
+    records: &[Record],
+    steps: &[Seq<Step>],
     tip: u32,
     live: &[(u32, u64)],
     config: &Config,
     offers: &[Event],
 ) -> Result<Vec<u8>, OutOfMemory>
-    requires { length config.now.contracts < 2 ^ 32 }
-    ensures { IfOk result (λ text. text.items ≡ spec.report_text header.now.deposits entries.now
+    requires each { length steps.now ≡ length records.now }
+    requires numbered { length config.now.contracts < 2 ^ 32 }
+    ensures { IfOk result (λ text. text.items ≡ spec.report_text header.now.deposits (entries_by records.now steps.now)
         (whole tip live.now config.now offers.now)) }
 {
     let mut out = Vec::new(alloc);
     put_start(alloc, &mut out, header.deposits.as_slice())?;
-    put_entries(alloc, &mut out, entries)?;
+    put_entries(alloc, &mut out, records, steps)?;
     put_end(alloc, &mut out, tip, live, config, offers)?;
     Ok(out)
 }

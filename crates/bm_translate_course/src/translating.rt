@@ -19,7 +19,6 @@ pub fn translate<H: Hash32 + Drop>(
     alloc: Global,
     world: &World<H>,
 ) -> Result<Translation, OutOfMemory>
-    ensures opening { IfOk result (λ t. t.opening ≡ run.opening_configuration (setup_in H.digest_of world.now)) }
     ensures steps { IfOk result (λ t. t.steps ≡ run.translated (setup_in H.digest_of world.now) (events_of world.now.trace)) }
     ensures last { IfOk result (λ t. t.last ≡ run.last_configuration (setup_in H.digest_of world.now) (events_of world.now.trace)) }
     ensures simulated { IfOk result (λ _. Simulates (setup_in H.digest_of world.now) (events_of world.now.trace)) }

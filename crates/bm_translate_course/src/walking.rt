@@ -24,10 +24,9 @@ use spec_run::{Header, Record};
 use std::alloc::Global;
 use theory_run::{licence_theorem, simulation_theorem};
 
-/// A run in the calculus: the configuration before any event, the steps of each event of the trace, and the last configuration.
+/// A run in the calculus: the steps of each event of the trace, and the last configuration.
 #[derive(Drop)]
 pub struct Translation {
-    pub opening: Config,
     pub steps: Seq<Seq<Step>>,
     pub last: Config,
 }
@@ -121,7 +120,6 @@ pub fn translate_run<H: Hash32 + Drop>(
     trace: &[Record],
 ) -> Result<Translation, OutOfMemory>
     requires run { IsPlayed (setup_of (H.digest_of trail.now.hasher) board.now) board.now trail.now.messages trace.now }
-    ensures opening { IfOk result (λ t. t.opening ≡ run.opening_configuration (setup_of (H.digest_of trail.now.hasher) board.now)) }
     ensures steps { IfOk result (λ t. t.steps ≡ run.translated (setup_of (H.digest_of trail.now.hasher) board.now) (events_of trace.now)) }
     ensures last { IfOk result (λ t. t.last
         ≡ run.last_configuration (setup_of (H.digest_of trail.now.hasher) board.now) (events_of trace.now)) }
@@ -133,10 +131,8 @@ pub fn translate_run<H: Hash32 + Drop>(
     licence_theorem();
     let _births = board.coins.ledger().births();
     let mut running = start(alloc, trail, board)?;
-    let opening = running.config.copy(alloc)?;
     let steps = walk(alloc, trail, board, &mut running, trace)?;
     Ok(Translation {
-        opening,
         steps,
         last: running.config,
     })

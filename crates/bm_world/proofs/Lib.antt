@@ -7,3 +7,4 @@ mod Played
 mod Posts
 mod Reaching
 pub mod Found
+pub mod Stopped

@@ -3,7 +3,7 @@ use Rattle.std.proofs.Common.{◌≡◌, true, ℕ, List, [], ◌≤◌, ◌+◌
 use Rattle.std.specs.List.{AllByRecursion}
 use Rattle.spec_data.specs.Hashes.{HashesBytes}
 use Rattle.spec_data.specs.Lists.{is_among}
-use Rattle.spec_data.specs.Messages.{noted_all, collision}
+use Rattle.spec_data.specs.Messages.{noted_all}
 use Rattle.spec_terms.specs.Advert.{Advert}
 use Rattle.spec_terms.specs.Faults.{IsWellFormed}
 use Rattle.spec_run.specs.declared.header.Header.{Header}
@@ -20,18 +20,17 @@ use Rattle.theory_run.specs.KeptRuns.{KeptBooks}
 use Rattle.theory_run.proofs.Facts.Bookkeeping.{opening_keeps}
 use Rattle.bm_hash.specs.declared.messages.TrailError.{TrailError}
 use Rattle.bm_hash.specs.declared.messages.TrailError.TheVariants as errors
-use Rattle.bm_hash.specs.Messages.{evidence_of}
 use Rattle.bm_hash.specs.Trails.{Hashed, Stops}
 use Rattle.bm_hash.proofs.Collisions.{hashed_adds, stopped_shows}
 use Rattle.bm_match.specs.Matches.{all_compiled}
 use Rattle.bm_world_board.specs.declared.board.Board.{Board}
 use Rattle.bm_world_board.specs.Drafts.{setup_of, world_of}
 use Rattle.bm_world_opening.specs.Opening.{setup_with, IsOpened}
-use Rattle.bm_world.specs.declared.halt.StartError.{StartError}
-use Rattle.bm_world.specs.declared.halt.StartError.TheVariants.{Collided, Memory}
+use Rattle.bm_world.specs.declared.halt.Halt.{Halt}
 use Rattle.bm_world.specs.Playing.{IsWorld}
 use Rattle.bm_world.specs.Reached.{IsReached}
-use Rattle.bm_world.specs.Starting.{Opens}
+use Rattle.bm_world.specs.Starting.{Opens, Unopened}
+use Rattle.bm_world.proofs.Played.{IsShown}
 use Rattle.bm_world.proofs.Reaching.{reached_at_start}
 
 nothing_posted : (t : List ℕ) → is_among t [] ≡ true → ⊥
@@ -102,12 +101,16 @@ module _ {H : Type 0} (digest : H → List ℕ → List ℕ) (hash here : H) (he
   }
 
 -- the collision that is shown is that of the opening strings
-pub collided_is : {H : Type 0} (digest : H → List ℕ → List ℕ) (hash here : H) (messages xs : List (List ℕ)) (error : TrailError)
-    (result : StartError) → here ≡ hash
-    → Stops (digest hash) [] messages xs error → (error ≡ errors.Memory → result ≡ Memory)
-    → ((first second : List ℕ) → result ≡ Collided first second → evidence_of (digest here) messages ≡ Some (first, second))
-    → (first second : List ℕ) → result ≡ Collided first second → collision (digest hash) [] xs ≡ Some (first, second)
-collided_is digest hash here messages xs errors.Memory result same stops memory shown first second e = let m = memory refl in cc
-collided_is digest hash here messages xs errors.Collided result same stops memory shown first second e =
-    sym ((stopped_shows (digest hash) [] messages xs refl stops).0) ∙ ap (λ h. evidence_of (digest h) messages) (sym same)
-    ∙ shown first second e
+pub unopened_by : {H : Type 0} (digest : H → List ℕ → List ℕ) (hash : H) (header : Header) (contracts : List Advert)
+    (messages : List (List ℕ)) (error : TrailError) (halt : Halt)
+    → Stops (digest hash) [] messages (opening_strings (setup_with (digest hash) header contracts)) error
+    → IsShown (digest hash) messages error halt → Unopened (setup_with (digest hash) header contracts) halt
+unopened_by digest hash header contracts messages errors.Memory halt stops is =
+    subst (Unopened (setup_with (digest hash) header contracts)) (sym (is.memory refl))
+    (record { collided = λ earlier later x. cc; unguessed = λ party secret x. cc })
+unopened_by digest hash header contracts messages errors.Collided halt stops is = record {
+  collided = λ earlier later x.
+      sym (stopped_shows (digest hash) [] messages (opening_strings (setup_with (digest hash) header contracts)) refl stops).0
+      ∙ is.collided earlier later x;
+  unguessed = is.unguessed;
+}

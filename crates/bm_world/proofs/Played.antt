@@ -1,8 +1,8 @@
 -- What an event leaves, by what was drafted of it.
-use Rattle.std.proofs.Common.{◌≡◌, ℕ, List, [], ◌∷◌, ◌++◌, length, ◌+◌, ◌*◌, ◌<◌, ◌≤◌, Bool, true, false, Option, Some, None, refl, sym, ap, subst, ◌∙◌, append-nil, length-append, arith}
-use Rattle.std.specs.Prelude.{IsSome, is_some, not, if◌then◌else◌}
+use Rattle.std.proofs.Common.{◌≡◌, ℕ, List, [], ◌∷◌, ◌++◌, length, ◌+◌, ◌*◌, ◌<◌, ◌≤◌, Bool, true, false, Option, Some, None, refl, sym, ap, subst, ◌∙◌, append-nil, length-append, arith, inl, inr}
+use Rattle.std.specs.Prelude.{is_some, not, if◌then◌else◌}
 use Rattle.std.specs.List.{find}
-use Rattle.std.specs.Option.{option_map}
+use Rattle.std.proofs.lemmas.Option.{none-some, same_Some}
 use Rattle.spec_data.specs.Lists.{is_among, first_reason}
 use Rattle.spec_data.specs.Ranges.{most_header_deposits, most_gift_outputs}
 use Rattle.spec_data.proofs.ListLemmas.{or_else-none}
@@ -17,7 +17,7 @@ use Rattle.spec_data.specs.Messages as run_messages
 use Rattle.spec_data.specs.Messages.{collision}
 use Rattle.spec_run.specs.Draft.{Draft, Went, Halted, is_guessed, guess, settled, settle}
 use Rattle.spec_run.specs.Draft as run
-use Rattle.spec_run.specs.Event.{draft, record_of}
+use Rattle.spec_run.specs.Event.{draft, event, record_of}
 use Rattle.spec_run.specs.Ledger.{live_from}
 use Rattle.spec_run.specs.Conditions.{IsSetup, IsEvent}
 use Rattle.spec_run.specs.Steps.{steps_of}
@@ -29,12 +29,12 @@ use Rattle.theory_run.specs.KeptRuns.{KeptBooks}
 use Rattle.theory_run.proofs.Facts.Bookkeeping.{keeps_after}
 use Rattle.bm_hash.specs.declared.messages.TrailError.{TrailError}
 use Rattle.bm_hash.specs.declared.messages.TrailError.TheVariants as trail
-use Rattle.bm_world.specs.Halts.{halt_of}
+use Rattle.bm_world.specs.Halts.{halt_of, IsAgain}
 use Rattle.bm_hash.specs.Messages.{evidence_of, noted, noted_all}
 use Rattle.bm_hash.specs.Trails.{Hashed, Stops}
 use Rattle.bm_world_board.specs.declared.board.Board.{Board}
 use Rattle.bm_world.specs.declared.halt.Halt.{Halt}
-use Rattle.bm_world.specs.declared.halt.Halt.TheVariants.{Guessed, Memory}
+use Rattle.bm_world.specs.declared.halt.Halt.TheVariants.{Collided, Guessed, Memory}
 use Rattle.bm_world_board.specs.declared.drafted.Change.{Change}
 use Rattle.bm_world_board.specs.declared.drafted.Change.TheVariants.{Nothing, Blocks, Advertise, Commit, Append}
 use Rattle.bm_world_board.specs.declared.drafted.Drafted.{Drafted}
@@ -43,7 +43,7 @@ use Rattle.bm_match.specs.Matches.{all_compiled}
 use Rattle.bm_world_board.specs.Compiling.{placed}
 use Rattle.bm_world_board.specs.Drafts.{world_of, tx_in, changed, IsReady, Drafts}
 use Rattle.bm_world_settle.specs.Settling.{IsMakeable, Makes}
-use Rattle.bm_world.specs.Playing.{most_records, HashedFront, JudgedHalts, Halts, Kept, IsPlayable, IsCompiledAfter, Passes, Tests, SameBoard, GoesOn, IsWorld, collided_by}
+use Rattle.bm_world.specs.Playing.{most_records, HashedFront, JudgedHalts, Halts, Kept, IsPlayable, IsCompiledAfter, Passes, Tests, SameBoard, GoesOn, IsWorld}
 use Rattle.bm_hash.proofs.Collisions.{hashed_adds, stopped_shows}
 use Rattle.bm_world_settle.proofs.Settled.{changed-hashed}
 use Rattle.bm_world.specs.Reached.{IsReached}
@@ -91,15 +91,46 @@ within_all hash ms (x ∷ xs) m h = within_all hash (noted hash ms x) xs m (note
 pub front_within : (hash : List ℕ → List ℕ) (old new xs : List (List ℕ)) → HashedFront hash old new xs → Within old new
 front_within hash old new xs h m i = subst (λ l. is_among m l ≡ true) (sym h.messages) (within_all hash old h.front m i)
 
-shown_some : (o p : Option (List ℕ × List ℕ)) (s : Setup) (w : World) (d : Draft) (g : Option HeldSecret) → o ≡ p → IsSome p
-    → option_map collided_by o ≡ Some (settle w d p g)
-shown_some o None s w d g e h = cc
-shown_some o (Some p) s w d g e h = ap (option_map collided_by) e
+-- a halt that an error of the trail makes, which now has these messages
+pub record IsShown (hash : List ℕ → List ℕ) (messages : List (List ℕ)) (error : TrailError) (halt : Halt) : Type 0 where
+  pub memory : error ≡ trail.Memory → halt ≡ Memory
+  pub collided : (earlier later : List ℕ) → halt ≡ Collided earlier later → evidence_of hash messages ≡ Some (earlier, later)
+  pub unguessed : (party secret : List ℕ) → halt ≡ Guessed party secret → ⊥
+
+pub shown_by : {H : Type 0} (digest : H → List ℕ → List ℕ) (old new : H) (messages : List (List ℕ)) (error : TrailError) (halt : Halt)
+    → new ≡ old → (error ≡ trail.Memory → halt ≡ Memory)
+    → ((earlier later : List ℕ) → halt ≡ Collided earlier later → evidence_of (digest new) messages ≡ Some (earlier, later))
+    → ((party secret : List ℕ) → halt ≡ Guessed party secret → ⊥) → IsShown (digest old) messages error halt
+shown_by digest old new messages error halt same memory collided unguessed = record {
+  memory = memory;
+  collided = λ earlier later is. ap (λ h. evidence_of (digest h) messages) (sym same) ∙ collided earlier later is;
+  unguessed = unguessed;
+}
+
+-- what collides is what halts the event
+cause_of : (s : Setup) (w : World) (e : Event) (halt : Halt)
+    → ((earlier later : List ℕ) → halt ≡ Collided earlier later → collision s.hash w.hashed ((draft s w e).hashes) ≡ Some (earlier, later))
+    → ((party secret : List ℕ) → halt ≡ Guessed party secret → ⊥) → (h : run.Halt) → halt_of halt ≡ Some h → event s w e ≡ Halted h
+cause_of s w e (Collided earlier later) collided unguessed h is =
+    ap (λ o. settle w (draft s w e) o (guess s w.posted ((draft s w e).posts) ((draft s w e).allowed))) (collided earlier later refl)
+    ∙ ap Halted (same_Some (run.Collided earlier later) h is)
+cause_of s w e (Guessed party secret) collided unguessed h is = absurd (unguessed party secret refl)
+cause_of s w e Memory collided unguessed h is = absurd (none-some h is)
+
+-- memory is short after some of the strings
+short_halts : (s : Setup) (w : World) (new : List (List ℕ)) (e : Event) → HashedFront s.hash w.hashed new (draft s w e).hashes
+    → Halts s w new e Memory
+short_halts s w new e hashed = record {
+  hashed = hashed;
+  cause = λ h is. absurd (none-some h is);
+  shown = λ earlier later x. cc;
+}
 
 -- the drafting stopped
-pub drafting_halts : (s : Setup) (w : World) (new : List (List ℕ)) (e : Event) (error : TrailError) → evidence_of s.hash w.hashed ≡ None
-    → Stops s.hash w.hashed new ((draft s w e).hashes) error → Halts s w new e (halt_of error)
-drafting_halts s w new e trail.Collided clear h =
+pub drafting_halts : (s : Setup) (w : World) (new : List (List ℕ)) (e : Event) (error : TrailError) (halt : Halt)
+    → evidence_of s.hash w.hashed ≡ None → Stops s.hash w.hashed new ((draft s w e).hashes) error → IsShown s.hash new error halt
+    → Halts s w new e halt
+drafting_halts s w new e trail.Collided halt clear h is =
     let i = stopped_shows s.hash w.hashed new ((draft s w e).hashes) clear h in
     record {
       hashed = record {
@@ -108,17 +139,19 @@ drafting_halts s w new e trail.Collided clear h =
         strings = sym (append-nil (draft s w e).hashes);
         messages = (h.collided refl).0;
       };
-      collided = λ x. shown_some (evidence_of s.hash new) (collision s.hash w.hashed ((draft s w e).hashes)) s w (draft s w e)
-          (guess s w.posted ((draft s w e).posts) ((draft s w e).allowed)) i.0 i.1;
-      guessed = λ party secret x. cc;
+      cause = cause_of s w e halt (λ earlier later x. sym i.0 ∙ is.collided earlier later x) is.unguessed;
+      shown = is.collided;
     }
-drafting_halts s w new e trail.Memory clear h =
+drafting_halts s w new e trail.Memory halt clear h is =
     let m = h.memory refl in
-    record {
-      hashed = record { front = m.0; back = m.1; strings = m.2; messages = m.3 };
-      collided = λ x. cc;
-      guessed = λ party secret x. cc;
-    }
+    subst (Halts s w new e) (sym (is.memory refl))
+    (short_halts s w new e (record { front = m.0; back = m.1; strings = m.2; messages = m.3 }))
+
+-- the halt that is kept
+pub halts_again : (s : Setup) (w : World) (new : List (List ℕ)) (e : Event) (halt kept : Halt) → IsAgain halt kept → Halts s w new e halt
+    → Halts s w new e kept
+halts_again s w new e halt kept (inl same) h = subst (Halts s w new e) (sym same) h
+halts_again s w new e halt kept (inr memory) h = subst (Halts s w new e) (sym memory) (short_halts s w new e h.hashed)
 
 -- all is hashed
 all_hashed : (hash : List ℕ → List ℕ) (old new xs : List (List ℕ)) → Hashed hash old new xs → HashedFront hash old new xs
@@ -135,22 +168,17 @@ module _ (s : Setup) (w v : World) (new : List (List ℕ)) (e : Event) (x : Draf
 
   -- memory is short
   pub memory_halts : Halts s w new e Memory
-  memory_halts = record {
-    hashed = all_hashed s.hash w.hashed new (draft s w e).hashes drafts.hashed;
-    collided = λ y. cc;
-    guessed = λ party secret y. cc;
-  }
+  memory_halts = short_halts s w new e (all_hashed s.hash w.hashed new (draft s w e).hashes drafts.hashed)
 
   -- a secret is guessed
   pub guess_halts : (held : HeldSecret) → find (is_guessed w.posted x.posts x.allowed) s.header.secrets ≡ Some held
       → Halts s w new e (Guessed held.party held.name)
   guess_halts held found = record {
     hashed = all_hashed s.hash w.hashed new (draft s w e).hashes drafts.hashed;
-    collided = λ y. cc;
-    guessed = λ party secret y.
-        let p : held.party ≡ party = cc in
-        let q : held.name ≡ secret = cc in
-        (λ i. settle w (draft s w e) (heard.1 i) ((sym same_guess ∙ found) i)) ∙ (λ i. Halted (run.Guessed (p i) (q i)));
+    cause = λ h is.
+        (λ i. settle w (draft s w e) (heard.1 i) ((sym same_guess ∙ found) i))
+        ∙ ap Halted (same_Some (run.Guessed held.party held.name) h is);
+    shown = λ earlier later y. cc;
   }
 
   -- nothing collides, and no secret is guessed
@@ -297,18 +325,30 @@ world_hears s t b old later xs trace halt was at hashed clear calm = subst (λ x
 
 -- ---- a transaction that is judged
 
+short_judged : (hash : List ℕ → List ℕ) (old new xs : List (List ℕ)) → HashedFront hash old new xs → JudgedHalts hash old new xs Memory
+short_judged hash old new xs hashed = record {
+  hashed = hashed;
+  collided = λ earlier later x. cc;
+  shown = λ earlier later x. cc;
+  unguessed = λ party secret x. cc;
+}
+
 -- the call stopped
 pub judged_halts : (hash : List ℕ → List ℕ) (old new xs : List (List ℕ)) (error : TrailError) (halt : Halt) → evidence_of hash old ≡ None
-    → Stops hash old new xs error → halt ≡ halt_of error → JudgedHalts hash old new xs halt
+    → Stops hash old new xs error → IsShown hash new error halt → JudgedHalts hash old new xs halt
 judged_halts hash old new xs trail.Collided halt clear h is = record {
   hashed = record { front = xs; back = []; strings = sym (append-nil xs); messages = (h.collided refl).0 };
-  collided = λ x. stopped_shows hash old new xs clear h;
-  unguessed = λ party secret x. cc;
+  collided = λ earlier later x. sym (stopped_shows hash old new xs clear h).0 ∙ is.collided earlier later x;
+  shown = is.collided;
+  unguessed = is.unguessed;
 }
 judged_halts hash old new xs trail.Memory halt clear h is =
     let m = h.memory refl in
-    record {
-      hashed = record { front = m.0; back = m.1; strings = m.2; messages = m.3 };
-      collided = λ x. cc;
-      unguessed = λ party secret x. cc;
-    }
+    subst (JudgedHalts hash old new xs) (sym (is.memory refl))
+    (short_judged hash old new xs (record { front = m.0; back = m.1; strings = m.2; messages = m.3 }))
+
+-- the halt that is kept
+pub judged_again : (hash : List ℕ → List ℕ) (old new xs : List (List ℕ)) (halt kept : Halt) → IsAgain halt kept
+    → JudgedHalts hash old new xs halt → JudgedHalts hash old new xs kept
+judged_again hash old new xs halt kept (inl same) h = subst (JudgedHalts hash old new xs) (sym same) h
+judged_again hash old new xs halt kept (inr memory) h = subst (JudgedHalts hash old new xs) (sym memory) (short_judged hash old new xs h.hashed)

@@ -1,7 +1,6 @@
 -- What an event leaves.
-use Rattle.std.specs.Prelude.{◌≡◌, ℕ, ◌+◌, ◌*◌, ◌<◌, ◌≤◌, ◌^◌, List, [], ◌∷◌, ◌++◌, map, length, Bool, not, Option, Some, None, IsSome}
+use Rattle.std.specs.Prelude.{◌≡◌, ℕ, ◌+◌, ◌*◌, ◌<◌, ◌≤◌, ◌^◌, List, [], ◌∷◌, ◌++◌, map, length, Bool, not, Option, Some, None}
 use Rattle.spec_data.specs.Ranges.{most_header_deposits, most_gift_outputs, most_piece_bytes}
-use Rattle.std.specs.Option.{option_map}
 use Rattle.spec_terms.specs.Advert.{Advert}
 use Rattle.spec_calculus.specs.Configuration.{Configuration}
 use Rattle.spec_run.specs.declared.event.Event.{Event}
@@ -18,13 +17,14 @@ use Rattle.spec_bitcoin.specs.declared.verdict.Refusal.{Refusal}
 use Rattle.spec_bitcoin.specs.Verdict.{refusal_of}
 use Rattle.spec_run.specs.Ledger.{live_from, strings_of}
 use Rattle.spec_run.specs.Values.{is_refused}
-use Rattle.spec_run.specs.Draft.{Answer, Halted, settled}
+use Rattle.spec_run.specs.Draft.{Halted, settled}
 use Rattle.spec_run.specs.Draft as run
 use Rattle.spec_run.specs.Event.{draft, event, record_of}
 use Rattle.bm_hash.specs.Messages.{evidence_of, noted_all}
 use Rattle.theory_run.specs.KeptRuns.{KeptBooks}
 use Rattle.bm_world.specs.declared.halt.Halt.{Halt}
 use Rattle.bm_world.specs.declared.halt.Halt.TheVariants.{Collided, Guessed}
+use Rattle.bm_world.specs.Halts.{halt_of, IsAgain}
 use Rattle.bm_compile.specs.Numbered.{Numbered}
 use Rattle.bm_match.specs.Matches.{all_compiled}
 use Rattle.bm_world_board.specs.declared.board.Board.{Board}
@@ -57,10 +57,6 @@ pub record Goes (s : Setup) (w next : World) (before later : List Record) (e : E
   pub outcome : result ≡ (draft s w e).outcome
   pub trace : later ≡ before ++ record_of e (draft s w e) ∷ []
 
--- a collision of two messages as the answer of an event
-abbrev pub collided_by : List ℕ × List ℕ → Answer
-collided_by p = Halted (run.Collided (p.0) (p.1))
-
 -- the first of these strings were hashed in turn, up to a clash at most
 pub record HashedFront (hash : List ℕ → List ℕ) (old new all : List (List ℕ)) : Type 0 where
   pub front : List (List ℕ)
@@ -71,8 +67,8 @@ pub record HashedFront (hash : List ℕ → List ℕ) (old new all : List (List 
 -- the event halted: at a collision, which the messages then show, at a guess, or for want of memory
 pub record Halts (s : Setup) (w : World) (messages : List (List ℕ)) (e : Event) (halt : Halt) : Type 0 where
   pub hashed : HashedFront s.hash w.hashed messages (draft s w e).hashes
-  pub collided : halt ≡ Collided → option_map collided_by (evidence_of s.hash messages) ≡ Some (event s w e)
-  pub guessed : (party secret : List ℕ) → halt ≡ Guessed party secret → event s w e ≡ Halted (run.Guessed party secret)
+  pub cause : (h : run.Halt) → halt_of halt ≡ Some h → event s w e ≡ Halted h
+  pub shown : (earlier later : List ℕ) → halt ≡ Collided earlier later → evidence_of s.hash messages ≡ Some (earlier, later)
 
 -- ---- what a world keeps
 
@@ -160,9 +156,9 @@ pub record StoppedBy {H : Type 0} (old new : Played H) (halt : Halt) (why : Type
   pub setup : SameSetup old new
   pub kept : new.world ≡ record old.world { hashed = new.world.hashed }
   pub trace : new.trace ≡ old.trace
-  pub halted : new.halt ≡ Some halt
-  -- the same answer again, and nothing changes any more
-  pub again : (earlier : Halt) → old.halt ≡ Some earlier → (halt ≡ earlier) × (new ≡ old)
+  pub halted : old.halt ≡ None → new.halt ≡ Some halt
+  -- the same answer again, unless memory is short, and nothing changes any more
+  pub again : (earlier : Halt) → old.halt ≡ Some earlier → IsAgain earlier halt × (new ≡ old)
   pub cause : old.halt ≡ None → why
 
 -- an event halted, or came after a halt
@@ -187,7 +183,8 @@ pub record Judged {H : Type 0} (digest : H → List ℕ → List ℕ) (old new :
 -- a transaction that was judged halted the run: its strings collided, as the messages then show, or memory was short
 pub record JudgedHalts (hash : List ℕ → List ℕ) (old new strings : List (List ℕ)) (halt : Halt) : Type 0 where
   pub hashed : HashedFront hash old new strings
-  pub collided : halt ≡ Collided → (evidence_of hash new ≡ collision hash old strings) × IsSome (collision hash old strings)
+  pub collided : (earlier later : List ℕ) → halt ≡ Collided earlier later → collision hash old strings ≡ Some (earlier, later)
+  pub shown : (earlier later : List ℕ) → halt ≡ Collided earlier later → evidence_of hash new ≡ Some (earlier, later)
   pub unguessed : (party secret : List ℕ) → halt ≡ Guessed party secret → ⊥
 
 -- an event would go on, and come to this

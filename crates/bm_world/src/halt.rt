@@ -1,58 +1,21 @@
 //! What halts a run.
 
-ghost use Rattle.std.specs.Prelude.{◌≡◌};
+ghost use Rattle.std.specs.Prelude.{◌≡◌, Some, IfOk};
 ghost use Rattle.bm_world.specs.declared.halt.Halt.TheVariants.{Memory};
-ghost use Rattle.bm_world.specs.Halts.{halt_of};
+ghost use Rattle.bm_world.specs.Halts.{IsAgain};
 
-use bm_hash::TrailError;
-use spec_data::{Bytes, Name};
-use std::alloc::AllocError;
+use spec_data::{Bytes, Name, OutOfMemory};
+use std::alloc::{AllocError, Global};
 
-/// What halts a run. After it every call answers the same.
+/// What halts a run: its opening, an event, or what is asked of its world.
 #[derive(Drop)]
 pub enum Halt {
-    /// Two different messages with one digest; the trail shows them.
-    Collided,
+    /// Two different messages with one digest, the earlier one first.
+    Collided(Bytes, Bytes),
     /// A secret was posted by an event that isn't its owner's reveal of it.
     Guessed { party: Name, secret: Name },
     /// Want of memory.
     Memory,
-}
-
-/// Why a run doesn't open.
-#[derive(Drop)]
-pub enum StartError {
-    /// Two different opening strings with one digest, the earlier one first.
-    Collided(Bytes, Bytes),
-    /// Want of memory.
-    Memory,
-}
-
-impl Halt {
-    /// An equal one.
-    pub fn copy(&self) -> Halt
-        ensures { result ≡ self.now }
-    {
-        match self {
-            Halt::Collided => Halt::Collided,
-            Halt::Guessed { party, secret } => Halt::Guessed {
-                party: *party,
-                secret: *secret,
-            },
-            Halt::Memory => Halt::Memory,
-        }
-    }
-}
-
-impl From<TrailError> for Halt {
-    ghost from_gives = { λ e r. r ≡ halt_of e };
-
-    fn from(error: TrailError) -> Halt {
-        match error {
-            TrailError::Collided => Halt::Collided,
-            TrailError::Memory => Halt::Memory,
-        }
-    }
 }
 
 impl From<AllocError> for Halt {
@@ -60,5 +23,50 @@ impl From<AllocError> for Halt {
 
     fn from(_error: AllocError) -> Halt {
         Halt::Memory
+    }
+}
+
+impl Halt {
+    /// An equal one.
+    pub fn copy(&self, alloc: Global) -> Result<Halt, OutOfMemory>
+        ensures { IfOk result (λ halt. halt ≡ self.now) }
+    {
+        Ok(match self {
+            Halt::Collided(earlier, later) => {
+                Halt::Collided(earlier.copy(alloc)?, later.copy(alloc)?)
+            }
+            Halt::Guessed { party, secret } => Halt::Guessed {
+                party: *party,
+                secret: *secret,
+            },
+            Halt::Memory => Halt::Memory,
+        })
+    }
+
+    /// The same once more: an equal one, or want of memory where there is none for its messages.
+    pub fn again(&self, alloc: Global) -> Halt
+        ensures { IsAgain self.now result }
+    {
+        match self.copy(alloc) {
+            Ok(halt) => halt,
+            Err(_) => Halt::Memory,
+        }
+    }
+}
+
+/// Keeps a halt for later calls, and answers it: want of memory where there is none for two of it.
+pub(crate) fn keep(alloc: Global, kept: &mut Option<Halt>, halt: Halt) -> Halt
+    ensures kept { kept.new ≡ Some result }
+    ensures same { IsAgain halt result }
+{
+    match halt.copy(alloc) {
+        Ok(copy) => {
+            *kept = Some(copy);
+            halt
+        }
+        Err(_) => {
+            *kept = Some(Halt::Memory);
+            Halt::Memory
+        }
     }
 }

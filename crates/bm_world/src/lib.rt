@@ -2,13 +2,13 @@
 #![tactic(auto)]
 
 mod drafting;
+mod evidence;
 mod halt;
 mod handing;
 mod placing;
 mod playing;
 mod standing;
-mod starting;
 mod world;
 
-pub use halt::{Halt, StartError};
+pub use halt::Halt;
 pub use world::World;

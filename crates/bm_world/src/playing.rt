@@ -2,11 +2,13 @@
 
 ghost use Rattle.std.specs.Prelude.{◌≡◌, IfOk, IfErr, OnErr};
 ghost use Rattle.spec_run.specs.Conditions.{IsEvent};
+ghost use Rattle.spec_run.specs.Event as run;
 ghost use Rattle.spec_run.specs.Values as values;
-ghost use Rattle.bm_world_board.specs.Drafts.{setup_of, world_of, Signs};
-ghost use Rattle.bm_world.specs.Playing.{IsPlayable, Passes, SameBoard, GoesOn, Tests, Halts};
+ghost use Rattle.bm_world_board.specs.Drafts.{setup_of, world_of, Drafts, Signs};
+ghost use Rattle.bm_world.specs.Playing.{IsPlayable, IsCompiledAfter, Passes, SameBoard, GoesOn, Tests, Halts};
 
 use crate::drafting::draft;
+use crate::evidence::trail_halt;
 use crate::halt::Halt;
 use crate::placing::place;
 use bm_compile::Compiled;
@@ -16,6 +18,31 @@ use bm_world_settle::{first_guessed, settle};
 use spec_data::Seq;
 use spec_run::{Event, Outcome, Record};
 use std::alloc::Global;
+
+// The draft of an event, and the contract that it compiles, where it does. The pairs that it signs are then in the book.
+fn draft_or_halt<H: Hash32 + Drop>(
+    alloc: Global,
+    trail: &mut Trail<H>,
+    board: &mut Board,
+    event: &Event,
+) -> Result<(Drafted, Option<(u32, Compiled)>), Halt>
+    requires playable { IsPlayable (setup_of (H.digest_of trail.old.hasher) board.old) board.old trail.old.messages }
+    requires is { IsEvent (setup_of (H.digest_of trail.old.hasher) board.old) event.now }
+    ensures hasher { trail.new.hasher ≡ trail.old.hasher }
+    ensures board { Signs board.old board.new }
+    ensures ok { IfOk result (λ p. Drafts (H.digest_of trail.old.hasher) (world_of board.new trail.old.messages) trail.old.messages
+        trail.new.messages (run.draft (setup_of (H.digest_of trail.old.hasher) board.old) (world_of board.old trail.old.messages) event.now)
+        p.0) }
+    ensures compiled { IfOk result (λ p. IsCompiledAfter (setup_of (H.digest_of trail.old.hasher) board.old)
+        (world_of board.old trail.old.messages) board.old.compiled event.now p.1) }
+    ensures halts { IfErr result (Halts (setup_of (H.digest_of trail.old.hasher) board.old) (world_of board.old trail.old.messages)
+        trail.new.messages event.now) }
+{
+    match draft(alloc, trail, board, event) {
+        Ok(answer) => Ok(answer),
+        Err(error) => Err(trail_halt(alloc, trail, error)),
+    }
+}
 
 // The draft of an event that goes on, and the contract that it compiles, where it does. Whether it goes on or halts, the pairs that
 // it signs are then in the book.
@@ -34,7 +61,7 @@ fn draft_passing<H: Hash32 + Drop>(
     ensures halts { IfErr result (Halts (setup_of (H.digest_of trail.old.hasher) board.old) (world_of board.old trail.old.messages)
         trail.new.messages event.now) }
 {
-    let answer = draft(alloc, trail, board, event)?;
+    let answer = draft_or_halt(alloc, trail, board, event)?;
     let guessed = first_guessed(
         alloc,
         board.header.secrets.as_slice(),

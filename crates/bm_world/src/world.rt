@@ -1,25 +1,23 @@
 //! The world of a run.
 
-ghost use Rattle.std.specs.Prelude.{◌≡◌, ◌≤◌, ◌<◌, ◌^◌, List, ℕ, length, option_map, None, Some, IfOk, IfErr};
+ghost use Rattle.std.specs.Prelude.{◌≡◌, ◌≤◌, ◌<◌, ◌^◌, length, option_map, None, IfOk, IfErr};
 ghost use Rattle.spec_data.specs.Ranges.{most_contracts};
 ghost use Rattle.spec_run.specs.Conditions.{IsHeader, IsEvent};
-ghost use Rattle.spec_run.specs.Event.{opening_collision};
 ghost use Rattle.spec_run.specs.Compiled.{compiled_instance};
 ghost use Rattle.spec_run.specs.Ledger.{chain_of};
 ghost use Rattle.spec_run.specs.World.{live_position_at};
 ghost use Rattle.bm_compile.specs.Numbered.{numbered};
-ghost use Rattle.bm_world.specs.declared.halt.StartError.TheVariants.{Collided};
 ghost use Rattle.bm_world.specs.Playing.{most_records, setup_in, IsWorld, Went, Stopped, Tested, Judged, StoppedJudging};
 ghost use Rattle.bm_world.specs.Reached.{IsReached};
 ghost use Rattle.bm_world.specs.Standing.{node_in};
 ghost use Rattle.bm_world_board.specs.Drafts.{setup_of, world_of};
 ghost use Rattle.bm_world_opening.specs.Opening.{setup_with};
-ghost use Rattle.bm_world.specs.Starting.{Opens};
+ghost use Rattle.bm_world.specs.Starting.{Opens, Unopened};
 
-use crate::halt::{Halt, StartError};
+use crate::evidence::trail_halt;
+use crate::halt::{Halt, keep};
 use crate::playing::{play, test};
 use crate::standing::node_at;
-use crate::starting::start_error;
 use bm_book::Book;
 use bm_compile::Compiled;
 use bm_exchange::Exchange;
@@ -79,29 +77,19 @@ impl<H: Hash32 + Drop> Drop for World<H> {
     }
 }
 
-// The halt, kept for later calls.
-fn halted(kept: &mut Option<Halt>, halt: Halt) -> Halt
-    ensures kept { kept.new ≡ Some halt }
-    ensures same { result ≡ halt }
-{
-    *kept = Some(halt.copy());
-    halt
-}
-
 impl<H: Hash32 + Drop> World<H> {
     /// The world before any event. It hashes the labels and the scripts of the declared parties' deposits, and the opening transaction.
-    /// An error drops the contracts and the hash.
+    /// Where two different of these collide, they are what halts the run. A halt drops the contracts and the hash.
     pub fn start(
         alloc: Global,
         header: &Header,
         contracts: Vec<Checked>,
         hash: H,
-    ) -> Result<World<H>, StartError>
+    ) -> Result<World<H>, Halt>
         requires header { IsHeader header.now }
         requires few { length contracts.items ≤ most_contracts }
         ensures opens { IfOk result (Opens H.digest_of hash header.now contracts.items) }
-        ensures collided { IfErr result (λ error. (first second : List ℕ) → error ≡ Collided first second
-            → opening_collision (setup_with (H.digest_of hash) header.now contracts.items) ≡ Some (first, second)) }
+        ensures unopened { IfErr result (Unopened (setup_with (H.digest_of hash) header.now contracts.items)) }
     {
         let mut trail = Trail::new(alloc, hash);
         match open_board(alloc, &mut trail, header, contracts) {
@@ -112,7 +100,7 @@ impl<H: Hash32 + Drop> World<H> {
                 trace: Seq::new(alloc),
                 halt: None,
             }),
-            Err(error) => Err(start_error(alloc, &trail, error)),
+            Err(error) => Err(trail_halt(alloc, &trail, error)),
         }
     }
 
@@ -164,7 +152,7 @@ impl<H: Hash32 + Drop> World<H> {
         &self.board.book
     }
 
-    /// What the run halted with, if it did: every later call answers it.
+    /// What halted the run, if anything did: every later call answers it.
     pub fn halt(&self) -> Option<&Halt>
         ensures { option_map (λ h. h.now) result ≡ self.now.halt }
     {
@@ -204,7 +192,7 @@ impl<H: Hash32 + Drop> World<H> {
     }
 
     /// One event: what came of it, which is then recorded, or what halted the run. After a halt nothing but the trail has changed,
-    /// and every later call answers the same.
+    /// and every later call answers the same, or want of memory where there is none for a copy of the colliding messages.
     pub fn event(&mut self, event: &Event) -> Result<Outcome, Halt>
         requires is { IsEvent (setup_in H.digest_of self.old) event.now }
         requires few { length self.old.trace < most_records }
@@ -212,7 +200,7 @@ impl<H: Hash32 + Drop> World<H> {
         ensures stopped { IfErr result (Stopped H.digest_of self.old self.new event.now) }
     {
         if let Some(halt) = &self.halt {
-            return Err(halt.copy());
+            return Err(halt.again(self.alloc));
         }
         match play(
             self.alloc,
@@ -222,7 +210,7 @@ impl<H: Hash32 + Drop> World<H> {
             event,
         ) {
             Ok(outcome) => Ok(outcome),
-            Err(halt) => Err(halted(&mut self.halt, halt)),
+            Err(halt) => Err(keep(self.alloc, &mut self.halt, halt)),
         }
     }
 
@@ -235,11 +223,11 @@ impl<H: Hash32 + Drop> World<H> {
         ensures stopped { IfErr result (Stopped H.digest_of self.old self.new event.now) }
     {
         if let Some(halt) = &self.halt {
-            return Err(halt.copy());
+            return Err(halt.again(self.alloc));
         }
         match test(self.alloc, &mut self.trail, &mut self.board, event) {
             Ok(passes) => Ok(passes),
-            Err(halt) => Err(halted(&mut self.halt, halt)),
+            Err(halt) => Err(keep(self.alloc, &mut self.halt, halt)),
         }
     }
 
@@ -251,7 +239,7 @@ impl<H: Hash32 + Drop> World<H> {
         ensures stopped { IfErr result (StoppedJudging H.digest_of self.old self.new tx.now) }
     {
         if let Some(halt) = &self.halt {
-            return Err(halt.copy());
+            return Err(halt.again(self.alloc));
         }
         match self
             .board
@@ -259,7 +247,10 @@ impl<H: Hash32 + Drop> World<H> {
             .examine(&mut self.trail, &self.board.book, tx)
         {
             Ok(judged) => Ok(judged.refusal),
-            Err(error) => Err(halted(&mut self.halt, Halt::from(error))),
+            Err(error) => {
+                let halt = trail_halt(self.alloc, &self.trail, error);
+                Err(keep(self.alloc, &mut self.halt, halt))
+            }
         }
     }
 }

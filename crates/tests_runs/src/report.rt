@@ -5,10 +5,10 @@ ghost use Rattle.bm_report.specs.Endings.{IsNumbered};
 
 use crate::timed_commitment::{all_names, begun};
 use bm_calculus::Config;
-use bm_report::{Ending, Entry, report};
+use bm_report::{Ending, report};
 use spec_calculus::{Move, Owner, Step};
 use spec_data::{Bytes, Name, OutOfMemory, Seq};
-use spec_run::{Event, Header, Outcome};
+use spec_run::{Event, Header, Outcome, Record};
 use std::alloc::Global;
 use std::test::Fail;
 
@@ -41,7 +41,19 @@ fn action(alloc: Global, party: Name) -> Result<Move, OutOfMemory> {
     })
 }
 
-fn given(alloc: Global, party: Name) -> Result<Entry, OutOfMemory> {
+fn given(alloc: Global, party: Name) -> Result<Record, OutOfMemory> {
+    Ok(Record {
+        event: give(alloc, party)?,
+        outcome: Outcome::Accepted {
+            spent: list(alloc, &[0])?,
+            made: list(alloc, &[(1, 60), (2, 30)])?,
+            lock: 0,
+        },
+        tx: None,
+    })
+}
+
+fn steps(alloc: Global, party: Name) -> Result<Seq<Step>, OutOfMemory> {
     let mut steps = Seq::new(alloc);
     steps.push(Step::AuthMove {
         party,
@@ -50,15 +62,7 @@ fn given(alloc: Global, party: Name) -> Result<Entry, OutOfMemory> {
     steps.push(Step::Move {
         action: action(alloc, party)?,
     })?;
-    Ok(Entry {
-        event: give(alloc, party)?,
-        outcome: Outcome::Accepted {
-            spent: list(alloc, &[0])?,
-            made: list(alloc, &[(1, 60), (2, 30)])?,
-            lock: 0,
-        },
-        steps,
-    })
+    Ok(steps)
 }
 
 fn live(alloc: Global) -> Result<Seq<(u32, u64)>, OutOfMemory> {
@@ -138,13 +142,14 @@ fn is_small(ending: &Ending) -> bool
 fn printed(
     alloc: Global,
     header: &Header,
-    entries: &[Entry],
+    records: &[Record],
+    steps: &[Seq<Step>],
     ending: &Ending,
 ) -> Result<Option<Vec<u8>>, OutOfMemory> {
-    if !is_small(ending) {
+    if !is_small(ending) || steps.len() != records.len() {
         return Ok(None);
     }
-    Ok(Some(report(alloc, header, entries, ending)?))
+    Ok(Some(report(alloc, header, records, steps, ending)?))
 }
 
 const OPENED: &str = "start #0 A 100
@@ -186,9 +191,11 @@ const TEXTS: [&str; 5] = [
 fn text(alloc: Global, party: Name, row: usize) -> Result<Option<Vec<u8>>, OutOfMemory> {
     let header = header(alloc, party)?;
     let given = [given(alloc, party)?];
-    let entries: &[Entry] = if row < 2 { &given } else { &[] };
+    let taken = [steps(alloc, party)?];
+    let records: &[Record] = if row < 2 { &given } else { &[] };
+    let steps: &[Seq<Step>] = if row < 2 { &taken } else { &[] };
     match ending(alloc, party, row)? {
-        Some(ending) => printed(alloc, &header, entries, &ending),
+        Some(ending) => printed(alloc, &header, records, steps, &ending),
         None => Ok(None),
     }
 }

@@ -1,8 +1,8 @@
 //! Runs that are halted by two messages with one digest, or by a secret that somebody gives away.
 
-use crate::worlds::played;
-use bitml_play::{Played, Stop};
+use crate::worlds::{Played, played};
 use bm_hash::{Hash32, Toy, Twin};
+use bm_world::Halt;
 use spec_data::{Bytes, OutOfMemory};
 use std::alloc::Global;
 
@@ -11,19 +11,11 @@ fn are_these(earlier: &Bytes, later: &Bytes, first: &[u8], second: &[u8]) -> boo
     earlier.as_slice() == first && later.as_slice() == second
 }
 
-// Whether a run didn't open, for these messages.
-fn is_unopened<H: Hash32 + Drop>(played: &Played<H>, first: &[u8], second: &[u8]) -> bool {
-    match played {
-        Played::Unopened(earlier, later) => are_these(earlier, later, first, second),
-        Played::Opened(_, _) => false,
-    }
-}
-
 // Whether a run by the sum of bytes doesn't open, for these messages.
 fn collides_at_first(alloc: Global, run: &[u8], first: &[u8], second: &[u8]) -> bool {
     match played(alloc, Toy, run, &[]) {
-        Some(played) => is_unopened(&played, first, second),
-        None => false,
+        Some(Err(Halt::Collided(earlier, later))) => are_these(&earlier, &later, first, second),
+        _ => false,
     }
 }
 
@@ -43,33 +35,34 @@ fn strings_of_an_opening_collide(rt: HostRuntime) {
 }
 
 // Whether it is a collision of the byte 01 with this message, where there is to be one, and else a guess.
-fn is_stop(stop: &Stop, message: &[u8], collides: bool) -> bool {
-    match stop {
-        Stop::Collided(earlier, later) => collides && are_these(earlier, later, &[1], message),
-        Stop::Guessed(_, _) => !collides,
+fn is_stop(halt: &Halt, message: &[u8], collides: bool) -> bool {
+    match halt {
+        Halt::Collided(earlier, later) => collides && are_these(earlier, later, &[1], message),
+        Halt::Guessed { .. } => !collides,
+        Halt::Memory => false,
     }
 }
 
 // Whether the event of the wanted number is stopped so, or none.
-fn is_stopped(stop: &Option<(usize, Stop)>, message: &[u8], wanted: Option<(usize, bool)>) -> bool {
+fn is_stopped(stop: &Option<(usize, Halt)>, message: &[u8], wanted: Option<(usize, bool)>) -> bool {
     match (stop, wanted) {
         (None, None) => true,
-        (Some((number, stop)), Some((place, collides))) => {
-            *number == place && is_stop(stop, message, collides)
+        (Some((number, halt)), Some((place, collides))) => {
+            *number == place && is_stop(halt, message, collides)
         }
         _ => false,
     }
 }
 
-// The same of a run.
+// The same of a run that opened.
 fn is_stopped_run<H: Hash32 + Drop>(
     played: &Played<H>,
     message: &[u8],
     wanted: Option<(usize, bool)>,
 ) -> bool {
     match played {
-        Played::Unopened(_, _) => false,
-        Played::Opened(_, stop) => is_stopped(stop, message, wanted),
+        Ok((_, stop)) => is_stopped(stop, message, wanted),
+        Err(_) => false,
     }
 }
 

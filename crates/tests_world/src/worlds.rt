@@ -4,10 +4,10 @@ ghost use Rattle.std.specs.Prelude.{IfOk};
 ghost use Rattle.bitml_command.specs.Judges.{IsTaken, IsTakenIfAny};
 
 use bitml_command::{Judgement, judge_both};
-use bitml_play::{Played, play};
+use bitml_play::play;
 use bm_hash::{Hash32, Sha};
 use bm_wellformed::Checked;
-use bm_world::World;
+use bm_world::{Halt, World};
 use spec_data::{Bytes, OutOfMemory};
 use spec_run::Run;
 use std::alloc::Global;
@@ -33,6 +33,9 @@ fn judged(alloc: Global, run: &[u8], contracts: &[Option<Bytes>]) -> Result<Judg
     judge_both(alloc, &run, contracts)
 }
 
+/// What is played of a run: the world that it leaves, and which event was halted by what, if one was; or what halts its opening.
+pub type Played<H> = Result<(World<H>, Option<(usize, Halt)>), Halt>;
+
 // Plays a run that is taken.
 fn play_taken<H: Hash32 + Drop>(
     alloc: Global,
@@ -45,7 +48,7 @@ fn play_taken<H: Hash32 + Drop>(
     if contracts.len() > 16 {
         return None;
     }
-    play(alloc, hash, run, contracts).ok()
+    Some(play(alloc, hash, run, contracts))
 }
 
 /// What is played of these texts of a run and of its contracts, if they are taken.
@@ -64,7 +67,7 @@ pub fn played<H: Hash32 + Drop>(
 // The world, where nothing halted its run.
 fn whole(played: Played<Sha>) -> Option<World<Sha>> {
     match played {
-        Played::Opened(world, None) => Some(world),
+        Ok((world, None)) => Some(world),
         _ => None,
     }
 }

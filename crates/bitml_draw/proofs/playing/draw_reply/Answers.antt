@@ -7,7 +7,7 @@ use Rattle.spec_picture.specs.Drawing.{draw_text}
 use Rattle.theory_picture.proofs.Endings.{unopened_answer}
 use Rattle.bitml_command.specs.Seen.{printed}
 use Rattle.bm_world.specs.Playing.{setup_in}
-use Rattle.bitml_play.specs.Whole.{IsPlayed, IsLeft}
+use Rattle.bitml_play.specs.Whole.{IsLeft}
 use Rattle.bitml_reply.proofs.Left.{of_its_own, contracts_are}
 use Rattle.bitml_draw.proofs.Left.{only_one}
 use Rattle.bitml_draw.proofs.playing.draw_reply.Goals as goal
@@ -16,36 +16,36 @@ pub left_reply-reply-requires-clause-left : goal.left_reply-reply-requires-claus
 left_reply-reply-requires-clause-left g c =
     let digest = g.H.Hash32.digest_of in
     let s : Setup = setup_of (digest c.args.hash) c.args.run.now c.args.contracts.items in
-    let left = c.in-Opened.world in
-    subst (λ (es : List Event). IsLeft digest (setup_in digest left) es left c.in-Opened.stop) (sym c.as_slice.ensures)
-    (of_its_own digest s c.args.run.now.events left c.in-Opened.stop
-    (subst (IsPlayed digest s c.args.run.now.events) c.in-Opened.is c.in_ok-played.ensures))
+    let left = c.in-Ok.world in
+    subst (λ (es : List Event). IsLeft digest (setup_in digest left) es left c.in-Ok.stop) (sym c.as_slice.ensures)
+    (of_its_own digest s c.args.run.now.events left c.in-Ok.stop
+    c.in-Ok.ensures.left)
 
 pub left_reply-reply-requires-clause-contract : goal.left_reply-reply-requires-clause-contract
 left_reply-reply-requires-clause-contract g c =
     let digest = g.H.Hash32.digest_of in
     let s : Setup = setup_of (digest c.args.hash) c.args.run.now c.args.contracts.items in
-    let left = c.in-Opened.world in
-    contracts_are digest s c.args.run.now.events left c.in-Opened.stop
-    (subst (IsPlayed digest s c.args.run.now.events) c.in-Opened.is c.in_ok-played.ensures)
+    let left = c.in-Ok.world in
+    contracts_are digest s c.args.run.now.events left c.in-Ok.stop
+    c.in-Ok.ensures.left
     ∙ only_one c.args.contracts.items c.index.result.now c.in_ok-contract.contract c.requires.one c.index.ensures c.in_ok-contract.ensures
 
-pub returns-in-Unopened : goal.returns-in-Unopened
-returns-in-Unopened g c =
+pub returns-in-Collided : goal.returns-in-Collided
+returns-in-Collided g c =
     let s : Setup = setup_of (g.H.Hash32.digest_of c.args.hash) c.args.run.now c.args.contracts.items in
     subst (λ (p : Printed). IfOk c.picture_reply.result (λ reply. printed reply ≡ p))
     (unopened_answer s c.args.run.now.events c.in_ok-contract.contract
     (only_one c.args.contracts.items c.index.result.now c.in_ok-contract.contract c.requires.one c.index.ensures c.in_ok-contract.ensures)
-    c.in-Unopened.field-0 c.in-Unopened.field-1
-    (subst (IsPlayed g.H.Hash32.digest_of s c.args.run.now.events) c.in-Unopened.is c.in_ok-played.ensures))
+    c.in-Collided.field-0 c.in-Collided.field-1
+    (c.in-Err.ensures.unopened.collided c.in-Collided.field-0 c.in-Collided.field-1 c.in-Collided.is))
     c.picture_reply.ensures
 
 pub returns : goal.returns
 returns g c =
     let digest = g.H.Hash32.digest_of in
     let s : Setup = setup_of (digest c.args.hash) c.args.run.now c.args.contracts.items in
-    let left = c.in-Opened.world in
-    let l : IsLeft digest s c.args.run.now.events left c.in-Opened.stop = subst (IsPlayed digest s c.args.run.now.events) c.in-Opened.is c.in_ok-played.ensures in
+    let left = c.in-Ok.world in
+    let l : IsLeft digest s c.args.run.now.events left c.in-Ok.stop = c.in-Ok.ensures.left in
     subst (λ (p : Printed). IfOk c.left_reply-reply.result (λ reply. printed reply ≡ p))
     (ap (run_answer draw_text (setup_in digest left)) c.as_slice.ensures
     ∙ ap (λ (t : Setup). run_answer draw_text t c.args.run.now.events) l.setup)

@@ -7,8 +7,9 @@ use Rattle.bitml_command.specs.Seen.{printed}
 use Rattle.bm_world.specs.Playing.{setup_in}
 use Rattle.bitml_play.specs.Whole.{IsLeft}
 use Rattle.bitml_reply.specs.Counted.{run_counts}
-use Rattle.bitml_reply.specs.Last.{IsLast, IsWhole}
+use Rattle.bitml_reply.specs.Last.{IsWhole}
 use Rattle.bitml_reply.proofs.Ended.{halted_make, whole_make}
+use Rattle.bitml_reply.proofs.Endings.{halted_told}
 use Rattle.bitml_reply.proofs.Left.{of_its_own}
 use Rattle.bitml_reply.proofs.made.made_reply.Goals as goal
 
@@ -16,22 +17,23 @@ pub counted-reply-requires : goal.counted-reply-requires
 counted-reply-requires g c =
     let digest = g.H.Hash32.digest_of in
     let s : Setup = setup_of (digest c.args.hash) c.args.run.now c.args.contracts.items in
-    let left = c.in-Whole.world in
-    let w : IsWhole digest s c.args.run.now.events left = subst (IsLast digest s c.args.run.now.events) c.in-Whole.is c.in_ok-last.ensures in
+    let left = c.in-Ok.world in
+    let w : IsWhole digest s c.args.run.now.events left = c.in-Ok.ensures.whole in
     subst (λ (es : List Event). IsLeft digest (setup_in digest left) es left None) (sym c.as_slice.ensures)
     (of_its_own digest s c.args.run.now.events left None w.left_is)
 
-pub returns-in-Halted : goal.returns-in-Halted
-returns-in-Halted g c =
+pub returns-in-Err : goal.returns-in-Err
+returns-in-Err g c =
     let s : Setup = setup_of (g.H.Hash32.digest_of c.args.hash) c.args.run.now c.args.contracts.items in
-    halted_make s c.args.run.now.events c.in-Halted.reply (subst (IsLast g.H.Hash32.digest_of s c.args.run.now.events) c.in-Halted.is c.in_ok-last.ensures)
+    let es = c.args.run.now.events in
+    halted_told c.halt_reply.result s es c.in-Err.halt _ c.in-Err.ensures.halted c.halt_reply.ensures (halted_make s es)
 
-pub returns-in-Whole : goal.returns-in-Whole
-returns-in-Whole g c =
+pub returns-in-Ok : goal.returns-in-Ok
+returns-in-Ok g c =
     let digest = g.H.Hash32.digest_of in
     let s : Setup = setup_of (digest c.args.hash) c.args.run.now c.args.contracts.items in
-    let left = c.in-Whole.world in
-    let w : IsWhole digest s c.args.run.now.events left = subst (IsLast digest s c.args.run.now.events) c.in-Whole.is c.in_ok-last.ensures in
+    let left = c.in-Ok.world in
+    let w : IsWhole digest s c.args.run.now.events left = c.in-Ok.ensures.whole in
     subst (λ (p : Printed). IfOk c.counted-reply.result (λ reply. printed reply ≡ p))
     (whole_make digest s c.args.run.now.events left w (run_counts (setup_in digest left) c.as_slice.result.now)
     (ap (run_counts (setup_in digest left)) c.as_slice.ensures ∙ ap (λ (t : Setup). run_counts t c.args.run.now.events) w.left_is.setup))

@@ -1,5 +1,5 @@
 use Rattle.std.proofs.Common.{◌≡◌, ◌++◌, drop}
-use Rattle.bitml_shows.specs.Entries.{entries_by}
+use Rattle.bm_report.specs.Entries.{entries_by}
 use Rattle.bitml_shows.proofs.entries.entries_by.Given as goal
 
 abbrev pub invariant-loop-number : goal.invariant-loop-number

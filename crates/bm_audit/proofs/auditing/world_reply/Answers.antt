@@ -3,12 +3,8 @@ use Rattle.std.specs.Prelude.{IfOk}
 use Rattle.spec_tool.specs.Commands.{Printed}
 use Rattle.bitml_command.specs.Seen.{printed}
 use Rattle.bm_world.specs.Playing.{setup_in}
-use Rattle.bm_audit.proofs.Replied.{found_path, shows_clash, halted_is}
+use Rattle.bm_audit.proofs.Replied.{found_path, halted_is}
 use Rattle.bm_audit.proofs.auditing.world_reply.Goals as goal
-
-pub halt_reply-requires : goal.halt_reply-requires
-halt_reply-requires g c =
-    shows_clash g.H.Hash32.digest_of c.args.world.now c.audit.new.world c.args.text.now c.in-Err.halt c.requires c.in-Err.ensures.stopped
 
 pub returns-in-Ok : goal.returns-in-Ok
 returns-in-Ok g c =

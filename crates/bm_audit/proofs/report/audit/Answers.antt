@@ -9,7 +9,7 @@ use Rattle.bm_audit.proofs.report.audit.Goals as goal
 
 pub returns-in-Some-clause-stopped : goal.returns-in-Some-clause-stopped
 returns-in-Some-clause-stopped g c =
-    rw c.copy.ensures (halted_before g.H.Hash32.digest_of c.args.world.now _ _ (sym c.halt.ensures ∙ ap (option_map (λ h. h.now)) c.in-Some.is))
+    halted_before g.H.Hash32.digest_of c.args.world.now _ _ _ (sym c.halt.ensures ∙ ap (option_map (λ h. h.now)) c.in-Some.is) c.again.ensures
 
 pub returns-in_err-catalog-clause-stopped : goal.returns-in_err-catalog-clause-stopped
 returns-in_err-catalog-clause-stopped g c =

@@ -1,4 +1,4 @@
-use Rattle.bm_auto_reply.proofs.Replied.{room, honest, goes_answer, goes_continue, shows_clash, halt_answer, halt_continues}
+use Rattle.bm_auto_reply.proofs.Replied.{room, honest, goes_answer, goes_continue, halt_answer, halt_continues}
 use Rattle.bm_auto_reply.proofs.continuing.continued_reply.Goals as goal
 
 pub extend-requires-clause-honest : goal.extend-requires-clause-honest
@@ -8,11 +8,6 @@ extend-requires-clause-honest g c =
 pub extend-requires-clause-few : goal.extend-requires-clause-few
 extend-requires-clause-few g c =
     room g.H.Hash32.digest_of c.args.world.now c.args.run.now c.args.rules.now c.requires.left c.requires.header c.requires.room
-
-pub halt_reply-requires : goal.halt_reply-requires
-halt_reply-requires g c =
-    shows_clash g.H.Hash32.digest_of c.args.world.now c.args.run.now c.args.rules.now c.requires.left c.requires.header
-    c.extend.new.world c.in-Err.halt c.in-Err.ensures.stops
 
 pub returns-in-Ok-clause-reply : goal.returns-in-Ok-clause-reply
 returns-in-Ok-clause-reply g c =

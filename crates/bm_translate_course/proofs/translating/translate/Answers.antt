@@ -1,6 +1,6 @@
 use Rattle.std.proofs.Common.{sym, ap, ◌∙◌, subst}
 use Rattle.spec_run.specs.Statements.{Simulates, HoldsThroughout, licensed}
-use Rattle.spec_run.specs.Translation.{opening_configuration, translated, last_configuration}
+use Rattle.spec_run.specs.Translation.{translated, last_configuration}
 use Rattle.bm_world_board.specs.Drafts.{setup_of}
 use Rattle.bm_world.specs.Playing.{setup_in}
 use Rattle.bm_translate_course.specs.Courses.{events_of, IsPlayed}
@@ -20,11 +20,6 @@ translate_run-requires g c = record { run = played }
         (sym c.trail.ensures)
         (subst (λ t. IsPlayed (setup_of (digest w.hasher) b) b w.world.hashed t) (sym c.trace.ensures.trace)
         (played_of (digest w.hasher) b w.world.hashed w.trace w.halt c.board.ensures.is))
-
-pub returns-clause-opening : goal.returns-clause-opening
-returns-clause-opening g c =
-    c.in_ok-made.ensures.opening
-    ∙ ap opening_configuration (same_setup g.H.Hash32.digest_of c.trail.result.now c.board.result.now c.args.world.now c.trail.ensures c.board.ensures.header c.board.ensures.contracts)
 
 pub returns-clause-steps : goal.returns-clause-steps
 returns-clause-steps g c =

@@ -1,9 +1,10 @@
-use Rattle.std.proofs.Common.{Some, None, refl, sym, ap, ◌∙◌, subst}
+use Rattle.std.proofs.Common.{None, refl, ap, subst}
 use Rattle.spec_run.specs.Ledger.{strings_of}
 use Rattle.bm_hash.proofs.Collisions.{hashed_adds}
 use Rattle.bm_world_board.specs.Drafts.{setup_of, world_of}
 use Rattle.bm_world.specs.Playing.{IsWorld}
-use Rattle.bm_world.proofs.Played.{world_halted, world_hears, judged_halts}
+use Rattle.bm_world.proofs.Played.{world_halted, world_hears, judged_halts, judged_again, shown_by}
+use Rattle.bm_world.proofs.Stopped.{stopped_again}
 use Rattle.bm_world.proofs.world.World.judge.Goals as goal
 
 pub invariant_of-self : goal.invariant_of-self
@@ -33,8 +34,10 @@ invariant_of-self-in-Err g c =
     subst (IsWorld (setup_of (g.H.Hash32.digest_of c.self.inside.trail.hasher) c.self.inside.board) c.self.inside.board
     c.self.inside.trail.messages c.self.inside.trace) c.in_default.is c.self.invariant in
     let halts = judged_halts s.hash c.self.inside.trail.messages c.examine.new.trail.messages (strings_of s w c.args.tx.now)
-    c.in-Err.error _ (was.clear refl) c.in-Err.ensures.trail.2 refl in
-    rw (c.halted.ensures.kept, c.from.ensures)
+    c.in-Err.error c.trail_halt.result (was.clear refl) c.in-Err.ensures.trail.2
+    (shown_by g.H.Hash32.digest_of c.self.inside.trail.hasher c.examine.new.trail.hasher c.examine.new.trail.messages c.in-Err.error
+    c.trail_halt.result c.in-Err.ensures.trail.0 c.trail_halt.ensures.memory c.trail_halt.ensures.collided c.trail_halt.ensures.unguessed) in
+    rw c.keep.ensures.kept
     (world_halted s (setup_of (g.H.Hash32.digest_of c.examine.new.trail.hasher) c.self.inside.board) c.self.inside.board
     c.self.inside.trail.messages c.examine.new.trail.messages (strings_of s w c.args.tx.now) c.self.inside.trace _ was halts.hashed
     (λ i. record {
@@ -68,9 +71,16 @@ returns-in-Err-clause-stopped g c =
       setup = record { hasher = c.in-Err.ensures.trail.0; header = refl; contracts = refl };
       kept = refl;
       trace = refl;
-      halted = c.halted.ensures.kept ∙ ap Some (sym c.halted.ensures.same);
+      halted = λ none. c.keep.ensures.kept;
       again = λ earlier h. let none = c.in_default.is in cc;
-      cause = λ h. judged_halts s.hash c.self.inside.trail.messages c.examine.new.trail.messages (strings_of s w c.args.tx.now)
-          c.in-Err.error c.halted.result
-          (c.self.invariant.clear c.in_default.is) c.in-Err.ensures.trail.2 (c.halted.ensures.same ∙ c.from.ensures);
+      cause = λ none. judged_again s.hash c.self.inside.trail.messages c.examine.new.trail.messages (strings_of s w c.args.tx.now)
+          c.trail_halt.result c.keep.result c.keep.ensures.same
+          (judged_halts s.hash c.self.inside.trail.messages c.examine.new.trail.messages (strings_of s w c.args.tx.now)
+          c.in-Err.error c.trail_halt.result (c.self.invariant.clear c.in_default.is) c.in-Err.ensures.trail.2
+          (shown_by g.H.Hash32.digest_of c.self.inside.trail.hasher c.examine.new.trail.hasher c.examine.new.trail.messages c.in-Err.error
+          c.trail_halt.result c.in-Err.ensures.trail.0 c.trail_halt.ensures.memory c.trail_halt.ensures.collided
+          c.trail_halt.ensures.unguessed));
     })
+
+pub returns-in-Some-clause-stopped : goal.returns-in-Some-clause-stopped
+returns-in-Some-clause-stopped g c = rw (← c.self.view_is) (stopped_again _ _ _ _ c.in-Some.is c.again.ensures)

@@ -2,7 +2,8 @@ use Rattle.std.proofs.Common.{◌≡◌, []}
 use Rattle.spec_run.specs.Event.{opening_strings}
 use Rattle.bm_hash.specs.Trails.{Hashed, Stops}
 use Rattle.bm_world_opening.specs.Opening.{setup_with, IsOpened}
-use Rattle.bm_world.proofs.Opened.{opened_world, opened_is, collided_is}
+use Rattle.bm_world.proofs.Opened.{opened_world, opened_is, unopened_by}
+use Rattle.bm_world.proofs.Played.{shown_by}
 use Rattle.bm_world.proofs.world.World.start.Goals as goal
 
 pub invariant_of-result : goal.invariant_of-result
@@ -29,12 +30,13 @@ returns-in-Ok-clause-opens g c =
     opened_is g.H.Hash32.digest_of c.args.hash c.open_board.new.trail.hasher c.args.header.now c.args.contracts.items c.in-Ok.board
     c.open_board.new.trail.messages same opened hashed c.new.result c.new.ensures
 
-pub returns-in-Err-clause-collided : goal.returns-in-Err-clause-collided
-returns-in-Err-clause-collided g c =
+pub returns-in-Err-clause-unopened : goal.returns-in-Err-clause-unopened
+returns-in-Err-clause-unopened g c =
     let same : c.open_board.new.trail.hasher ≡ c.args.hash = rw c.new-trail.ensures at c.in-Err.ensures.trail.0 in
     let stops : Stops (g.H.Hash32.digest_of c.args.hash) [] c.open_board.new.trail.messages
     (opening_strings (setup_with (g.H.Hash32.digest_of c.args.hash) c.args.header.now c.args.contracts.items)) c.in-Err.error =
     rw c.new-trail.ensures at c.in-Err.ensures.trail.2 in
-    collided_is g.H.Hash32.digest_of c.args.hash c.open_board.new.trail.hasher c.open_board.new.trail.messages
-    (opening_strings (setup_with (g.H.Hash32.digest_of c.args.hash) c.args.header.now c.args.contracts.items))
-    c.in-Err.error c.start_error.result same stops c.start_error.ensures.memory c.start_error.ensures.collided
+    unopened_by g.H.Hash32.digest_of c.args.hash c.args.header.now c.args.contracts.items c.open_board.new.trail.messages
+    c.in-Err.error c.trail_halt.result stops
+    (shown_by g.H.Hash32.digest_of c.args.hash c.open_board.new.trail.hasher c.open_board.new.trail.messages c.in-Err.error
+    c.trail_halt.result same c.trail_halt.ensures.memory c.trail_halt.ensures.collided c.trail_halt.ensures.unguessed)

@@ -1,10 +1,12 @@
-use Rattle.std.proofs.Common.{None, subst}
+use Rattle.std.proofs.Common.{None, refl, ap, subst}
 use Rattle.spec_run.specs.Event.{draft}
 use Rattle.spec_run.specs.Draft.{settled}
+use Rattle.bm_world_board.specs.declared.board.Board.{Board}
 use Rattle.bm_world_board.specs.Drafts.{setup_of, world_of}
 use Rattle.bm_world.specs.Playing.{IsWorld}
-use Rattle.bm_world.proofs.Played.{playable_of, world_halted, world_hears}
+use Rattle.bm_world.proofs.Played.{playable_of, world_halted, world_hears, halts_again}
 use Rattle.bm_world.proofs.Reaching.{calm_of}
+use Rattle.bm_world.proofs.Stopped.{stopped_again}
 use Rattle.bm_world.proofs.world.World.test.Goals as goal
 
 pub test-requires-clause-playable : goal.test-requires-clause-playable
@@ -35,11 +37,32 @@ invariant_of-self-in-Err g c =
     c.self.inside.trail.messages c.self.inside.trace None =
     subst (IsWorld (setup_of (g.H.Hash32.digest_of c.self.inside.trail.hasher) c.self.inside.board) c.self.inside.board
     c.self.inside.trail.messages c.self.inside.trace) c.in_default.is c.self.invariant in
-    rw (c.halted.ensures.kept, c.test.ensures.board)
+    rw (c.keep.ensures.kept, c.test.ensures.board)
     (world_halted s (setup_of (g.H.Hash32.digest_of c.test.new.trail.hasher) c.self.inside.board) c.self.inside.board
-    c.self.inside.trail.messages c.test.new.trail.messages _ c.self.inside.trace c.in-Err.halt was c.in-Err.ensures.halts.hashed
+    c.self.inside.trail.messages c.test.new.trail.messages _ c.self.inside.trace c.keep.result was c.in-Err.ensures.halts.hashed
     (λ i. record {
       hash = g.H.Hash32.digest_of (c.test.ensures.hasher i);
       header = c.self.inside.board.header;
       contracts = c.self.inside.board.contracts;
     }))
+
+pub returns-in-Some-clause-stopped : goal.returns-in-Some-clause-stopped
+returns-in-Some-clause-stopped g c = rw (← c.self.view_is) (stopped_again _ _ _ _ c.in-Some.is c.again.ensures)
+
+pub returns-in-Err-clause-stopped : goal.returns-in-Err-clause-stopped
+returns-in-Err-clause-stopped g c =
+    let s = setup_of (g.H.Hash32.digest_of c.self.inside.trail.hasher) c.self.inside.board in
+    let w = world_of c.self.inside.board c.self.inside.trail.messages in
+    rw (← c.self.view_is) (record {
+      setup = record {
+        hasher = c.test.ensures.hasher;
+        header = ap (λ (b : Board). b.header) c.test.ensures.board;
+        contracts = ap (λ (b : Board). b.contracts) c.test.ensures.board;
+      };
+      kept = ap (λ b. world_of b c.test.new.trail.messages) c.test.ensures.board;
+      trace = refl;
+      halted = λ none. c.keep.ensures.kept;
+      again = λ earlier h. let none = c.in_default.is in cc;
+      cause = λ none. halts_again s w c.test.new.trail.messages c.args.event.now c.in-Err.halt c.keep.result c.keep.ensures.same
+          c.in-Err.ensures.halts;
+    })

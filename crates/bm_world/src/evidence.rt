@@ -1,11 +1,11 @@
-//! Why a run doesn't open.
+//! What an error of the trail halts, by what the trail shows.
 
 ghost use Rattle.std.specs.Prelude.{◌≡◌, ℕ, List, Some, IfOk};
 ghost use Rattle.bm_hash.specs.Messages.{evidence_of};
 ghost use Rattle.bm_hash.specs.declared.messages.TrailError.TheVariants as errors;
-ghost use Rattle.bm_world.specs.declared.halt.StartError.TheVariants.{Collided, Memory};
+ghost use Rattle.bm_world.specs.declared.halt.Halt.TheVariants.{Collided, Guessed, Memory};
 
-use crate::halt::StartError;
+use crate::halt::Halt;
 use bm_hash::{Hash32, Trail, TrailError};
 use spec_data::{Bytes, OutOfMemory};
 use std::alloc::Global;
@@ -27,21 +27,22 @@ fn evidence_of_trail<H: Hash32 + Drop>(
     }
 }
 
-/// Why a run doesn't open, by the error of its trail.
-pub(crate) fn start_error<H: Hash32 + Drop>(
+/// What halts a run by an error of its trail: the two messages that the trail shows, or want of memory.
+pub(crate) fn trail_halt<H: Hash32 + Drop>(
     alloc: Global,
     trail: &Trail<H>,
     error: TrailError,
-) -> StartError
+) -> Halt
     ensures memory { error ≡ errors.Memory → result ≡ Memory }
-    ensures collided { (first second : List ℕ) → result ≡ Collided first second
-        → evidence_of (H.digest_of trail.now.hasher) trail.now.messages ≡ Some (first, second) }
+    ensures collided { (earlier later : List ℕ) → result ≡ Collided earlier later
+        → evidence_of (H.digest_of trail.now.hasher) trail.now.messages ≡ Some (earlier, later) }
+    ensures unguessed { (party secret : List ℕ) → result ≡ Guessed party secret → ⊥ }
 {
     match error {
-        TrailError::Memory => StartError::Memory,
+        TrailError::Memory => Halt::Memory,
         TrailError::Collided => match evidence_of_trail(alloc, trail) {
-            Ok(Some((earlier, later))) => StartError::Collided(earlier, later),
-            _ => StartError::Memory,
+            Ok(Some((earlier, later))) => Halt::Collided(earlier, later),
+            _ => Halt::Memory,
         },
     }
 }

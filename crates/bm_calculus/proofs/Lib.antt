@@ -1,3 +1,4 @@
+pub mod Agreed
 pub mod Allowing
 pub mod Bools
 pub mod Gone

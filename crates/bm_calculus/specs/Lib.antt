@@ -1,3 +1,4 @@
+pub mod Agreed
 pub mod Answers
 pub mod Reached
 pub mod Takings

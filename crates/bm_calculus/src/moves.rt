@@ -1,9 +1,11 @@
 //! What a move asks of the deposits, and what it makes of them.
 
 ghost use Rattle.std.specs.Prelude.{◌≡◌, ◌+◌, ◌<◌, ◌^◌, ◌++◌, IfOk, OnOk, OnErr, length};
+ghost use Rattle.std.specs.List.{list_all};
 ghost use Rattle.spec_data.specs.Lists as lists;
 ghost use Rattle.spec_calculus.specs.Moves as spec;
 ghost use Rattle.spec_calculus.specs.Steps as steps;
+ghost use Rattle.bm_calculus.specs.Agreed.{agreed, is_agreed};
 
 use crate::deposits::Deposits;
 use crate::same::move_eq;
@@ -70,7 +72,8 @@ fn has_agreed(authorised: &[MoveAuthorisation], action: &Move, owner: &Owner) ->
     }
 }
 
-fn all_agree(deposits: &Deposits, authorised: &[MoveAuthorisation], action: &Move) -> bool
+// The same owner by owner. The whole move is compared for each.
+fn all_agree_singly(deposits: &Deposits, authorised: &[MoveAuthorisation], action: &Move) -> bool
     ensures { result ≡ spec.all_agree deposits.now authorised.now action.now }
 {
     action
@@ -78,6 +81,57 @@ fn all_agree(deposits: &Deposits, authorised: &[MoveAuthorisation], action: &Mov
         .as_slice()
         .iter()
         .all(|n| has_agreed(authorised, action, &deposits.owner_at(*n)))
+}
+
+// The parties that have authorised the move.
+fn agreed(
+    alloc: Global,
+    authorised: &[MoveAuthorisation],
+    action: &Move,
+) -> Result<Vec<Name>, OutOfMemory>
+    ensures { IfOk result (λ parties. parties.items ≡ agreed authorised.now action.now) }
+{
+    let mut parties = Vec::new(alloc);
+    for a in authorised {
+        if move_eq(&a.action, action) {
+            parties.push(a.party)?;
+        }
+    }
+    Ok(parties)
+}
+
+// Whether an owner is one of these parties; someone outside needn't be.
+fn is_agreed(parties: &[Name], owner: &Owner) -> bool
+    ensures { result ≡ is_agreed parties.now owner.now }
+{
+    match owner {
+        Owner::Party(party) => parties.contains(party),
+        Owner::Outside => true,
+    }
+}
+
+fn are_agreed(deposits: &Deposits, parties: &[Name], inputs: &[u32]) -> bool
+    ensures { result ≡ list_all (λ n. is_agreed parties.now (spec.owner_at deposits.now n)) inputs.now }
+{
+    inputs
+        .iter()
+        .all(|n| is_agreed(parties, &deposits.owner_at(*n)))
+}
+
+// Whether each party that owns an input has authorised the move. The move is compared once with each that is authorised; where there
+// is no memory for the parties that have, it is compared for each input.
+fn all_agree(
+    alloc: Global,
+    deposits: &Deposits,
+    authorised: &[MoveAuthorisation],
+    action: &Move,
+) -> bool
+    ensures { result ≡ spec.all_agree deposits.now authorised.now action.now }
+{
+    match agreed(alloc, authorised, action) {
+        Ok(parties) => are_agreed(deposits, &parties, action.inputs.as_slice()),
+        Err(_) => all_agree_singly(deposits, authorised, action),
+    }
 }
 
 /// The first premise of a party's agreement to a move that fails, or 0.
@@ -109,7 +163,7 @@ pub fn move_fails(
     if !pays(deposits, action) {
         return 2;
     }
-    if !all_agree(deposits, authorised, action) {
+    if !all_agree(alloc, deposits, authorised, action) {
         return 3;
     }
     0

@@ -1,4 +1,4 @@
--- What `audit` shows is an audit of the file in the run's last world.
+-- What `audit` shows is an audit of the file in the run's last world, and is read as all that it finds.
 use Rattle.std.proofs.Common.{◌≡◌, ℕ, List, [], ◌∷◌, Option, Some, None, refl, sym, subst, inl, inr}
 use Rattle.std.specs.Prelude.{◌⊎◌}
 use Rattle.spec_terms.specs.Advert.{Advert}
@@ -14,12 +14,13 @@ use Rattle.spec_tool.specs.Commands.{Printed, setup_of}
 use Rattle.spec_tool.specs.Reads.{Text, text_at}
 use Rattle.theory_audit.specs.Audited.{HaltsAs}
 use Rattle.theory_audit.proofs.Audited.{audits_find}
+use Rattle.theory_lines.proofs.Audits.{audit_back}
 use Rattle.theory_commands.specs.ContractFiles.{HoldsContract}
 use Rattle.theory_commands.specs.Files.{ShowsPlayed}
 use Rattle.theory_commands.specs.RunFiles.{HoldsRun}
-use Rattle.theory_commands.specs.Shown.Audit.{Finds, AuditHalts, ShowsAudit}
+use Rattle.theory_commands.specs.Shown.Audit.{Finds, AuditHalts, FindsIf, ShowsAudit}
 use Rattle.theory_commands.proofs.Files.{played, of_whole}
-use Rattle.theory_commands.proofs.Played.{calm, is_run}
+use Rattle.theory_commands.proofs.Played.{calm, is_run, known_run}
 
 answer_is : (text : List ℕ) (s : Setup) (es : List Event)
     → audit_answer text s es ≡ audited (audit_collision s (last_world s es) text) (audit_text s (last_world s es) text)
@@ -49,13 +50,19 @@ module _ (hash : List ℕ → List ℕ) (bytes : HashesBytes hash) where
     abbrev es : List Event
     es = run.events
 
-    audit_shown : (file : Text) → ShowsAudit file s es (audited_file file s es)
-    audit_shown None = refl
-    audit_shown (Some text) =
+    finds : (file : Text) → FindsIf file s es (audited_file file s es)
+    finds None = refl
+    finds (Some text) =
         of_whole (audit_answer text) s es (Audits s es text)
         (λ u. subst (Audits s es text) (sym (answer_is text s es))
         (by_collision s es text (audit_collision s (last_world s es) text)
         (audits_find.halts s es text (is_run hash bytes run_text contract_text run advert h k (calm s es u).opens))))
+
+    audit_shown : (file : Text) → ShowsAudit file s es (audited_file file s es)
+    audit_shown file = record {
+      shown = finds file;
+      read = audit_back s es (known_run run_text run h) (is_run hash bytes run_text contract_text run advert h k) file;
+    }
 
   pub audit_is_shown : (file : Text) (texts : List Text) → ShowsPlayed hash texts (with_contract (audited_file file) hash texts)
       (λ s es. ShowsAudit file s es (with_contract (audited_file file) hash texts))

@@ -4,3 +4,8 @@ pub mod PlanTexts
 pub mod SmallPaths
 pub mod Plannable
 pub mod Plans
+pub mod AuditRead
+pub mod AuditTexts
+pub mod AuditedLines
+pub mod AuditedSigners
+pub mod Audits

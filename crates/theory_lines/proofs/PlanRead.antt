@@ -22,15 +22,11 @@ use Rattle.theory_report.specs.Printable.{IsWide, IsNamed}
 use Rattle.theory_report.proofs.LineWords.{IsPlain, ArePlain, known_word}
 use Rattle.theory_report.proofs.Paths.{path_plain}
 use Rattle.theory_report.proofs.WordsBack.{number_back, number_plain, name_back, name_plain, bytes_back, bytes_plain}
-use Rattle.theory_lines.specs.PlanLines.{PlanLine, plan_said}
+use Rattle.theory_lines.specs.PlanLines.{IsWhich, PlanLine, plan_said}
 use Rattle.theory_lines.specs.PlanLines as line
 use Rattle.theory_lines.proofs.AnyLines.{Written}
 
 -- ---- names of transactions
-
-abbrev pub IsWhich : Which → Type 0
-IsWhich names.Init = Unit {0}
-IsWhich (names.At path) = AllByRecursion IsStep path
 
 pub which_back : (which : Which) → IsWhich which → which_of (which_text which) ≡ some which
 which_back names.Init h = refl

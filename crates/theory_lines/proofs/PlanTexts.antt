@@ -19,13 +19,13 @@ use Rattle.spec_tool.specs.declared.which.Which.TheVariants as names
 use Rattle.spec_tool.specs.Listed.{which_text}
 use Rattle.theory_text.proofs.Options.{some}
 use Rattle.theory_report.specs.Printable.{IsNamed}
-use Rattle.theory_lines.specs.PlanLines.{PlanLine, plan_line, plan_said}
+use Rattle.theory_lines.specs.PlanLines.{IsWhich, PlanLine, plan_line, plan_said}
 use Rattle.theory_lines.specs.PlanLines as line
 use Rattle.theory_lines.specs.Plan.{ShownPlan, compiled, uncompiled, guess, collision, IsShownTx, IsPlannable, Gathered, onto_gathered}
 use Rattle.theory_lines.specs.Plan.{gathered, by_path, compiled_by, plan_in, plan_of}
 use Rattle.theory_lines.specs.Statements.{CompilationsReadBack}
 use Rattle.theory_lines.proofs.AnyLines.{line_text, text_of, text_append, text_map, text_flat, text_back, two_words, three_words}
-use Rattle.theory_lines.proofs.PlanRead.{IsWhich, IsSaid, written, words_plain, words_back}
+use Rattle.theory_lines.proofs.PlanRead.{IsSaid, written, words_plain, words_back}
 
 -- ---- the lines of scripts and transactions
 

@@ -92,7 +92,7 @@ plan_back s es known f =
 
 -- ---- files
 
-one_contract : (file : List ℕ) (contract : Advert) → contract_of file ≡ Ok contract → contracts_from 0 (file ∷ []) ≡ Ok (contract ∷ [])
+pub one_contract : (file : List ℕ) (contract : Advert) → contract_of file ≡ Ok contract → contracts_from 0 (file ∷ []) ≡ Ok (contract ∷ [])
 one_contract file contract c = ap (λ (j : Judged Advert). onto_judged 0 j (Ok [])) c
 
 plan_printed : (hash : List ℕ → List ℕ) (run_file contract_file : List ℕ) (run : Run) (contract : Advert)

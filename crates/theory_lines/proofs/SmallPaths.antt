@@ -33,7 +33,7 @@ both : (xs ys : List Located) → AreSmall xs → AreSmall ys → AreSmall (xs +
 both [] ys h k = k
 both (x ∷ xs) ys h k = (h.0, both xs ys h.1 k)
 
-few_branches : (c : Contract) → is_readable_count c ≡ true → 0 + length (branches c) ≤ 2 ^ 32
+pub few_branches : (c : Contract) → is_readable_count c ≡ true → 0 + length (branches c) ≤ 2 ^ 32
 few_branches c h =
     let m = (and_parts (is_some_list (branches c)) (nat_le (length (branches c)) most_choices) h).1 in grind (arith, nat_tests, m)
 

@@ -1,14 +1,24 @@
 -- What each line of a plan's text says, read from its words: the grammar of these lines.
 use Rattle.std.specs.Prelude.{ℕ, List, [], ◌∷◌, reverse, ◌&&◌, ◌==◌, if◌then◌else◌, Option, Some, None, codes}
+use Rattle.std.specs.List.{AllByRecursion}
 use Rattle.std.specs.Str.{bytes_eq}
 use Rattle.spec_terms.specs.declared.path.PathStep.{PathStep}
 use Rattle.spec_bitcoin.specs.declared.tx.Tx.{Tx}
+use Rattle.spec_bitcoin.specs.Keys.{IsStep}
 use Rattle.spec_text.specs.Lines.{parts_of}
 use Rattle.spec_text.specs.Words.{◌>>=◌, given, a_name, path}
 use Rattle.spec_tool.specs.declared.which.Which.{Which}
+use Rattle.spec_tool.specs.declared.which.Which.TheVariants as names
 use Rattle.spec_tool.specs.Commands.{which_of}
 use Rattle.spec_tool.specs.Psbt.{unsigned_of}
 use Rattle.theory_report.specs.Lines.{Words, number, by_digits}
+
+-- ---- names of transactions
+
+-- the steps of a path have numbers of four bytes
+abbrev pub IsWhich : Which → Type 0
+IsWhich names.Init = Unit {0}
+IsWhich (names.At path) = AllByRecursion IsStep path
 
 -- ---- what a line says
 

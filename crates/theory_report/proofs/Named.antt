@@ -11,9 +11,9 @@ use Rattle.spec_terms.specs.Advert.{Advert}
 use Rattle.spec_terms.specs.Term as term
 use Rattle.spec_terms.specs.Term.{Contract, no_branch, branch, branches, Parts, no_part, part, parts_list, auth, after, put_reveal}
 use Rattle.spec_terms.specs.Term.{withdraw, split}
-use Rattle.spec_terms.specs.Core.{core, asks, reveals_of}
+use Rattle.spec_terms.specs.Core.{core, continuation, asks, reveals_of}
 use Rattle.spec_terms.specs.Parties.{mentions, choice_mentions, parts_mentions, add_new, add_all, participants}
-use Rattle.spec_terms.specs.Paths.{Subterm, position, at_branch, below, next_subterm, subterm_from, as_branch, at}
+use Rattle.spec_terms.specs.Paths.{Subterm, position, at_branch, below, next_subterm, subterm_from, as_branch, as_contract, at, contract_under}
 use Rattle.spec_terms.specs.Precondition.{Holding, party_of, deposits, persistent, secrets, names_of_party, secrets_of}
 use Rattle.spec_terms.specs.declared.pre.Pre.{Pre}
 use Rattle.spec_terms.specs.declared.pre.Pre.TheVariants.{Persistent, Volatile, Secret}
@@ -241,6 +241,31 @@ branch_fine a h path b e = by_end (subterm_from (position a.root) path) refl e
           readable = subst (λ x. is_readable_branch x ≡ true) same (end_spot path (position a.root) (at_branch d) (has_names a h).root f);
           steps = path_fine a path (at_branch d) h f;
         }
+
+-- the choice with which a core goes on
+continued_fine : (b : term.Guarded) (c : Contract) → is_readable_branch b ≡ true → continuation b ≡ Some c → is_fine c ≡ true
+continued_fine (put_reveal puts reveals test next) c h q =
+    let same : next ≡ c = cc in
+    let p = and_parts _ (is_readable_test test && is_fine next) h in
+    subst (λ x. is_fine x ≡ true) same (and_parts (is_readable_test test) (is_fine next) p.1).1
+continued_fine (withdraw party) c h q = cc
+continued_fine (split parts) c h q = cc
+continued_fine (auth party body) c h q = cc
+continued_fine (after height body) c h q = cc
+
+-- a position of a contract, at its path
+pub position_fine : (a : Advert) → IsWellFormed a → (path : List PathStep) (c : Contract) → contract_under a.root path ≡ Some c
+    → is_fine c ≡ true
+position_fine a h path c e = by_end (subterm_from (position a.root) path) refl e
+  where
+    by_end : (o : Option Subterm) → subterm_from (position a.root) path ≡ o → option_and_then as_contract o ≡ Some c → is_fine c ≡ true
+    by_end None f q = cc
+    by_end (Some (at_branch d)) f q =
+        continued_fine (core d) c
+        (core_readable d (end_spot path (position a.root) (at_branch d) (has_names a h).root f)) q
+    by_end (Some (position d)) f q =
+        let same : d ≡ c = cc in
+        subst (λ x. is_fine x ≡ true) same (end_spot path (position a.root) (position d) (has_names a h).root f)
 
 pub last_step : (path : List PathStep) (i : ℕ) → AllByRecursion IsStep (path ++ To i ∷ []) → i < 2 ^ 32
 last_step [] i h = h.0

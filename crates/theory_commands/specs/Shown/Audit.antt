@@ -10,6 +10,8 @@ use Rattle.spec_tool.specs.AuditText.{report_text, uncompiled_text, audit_refuse
 use Rattle.spec_tool.specs.Commands.{Printed, prints}
 use Rattle.spec_tool.specs.Reads.{Text}
 use Rattle.theory_audit.specs.Audited.{IsAudit, HaltsAs}
+use Rattle.theory_lines.specs.Audit.{audit_of, shown_audit}
+use Rattle.theory_lines.specs.Statements.{IsWithin}
 use Rattle.theory_commands.specs.Files.{IfWhole}
 
 -- nothing collides: what the file's lines are, which transactions are absent and which signatures are missing is written
@@ -27,6 +29,12 @@ pub record AuditHalts (s : Setup) (es : List Event) (text : List ℕ) (printed :
   pub answer : printed ≡ prints 8 (collided_line earlier later)
 
 -- the file is judged before the events; one that is too long is refused
-abbrev pub ShowsAudit : Text → Setup → List Event → Printed → Type 0
-ShowsAudit None s es printed = printed ≡ audit_refused
-ShowsAudit (Some text) s es printed = IfWhole s es printed (Finds s es text printed ⊎ AuditHalts s es text printed)
+abbrev pub FindsIf : Text → Setup → List Event → Printed → Type 0
+FindsIf None s es printed = printed ≡ audit_refused
+FindsIf (Some text) s es printed = IfWhole s es printed (Finds s es text printed ⊎ AuditHalts s es text printed)
+
+-- of a file after a run with its contract
+pub record ShowsAudit (file : Text) (s : Setup) (es : List Event) (printed : Printed) : Type 0 where
+  pub shown : FindsIf file s es printed
+  -- the text is read as all that is found, is absent and is missing, or as what stands in its place
+  pub read : IsWithin file → audit_of printed.text ≡ Some (shown_audit file s es)

@@ -33,7 +33,7 @@ fn branches_at<'a>(checked: &'a Checked, position: &Path) -> &'a [Guarded]
 }
 
 /// The branches of an active contract.
-pub(crate) fn branches_of<'a>(config: &'a Config, active: &ActiveContract) -> &'a [Guarded]
+pub fn branches_of<'a>(config: &'a Config, active: &ActiveContract) -> &'a [Guarded]
     ensures same { map guarded result.now ≡ spec.branches_of config.now.contracts active.now }
     ensures few { length result.now < 2 ^ 32 }
 {

@@ -5,6 +5,7 @@ mod branches;
 mod listing;
 mod stepping;
 
+pub use branches::branches_of;
 pub use listing::offers;
 pub use spec_calculus::Step;
 pub use spec_run::Event;

@@ -49,7 +49,7 @@ fn put_not_endorsed(
 }
 
 /// The name of a reason, and what it shows.
-fn put_reason(alloc: Global, out: &mut Vec<u8>, reason: &Reason) -> Result<(), OutOfMemory>
+pub fn put_reason(alloc: Global, out: &mut Vec<u8>, reason: &Reason) -> Result<(), OutOfMemory>
     ensures { OnOk result (out.new.items ≡ out.old.items ++ spec.reason_text reason.now) }
 {
     match reason {

@@ -1,3 +1,4 @@
+pub mod Foreseeing
 pub mod Halts
 pub mod Kinds
 pub mod Playing

@@ -3,6 +3,7 @@
 
 mod drafting;
 mod evidence;
+mod foretelling;
 mod halt;
 mod handing;
 mod placing;

@@ -14,6 +14,8 @@ ghost use Rattle.bm_world_board.specs.Drafts.{setup_of, world_of};
 ghost use Rattle.bm_world_opening.specs.Opening.{setup_with};
 ghost use Rattle.bm_world.specs.Starting.{Opens, Unopened};
 
+mod foreseeing;
+
 use crate::evidence::trail_halt;
 use crate::halt::{Halt, keep};
 use crate::playing::{play, test};

@@ -1,0 +1,68 @@
+//! What an event would come to, without playing it.
+
+ghost use Rattle.std.specs.Prelude.{◌≡◌, IfOk, IfErr};
+ghost use Rattle.spec_run.specs.Conditions.{IsEvent};
+ghost use Rattle.bm_world_board.specs.Drafts.{setup_of, world_of, Signs};
+ghost use Rattle.bm_hash.specs.Trails.{StopsAlong};
+ghost use Rattle.spec_run.specs.Event as run;
+ghost use Rattle.bm_world.specs.Playing.{IsPlayable};
+ghost use Rattle.bm_world.specs.Foreseeing.{Foretells};
+
+use crate::drafting::draft;
+use bm_hash::{Hash32, Trail, TrailError};
+use bm_world_board::Board;
+use bm_world_settle::first_guessed;
+use spec_run::{Event, Outcome};
+use std::alloc::Global;
+
+// What an event would come to, none where it would guess a secret. The pairs that it would sign are still in the book.
+fn try_outcome<H: Hash32 + Drop>(
+    alloc: Global,
+    trail: &mut Trail<H>,
+    board: &mut Board,
+    event: &Event,
+) -> Result<Option<Outcome>, TrailError>
+    requires playable { IsPlayable (setup_of (H.digest_of trail.old.hasher) board.old) board.old trail.old.messages }
+    requires is { IsEvent (setup_of (H.digest_of trail.old.hasher) board.old) event.now }
+    ensures hasher { trail.new.hasher ≡ trail.old.hasher }
+    ensures signs { Signs board.old board.new }
+    ensures foretells { IfOk result (Foretells (setup_of (H.digest_of trail.old.hasher) board.old) (world_of board.old trail.old.messages)
+        trail.new.messages event.now) }
+    ensures stops { IfErr result (StopsAlong H.digest_of trail.old trail.new
+        ((run.draft (setup_of (H.digest_of trail.old.hasher) board.old) (world_of board.old trail.old.messages) event.now).hashes)) }
+{
+    let answer = draft(alloc, trail, board, event)?;
+    let guessed = first_guessed(
+        alloc,
+        board.header.secrets.as_slice(),
+        &board.exchange,
+        answer.0.posts.as_slice(),
+        &answer.0.allowed,
+    )?;
+    match guessed {
+        Some(_) => Ok(None),
+        None => Ok(Some(answer.0.into_outcome())),
+    }
+}
+
+/// What an event would come to, none where it would guess a secret. Only the trail is changed.
+pub(crate) fn foretell<H: Hash32 + Drop>(
+    alloc: Global,
+    trail: &mut Trail<H>,
+    board: &mut Board,
+    event: &Event,
+) -> Result<Option<Outcome>, TrailError>
+    requires playable { IsPlayable (setup_of (H.digest_of trail.old.hasher) board.old) board.old trail.old.messages }
+    requires is { IsEvent (setup_of (H.digest_of trail.old.hasher) board.old) event.now }
+    ensures hasher { trail.new.hasher ≡ trail.old.hasher }
+    ensures board { board.new ≡ board.old }
+    ensures foretells { IfOk result (Foretells (setup_of (H.digest_of trail.old.hasher) board.old) (world_of board.old trail.old.messages)
+        trail.new.messages event.now) }
+    ensures stops { IfErr result (StopsAlong H.digest_of trail.old trail.new
+        ((run.draft (setup_of (H.digest_of trail.old.hasher) board.old) (world_of board.old trail.old.messages) event.now).hashes)) }
+{
+    let signed = board.book.count();
+    let answer = try_outcome(alloc, trail, board, event);
+    board.book.cut(signed);
+    answer
+}

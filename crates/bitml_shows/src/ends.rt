@@ -19,11 +19,10 @@ use std::alloc::Global;
 fn events_of(alloc: Global, offers: Vec<Offer>) -> Result<Vec<Event>, OutOfMemory>
     ensures { IfOk result (λ v. v.items ≡ map (λ o. o.event) offers.items) }
 {
-    let mut events = Vec::new(alloc);
-    for offer in offers {
-        events.push(offer.into_event())?;
-    }
-    Ok(events)
+    offers
+        .into_iter()
+        .map(|offer| offer.into_event())
+        .collect(alloc)
 }
 
 /// The end of a run that left this ledger and this configuration: the height, the live outputs, the configuration, and the events of

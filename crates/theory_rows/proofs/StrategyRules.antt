@@ -115,3 +115,43 @@ unfolding is_name word_front number_front symbol_front read_answer advert_of_all
     string_at input_at inputs_at output_at outputs_at witness_at witnesses_at plain_at marked_at transaction_at all_at script_meaning
     ops_of number_of_item signed_bytes item_of_number rounds auto_answer
 strategy_of_another_contract = refl
+
+-- consent alone, which nobody makes use of
+abbrev consent_strategy : List ℕ
+consent_strategy =
+    lines (
+    codes "A authorise 0 r.0" ∷
+    [])
+
+abbrev strategy_consents_text : List ℕ
+strategy_consents_text =
+    lines (
+    codes "party A" ∷
+    codes "party B" ∷
+    codes "honest A" ∷
+    codes "honest B" ∷
+    codes "deposit A 10" ∷
+    codes "deposit B 0" ∷
+    codes "--" ∷
+    codes "advertise 0 x=#0 y=#1" ∷
+    codes "commit 0 A" ∷
+    codes "commit 0 B" ∷
+    codes "endorse 0 A" ∷
+    codes "endorse 0 B" ∷
+    codes "init 0 A" ∷
+    codes "init 0 B" ∷
+    codes "fire init 0" ∷
+    codes "authorise A #2 0" ∷
+    [])
+
+strategy_consents :
+    replies small_hash (codes "auto" ∷ codes "begun.run" ∷ codes "branches.bitml" ∷ codes "consent.strategy" ∷ [])
+    ((codes "begun.run", begun_run) ∷ (codes "branches.bitml", branches_bitml) ∷ (codes "consent.strategy", consent_strategy) ∷ [])
+    ≡ prints 0 strategy_consents_text
+unfolding is_name word_front number_front symbol_front read_answer advert_of_all advert_at entries_at entry_at head_at deposit_at
+    secret_at fee_at choice_with branches_at branch_at parts_at auth_at after_at put_at reveal_at split_at reveals_at puts_at
+    put_reveals_at headed_at one_branch_at condition_at names_from test_at comparison_at formula_at constant_at length_at withdraw_at
+    digits label_text stripped marked compact places_list sequences_list outputs_list preimage position_script many wide_at compact_at
+    string_at input_at inputs_at output_at outputs_at witness_at witnesses_at plain_at marked_at transaction_at all_at script_meaning
+    ops_of number_of_item signed_bytes item_of_number rounds auto_answer
+strategy_consents = refl

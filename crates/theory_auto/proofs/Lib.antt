@@ -11,4 +11,5 @@ pub mod Continued
 pub mod Honest
 pub mod OwnRules
 pub mod Printed
+mod RulePaths
 pub mod Spelled

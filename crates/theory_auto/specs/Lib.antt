@@ -1,4 +1,5 @@
 pub mod Continued
 pub mod OwnRules
 pub mod Printed
+pub mod RulePaths
 pub mod Spelled

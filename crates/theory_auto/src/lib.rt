@@ -4,6 +4,7 @@
 ghost use Rattle.theory_auto.specs.Continued.{StrategiesGoOn};
 ghost use Rattle.theory_auto.specs.OwnRules.{StrategiesAreHonest, StrategiesKeepToRules};
 ghost use Rattle.theory_auto.specs.Printed.{PrintedIsLonger};
+ghost use Rattle.theory_auto.specs.RulePaths.{RulesTakeTheirBranches};
 ghost use Rattle.theory_auto.specs.Spelled.{LongerRunsAreSpelled};
 
 use theory_tool::valid_runs;
@@ -25,6 +26,12 @@ pub fn strategies_are_honest()
 /// by what they did in the run or have a rule for.
 pub fn strategies_keep_to_rules()
     ensures { StrategiesKeepToRules }
+{}
+
+/// A rule that names a path authorises or fires the branch at that path, and has no event only where
+/// no live output has that branch.
+pub fn rules_take_their_branches()
+    ensures { RulesTakeTheirBranches }
 {}
 
 /// The text of the run that goes on by the rules of a strategy is read as that very run, within all

@@ -14,5 +14,6 @@ mod PsbtFiles
 mod PsbtsOfRuns
 mod Secrets
 mod Strategies
+mod StrategyRules
 mod Weighed
 mod WidestPlan

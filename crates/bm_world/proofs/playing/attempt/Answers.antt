@@ -22,10 +22,11 @@ returns-in_err-settle-clause-halts g c =
 pub returns-clause-goes : goal.returns-clause-goes
 returns-clause-goes g c =
     let hash = g.H.Hash32.digest_of c.args.trail.now.hasher in
-    goes_by (setup_of hash c.args.board.now) (world_of c.args.board.now c.args.trail.now.messages) _ c.draft_passing.new.trail.messages
+    rw c.into_outcome.ensures
+    (goes_by (setup_of hash c.args.board.now) (world_of c.args.board.now c.args.trail.now.messages) _ c.draft_passing.new.trail.messages
     c.args.board.now.compiled c.args.event.now c.in_ok-answer.answer.0 c.in_ok-answer.answer.1
     c.requires.playable.clear c.in_ok-answer.ensures.passes c.draft_passing.new.board c.settle.new.board _ c.args.trace.now
     c.settle.new.trace refl
     (ap (λ (b : Board). b.exchange.posted) c.draft_passing.ensures.signs.rest)
     (ap (λ (b : Board). b.compiled) c.draft_passing.ensures.signs.rest) c.in_ok-settle.ensures.world refl c.place.ensures
-    c.in_ok-settle.ensures.trace
+    c.in_ok-settle.ensures.trace)

@@ -37,9 +37,9 @@ invariant_of-self-in-Err g c =
     subst (IsWorld (setup_of (g.H.Hash32.digest_of c.self.inside.trail.hasher) c.self.inside.board) c.self.inside.board
     c.self.inside.trail.messages c.self.inside.trace) c.in_default.is c.self.invariant in
     let halts = judged_halts s.hash c.self.inside.trail.messages c.foretell.new.trail.messages (draft s w c.args.event.now).hashes
-    c.in-Err.error c.trail_halt.result (was.clear refl) c.in-Err.ensures.stops
+    c.in-Err.error c.trail_halt-halt.result (was.clear refl) c.in-Err.ensures.stops
     (shown_by g.H.Hash32.digest_of c.self.inside.trail.hasher c.foretell.new.trail.hasher c.foretell.new.trail.messages c.in-Err.error
-    c.trail_halt.result c.foretell.ensures.hasher c.trail_halt.ensures.memory c.trail_halt.ensures.collided c.trail_halt.ensures.unguessed) in
+    c.trail_halt-halt.result c.foretell.ensures.hasher c.trail_halt-halt.ensures.memory c.trail_halt-halt.ensures.collided c.trail_halt-halt.ensures.unguessed) in
     rw (c.keep.ensures.kept, c.foretell.ensures.board)
     (world_halted s (setup_of (g.H.Hash32.digest_of c.foretell.new.trail.hasher) c.self.inside.board) c.self.inside.board
     c.self.inside.trail.messages c.foretell.new.trail.messages (draft s w c.args.event.now).hashes c.self.inside.trace _ was halts.hashed
@@ -81,11 +81,11 @@ returns-in-Err-clause-stopped g c =
       halted = λ none. c.keep.ensures.kept;
       again = λ earlier h. let none = c.in_default.is in cc;
       cause = λ none. judged_again s.hash c.self.inside.trail.messages c.foretell.new.trail.messages (draft s w c.args.event.now).hashes
-          c.trail_halt.result c.keep.result c.keep.ensures.same
+          c.trail_halt-halt.result c.keep.result c.keep.ensures.same
           (judged_halts s.hash c.self.inside.trail.messages c.foretell.new.trail.messages (draft s w c.args.event.now).hashes
-          c.in-Err.error c.trail_halt.result (c.self.invariant.clear c.in_default.is) c.in-Err.ensures.stops
+          c.in-Err.error c.trail_halt-halt.result (c.self.invariant.clear c.in_default.is) c.in-Err.ensures.stops
           (shown_by g.H.Hash32.digest_of c.self.inside.trail.hasher c.foretell.new.trail.hasher c.foretell.new.trail.messages c.in-Err.error
-          c.trail_halt.result c.foretell.ensures.hasher c.trail_halt.ensures.memory c.trail_halt.ensures.collided c.trail_halt.ensures.unguessed));
+          c.trail_halt-halt.result c.foretell.ensures.hasher c.trail_halt-halt.ensures.memory c.trail_halt-halt.ensures.collided c.trail_halt-halt.ensures.unguessed));
     })
 
 pub returns-in-Some-clause-stopped : goal.returns-in-Some-clause-stopped

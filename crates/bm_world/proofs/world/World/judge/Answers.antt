@@ -34,9 +34,9 @@ invariant_of-self-in-Err g c =
     subst (IsWorld (setup_of (g.H.Hash32.digest_of c.self.inside.trail.hasher) c.self.inside.board) c.self.inside.board
     c.self.inside.trail.messages c.self.inside.trace) c.in_default.is c.self.invariant in
     let halts = judged_halts s.hash c.self.inside.trail.messages c.examine.new.trail.messages (strings_of s w c.args.tx.now)
-    c.in-Err.error c.trail_halt.result (was.clear refl) c.in-Err.ensures.trail.2
+    c.in-Err.error c.trail_halt-halt.result (was.clear refl) c.in-Err.ensures.trail.2
     (shown_by g.H.Hash32.digest_of c.self.inside.trail.hasher c.examine.new.trail.hasher c.examine.new.trail.messages c.in-Err.error
-    c.trail_halt.result c.in-Err.ensures.trail.0 c.trail_halt.ensures.memory c.trail_halt.ensures.collided c.trail_halt.ensures.unguessed) in
+    c.trail_halt-halt.result c.in-Err.ensures.trail.0 c.trail_halt-halt.ensures.memory c.trail_halt-halt.ensures.collided c.trail_halt-halt.ensures.unguessed) in
     rw c.keep.ensures.kept
     (world_halted s (setup_of (g.H.Hash32.digest_of c.examine.new.trail.hasher) c.self.inside.board) c.self.inside.board
     c.self.inside.trail.messages c.examine.new.trail.messages (strings_of s w c.args.tx.now) c.self.inside.trace _ was halts.hashed
@@ -74,12 +74,12 @@ returns-in-Err-clause-stopped g c =
       halted = λ none. c.keep.ensures.kept;
       again = λ earlier h. let none = c.in_default.is in cc;
       cause = λ none. judged_again s.hash c.self.inside.trail.messages c.examine.new.trail.messages (strings_of s w c.args.tx.now)
-          c.trail_halt.result c.keep.result c.keep.ensures.same
+          c.trail_halt-halt.result c.keep.result c.keep.ensures.same
           (judged_halts s.hash c.self.inside.trail.messages c.examine.new.trail.messages (strings_of s w c.args.tx.now)
-          c.in-Err.error c.trail_halt.result (c.self.invariant.clear c.in_default.is) c.in-Err.ensures.trail.2
+          c.in-Err.error c.trail_halt-halt.result (c.self.invariant.clear c.in_default.is) c.in-Err.ensures.trail.2
           (shown_by g.H.Hash32.digest_of c.self.inside.trail.hasher c.examine.new.trail.hasher c.examine.new.trail.messages c.in-Err.error
-          c.trail_halt.result c.in-Err.ensures.trail.0 c.trail_halt.ensures.memory c.trail_halt.ensures.collided
-          c.trail_halt.ensures.unguessed));
+          c.trail_halt-halt.result c.in-Err.ensures.trail.0 c.trail_halt-halt.ensures.memory c.trail_halt-halt.ensures.collided
+          c.trail_halt-halt.ensures.unguessed));
     })
 
 pub returns-in-Some-clause-stopped : goal.returns-in-Some-clause-stopped

@@ -13,6 +13,6 @@ pub use halting::halt_reply;
 pub use last::{let_go, play_to_end};
 pub use made::made_reply;
 pub use plan::plan_reply;
-pub use play::play_reply;
+pub use play::{ending_by, play_reply};
 pub use psbt::psbt_reply;
 pub use weigh::weigh_reply;

@@ -59,8 +59,8 @@ fn halted_ending(alloc: Global, event: &Event, halt: Halt) -> Result<Ending, Out
     halted_by(event, halt)
 }
 
-// The end of a run of these events that left this world.
-fn ending_by<H: Hash32 + Drop>(
+/// The end of a run of these events that left this world. `bitml_draw` draws it.
+pub fn ending_by<H: Hash32 + Drop>(
     alloc: Global,
     world: &World<H>,
     events: &[Event],

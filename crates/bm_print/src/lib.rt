@@ -8,5 +8,5 @@ mod prefix;
 pub mod printer;
 mod text;
 
-pub use prefix::put_names;
+pub use prefix::{put_heading, put_names};
 pub use printer::print_advert;

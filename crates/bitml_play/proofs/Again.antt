@@ -1,14 +1,12 @@
 -- The events of a run that went on make the same run, without its halt.
-use Rattle.std.proofs.Common.{◌≡◌, ℕ, List, [], ◌∷◌, map, Option, Some, None, refl, sym, ap, subst, ◌∙◌}
-use Rattle.spec_calculus.specs.declared.step.Step.{Step}
-use Rattle.spec_calculus.specs.Configuration.{Configuration}
+use Rattle.std.proofs.Common.{◌≡◌, List, [], ◌∷◌, map, refl, ap, ◌∙◌}
 use Rattle.spec_run.specs.declared.event.Event.{Event}
 use Rattle.spec_run.specs.declared.outcome.Record.{Record}
 use Rattle.spec_run.specs.Setup.{Setup}
 use Rattle.spec_run.specs.World.{World}
-use Rattle.spec_run.specs.Draft.{Answer, Draft, Went, Halted, Halt}
-use Rattle.spec_run.specs.Event.{Passed, Progress, onto_passed, goes_on, played_from, played, opening_world, event}
-use Rattle.spec_run.specs.Translation.{Turn, Course, course, course_of, turns_from, world_after, opening_configuration, translated, last_or, last_configuration, trace, record_in}
+use Rattle.spec_run.specs.Draft.{Answer, Went, Halted}
+use Rattle.spec_run.specs.Event.{Passed, Progress, goes_on, played_from, played, opening_world, event}
+use Rattle.spec_run.specs.Translation.{Turn, turns_from, world_after, opening_configuration, translated, last_or, last_configuration}
 use Rattle.bitml_play.specs.Going.{record_passed}
 
 -- the events that went on

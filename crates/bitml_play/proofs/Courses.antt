@@ -1,5 +1,5 @@
 -- A run that was played from its opening on is its course.
-use Rattle.std.proofs.Common.{◌≡◌, ℕ, List, [], ◌∷◌, ◌++◌, map, Option, Some, None, refl, sym, ap, subst, ◌∙◌}
+use Rattle.std.proofs.Common.{◌≡◌, ℕ, List, [], ◌∷◌, map, Option, None, refl, sym, ap, subst, ◌∙◌}
 use Rattle.spec_calculus.specs.Configuration.{Configuration}
 use Rattle.spec_calculus.specs.Steps.{after_steps}
 use Rattle.spec_run.specs.declared.event.Event.{Event}
@@ -12,7 +12,7 @@ use Rattle.spec_run.specs.Setup.{Setup}
 use Rattle.spec_run.specs.World.{World}
 use Rattle.spec_run.specs.Event.{Passed, opening_world, played}
 use Rattle.spec_run.specs.Steps.{steps_of}
-use Rattle.spec_run.specs.Translation.{Turn, turns_from, turn_of, world_after, last_or, record_in, trace, last_world, opening_configuration}
+use Rattle.spec_run.specs.Translation.{Turn, turns_from, world_after, last_or, record_in, trace, last_world, opening_configuration}
 use Rattle.bm_world_opening.specs.Opening.{setup_with}
 use Rattle.bm_world.specs.Playing as world
 use Rattle.bm_world.specs.Playing.{setup_in}

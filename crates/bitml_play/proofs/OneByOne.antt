@@ -1,6 +1,6 @@
 -- Events that are played one after another make a run.
 use Rattle.std.proofs.Common.{◌≡◌, ℕ, List, [], ◌∷◌, ◌++◌, map, Option, Some, None, refl, sym, ap, subst, ◌∙◌, append_assoc, append-nil, ◌+◌, ◌<◌, ◌≤◌, length, length-append, arith, zero, suc, drop, get_or, add-one}
-use Rattle.std.specs.Prelude.{slice_get, option_map, Result, Ok, Err, IfOk}
+use Rattle.std.specs.Prelude.{slice_get, option_map}
 use Rattle.std.proofs.lemmas.Option.{none-some, same_Some}
 use Rattle.std.proofs.Math.Seq.{drop-cons}
 use Rattle.std.proofs.Math.ListN.{drop_of_length-le}
@@ -17,9 +17,7 @@ use Rattle.bm_world.specs.Playing as world
 use Rattle.bm_world.specs.Playing.{most_records, setup_in, SameSetup, Stopped}
 use Rattle.bm_world.specs.Halts.{halt_of}
 use Rattle.bm_world.specs.declared.halt.Halt.{Halt}
-use Rattle.bm_world.specs.declared.halt.Halt.TheVariants.{Memory}
-use Rattle.bm_world.proofs.Stopped.{halt_named}
-use Rattle.bitml_play.specs.Going.{GoesOn, Stops, Steps, record_passed, behind, Midway, StopIs, Plays}
+use Rattle.bitml_play.specs.Going.{GoesOn, Stops, Steps, record_passed, behind, Midway, Plays}
 
 -- ---- lists of events that went on
 
@@ -53,24 +51,6 @@ same_again old mid new h k = record { hasher = k.hasher ∙ h.hasher; header = k
 halt_there : (o : Option run.Halt) (a : Answer) → Some a ≡ option_map Halted o → (h : run.Halt) × (o ≡ Some h) × (a ≡ Halted h)
 halt_there None a e = absurd (none-some a (sym e))
 halt_there (Some h) a e = (h, refl, same_Some a (Halted h) e)
-
-pub stops_by : {H : Type 0} (digest : H → List ℕ → List ℕ) (old new : world.Played H) (e : Event) (halt : Halt) → old.halt ≡ None
-    → Stopped digest old new e halt → (halt ≡ Memory → ⊥) → Steps digest old new e (Some halt)
-stops_by digest old new e halt going h other =
-    let n = halt_named halt other in
-    record {
-      setup = h.setup;
-      stopped = ap Some ((h.cause going).cause n.0 n.1) ∙ ap (option_map Halted) (sym n.1);
-      left = h.kept;
-      trace = h.trace;
-    }
-
-pub stops_here_by : {H E : Type 0} (digest : H → List ℕ → List ℕ) (old new : world.Played H) (e : Event) (halt : Halt)
-    (r : Result (Option Halt) E) → old.halt ≡ None → Stopped digest old new e halt → IfOk r (λ stop. stop ≡ Some halt)
-    → IfOk r (λ stop. halt ≡ Memory → ⊥) → IfOk r (Steps digest old new e)
-stops_here_by digest old new e halt (Err x) going h is other = tt
-stops_here_by digest old new e halt (Ok stop) going h is other =
-    subst (Steps digest old new e) (sym is) (stops_by digest old new e halt going h other)
 
 -- ---- one event more
 

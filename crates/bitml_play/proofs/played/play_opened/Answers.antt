@@ -1,4 +1,4 @@
-use Rattle.std.proofs.Common.{◌≡◌, List, ap, sym, subst, refl}
+use Rattle.std.proofs.Common.{List, ap, sym, subst, refl}
 use Rattle.std.specs.List.{AllByRecursion}
 use Rattle.spec_run.specs.declared.event.Event.{Event}
 use Rattle.spec_run.specs.Conditions.{IsEvent}

@@ -19,11 +19,12 @@ use Rattle.spec_text.specs.ReadTest.{constant_at, length_at, formula_at, compari
 use Rattle.spec_text.specs.Reading.{names_from}
 use Rattle.spec_text.specs.Played.{play_text}
 use Rattle.spec_tool.specs.Reads.{got}
-use Rattle.spec_tool.specs.Commands.{prints}
+use Rattle.spec_tool.specs.Commands.{check, play, prints}
 use Rattle.spec_tool.proofs.WorkedHash.{small_hash}
 use Rattle.spec_next.specs.OutlookText.{next_text}
+use Rattle.spec_next.specs.Foreseen.{next_printed}
 use Rattle.spec_next.specs.FirstLines.{begin_text}
-use Rattle.spec_next.specs.NextAnswer.{begins, goes_on, next_words, next_answer}
+use Rattle.spec_next.specs.NextAnswer.{next_words, next_answer}
 use Rattle.spec_next.proofs.WorkedRuns.{lines, commitment, commitment_header, commitment_opened, escrow, escrow_opened}
 
 -- ---- words
@@ -31,10 +32,10 @@ use Rattle.spec_next.proofs.WorkedRuns.{lines, commitment, commitment_header, co
 pub no_words : next_words [] ≡ None
 no_words = refl
 
-pub one_word : next_words (codes "c" ∷ []) ≡ Some (begins (codes "c"))
+pub one_word : next_words (codes "c" ∷ []) ≡ Some (check (codes "c"))
 one_word = refl
 
-pub sixteen_contracts : next_words (codes "r" ∷ replicate 16 (codes "c")) ≡ Some (goes_on (codes "r") (replicate 16 (codes "c")))
+pub sixteen_contracts : next_words (codes "r" ∷ replicate 16 (codes "c")) ≡ Some (play (codes "r") (replicate 16 (codes "c")))
 sixteen_contracts = refl
 
 pub seventeen_contracts : next_words (codes "r" ∷ replicate 17 (codes "c")) ≡ None
@@ -42,7 +43,7 @@ seventeen_contracts = refl
 
 -- ---- the first lines
 
-pub first_lines_of_commitment : next_answer small_hash (Some (begins (codes "c"))) (got commitment ∷ [])
+pub first_lines_of_commitment : next_answer small_hash (Some (check (codes "c"))) (got commitment ∷ [])
     ≡ prints 0 (lines (
     codes "party A" ∷
     codes "party B" ∷
@@ -66,13 +67,13 @@ unfolding is_name word_front number_front symbol_front read_contract advert_of_a
     fee_at choice_with branches_at branch_at parts_at auth_at after_at put_at reveal_at split_at reveals_at puts_at put_reveals_at
     headed_at one_branch_at condition_at names_from test_at comparison_at formula_at constant_at length_at withdraw_at digits label_text
     stripped marked compact places_list sequences_list outputs_list preimage position_script script_meaning ops_of number_of_item
-    signed_bytes item_of_number play_text next_text begin_text
+    signed_bytes item_of_number play_text next_text next_printed begin_text
 first_lines_of_commitment = refl
 
 -- ---- what comes next
 
 -- before any event
-pub before_all : next_answer small_hash (Some (goes_on (codes "r") (codes "c" ∷ []))) (got commitment_header ∷ got commitment ∷ [])
+pub before_all : next_answer small_hash (Some (play (codes "r") (codes "c" ∷ []))) (got commitment_header ∷ got commitment ∷ [])
     ≡ prints 0 (lines (
     codes "can advertise 0 x=#0 y=#1" ∷
     codes "cannot commit 0 A NotAdvertised" ∷
@@ -113,11 +114,11 @@ unfolding is_name word_front number_front symbol_front read_contract advert_of_a
     fee_at choice_with branches_at branch_at parts_at auth_at after_at put_at reveal_at split_at reveals_at puts_at put_reveals_at
     headed_at one_branch_at condition_at names_from test_at comparison_at formula_at constant_at length_at withdraw_at digits label_text
     stripped marked compact places_list sequences_list outputs_list preimage position_script script_meaning ops_of number_of_item
-    signed_bytes item_of_number play_text next_text begin_text
+    signed_bytes item_of_number play_text next_text next_printed begin_text
 before_all = refl
 
 -- once the commitment has begun
-pub once_opened : next_answer small_hash (Some (goes_on (codes "r") (codes "c" ∷ []))) (got commitment_opened ∷ got commitment ∷ [])
+pub once_opened : next_answer small_hash (Some (play (codes "r") (codes "c" ∷ []))) (got commitment_opened ∷ got commitment ∷ [])
     ≡ prints 0 (lines (
     codes "can reveal 0 A a" ∷
     codes "cannot fire #2 0 SecretUnknown a" ∷
@@ -131,11 +132,11 @@ unfolding is_name word_front number_front symbol_front read_contract advert_of_a
     fee_at choice_with branches_at branch_at parts_at auth_at after_at put_at reveal_at split_at reveals_at puts_at put_reveals_at
     headed_at one_branch_at condition_at names_from test_at comparison_at formula_at constant_at length_at withdraw_at digits label_text
     stripped marked compact places_list sequences_list outputs_list preimage position_script script_meaning ops_of number_of_item
-    signed_bytes item_of_number play_text next_text begin_text
+    signed_bytes item_of_number play_text next_text next_printed begin_text
 once_opened = refl
 
 -- an escrow waits for its parties
-pub escrow_waits : next_answer small_hash (Some (goes_on (codes "r") (codes "c" ∷ []))) (got escrow_opened ∷ got escrow ∷ [])
+pub escrow_waits : next_answer small_hash (Some (play (codes "r") (codes "c" ∷ []))) (got escrow_opened ∷ got escrow ∷ [])
     ≡ prints 0 (lines (
     codes "can authorise A #2 0" ∷
     codes "cannot fire #2 0 ScriptFalse 0" ∷
@@ -152,5 +153,5 @@ unfolding is_name word_front number_front symbol_front read_contract advert_of_a
     fee_at choice_with branches_at branch_at parts_at auth_at after_at put_at reveal_at split_at reveals_at puts_at put_reveals_at
     headed_at one_branch_at condition_at names_from test_at comparison_at formula_at constant_at length_at withdraw_at digits label_text
     stripped marked compact places_list sequences_list outputs_list preimage position_script script_meaning ops_of number_of_item
-    signed_bytes item_of_number play_text next_text begin_text
+    signed_bytes item_of_number play_text next_text next_printed begin_text
 escrow_waits = refl

@@ -1,24 +1,35 @@
 -- The deposits that fit a contract of BitML, for its advertisement: the first by number for each name.
-use Rattle.std.specs.Prelude.{ℕ, ◌+◌, List, [], ◌∷◌, not, ◌&&◌, if◌then◌else◌, Option, Some, None}
-use Rattle.spec_data.specs.Lists.{has_number}
+use Rattle.std.specs.Prelude.{ℕ, ◌==◌, List, [], ◌∷◌, ◌++◌, Bool, not, ◌&&◌, if◌then◌else◌, Option, Some, None}
+use Rattle.std.specs.List.{list_any}
 use Rattle.spec_terms.specs.Precondition.{Holding}
-use Rattle.spec_run.specs.Setup.{Setup}
-use Rattle.spec_run.specs.World.{Output}
-use Rattle.spec_run.specs.Owners.{suits}
+use Rattle.spec_calculus.specs.declared.parts.Deposit.{Deposit}
+use Rattle.spec_calculus.specs.declared.step.Owner.TheVariants.{Party}
+use Rattle.spec_calculus.specs.Same.{owner_eq}
 
--- the number of the first of these outputs, from number n on, that fits and isn't taken
-abbrev pub first_fitting : Setup → Holding → List ℕ → ℕ → List Output → Option ℕ
-first_fitting s wanted taken n [] = None
-first_fitting s wanted taken n (o ∷ os) =
-    if suits s (Some wanted) (Some o) && not (has_number n taken) then Some n else first_fitting s wanted taken (n + 1) os
+-- whether a deposit has this owner and value
+abbrev pub fits : Holding → Deposit → Bool
+fits wanted d = owner_eq d.owner (Party wanted.owner) && (d.value == wanted.value)
 
--- a name that no output fits is left out
-abbrev pub onto_bindings : List ℕ → List ℕ → Option ℕ → (List ℕ → List (List ℕ × ℕ)) → List (List ℕ × ℕ)
-onto_bindings taken name None later = later taken
-onto_bindings taken name (Some n) later = (name, n) ∷ later (n ∷ taken)
+-- whether a name is bound to the deposit of this number
+abbrev pub is_taken : List (List ℕ × ℕ) → ℕ → Bool
+is_taken bound number = list_any (λ b. b.1 == number) bound
 
--- a binding for each of these deposits, in order: to the first output that fits and that none before it takes
-abbrev pub bindings_for : Setup → List Output → List ℕ → List (List ℕ × Holding) → List (List ℕ × ℕ)
-bindings_for s outputs taken [] = []
-bindings_for s outputs taken (d ∷ ds) =
-    onto_bindings taken (d.0) (first_fitting s (d.1) taken 0 outputs) (λ more. bindings_for s outputs more ds)
+-- the number of the first of these deposits that fits and that no name is bound to
+abbrev pub first_fitting : Holding → List (List ℕ × ℕ) → List Deposit → Option ℕ
+first_fitting wanted bound [] = None
+first_fitting wanted bound (d ∷ ds) =
+    if fits wanted d && not (is_taken bound d.number) then Some d.number else first_fitting wanted bound ds
+
+-- the name with the number, if there is one
+abbrev pub binding : List ℕ → Option ℕ → List (List ℕ × ℕ)
+binding name None = []
+binding name (Some number) = (name, number) ∷ []
+
+-- these bindings, and one for each of these deposits of a precondition, in order, to the first of the live deposits that fits and that
+-- none before it takes; a name that none fits is left out
+abbrev pub bindings_onto : List Deposit → List (List ℕ × ℕ) → List (List ℕ × Holding) → List (List ℕ × ℕ)
+bindings_onto live bound [] = bound
+bindings_onto live bound (d ∷ ds) = bindings_onto live (bound ++ binding (d.0) (first_fitting (d.1) bound live)) ds
+
+abbrev pub bindings_for : List Deposit → List (List ℕ × Holding) → List (List ℕ × ℕ)
+bindings_for live ds = bindings_onto live [] ds

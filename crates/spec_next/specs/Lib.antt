@@ -4,5 +4,6 @@ pub mod WantText
 pub mod Wants
 pub mod Prospects
 pub mod OutlookText
+pub mod Foreseen
 pub mod FirstLines
 pub mod NextAnswer

@@ -1,6 +1,6 @@
 -- How what comes next is printed.
-use Rattle.std.specs.Prelude.{ℕ, List, [], ◌∷◌, ◌++◌, map, filter, flat_map, not, codes}
-use Rattle.std.specs.Str.{bytes_eq}
+use Rattle.std.specs.Prelude.{ℕ, List, [], ◌∷◌, ◌++◌, map, flat_map, codes, if◌then◌else◌}
+use Rattle.spec_data.specs.Lists.{is_among}
 use Rattle.spec_run.specs.declared.event.Event.{Event}
 use Rattle.spec_run.specs.Setup.{Setup}
 use Rattle.spec_run.specs.Translation.{last_world, last_configuration}
@@ -19,10 +19,17 @@ ruling_line e rulings.Can = codes "can " ++ (event_text e ++ newline)
 ruling_line e (rulings.Cannot reason) = codes "cannot " ++ (event_text e ++ (codes " " ++ (reason_text reason ++ newline)))
 ruling_line e rulings.Halts = codes "cannot " ++ (event_text e ++ (codes " halts" ++ newline))
 
+-- these lines, and one more that isn't among them
+abbrev pub with_line : List (List ℕ) → List ℕ → List (List ℕ)
+with_line seen line = if is_among line seen then seen else seen ++ line ∷ []
+
+abbrev pub once_onto : List (List ℕ) → List (List ℕ) → List (List ℕ)
+once_onto seen [] = seen
+once_onto seen (line ∷ more) = once_onto (with_line seen line) more
+
 -- each line once, where it first stands
 abbrev pub once : List (List ℕ) → List (List ℕ)
-once [] = []
-once (line ∷ more) = line ∷ filter (λ other. not (bytes_eq other line)) (once more)
+once lines = once_onto [] lines
 
 -- an event and what is wanting for it
 abbrev pub prospect_text : Prospect → List ℕ

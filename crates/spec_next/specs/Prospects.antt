@@ -1,6 +1,7 @@
 -- What may come next of the contracts of a run: what each candidate would come to, what is wanting for it, and on whom something waits.
 use Rattle.std.specs.Prelude.{ℕ, ◌+◌, List, [], ◌∷◌, map, filter, Bool, true, false, not, Option, Some, None}
-use Rattle.std.specs.List.{flat_map}
+use Rattle.std.specs.List.{list_any}
+use Rattle.std.specs.Str.{bytes_eq}
 use Rattle.spec_data.specs.Lists.{is_among, has_number}
 use Rattle.spec_terms.specs.Advert.{Advert}
 use Rattle.spec_terms.specs.Parties.{participants}
@@ -84,7 +85,7 @@ awaited (wants.Advert k) = None
 awaited (wants.Deposit x) = None
 awaited (wants.Digest party secret) = Some party
 awaited (wants.Commitment party k) = Some party
-awaited (wants.Endorsement path party) = Some party
+awaited (wants.Endorsement party k) = Some party
 awaited (wants.Start party k) = Some party
 awaited (wants.Beginning k) = None
 awaited (wants.Height height) = None
@@ -93,21 +94,21 @@ awaited (wants.Put x) = None
 awaited (wants.Secret party secret) = Some party
 awaited wants.Predicate = None
 
-abbrev pub onto_awaited : Option (List ℕ) → List (List ℕ) → List (List ℕ)
-onto_awaited None parties = parties
-onto_awaited (Some party) parties = party ∷ parties
+-- whether it is for this party to do
+abbrev pub is_for_whom : Option (List ℕ) → List ℕ → Bool
+is_for_whom None party = false
+is_for_whom (Some name) party = bytes_eq name party
 
-abbrev pub all_awaited : List Want → List (List ℕ)
-all_awaited [] = []
-all_awaited (x ∷ xs) = onto_awaited (awaited x) (all_awaited xs)
+abbrev pub is_for : Want → List ℕ → Bool
+is_for want party = is_for_whom (awaited want) party
 
--- all that is wanting for these prospects
-abbrev pub all_wants : List Prospect → List Want
-all_wants ps = flat_map (λ p. p.wants) ps
+-- whether something that is wanting for one of these prospects is for this party to do
+abbrev pub is_waited_for : List Prospect → List ℕ → Bool
+is_waited_for ps party = list_any (λ p. list_any (λ want. is_for want party) p.wants) ps
 
 -- those of these people on whom one of the prospects waits
 abbrev pub waits : List (List ℕ) → List Prospect → List (List ℕ)
-waits people ps = filter (λ party. is_among party (all_awaited (all_wants ps))) people
+waits people ps = filter (λ party. is_waited_for ps party) people
 
 -- ---- contracts
 

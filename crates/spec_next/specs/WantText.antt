@@ -1,7 +1,6 @@
 -- How what is wanting is printed.
 use Rattle.std.specs.Prelude.{ℕ, List, ◌++◌, codes}
 use Rattle.std.specs.Fmt.{decimal}
-use Rattle.spec_bitcoin.specs.Keys.{path_text}
 use Rattle.spec_text.specs.RunText.{newline}
 use Rattle.spec_text.specs.StepText.{branch_text}
 use Rattle.spec_next.specs.declared.want.Want.{Want}
@@ -13,7 +12,7 @@ want_text (wants.Advert k) = codes "needs advertise " ++ decimal k
 want_text (wants.Deposit x) = codes "needs deposit " ++ x
 want_text (wants.Digest party secret) = codes "needs digest " ++ (secret ++ (codes " of " ++ party))
 want_text (wants.Commitment party k) = codes "needs " ++ (party ++ (codes " commits " ++ decimal k))
-want_text (wants.Endorsement path party) = codes "needs endorsement " ++ (path_text path ++ (codes " " ++ party))
+want_text (wants.Endorsement party k) = codes "needs " ++ (party ++ (codes " endorses " ++ decimal k))
 want_text (wants.Start party k) = codes "needs " ++ (party ++ (codes " inits " ++ decimal k))
 want_text (wants.Beginning k) = codes "needs fire init " ++ decimal k
 want_text (wants.Height height) = codes "needs height " ++ decimal height

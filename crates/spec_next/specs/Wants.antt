@@ -6,7 +6,6 @@ use Rattle.spec_terms.specs.Precondition.{Holding, persistent, names_of, secrets
 use Rattle.spec_terms.specs.Term as term
 use Rattle.spec_terms.specs.Value.{holds}
 use Rattle.spec_terms.specs.declared.pre.Pre.{Pre}
-use Rattle.spec_bitcoin.specs.Keys.{Pair}
 use Rattle.spec_calculus.specs.declared.parts.ActiveContract.{ActiveContract}
 use Rattle.spec_calculus.specs.Configuration.{Configuration}
 use Rattle.spec_calculus.specs.Beginning.{is_advertised, bindings_of, is_there, is_init_authorised, contract_at, pre_of, participants_of}
@@ -15,15 +14,14 @@ use Rattle.spec_calculus.specs.Branches.{has_branch_authorised, is_revealed_by, 
 use Rattle.spec_calculus.specs.Branches.{advert_of}
 use Rattle.spec_calculus.specs.Steps.{branch_at}
 use Rattle.spec_compiler.specs.Instance.{Instance}
-use Rattle.spec_compiler.specs.Endorsements.{Need, is_met}
 use Rattle.spec_run.specs.declared.event.Event.{Event}
 use Rattle.spec_run.specs.declared.event.Event.TheVariants as events
-use Rattle.spec_run.specs.Setup.{Setup, bytes_or_none, is_honest}
+use Rattle.spec_run.specs.Setup.{Setup, is_honest}
 use Rattle.spec_run.specs.World.{World}
 use Rattle.spec_run.specs.Compiled.{compiled_instance}
 use Rattle.spec_run.specs.Committing.{secrets_at}
-use Rattle.spec_run.specs.Signing.{needs_at}
 use Rattle.spec_run.specs.Advertising.{deposit_names}
+use Rattle.spec_next.specs.Candidates.{has_endorsed}
 use Rattle.spec_next.specs.declared.want.Want.{Want}
 use Rattle.spec_next.specs.declared.want.Want.TheVariants as wants
 
@@ -48,14 +46,14 @@ abbrev pub digests_told : Setup → ℕ → List ℕ → List (List ℕ × List 
 digests_told s k party digests =
     map (λ x. (is_honest s party || is_among x (names_of digests), wants.Digest party x)) (secrets_at s k party)
 
--- each endorsement is there
-abbrev pub endorsed : List Pair → List Need → List Condition
-endorsed book needs = map (λ need. (is_met book need, wants.Endorsement need.path need.party)) needs
+-- each of these has signed all that it endorses
+abbrev pub endorsed : Setup → World → ℕ → Instance → List (List ℕ) → List Condition
+endorsed s w k instance people = map (λ party. (has_endorsed s w (Some instance) party, wants.Endorsement party k)) people
 
--- an honest party waits for all endorsements, once the contract is compiled
-abbrev pub endorsed_for : Setup → World → List ℕ → Option Instance → List Condition
-endorsed_for s w party None = []
-endorsed_for s w party (Some instance) = if is_honest s party then endorsed w.book (needs_at s instance) else []
+-- an honest party waits until everyone has endorsed, once the contract is compiled
+abbrev pub endorsed_for : Setup → World → ℕ → List ℕ → Option Instance → List (List ℕ) → List Condition
+endorsed_for s w k party None people = []
+endorsed_for s w k party (Some instance) people = if is_honest s party then endorsed s w k instance people else []
 
 -- whether the deposit that a name is bound to is there; before the contract is advertised none is bound, and so none is gone
 abbrev pub isnt_gone : Configuration → ℕ → List ℕ → Bool
@@ -85,10 +83,15 @@ authorised g n i parties = map (λ party. (has_branch_authorised g.branch_author
 abbrev pub put_in : Configuration → ℕ → List (List ℕ) → List Condition
 put_in g k puts = map (λ x. (is_there g.deposits (look_up x (bindings_of g.advertised k)), wants.Put x)) puts
 
+-- a secret that is wanting, by its owner; one of nobody, which no contract has that passed the check, is never revealed
+abbrev pub secret_want : Option (List ℕ) → List ℕ → Want
+secret_want None x = wants.Predicate
+secret_want (Some party) x = wants.Secret party x
+
 -- each secret is revealed
 abbrev pub revealed : Configuration → ℕ → List Pre → List (List ℕ) → List Condition
 revealed g k pre names =
-    map (λ x. (is_revealed_by g.revealed k (look_up x (secrets pre)) x, wants.Secret (bytes_or_none (look_up x (secrets pre))) x)) names
+    map (λ x. (is_revealed_by g.revealed k (look_up x (secrets pre)) x, secret_want (look_up x (secrets pre)) x)) names
 
 -- the predicate isn't false of the revealed lengths; where a secret isn't revealed, nothing decides it
 abbrev pub undecided_or_true : Configuration → ℕ → List Pre → term.Guarded → Bool
@@ -116,7 +119,8 @@ conditions s g w (events.Advertise k bindings) = bound (deposit_names s k) bindi
 conditions s g w (events.Commit k party digests) =
     (is_advertised g.advertised k, wants.Advert k) ∷ digests_told s k party digests
 conditions s g w (events.Endorse k party) = agreed g k
-conditions s g w (events.Init k party) = agreed g k ++ endorsed_for s w party (compiled_instance s w k)
+conditions s g w (events.Init k party) =
+    agreed g k ++ endorsed_for s w k party (compiled_instance s w k) (participants_of (contract_at g.contracts k))
 conditions s g w (events.FireInit k) = agreed g k ++ started g k (persistent (pre_of (contract_at g.contracts k)))
 conditions s g w (events.Reveal k party secret) = begun g w k party
 conditions s g w (events.Authorise party n i) = []

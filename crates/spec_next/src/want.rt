@@ -3,7 +3,6 @@
 ghost use Rattle.std.specs.Prelude.{◌≡◌, IfOk};
 
 use spec_data::{Name, OutOfMemory, Seq};
-use spec_terms::Path;
 use std::alloc::Global;
 
 /// What is wanting. Heights are in blocks.
@@ -22,10 +21,10 @@ pub enum Want {
         party: Name,
         contract: u32,
     },
-    /// The party hasn't endorsed the branch at this path.
+    /// The party hasn't signed all that it endorses.
     Endorsement {
-        path: Path,
         party: Name,
+        contract: u32,
     },
     /// The party hasn't signed its deposits of the initial transaction.
     Start {
@@ -65,7 +64,10 @@ impl Drop for Want {
                 party: _,
                 contract: _,
             }
-            | Want::Endorsement { path: _, party: _ }
+            | Want::Endorsement {
+                party: _,
+                contract: _,
+            }
             | Want::Start {
                 party: _,
                 contract: _,
@@ -89,10 +91,10 @@ impl Drop for Want {
 
 impl Want {
     /// An equal one.
-    pub fn copy(&self, alloc: Global) -> Result<Want, OutOfMemory>
-        ensures { IfOk result (λ want. want ≡ self.now) }
+    pub fn copy(&self) -> Want
+        ensures { result ≡ self.now }
     {
-        Ok(match self {
+        match self {
             Want::Advert(contract) => Want::Advert(*contract),
             Want::Deposit(name) => Want::Deposit(*name),
             Want::Digest { party, secret } => Want::Digest {
@@ -103,9 +105,9 @@ impl Want {
                 party: *party,
                 contract: *contract,
             },
-            Want::Endorsement { path, party } => Want::Endorsement {
-                path: path.copy(alloc)?,
+            Want::Endorsement { party, contract } => Want::Endorsement {
                 party: *party,
+                contract: *contract,
             },
             Want::Start { party, contract } => Want::Start {
                 party: *party,
@@ -128,7 +130,7 @@ impl Want {
                 secret: *secret,
             },
             Want::Predicate => Want::Predicate,
-        })
+        }
     }
 }
 
@@ -138,7 +140,7 @@ pub fn copy_wants(alloc: Global, wants: &[Want]) -> Result<Seq<Want>, OutOfMemor
 {
     let mut list = Seq::new(alloc);
     for want in wants {
-        list.push(want.copy(alloc)?)?;
+        list.push(want.copy())?;
     }
     Ok(list)
 }

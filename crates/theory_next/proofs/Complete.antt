@@ -9,8 +9,7 @@ use Rattle.spec_terms.specs.Advert.{Advert}
 use Rattle.spec_terms.specs.Term as term
 use Rattle.spec_terms.specs.Term.{auth, after, put_reveal, withdraw, split}
 use Rattle.spec_terms.specs.Core.{core}
-use Rattle.spec_terms.specs.Parties.{participants}
-use Rattle.spec_terms.specs.Precondition.{secrets}
+use Rattle.spec_terms.specs.Precondition.{persistent, secrets}
 use Rattle.spec_calculus.specs.declared.step.Step.{Step}
 use Rattle.spec_calculus.specs.declared.step.Step.TheVariants as steps
 use Rattle.spec_calculus.specs.declared.parts.ActiveContract.{ActiveContract}
@@ -23,7 +22,7 @@ use Rattle.spec_run.specs.declared.event.Event.TheVariants as events
 use Rattle.spec_run.specs.Setup.{Setup}
 use Rattle.spec_run.specs.World.{World}
 use Rattle.spec_run.specs.Offers.{Offer, offers_of, offers}
-use Rattle.spec_next.specs.Candidates.{committing, endorsing, starting, revealing, authorising, taking, taking_active, actives_of}
+use Rattle.spec_next.specs.Candidates.{people, committing, endorsing, starting, revealing, authorising, taking, taking_active, actives_of}
 use Rattle.spec_next.specs.Candidates.{candidates, candidates_from, all_candidates}
 use Rattle.theory_calculus.specs.Members.{Is_in}
 use Rattle.theory_calculus.proofs.Members.{in_left, in_right, in_append, in_from_contains, contains_from_in, in_filter, filter_has}
@@ -59,16 +58,16 @@ module _ (s : Setup) (g : Configuration) (w : World) where
 
   -- the parts of a contract's candidates
   abbrev committed : ℕ → Advert → List Event
-  committed k c = map (committing k) (participants c)
+  committed k c = map (committing k) (people s c)
 
   abbrev later : ℕ → Advert → List Event
-  later k c = revealing s k (secrets c.pre) ++ flat_map (taking_active g) (actives_of g k)
+  later k c = revealing s k (secrets c.pre) ++ flat_map (taking_active g (people s c)) (actives_of g k)
 
   -- what stands from the beginning on is a candidate
   from_beginning : (k : ℕ) (c : Advert) (e : Event) → Is_in e (events.FireInit k ∷ later k c) → Is_in e (candidates s g w k c)
   from_beginning k c e h =
-      let p = participants c in
-      inr (in_right e (committed k c) _ (in_right e (endorsing s w k p) _ (in_right e (starting s w k p) _ h)))
+      let p = people s c in
+      inr (in_right e (committed k c) _ (in_right e (endorsing s w k p) _ (in_right e (starting g k (persistent c.pre) p) _ h)))
 
   begins_there : (k : ℕ) (cs : List Advert) (x : Step) (o : Offer) → Is_in x (beginnings k cs) → Is_in o (offers_of x)
       → Is_in o.event (candidates_from s g w k cs)
@@ -108,26 +107,26 @@ module _ (s : Setup) (g : Configuration) (w : World) where
   taken_by n i (auth party body) x o e h = absurd e
   taken_by n i (after height body) x o e h = absurd e
 
-  takings_there : (n i : ℕ) (bs : List term.Guarded) (x : Step) (o : Offer) → Is_in x (takings n i bs) → Is_in o (offers_of x)
-      → Is_in o.event (taking g n i bs)
-  takings_there n i [] x o h q = absurd h
-  takings_there n i (b ∷ bs) x o h q = elim (in_append x (calculus.taking n i (core b)) (takings n (i + 1) bs) h) [
-    | inl a ↦ in_right o.event (authorising g n i b) (events.Fire n i ∷ taking g n (i + 1) bs) (inl (taken_by n i (core b) x o a q))
-    | inr a ↦ in_right o.event (authorising g n i b) (events.Fire n i ∷ taking g n (i + 1) bs) (inr (takings_there n (i + 1) bs x o a q))
+  takings_there : (ps : List (List ℕ)) (n i : ℕ) (bs : List term.Guarded) (x : Step) (o : Offer) → Is_in x (takings n i bs)
+      → Is_in o (offers_of x) → Is_in o.event (taking g ps n i bs)
+  takings_there ps n i [] x o h q = absurd h
+  takings_there ps n i (b ∷ bs) x o h q = elim (in_append x (calculus.taking n i (core b)) (takings n (i + 1) bs) h) [
+    | inl a ↦ in_right o.event (authorising g ps n i b) (events.Fire n i ∷ taking g ps n (i + 1) bs) (inl (taken_by n i (core b) x o a q))
+    | inr a ↦ in_right o.event (authorising g ps n i b) (events.Fire n i ∷ taking g ps n (i + 1) bs) (inr (takings_there ps n (i + 1) bs x o a q))
   ]
 
   -- what an active contract of contract j + k goes on by is a candidate, among those of the contracts from k on
   goes_on_there : (k j : ℕ) (cs : List Advert) (e : Event) → is_some (contract_at cs j) ≡ true
-      → Is_in e (flat_map (taking_active g) (actives_of g (j + k))) → Is_in e (candidates_from s g w k cs)
+      → ((ps : List (List ℕ)) → Is_in e (flat_map (taking_active g ps) (actives_of g (j + k)))) → Is_in e (candidates_from s g w k cs)
   goes_on_there k j [] e h i = cc
   goes_on_there k zero (c ∷ cs) e h i =
       in_left e (candidates s g w k c) (candidates_from s g w (k + 1) cs)
       (from_beginning k c e (inr (in_right e (revealing s k (secrets c.pre)) _
-      (subst (λ m. Is_in e (flat_map (taking_active g) (actives_of g m))) (zero_more k) i))))
+      (subst (λ m. Is_in e (flat_map (taking_active g (people s c)) (actives_of g m))) (zero_more k) (i (people s c))))))
   goes_on_there k (suc j) (c ∷ cs) e h i =
       let same : suc j + k ≡ j + (k + 1) = omega arith in
       in_right e (candidates s g w k c) (candidates_from s g w (k + 1) cs)
-      (goes_on_there (k + 1) j cs e h (subst (λ m. Is_in e (flat_map (taking_active g) (actives_of g m))) same i))
+      (goes_on_there (k + 1) j cs e h (λ ps. subst (λ m. Is_in e (flat_map (taking_active g ps) (actives_of g m))) same (i ps)))
 
   -- an active contract with branches is of a contract that is there
   is_there : (a : ActiveContract) (x : Step) → Is_in x (takings a.number 0 (branches_of g.contracts a))
@@ -149,8 +148,8 @@ module _ (s : Setup) (g : Configuration) (w : World) where
             let mine = filter_has (λ (z : ActiveContract). z.contract == a.contract + 0) g.active a (all a (inl refl))
             (eq-eqb a.contract (a.contract + 0) (sym same)) in
             goes_on_there 0 a.contract g.contracts o.event (is_there a x t)
-            (in_flat_map (taking_active g) (actives_of g (a.contract + 0)) a o.event mine
-            (takings_there a.number 0 (branches_of g.contracts a) x o t q))
+            (λ ps. in_flat_map (taking_active g ps) (actives_of g (a.contract + 0)) a o.event mine
+            (takings_there ps a.number 0 (branches_of g.contracts a) x o t q))
         | inr t ↦ all_takings_there rest x o (λ z i. all z (inr i)) t q
       ]
 

@@ -5,10 +5,11 @@ use Rattle.std.specs.Prelude.{not, cond, nat_le, is_some, slice_get}
 use Rattle.std.specs.Option.{option_and_then}
 use Rattle.std.proofs.lemmas.Bool.{le-leb, and_from, and_parts, or_left, or_right}
 use Rattle.std.specs.Str.{bytes_eq}
-use Rattle.spec_data.specs.Lists.{is_among, first_reason}
+use Rattle.spec_data.specs.Lists.{is_among, look_up, first_reason}
 use Rattle.spec_data.specs.Ranges.{last_height}
 use Rattle.spec_terms.specs.Advert.{Advert}
 use Rattle.spec_terms.specs.Core.{core, asks, lock, puts_of, reveals_of}
+use Rattle.spec_terms.specs.Precondition.{secrets}
 use Rattle.spec_terms.specs.Term as term
 use Rattle.spec_terms.specs.declared.pre.Pre.{Pre}
 use Rattle.spec_calculus.specs.declared.parts.BranchAuthorisation.{BranchAuthorisation}
@@ -30,7 +31,7 @@ use Rattle.spec_run.specs.Agreement.{active_in, active_by}
 use Rattle.spec_run.specs.Statements.{IsRun, spends_with_leave}
 use Rattle.spec_next.specs.declared.want.Want.{Want}
 use Rattle.spec_next.specs.declared.want.Want.TheVariants as wants
-use Rattle.spec_next.specs.Wants.{Condition, authorised, put_in, revealed, undecided_or_true, asked_for, asked_by_branch, unmet}
+use Rattle.spec_next.specs.Wants.{Condition, authorised, put_in, secret_want, revealed, undecided_or_true, asked_for, asked_by_branch, unmet}
 use Rattle.theory_calculus.specs.Members.{Is_in}
 use Rattle.theory_calculus.proofs.Names.{bytes_refl}
 use Rattle.theory_calculus.proofs.Members.{in_left, in_right, in_append, in_from_contains, contains_from_in}
@@ -82,7 +83,7 @@ party_in (wants.Advert k) = []
 party_in (wants.Deposit x) = []
 party_in (wants.Digest party secret) = []
 party_in (wants.Commitment party k) = []
-party_in (wants.Endorsement path party) = []
+party_in (wants.Endorsement party contract) = []
 party_in (wants.Start party k) = []
 party_in (wants.Beginning k) = []
 party_in (wants.Height t) = []
@@ -98,7 +99,7 @@ height_in (wants.Advert k) = 0
 height_in (wants.Deposit x) = 0
 height_in (wants.Digest party secret) = 0
 height_in (wants.Commitment party k) = 0
-height_in (wants.Endorsement path party) = 0
+height_in (wants.Endorsement party contract) = 0
 height_in (wants.Start party k) = 0
 height_in (wants.Beginning k) = 0
 height_in (wants.Put x) = 0
@@ -142,7 +143,13 @@ module _ (g : Configuration) (n i k : ℕ) (pre : List Pre) (b : term.Guarded) (
         is_put c h e = let m = from_map _ (puts_of (core b)) c h in o.no_put m.0 (sym (ap (λ (d : Condition). d.1) m.2) ∙ e)
 
         is_secret : (c : Condition) → Is_in c (revealed g k pre (reveals_of (core b))) → c.1 ≡ x → ⊥
-        is_secret c h e = let m = from_map _ (reveals_of (core b)) c h in o.no_secret _ m.0 (sym (ap (λ (d : Condition). d.1) m.2) ∙ e)
+        is_secret c h e =
+            let m = from_map _ (reveals_of (core b)) c h in
+            by_owner (look_up m.0 (secrets pre)) m.0 (sym (ap (λ (d : Condition). d.1) m.2) ∙ e)
+          where
+            by_owner : (owner : Option (List ℕ)) (y : List ℕ) → secret_want owner y ≡ x → ⊥
+            by_owner None y q = o.no_predicate q
+            by_owner (Some p) y q = o.no_secret p y q
 
     behind_met : met behind_asks ≡ true
     behind_met = all_from behind_asks (λ c h. by_or c h (met_or all x a c (in_behind c h)))

@@ -7,10 +7,9 @@ use Rattle.std.proofs.lemmas.Bool.{and_parts, or_left, or_right, eqb-true}
 use Rattle.std.proofs.lemmas.List.Concat.{flat_map-cons}
 use Rattle.spec_data.specs.Lists.{is_among, are_different}
 use Rattle.spec_terms.specs.Advert.{Advert}
-use Rattle.spec_terms.specs.Core.{asks}
 use Rattle.spec_terms.specs.Faults.{IsWellFormed}
 use Rattle.spec_terms.specs.Parties.{participants, choice_mentions}
-use Rattle.spec_terms.specs.Precondition.{secrets, name_in, party_of}
+use Rattle.spec_terms.specs.Precondition.{persistent, secrets, name_in, party_of}
 use Rattle.spec_terms.specs.Term as term
 use Rattle.spec_terms.specs.declared.pre.Pre.{Pre}
 use Rattle.spec_terms.specs.declared.pre.Pre.TheVariants.{Persistent, Volatile, Secret}
@@ -26,7 +25,7 @@ use Rattle.spec_run.specs.Setup.{Setup}
 use Rattle.spec_run.specs.World.{World}
 use Rattle.spec_run.specs.Translation.{opening_configuration, last_configuration, last_world, in_order, translated}
 use Rattle.spec_run.specs.Statements.{spends_with_leave}
-use Rattle.spec_next.specs.Candidates.{advertising, committing, endorsing, starting}
+use Rattle.spec_next.specs.Candidates.{people, advertising, committing, endorsing, starting}
 use Rattle.spec_next.specs.Candidates.{revealing, authorising, taking, taking_active, actives_of}
 use Rattle.spec_next.specs.Candidates.{candidates, candidates_from, all_candidates}
 use Rattle.theory_calculus.specs.Members.{Is_in}
@@ -126,18 +125,18 @@ mapped_kind f c k h xs e i = let m = from_map f xs e i in (ap kind m.2 ∙ (h m.
 
 -- ---- branches
 
-module _ (g : Configuration) (n : ℕ) where
+module _ (g : Configuration) (ps : List (List ℕ)) (n : ℕ) where
   record Takes (i : ℕ) (e : Event) : Type 0 where
     kinds : 6 ≤ kind e
     here : home e ≡ n
     later : i ≤ branch_no e
 
-  authorises : (i : ℕ) (b : term.Guarded) (e : Event) → Is_in e (authorising g n i b) → (kind e ≡ 6) × (home e ≡ n) × (branch_no e ≡ i)
+  authorises : (i : ℕ) (b : term.Guarded) (e : Event) → Is_in e (authorising g ps n i b) → (kind e ≡ 6) × (home e ≡ n) × (branch_no e ≡ i)
   authorises i b e h = let m = from_map (λ party. events.Authorise party n i) _ e h in (ap kind m.2, ap home m.2, ap branch_no m.2)
 
-  takes_of : (i : ℕ) (bs : List term.Guarded) (e : Event) → Is_in e (taking g n i bs) → Takes i e
+  takes_of : (i : ℕ) (bs : List term.Guarded) (e : Event) → Is_in e (taking g ps n i bs) → Takes i e
   takes_of i [] e h = absurd h
-  takes_of i (b ∷ bs) e h = elim (in_append e (authorising g n i b) (events.Fire n i ∷ taking g n (i + 1) bs) h) [
+  takes_of i (b ∷ bs) e h = elim (in_append e (authorising g ps n i b) (events.Fire n i ∷ taking g ps n (i + 1) bs) h) [
     | inl a ↦ let r = authorises i b e a in record { kinds = omega (arith, r.0); here = r.1; later = omega (arith, r.2) }
     | inr (inl q) ↦
         let x : kind e ≡ 7 = ap kind q in
@@ -146,15 +145,15 @@ module _ (g : Configuration) (n : ℕ) where
     | inr (inr t) ↦ let r = takes_of (i + 1) bs e t in record { kinds = r.kinds; here = r.here; later = omega (arith, r.later) }
   ]
 
-  takes_apart : (i : ℕ) (bs : List term.Guarded) → Apart (taking g n i bs)
-  takes_apart i [] = tt
-  takes_apart i (b ∷ bs) =
-      apart_append (authorising g n i b) (events.Fire n i ∷ taking g n (i + 1) bs)
-      (apart_map (λ party. events.Authorise party n i) who (λ p. refl) _ (apart_filter _ _ (apart_added [] (asks b) tt)))
-      ((λ h. let r = (takes_of (i + 1) bs (events.Fire n i) h).later in absurd (omega (arith, r))), takes_apart (i + 1) bs)
+  takes_apart : (i : ℕ) (bs : List term.Guarded) → Apart ps → Apart (taking g ps n i bs)
+  takes_apart i [] each = tt
+  takes_apart i (b ∷ bs) each =
+      apart_append (authorising g ps n i b) (events.Fire n i ∷ taking g ps n (i + 1) bs)
+      (apart_map (λ party. events.Authorise party n i) who (λ p. refl) _ (apart_filter _ ps each))
+      ((λ h. let r = (takes_of (i + 1) bs (events.Fire n i) h).later in absurd (omega (arith, r))), takes_apart (i + 1) bs each)
       (λ e a h. let x = authorises i b e a in by_rest e x.0 x.2 h)
     where
-      by_rest : (e : Event) → kind e ≡ 6 → branch_no e ≡ i → Is_in e (events.Fire n i ∷ taking g n (i + 1) bs) → ⊥
+      by_rest : (e : Event) → kind e ≡ 6 → branch_no e ≡ i → Is_in e (events.Fire n i ∷ taking g ps n (i + 1) bs) → ⊥
       by_rest e x y (inl q) = let z : kind e ≡ 7 = ap kind q in absurd (omega (arith, x, z))
       by_rest e x y (inr t) = let r = (takes_of (i + 1) bs e t).later in absurd (omega (arith, y, r))
 
@@ -189,21 +188,23 @@ record GoesOnBy (xs : List ActiveContract) (e : Event) : Type 0 where
   kinds : 6 ≤ kind e
   here : home e ≡ active.number
 
-goes_on_by : (g : Configuration) (xs : List ActiveContract) (e : Event) → Is_in e (flat_map (taking_active g) xs) → GoesOnBy xs e
-goes_on_by g xs e h =
-    let c = from_flat_map (taking_active g) xs e h in
-    let t = takes_of g c.from.number 0 (branches_of g.contracts c.from) e c.made in
+goes_on_by : (g : Configuration) (ps : List (List ℕ)) (xs : List ActiveContract) (e : Event)
+    → Is_in e (flat_map (taking_active g ps) xs) → GoesOnBy xs e
+goes_on_by g ps xs e h =
+    let c = from_flat_map (taking_active g ps) xs e h in
+    let t = takes_of g ps c.from.number 0 (branches_of g.contracts c.from) e c.made in
     record { active = c.from; there = c.there; kinds = t.kinds; here = t.here }
 
-actives_apart : (g : Configuration) (xs : List ActiveContract) → ascends xs ≡ true → Apart (flat_map (taking_active g) xs)
-actives_apart g [] h = tt
-actives_apart g (a ∷ xs) h =
-    subst Apart (sym (flat_map-cons (taking_active g) a xs))
-    (apart_append (taking_active g a) (flat_map (taking_active g) xs) (takes_apart g a.number 0 (branches_of g.contracts a))
-    (actives_apart g xs (and_parts _ (ascends xs) h).1)
+actives_apart : (g : Configuration) (ps : List (List ℕ)) (xs : List ActiveContract) → Apart ps → ascends xs ≡ true
+    → Apart (flat_map (taking_active g ps) xs)
+actives_apart g ps [] each h = tt
+actives_apart g ps (a ∷ xs) each h =
+    subst Apart (sym (flat_map-cons (taking_active g ps) a xs))
+    (apart_append (taking_active g ps a) (flat_map (taking_active g ps) xs) (takes_apart g ps a.number 0 (branches_of g.contracts a) each)
+    (actives_apart g ps xs each (and_parts _ (ascends xs) h).1)
     (λ e x y.
-    let t = takes_of g a.number 0 (branches_of g.contracts a) e x in
-    let u = goes_on_by g xs e y in
+    let t = takes_of g ps a.number 0 (branches_of g.contracts a) e x in
+    let u = goes_on_by g ps xs e y in
     front_apart a xs u.active h u.there (sym t.here ∙ u.here)))
 
 -- ---- secrets
@@ -233,7 +234,7 @@ module _ (s : Setup) (g : Configuration) (w : World) (ordered : ascends g.active
 
   module _ (k : ℕ) (c : Advert) where
     abbrev l6 : List Event
-    l6 = flat_map (taking_active g) (actives_of g k)
+    l6 = flat_map (taking_active g (people s c)) (actives_of g k)
 
     abbrev l5 : List Event
     l5 = revealing s k (secrets c.pre) ++ l6
@@ -242,13 +243,13 @@ module _ (s : Setup) (g : Configuration) (w : World) (ordered : ascends g.active
     l4 = events.FireInit k ∷ l5
 
     abbrev l3 : List Event
-    l3 = starting s w k (participants c) ++ l4
+    l3 = starting g k (persistent c.pre) (people s c) ++ l4
 
     abbrev l2 : List Event
-    l2 = endorsing s w k (participants c) ++ l3
+    l2 = endorsing s w k (people s c) ++ l3
 
     abbrev l1 : List Event
-    l1 = map (committing k) (participants c) ++ l2
+    l1 = map (committing k) (people s c) ++ l2
 
     -- an event of one of these, of at least this kind
     record From (least : ℕ) (e : Event) : Type 0 where
@@ -262,19 +263,19 @@ module _ (s : Setup) (g : Configuration) (w : World) (ordered : ascends g.active
     lower n m e l f = let a = f.at_least in record { at_least = omega (arith, l, a); is = f.is }
 
     from6 : (e : Event) → Is_in e l6 → From 6 e
-    from6 e h = let r = goes_on_by g (actives_of g k) e h in record { at_least = r.kinds; is = inr r }
+    from6 e h = let r = goes_on_by g (people s c) (actives_of g k) e h in record { at_least = r.kinds; is = inr r }
 
     is5 : (e : Event) → Is_in e (revealing s k (secrets c.pre)) → (kind e ≡ 5) × (home e ≡ k)
     is5 e h = mapped_kind (λ (x : List ℕ × List ℕ). events.Reveal k (x.1) (x.0)) 5 k (λ x. (refl, refl)) _ e h
 
-    is3 : (e : Event) → Is_in e (starting s w k (participants c)) → (kind e ≡ 3) × (home e ≡ k)
+    is3 : (e : Event) → Is_in e (starting g k (persistent c.pre) (people s c)) → (kind e ≡ 3) × (home e ≡ k)
     is3 e h = mapped_kind (λ party. events.Init k party) 3 k (λ x. (refl, refl)) _ e h
 
-    is2 : (e : Event) → Is_in e (endorsing s w k (participants c)) → (kind e ≡ 2) × (home e ≡ k)
+    is2 : (e : Event) → Is_in e (endorsing s w k (people s c)) → (kind e ≡ 2) × (home e ≡ k)
     is2 e h = mapped_kind (λ party. events.Endorse k party) 2 k (λ x. (refl, refl)) _ e h
 
-    is1 : (e : Event) → Is_in e (map (committing k) (participants c)) → (kind e ≡ 1) × (home e ≡ k)
-    is1 e h = mapped_kind (committing k) 1 k (λ x. (refl, refl)) (participants c) e h
+    is1 : (e : Event) → Is_in e (map (committing k) (people s c)) → (kind e ≡ 1) × (home e ≡ k)
+    is1 e h = mapped_kind (committing k) 1 k (λ x. (refl, refl)) (people s c) e h
 
     from5 : (e : Event) → Is_in e l5 → From 5 e
     from5 e h = elim (in_append e (revealing s k (secrets c.pre)) l6 h) [
@@ -287,19 +288,19 @@ module _ (s : Setup) (g : Configuration) (w : World) (ordered : ascends g.active
     from4 e (inr h) = lower 5 4 e (omega arith) (from5 e h)
 
     from3 : (e : Event) → Is_in e l3 → From 3 e
-    from3 e h = elim (in_append e (starting s w k (participants c)) l4 h) [
+    from3 e h = elim (in_append e (starting g k (persistent c.pre) (people s c)) l4 h) [
       | inl a ↦ exactly 3 e (omega arith) (is3 e a)
       | inr b ↦ lower 4 3 e (omega arith) (from4 e b)
     ]
 
     from2 : (e : Event) → Is_in e l2 → From 2 e
-    from2 e h = elim (in_append e (endorsing s w k (participants c)) l3 h) [
+    from2 e h = elim (in_append e (endorsing s w k (people s c)) l3 h) [
       | inl a ↦ exactly 2 e (omega arith) (is2 e a)
       | inr b ↦ lower 3 2 e (omega arith) (from3 e b)
     ]
 
     from1 : (e : Event) → Is_in e l1 → From 1 e
-    from1 e h = elim (in_append e (map (committing k) (participants c)) l2 h) [
+    from1 e h = elim (in_append e (map (committing k) (people s c)) l2 h) [
       | inl a ↦ exactly 1 e (omega arith) (is1 e a)
       | inr b ↦ lower 2 1 e (omega arith) (from2 e b)
     ]
@@ -311,26 +312,26 @@ module _ (s : Setup) (g : Configuration) (w : World) (ordered : ascends g.active
     below : (n : ℕ) (e : Event) → kind e ≡ n → From (n + 1) e → ⊥
     below n e h f = let a = f.at_least in absurd (omega (arith, h, a))
 
-    people_apart : Apart (participants c)
-    people_apart = apart_added [] (map party_of c.pre ++ choice_mentions c.root) tt
+    people_apart : Apart (people s c)
+    people_apart = apart_filter _ (participants c) (apart_added [] (map party_of c.pre ++ choice_mentions c.root) tt)
 
     candidates_apart : are_different (map name_in c.pre) ≡ true → Apart (candidates s g w k c)
     candidates_apart names =
-        let a6 = actives_apart g (actives_of g k) (filtered_ascends (λ (x : ActiveContract). x.number)
+        let a6 = actives_apart g (people s c) (actives_of g k) people_apart (filtered_ascends (λ (x : ActiveContract). x.number)
         (λ a. a.contract == k) g.active ordered) in
         let a5 = apart_append (revealing s k (secrets c.pre)) l6
         (apart_map (λ (x : List ℕ × List ℕ). events.Reveal k (x.1) (x.0)) (λ e. (secret_in e, who e)) (λ x. refl) _
         (apart_filter _ (secrets c.pre) (secrets_apart c.pre names))) a6 (λ e x y. below 5 e (is5 e x).0 (from6 e y)) in
         let a4 : Apart l4 = ((λ h. below 4 (events.FireInit k) refl (from5 (events.FireInit k) h)), a5) in
-        let a3 = apart_append (starting s w k (participants c)) l4
-        (apart_map (λ party. events.Init k party) who (λ x. refl) _ (apart_filter _ (participants c) people_apart)) a4
+        let a3 = apart_append (starting g k (persistent c.pre) (people s c)) l4
+        (apart_map (λ party. events.Init k party) who (λ x. refl) _ (apart_filter _ (people s c) people_apart)) a4
         (λ e x y. below 3 e (is3 e x).0 (from4 e y)) in
-        let a2 = apart_append (endorsing s w k (participants c)) l3
-        (apart_map (λ party. events.Endorse k party) who (λ x. refl) _ (apart_filter _ (participants c) people_apart)) a3
+        let a2 = apart_append (endorsing s w k (people s c)) l3
+        (apart_map (λ party. events.Endorse k party) who (λ x. refl) _ (apart_filter _ (people s c) people_apart)) a3
         (λ e x y. below 2 e (is2 e x).0 (from3 e y)) in
-        let a1 = apart_append (map (committing k) (participants c)) l2
-        (apart_map (committing k) who (λ x. refl) (participants c) people_apart) a2 (λ e x y. below 1 e (is1 e x).0 (from2 e y)) in
-        ((λ h. below 0 (advertising s w k c) refl (from1 (advertising s w k c) h)), a1)
+        let a1 = apart_append (map (committing k) (people s c)) l2
+        (apart_map (committing k) who (λ x. refl) (people s c) people_apart) a2 (λ e x y. below 1 e (is1 e x).0 (from2 e y)) in
+        ((λ h. below 0 (advertising g k c) refl (from1 (advertising g k c) h)), a1)
 
   -- ---- all contracts
 

@@ -1,0 +1,60 @@
+//! The lines of what is wanting, each once.
+
+ghost use Rattle.std.specs.Prelude.{◌≡◌, ◌++◌, map, flat_map, IfOk, OnOk};
+ghost use Rattle.spec_data.specs.Lists.{is_among};
+ghost use Rattle.spec_next.specs.WantText.{want_line};
+ghost use Rattle.spec_next.specs.OutlookText as spec;
+
+use crate::want::want_line;
+use bm_text::put;
+use spec_data::{Bytes, OutOfMemory, Seq};
+use spec_next::Want;
+use std::alloc::Global;
+
+// Whether the line is among these.
+fn is_line_among(lines: &[Bytes], line: &[u8]) -> bool
+    ensures { result ≡ is_among line.now lines.now }
+{
+    lines.iter().any(|l| l.as_slice() == line)
+}
+
+// Adds a line that isn't among the others.
+fn add_line(lines: &mut Seq<Bytes>, line: Vec<u8>) -> Result<(), OutOfMemory>
+    ensures { OnOk result (lines.new ≡ spec.with_line lines.old line.items) }
+{
+    if is_line_among(lines.as_slice(), line.as_slice()) {
+        return Ok(());
+    }
+    lines.push(Bytes::of(line))?;
+    Ok(())
+}
+
+// The lines of what is wanting, each once where it first stands.
+fn want_lines(alloc: Global, wants: &[Want]) -> Result<Seq<Bytes>, OutOfMemory>
+    ensures { IfOk result (λ lines. lines ≡ spec.once (map want_line wants.now)) }
+{
+    let mut lines = Seq::new(alloc);
+    for want in wants {
+        let line = want_line(alloc, want)?;
+        add_line(&mut lines, line)?;
+    }
+    Ok(lines)
+}
+
+#[tactic(auto, using(std::proofs::Common::append_assoc))]
+fn put_lines(out: &mut Vec<u8>, lines: &[Bytes]) -> Result<(), OutOfMemory>
+    ensures { OnOk result (out.new.items ≡ out.old.items ++ flat_map (λ line. line) lines.now) }
+{
+    for line in lines {
+        put(out, line.as_slice())?;
+    }
+    Ok(())
+}
+
+/// The lines of what is wanting, each once.
+pub(crate) fn put_wants(alloc: Global, out: &mut Vec<u8>, wants: &[Want]) -> Result<(), OutOfMemory>
+    ensures { OnOk result (out.new.items ≡ out.old.items ++ flat_map (λ line. line) (spec.once (map want_line wants.now))) }
+{
+    let lines = want_lines(alloc, wants)?;
+    put_lines(out, lines.as_slice())
+}

@@ -1,0 +1,108 @@
+//! What is wanting, in words.
+
+ghost use Rattle.std.specs.Prelude.{◌≡◌, ◌++◌, codes, IfOk, OnOk};
+ghost use Rattle.std.specs.Fmt.{decimal};
+ghost use Rattle.spec_text.specs.StepText.{branch_text};
+ghost use Rattle.spec_next.specs.WantText as spec;
+
+use bm_runfile::{put_branch, put_word_number};
+use bm_text::put;
+use spec_data::{Name, OutOfMemory};
+use spec_next::Want;
+use std::alloc::Global;
+
+// A word and a name.
+#[tactic(auto, using(std::proofs::Common::append_assoc))]
+fn put_name(out: &mut Vec<u8>, word: &[u8], name: &Name) -> Result<(), OutOfMemory>
+    ensures { OnOk result (out.new.items ≡ out.old.items ++ (word.now ++ name.now)) }
+{
+    put(out, word)?;
+    put(out, name.bytes())
+}
+
+// What a party is to do with a contract.
+#[tactic(auto, using(std::proofs::Common::append_assoc))]
+fn put_doing(
+    alloc: Global,
+    out: &mut Vec<u8>,
+    party: &Name,
+    verb: &[u8],
+    contract: u32,
+) -> Result<(), OutOfMemory>
+    ensures { OnOk result (out.new.items ≡ out.old.items
+        ++ (codes "needs " ++ (party.now ++ (verb.now ++ decimal contract)))) }
+{
+    put_name(out, b"needs ", party)?;
+    put_word_number(alloc, out, verb, contract)
+}
+
+// What is wanting of a party's secret.
+#[tactic(auto, using(std::proofs::Common::append_assoc))]
+fn put_of(out: &mut Vec<u8>, word: &[u8], secret: &Name, party: &Name) -> Result<(), OutOfMemory>
+    ensures { OnOk result (out.new.items ≡ out.old.items ++ (word.now ++ (secret.now ++ (codes " of " ++ party.now)))) }
+{
+    put_name(out, word, secret)?;
+    put_name(out, b" of ", party)
+}
+
+#[tactic(auto, using(std::proofs::Common::append_assoc))]
+fn put_authorises(
+    alloc: Global,
+    out: &mut Vec<u8>,
+    party: &Name,
+    output: u32,
+    branch: u32,
+) -> Result<(), OutOfMemory>
+    ensures { OnOk result (out.new.items ≡ out.old.items
+        ++ (codes "needs " ++ (party.now ++ (codes " authorises " ++ branch_text output branch)))) }
+{
+    put_name(out, b"needs ", party)?;
+    put(out, b" authorises ")?;
+    put_branch(alloc, out, output, branch)
+}
+
+#[tactic(auto, using(std::proofs::Common::append_assoc))]
+fn put_gone(out: &mut Vec<u8>, name: &Name) -> Result<(), OutOfMemory>
+    ensures { OnOk result (out.new.items ≡ out.old.items ++ (codes "needs put " ++ (name.now ++ codes " gone"))) }
+{
+    put_name(out, b"needs put ", name)?;
+    put(out, b" gone")
+}
+
+fn put_want(alloc: Global, out: &mut Vec<u8>, want: &Want) -> Result<(), OutOfMemory>
+    ensures { OnOk result (out.new.items ≡ out.old.items ++ spec.want_text want.now) }
+{
+    match want {
+        Want::Advert(contract) => put_word_number(alloc, out, b"needs advertise ", *contract),
+        Want::Deposit(name) => put_name(out, b"needs deposit ", name),
+        Want::Digest { party, secret } => put_of(out, b"needs digest ", secret, party),
+        Want::Commitment { party, contract } => {
+            put_doing(alloc, out, party, b" commits ", *contract)
+        }
+        Want::Endorsement { party, contract } => {
+            put_doing(alloc, out, party, b" endorses ", *contract)
+        }
+        Want::Start { party, contract } => put_doing(alloc, out, party, b" inits ", *contract),
+        Want::Beginning(contract) => put_word_number(alloc, out, b"needs fire init ", *contract),
+        Want::Height(height) => put_word_number(alloc, out, b"needs height ", *height),
+        Want::Authorisation {
+            party,
+            output,
+            branch,
+        } => put_authorises(alloc, out, party, *output, *branch),
+        Want::Put(name) => put_gone(out, name),
+        Want::Secret { party, secret } => put_of(out, b"needs secret ", secret, party),
+        Want::Predicate => put(out, b"never: predicate false"),
+    }
+}
+
+/// The line of what is wanting.
+#[tactic(auto, using(std::proofs::Common::append_assoc))]
+pub(crate) fn want_line(alloc: Global, want: &Want) -> Result<Vec<u8>, OutOfMemory>
+    ensures { IfOk result (λ text. text.items ≡ spec.want_line want.now) }
+{
+    let mut out = Vec::new(alloc);
+    put_want(alloc, &mut out, want)?;
+    put(&mut out, b"\n")?;
+    Ok(out)
+}

@@ -19,7 +19,7 @@ use Rattle.spec_deal.specs.declared.entry.Value.{Value}
 use Rattle.spec_deal.specs.declared.entry.Value.TheVariants as values
 use Rattle.spec_deal.specs.Needed.{needed, needed_labels, needed_deposits, needed_secrets, same_needed}
 use Rattle.spec_deal.specs.DealFile.{same_value, label_of_word}
-use Rattle.deal_index.proofs.Finding.{find_by, same_numbered}
+use Rattle.deal_index.proofs.Finding.{find_by, find_map, find_alike, same_numbered}
 use Rattle.deal_file.specs.Keying.{need_key, value_key, is_sized}
 use Rattle.deal_file.specs.Entries.{needed_in, entry_in, worth_of}
 use Rattle.deal_file.specs.declared.keying.Need.{Need}
@@ -57,22 +57,6 @@ value_same (values.Place a) (values.Hash b) h k = refl
 value_same (values.Hash a) (values.Key b) h k = refl
 value_same (values.Hash a) (values.Place b) h k = refl
 value_same (values.Hash a) (values.Hash b) h k = refl
-
--- ---- lists
-
-find_map : {A B : Type 0} (f : A → B) (p : B → Bool) (xs : List A) → find p (map f xs) ≡ option_map f (find (λ x. p (f x)) xs)
-find_map f p [] = refl
-find_map f p (x ∷ xs) = by_test (p (f x)) (find_map f p xs)
-  where
-    by_test : (b : Bool) → find p (map f xs) ≡ option_map f (find (λ x. p (f x)) xs)
-        → cond b (Some (f x)) (find p (map f xs)) ≡ option_map f (cond b (Some x) (find (λ x. p (f x)) xs))
-    by_test true h = refl
-    by_test false h = h
-
-find_alike : {A : Type 0} (p q : A → Bool) → ((x : A) → p x ≡ q x) → (xs : List A) → find p xs ≡ find q xs
-find_alike p q same [] = refl
-find_alike p q same (x ∷ xs) =
-    ap (λ b. cond b (Some x) (find p xs)) (same x) ∙ ap (λ o. cond (q x) (Some x) o) (find_alike p q same xs)
 
 -- ---- entries
 

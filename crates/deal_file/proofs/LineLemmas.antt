@@ -19,7 +19,7 @@ use Rattle.deal_file.specs.Entries.{needed_in}
 use Rattle.deal_file.specs.Gives.{found_need}
 use Rattle.deal_file.specs.declared.keying.Need.{Need}
 
-or_found : {A : Type 0} → Option A → Option A → Option A
+abbrev or_found : {A : Type 0} → Option A → Option A → Option A
 or_found None later = later
 or_found (Some x) later = Some x
 
@@ -98,7 +98,7 @@ no_hash k (n ∷ ns) w h =
 -- ---- among all needs
 
 module _ (advert : Advert) (w : List ℕ) where
-  parts : (k : ℕ) → Option Needed
+  abbrev parts : (k : ℕ) → Option Needed
   parts k =
       or_found (find (λ what. bytes_eq (need_key what) (k ∷ w)) (map needs.Key (needed_labels advert)))
       (or_found (find (λ what. bytes_eq (need_key what) (k ∷ w)) (map needs.Deposit (needed_deposits advert)))

@@ -8,6 +8,7 @@ use Rattle.spec_terms.specs.Precondition.{deposits, secrets, names_of}
 use Rattle.spec_terms.specs.declared.path.PathStep.{PathStep}
 use Rattle.spec_bitcoin.specs.declared.label.Label.{Label}
 use Rattle.spec_bitcoin.specs.declared.label.Label.TheVariants as labels
+use Rattle.spec_compiler.specs.declared.prepared.Prepared.{Prepared}
 use Rattle.spec_compiler.specs.declared.unsigned.Unsigned.{Unsigned}
 use Rattle.spec_compiler.specs.Keyed.Keys.{by_plan}
 use Rattle.spec_compiler.specs.Keyed.Instance.{Instance, branch_label}
@@ -24,14 +25,16 @@ use Rattle.deal_file.specs.Needs.{party_need, path_need, path_needs, node_needs}
 
 -- ---- nodes
 
-nothing : List ℕ → List ℕ
+abbrev nothing : List ℕ → List ℕ
 nothing x = x
 
 -- any instance of a contract
-bare : Advert → Instance
+abbrev bare : Advert → Instance
 bare advert = record { contract = deal_contract; advert = advert; bound = []; hashes = [] }
 
-fronts : (es : List (List PathStep × Unsigned)) → map (λ p. p.0) (map (λ p. (p.0, prepared nothing p.1)) es) ≡ map (λ p. p.0) es
+fronts : (es : List (List PathStep × Unsigned))
+    → map (λ (p : List PathStep × Prepared). p.0) (map (λ (p : List PathStep × Unsigned). (p.0, prepared nothing p.1)) es)
+    ≡ map (λ (p : List PathStep × Unsigned). p.0) es
 fronts [] = refl
 fronts (e ∷ es) = ap (λ (ps : List (List PathStep)). e.0 ∷ ps) (fronts es)
 

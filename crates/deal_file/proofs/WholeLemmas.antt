@@ -14,15 +14,11 @@ use Rattle.spec_deal.specs.declared.fault.DealFault.{DealFault}
 use Rattle.spec_deal.specs.declared.fault.DealFault.TheVariants as faults
 use Rattle.spec_deal.specs.Needed.{needed, needed_labels, needed_deposits, needed_secrets, same_needed}
 use Rattle.spec_deal.specs.DealFile.{value_for, key_or_none, place_or_none, hash_or_none, deal_of, is_given, whole_deal, first_missing}
-use Rattle.deal_file.specs.Building.{no_deal, joined, deal_with, given_to, given_to_all, onto_deal, if_given, whole}
-
-any_found : {A : Type 0} (p : A → Bool) (xs : List A) → list_any p xs ≡ is_some (find p xs)
-any_found p [] = refl
-any_found p (x ∷ xs) = by_test (p x) (any_found p xs)
-  where
-    by_test : (b : Bool) → list_any p xs ≡ is_some (find p xs) → (b || list_any p xs) ≡ is_some (cond b (Some x) (find p xs))
-    by_test true h = refl
-    by_test false h = h
+use Rattle.deal_index.proofs.Finding.{any_found}
+use Rattle.deal_file.specs.declared.error.DealError.{DealError}
+use Rattle.deal_file.specs.declared.error.DealError.TheVariants as deals
+use Rattle.deal_file.specs.Gives.{Refuses}
+use Rattle.deal_file.specs.Building.{no_deal, joined, deal_with, given_to, given_to_all, onto_deal, if_given, whole, IsGiven, IsMissing}
 
 some_map : {A B : Type 0} (f : A → B) (o : Option A) → is_some o ≡ is_some (option_map f o)
 some_map f None = refl
@@ -104,3 +100,46 @@ module _ (entries : List Entry) where
       by_missing : (o : Option Needed) → judged (needed advert) o ≡ whole_deal advert entries o
       by_missing None = ap (λ deal. Ok deal) (given_deal advert)
       by_missing (Some what) = refl
+
+-- ---- one need after another
+
+pub onto_none : (r : Result Deal DealFault) → onto_deal no_deal r ≡ r
+onto_none (Ok deal) = refl
+onto_none (Err fault) = refl
+
+pub onto_more : (a b : Deal) (r : Result Deal DealFault) → onto_deal a (onto_deal b r) ≡ onto_deal (joined a b) r
+onto_more a b (Ok deal) =
+    ap (λ d. Ok d) (λ j. record {
+      keys = sym (append_assoc a.keys b.keys deal.keys) j;
+      deposits = sym (append_assoc a.deposits b.deposits deal.deposits) j;
+      hashes = sym (append_assoc a.hashes b.hashes deal.hashes) j;
+    })
+onto_more a b (Err fault) = refl
+
+pub onto_all : (a : Deal) → onto_deal a (Ok no_deal) ≡ Ok a
+onto_all a =
+    ap (λ d. Ok d) (λ j. record {
+      keys = append-nil a.keys j;
+      deposits = append-nil a.deposits j;
+      hashes = append-nil a.hashes j;
+    })
+
+-- something is given to the first of these needs
+pub whole_more : (entries : List Entry) (a b : Deal) (what : Needed) (ns : List Needed) → IsGiven (value_for entries what)
+    → b ≡ joined a (given_to entries what) → onto_deal a (whole entries (what ∷ ns)) ≡ onto_deal b (whole entries ns)
+whole_more entries a b what ns there grown =
+    by_value (value_for entries what) there
+    ∙ onto_more a (given_to entries what) (whole entries ns) ∙ ap (λ d. onto_deal d (whole entries ns)) (sym grown)
+  where
+    by_value : (v : Option Value) → IsGiven v
+        → onto_deal a (if_given what (given_to entries what) v (whole entries ns))
+        ≡ onto_deal a (onto_deal (given_to entries what) (whole entries ns))
+    by_value None h = absurd h
+    by_value (Some v) h = refl
+
+-- nothing is given to it
+pub whole_missing : (entries : List Entry) (a : Deal) (what : Needed) (ns : List Needed) (e : DealError)
+    → IsMissing e what (value_for entries what) → Refuses e (onto_deal a (whole entries (what ∷ ns)))
+whole_missing entries a what ns deals.Memory h = tt
+whole_missing entries a what ns (deals.Refused fault) h =
+    ap (λ v. onto_deal a (if_given what (given_to entries what) v (whole entries ns))) (h.1) ∙ ap (λ f. Err f) (sym (h.0))

@@ -8,7 +8,8 @@ ghost use Rattle.spec_deal.specs.declared.entry.Value.{Value as SpecValue};
 ghost use Rattle.spec_deal.specs.Needed.{same_needed};
 ghost use Rattle.spec_deal.specs.DealFile as spec;
 ghost use Rattle.deal_file.specs.Keying as keys;
-ghost use Rattle.deal_file.specs.Entries.{told, IsTied};
+ghost use Rattle.deal_file.specs.Entries.{told, entry_in, IsTied};
+ghost use Rattle.deal_file.specs.declared.keying.Worth.{Worth as SpecWorth};
 
 use crate::keying::{Given, Worth};
 use deal_index::Indexed;
@@ -25,6 +26,26 @@ pub(crate) struct Entries {
 impl Drop for Entries {
     fn drop(self) {
         let Entries { given: _, worth: _ } = self;
+    }
+}
+
+// The entry that was found.
+fn entry_of(given: Option<&Given>) -> Option<&Entry>
+    ensures { option_map (λ e. e.now) result ≡ option_map entry_in (option_map (λ g. g.now) given.entry) }
+{
+    match given {
+        Some(given) => Some(&given.entry),
+        None => None,
+    }
+}
+
+// The line of the value that was found.
+fn line_of(worth: Option<&Worth>) -> Option<u32>
+    ensures { result ≡ option_map (λ (w : SpecWorth). w.line) (option_map (λ w. w.now) worth.entry) }
+{
+    match worth {
+        Some(worth) => Some(worth.line),
+        None => None,
     }
 }
 
@@ -45,10 +66,7 @@ impl Entries {
         ensures { (what : SpecNeeded) → key.now ≡ keys.need_key what
             → option_map (λ e. e.now) result ≡ find (λ x. same_needed x.needed what) (told self.now) }
     {
-        match self.given.find(key) {
-            Some(given) => Some(&given.entry),
-            None => None,
-        }
+        entry_of(self.given.find(key))
     }
 
     /// The line that gives something to what is found by this key.
@@ -79,10 +97,7 @@ impl Entries {
         ensures { (value : SpecValue) → key.now ≡ keys.value_key value → keys.is_sized value ≡ true
             → result ≡ option_map (λ (e : SpecEntry). e.line) (find (λ x. spec.same_value x.value value) (told self.now)) }
     {
-        match self.worth.find(key) {
-            Some(worth) => Some(worth.line),
-            None => None,
-        }
+        line_of(self.worth.find(key))
     }
 
     /// Adds an entry, which is found by these keys. For want of memory only its need may be added.

@@ -1,11 +1,11 @@
 //! What a line of a deal file says.
 
-ghost use Rattle.std.specs.Prelude.{◌≡◌, ◌∷◌, ◌<◌, ◌^◌, List, ℕ, map, true, IfOk, option_map};
+ghost use Rattle.std.specs.Prelude.{◌≡◌, ◌∷◌, [], List, map, option_map, Option, true, IfOk, IfSome, OnOk};
 ghost use Rattle.std.specs.List.{find};
 ghost use Rattle.std.specs.Str.{bytes_eq};
 ghost use Rattle.spec_text.specs.Lines.{words_of};
 ghost use Rattle.spec_deal.specs.declared.entry.Entry.{Entry as SpecEntry};
-ghost use Rattle.spec_deal.specs.declared.deal.Needed.TheVariants as needs_of;
+ghost use Rattle.spec_deal.specs.declared.entry.Value.{Value as SpecValue};
 ghost use Rattle.spec_deal.specs.Needed as spec_needs;
 ghost use Rattle.spec_deal.specs.DealFile as spec;
 ghost use Rattle.bm_runfile.specs.Gives.{Reads};
@@ -24,6 +24,16 @@ use spec_data::OutOfMemory;
 use spec_deal::{DealReason, Entry, Needed, Value};
 use std::alloc::Global;
 
+// What is needed that was found.
+fn copied(alloc: Global, need: Option<&Need>) -> Result<Option<Needed>, OutOfMemory>
+    ensures { IfOk result (λ o. o ≡ option_map needed_in (option_map (λ n. n.now) need.entry)) }
+{
+    match need {
+        Some(need) => Ok(Some(need.needed.copy(alloc)?)),
+        None => Ok(None),
+    }
+}
+
 // What is needed that is of this kind and has this text.
 fn need_of(
     alloc: Global,
@@ -34,10 +44,7 @@ fn need_of(
     ensures { IfOk result (λ o. o ≡ found_need needs.now (kind ∷ word.now)) }
 {
     let key = kind_and(alloc, kind, word)?;
-    match needs.find(&key) {
-        Some(need) => Ok(Some(need.needed.copy(alloc)?)),
-        None => Ok(None),
-    }
+    copied(alloc, needs.find(&key))
 }
 
 // What a line gives to what is needed, if its value is one.
@@ -47,7 +54,7 @@ fn entry_with(
     value: Result<Value, WordError>,
 ) -> Result<Entry, LineError>
     requires { IfOk value (λ v. keys.is_sized v ≡ true) }
-    ensures leads { (entries : List SpecEntry) (read : Option spec.Value) → Reads (λ v. v) value read
+    ensures leads { (entries : List SpecEntry) (read : Option SpecValue) → Reads (λ v. v) value read
         → Leads entries result (spec.with_value entries line needed read) }
     ensures sized { IfOk result (λ e. keys.is_sized e.value ≡ true) }
 {
@@ -62,6 +69,25 @@ fn entry_with(
     }
 }
 
+// What these words behind the first of the line of a key give.
+fn key_given(
+    alloc: Global,
+    checked: &Checked,
+    needs: &Indexed<Need>,
+    line: u32,
+    word: &[u8],
+    value: &[u8],
+) -> Result<Entry, LineError>
+    requires { map needed_in needs.now ≡ spec_needs.needed checked.now }
+    ensures leads { (entries : List SpecEntry) → Leads entries result (spec.key_line checked.now entries line (word.now ∷ value.now ∷ [])) }
+    ensures sized { IfOk result (λ e. keys.is_sized e.value ≡ true) }
+{
+    match need_of(alloc, needs, b'K', word)? {
+        Some(needed) => entry_with(line, needed, key_of_word(alloc, value)),
+        None => Err(LineError::Bad(DealReason::Foreign)),
+    }
+}
+
 // The line of a key, behind its first word.
 fn key_entry(
     alloc: Global,
@@ -71,14 +97,32 @@ fn key_entry(
     words: &[&[u8]],
 ) -> Result<Entry, LineError>
     requires { map needed_in needs.now ≡ spec_needs.needed checked.now }
-    ensures leads { (entries : List SpecEntry) → Leads entries result (spec.key_line checked.now entries line (map (λ w. w.now) words.now)) }
+    ensures leads { (entries : List SpecEntry)
+        → Leads entries result (spec.key_line checked.now entries line (map (λ w. w.now) words.now)) }
     ensures sized { IfOk result (λ e. keys.is_sized e.value ≡ true) }
 {
-    let [word, value] = words else {
-        return Err(LineError::Bad(DealReason::Form));
-    };
-    match need_of(alloc, needs, b'K', word)? {
-        Some(needed) => entry_with(line, needed, key_of_word(alloc, value)),
+    match words {
+        [word, value] => key_given(alloc, checked, needs, line, word, value),
+        _ => Err(LineError::Bad(DealReason::Form)),
+    }
+}
+
+// What these words behind the first of the line of a deposit give.
+fn deposit_given(
+    alloc: Global,
+    checked: &Checked,
+    needs: &Indexed<Need>,
+    line: u32,
+    word: &[u8],
+    txid: &[u8],
+    vout: &[u8],
+) -> Result<Entry, LineError>
+    requires { map needed_in needs.now ≡ spec_needs.needed checked.now }
+    ensures leads { (entries : List SpecEntry) → Leads entries result (spec.deposit_line checked.now entries line (word.now ∷ txid.now ∷ vout.now ∷ [])) }
+    ensures sized { IfOk result (λ e. keys.is_sized e.value ≡ true) }
+{
+    match need_of(alloc, needs, b'D', word)? {
+        Some(needed) => entry_with(line, needed, place_of_words(alloc, txid, vout)),
         None => Err(LineError::Bad(DealReason::Foreign)),
     }
 }
@@ -96,11 +140,27 @@ fn deposit_entry(
         → Leads entries result (spec.deposit_line checked.now entries line (map (λ w. w.now) words.now)) }
     ensures sized { IfOk result (λ e. keys.is_sized e.value ≡ true) }
 {
-    let [word, txid, vout] = words else {
-        return Err(LineError::Bad(DealReason::Form));
-    };
-    match need_of(alloc, needs, b'D', word)? {
-        Some(needed) => entry_with(line, needed, place_of_words(alloc, txid, vout)),
+    match words {
+        [word, txid, vout] => deposit_given(alloc, checked, needs, line, word, txid, vout),
+        _ => Err(LineError::Bad(DealReason::Form)),
+    }
+}
+
+// What these words behind the first of the line of a hash give.
+fn hash_given(
+    alloc: Global,
+    checked: &Checked,
+    needs: &Indexed<Need>,
+    line: u32,
+    word: &[u8],
+    value: &[u8],
+) -> Result<Entry, LineError>
+    requires { map needed_in needs.now ≡ spec_needs.needed checked.now }
+    ensures leads { (entries : List SpecEntry) → Leads entries result (spec.hash_line checked.now entries line (word.now ∷ value.now ∷ [])) }
+    ensures sized { IfOk result (λ e. keys.is_sized e.value ≡ true) }
+{
+    match need_of(alloc, needs, b'H', word)? {
+        Some(needed) => entry_with(line, needed, hash_of_word(alloc, value)),
         None => Err(LineError::Bad(DealReason::Foreign)),
     }
 }
@@ -118,12 +178,9 @@ fn hash_entry(
         → Leads entries result (spec.hash_line checked.now entries line (map (λ w. w.now) words.now)) }
     ensures sized { IfOk result (λ e. keys.is_sized e.value ≡ true) }
 {
-    let [word, value] = words else {
-        return Err(LineError::Bad(DealReason::Form));
-    };
-    match need_of(alloc, needs, b'H', word)? {
-        Some(needed) => entry_with(line, needed, hash_of_word(alloc, value)),
-        None => Err(LineError::Bad(DealReason::Foreign)),
+    match words {
+        [word, value] => hash_given(alloc, checked, needs, line, word, value),
+        _ => Err(LineError::Bad(DealReason::Form)),
     }
 }
 

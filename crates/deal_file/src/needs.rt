@@ -91,11 +91,7 @@ fn put_nodes(
 }
 
 // The keys for all branches of a contract, in the order of its text.
-fn put_branches(
-    alloc: Global,
-    out: &mut Vec<Needed>,
-    checked: &Checked,
-) -> Result<(), OutOfMemory>
+fn put_branches(alloc: Global, out: &mut Vec<Needed>, checked: &Checked) -> Result<(), OutOfMemory>
     ensures { OnOk result (out.new.items ≡ out.old.items ++ flat_map (path_needs (participants checked.now)) (branch_paths checked.now.root)) }
 {
     few_nodes();

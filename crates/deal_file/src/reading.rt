@@ -1,7 +1,6 @@
 //! The deal that a text gives to a contract.
 
-ghost use Rattle.std.specs.Prelude.{◌≡◌, ◌≤◌, ◌++◌, ◌∷◌, [], length, map, true, None, IfOk, OnOk, if◌then◌else◌};
-ghost use Rattle.std.specs.List.{find};
+ghost use Rattle.std.specs.Prelude.{◌≡◌, ◌≤◌, ◌++◌, ◌∷◌, [], length, map, option_map, IfOk, OnOk};
 ghost use Rattle.spec_text.specs.Lines.{lines_of};
 ghost use Rattle.spec_deal.specs.Sizes.{most_deal_bytes};
 ghost use Rattle.spec_deal.specs.Needed as spec_needs;
@@ -26,16 +25,25 @@ use std::alloc::Global;
 /// The most bytes of a deal file.
 const MOST_DEAL_BYTES: usize = 8_388_608;
 
+// These needs, each found by its kind and text.
+fn indexed(alloc: Global, all: &[Needed]) -> Result<Indexed<Need>, OutOfMemory>
+    ensures { IfOk result (λ needs. map needed_in needs ≡ all.now) }
+{
+    let mut needs = Indexed::new(alloc);
+    for needed in all {
+        let key = need_key(alloc, needed)?;
+        let needed = needed.copy(alloc)?;
+        needs.push(Need { needed }, key)?;
+    }
+    Ok(needs)
+}
+
 // All that a contract needs, each found by its kind and text.
 fn needs_of(alloc: Global, checked: &Checked) -> Result<Indexed<Need>, OutOfMemory>
     ensures { IfOk result (λ needs. map needed_in needs ≡ spec_needs.needed checked.now) }
 {
-    let mut needs = Indexed::new(alloc);
-    for needed in needed(alloc, checked)? {
-        let key = need_key(alloc, &needed)?;
-        needs.push(Need { needed }, key)?;
-    }
-    Ok(needs)
+    let all = needed(alloc, checked)?;
+    indexed(alloc, &all)
 }
 
 fn at_line(error: LineError, line: u32) -> DealError
@@ -153,11 +161,7 @@ fn take_need(
 }
 
 // The deal of all entries, if nothing is missing.
-fn whole_deal(
-    alloc: Global,
-    needs: &[Need],
-    entries: &Entries,
-) -> Result<Deal, DealError>
+fn whole_deal(alloc: Global, needs: &[Need], entries: &Entries) -> Result<Deal, DealError>
     ensures { Gives (λ d. d) result (building.whole (told entries.now) (map needed_in needs.now)) }
 {
     let mut deal = Deal {

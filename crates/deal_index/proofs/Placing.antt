@@ -73,8 +73,8 @@ place_push k q [] key =
 place_push k q (x ∷ keys) key =
     let e : k + 1 + length keys ≡ k + length (x ∷ keys) = omega arith in
     by_test (bytes_eq x q) (
-      place_push (k + 1) q keys key
-      ∙ ap (λ (n : ℕ). place_or (place_from (k + 1) q keys) (if bytes_eq key q then Some n else None)) e
+    place_push (k + 1) q keys key
+    ∙ ap (λ (n : ℕ). place_or (place_from (k + 1) q keys) (if bytes_eq key q then Some n else None)) e
     )
   where
     by_test : (b : Bool) → place_from (k + 1) q (keys ++ key ∷ [])
@@ -93,12 +93,12 @@ pub index_more : (keys : List (List ℕ)) (key : List ℕ) (old new : Index) (pl
 index_more keys key old new place here is adds =
     let e : place ≡ 0 + length keys = omega (arith, here) in
     record {
-  at = λ q.
-      adds q
-      ∙ ap (λ o. place_or o (if bytes_eq key q then Some place else None)) (is.at q)
-      ∙ ap (λ (n : ℕ). place_or (place_from 0 q keys) (if bytes_eq key q then Some n else None)) e
-      ∙ sym (place_push 0 q keys key);
-}
+      at = λ q.
+          adds q
+          ∙ ap (λ o. place_or o (if bytes_eq key q then Some place else None)) (is.at q)
+          ∙ ap (λ (n : ℕ). place_or (place_from 0 q keys) (if bytes_eq key q then Some n else None)) e
+          ∙ sym (place_push 0 q keys key);
+    }
 
 -- the same index has the same strings
 pub index_stays : (keys : List (List ℕ)) (old new : Index) → IsIndex keys old → ((q : List ℕ) → placed_at new q ≡ placed_at old q)
@@ -126,9 +126,9 @@ module _ {T : Type 0} (key : T → List ℕ) (q : List ℕ) where
   pub found_place : (xs : List T) → option_and_then (slice_get xs) (place_from 0 q (map key xs)) ≡ find (λ x. bytes_eq (key x) q) xs
   found_place [] = refl
   found_place (x ∷ xs) = by_test (bytes_eq (key x) q) (
-    ap (option_and_then (slice_get (x ∷ xs))) (place_shift 0 q (map key xs))
-    ∙ get_shift x xs (place_from 0 q (map key xs)) ∙ found_place xs
-  )
+      ap (option_and_then (slice_get (x ∷ xs))) (place_shift 0 q (map key xs))
+      ∙ get_shift x xs (place_from 0 q (map key xs)) ∙ found_place xs
+      )
     where
       by_test : (b : Bool) → option_and_then (slice_get (x ∷ xs)) (place_from 1 q (map key xs)) ≡ find (λ x. bytes_eq (key x) q) xs
           → option_and_then (slice_get (x ∷ xs)) (if b then Some 0 else place_from 1 q (map key xs))

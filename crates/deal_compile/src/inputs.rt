@@ -1,0 +1,153 @@
+//! The inputs of a transaction, each with what it spends and who signs it.
+
+ghost use Rattle.std.specs.Prelude.{◌≡◌, map, option_map, IfOk};
+ghost use Rattle.bm_syntax.specs.View.{guarded};
+ghost use Rattle.spec_deal.specs.Slots.{branch_verb};
+ghost use Rattle.deal_compile.specs.Parts as spec;
+
+use crate::keys::DealKeys;
+use bm_compile::pays;
+use bm_hash::Hash32;
+use bm_syntax::{Guarded, Name, asks};
+use spec_bitcoin::Label;
+use spec_compiler::Spent;
+use spec_data::{OutOfMemory, Seq};
+use spec_deal::{Input, Signer, Verb};
+use spec_tool::Which;
+use std::alloc::Global;
+
+// What a participant's signature by its key of a branch is for.
+fn branch_verb_for(branch: Option<&Guarded>, party: &Name) -> Verb
+    ensures { result ≡ branch_verb (option_map (λ b. guarded b.now) branch.entry) party.now }
+{
+    match branch {
+        None => Verb::Endorse,
+        Some(branch) => {
+            if asks(branch, party) {
+                Verb::Authorise
+            } else {
+                Verb::Endorse
+            }
+        }
+    }
+}
+
+// What the signature by a label's key is for, by the branch that the transaction takes.
+fn verb_for(which: &Which, branch: Option<&Guarded>, label: &Label) -> Verb
+    ensures { result ≡ spec.verb_by which.now (option_map (λ b. guarded b.now) branch.entry) label.now }
+{
+    match which {
+        Which::Init => Verb::Init,
+        Which::At(_) => match label {
+            Label::Deposit { .. } => Verb::Endorse,
+            Label::Branch { party, .. } => branch_verb_for(branch, party),
+        },
+    }
+}
+
+fn signer_for(
+    alloc: Global,
+    keys: &DealKeys,
+    which: &Which,
+    branch: Option<&Guarded>,
+    label: &Label,
+) -> Result<Signer, OutOfMemory>
+    ensures { IfOk result (λ signer. signer
+        ≡ spec.signer_by keys.now which.now (option_map (λ b. guarded b.now) branch.entry) label.now) }
+{
+    Ok(Signer {
+        label: label.copy(alloc)?,
+        key: keys.label_key(alloc, label)?,
+        verb: verb_for(which, branch, label),
+    })
+}
+
+// Who signs by the keys of these labels.
+fn signers_for(
+    alloc: Global,
+    keys: &DealKeys,
+    which: &Which,
+    branch: Option<&Guarded>,
+    labels: &[Label],
+) -> Result<Seq<Signer>, OutOfMemory>
+    ensures { IfOk result (λ signers. signers
+        ≡ map (spec.signer_by keys.now which.now (option_map (λ b. guarded b.now) branch.entry)) labels.now) }
+{
+    let mut signers = Seq::new(alloc);
+    for label in labels {
+        signers.push(signer_for(alloc, keys, which, branch, label)?)?;
+    }
+    Ok(signers)
+}
+
+fn input_for<H: Hash32>(
+    alloc: Global,
+    hasher: &H,
+    keys: &DealKeys,
+    which: &Which,
+    branch: Option<&Guarded>,
+    spent: &Spent,
+    digest: &[u8; 32],
+    labels: &[Label],
+) -> Result<Input, OutOfMemory>
+    ensures { let branch = option_map (λ b. guarded b.now) branch.entry in
+        IfOk result (λ input. input
+        ≡ spec.input_by (H.digest_of hasher.now) keys.now which.now branch spent.now digest.now labels.now) }
+{
+    Ok(Input {
+        spent: spent.copy(alloc)?,
+        output: pays(alloc, hasher, spent.script.as_slice(), spent.value)?,
+        digest: *digest,
+        signers: signers_for(alloc, keys, which, branch, labels)?,
+    })
+}
+
+// The labels of the first input.
+fn first_labels(labels: &[Seq<Label>]) -> &[Label]
+    ensures { result.now ≡ spec.first_labels labels.now }
+{
+    match labels {
+        [] => &[],
+        [first, ..] => first.as_slice(),
+    }
+}
+
+// Those of the others.
+fn other_labels(labels: &[Seq<Label>]) -> &[Seq<Label>]
+    ensures { result.now ≡ spec.other_labels labels.now }
+{
+    match labels {
+        [] => &[],
+        [_, others @ ..] => others,
+    }
+}
+
+/// The inputs that spend these, by their digests and the labels whose keys sign each.
+pub(crate) fn inputs_for<H: Hash32>(
+    alloc: Global,
+    hasher: &H,
+    keys: &DealKeys,
+    which: &Which,
+    branch: Option<&Guarded>,
+    spends: &[Spent],
+    digests: &[[u8; 32]],
+    labels: &[Seq<Label>],
+) -> Result<Seq<Input>, OutOfMemory>
+    ensures { let branch = option_map (λ b. guarded b.now) branch.entry in
+        IfOk result (λ inputs. inputs
+        ≡ spec.inputs_by (H.digest_of hasher.now) keys.now which.now branch spends.now digests.now labels.now) }
+{
+    let mut inputs = Seq::new(alloc);
+    let mut digests = digests;
+    let mut labels = labels;
+    for spent in spends {
+        let Some((digest, others)) = digests.split_first() else {
+            return Ok(inputs);
+        };
+        let first = first_labels(labels);
+        inputs.push(input_for(alloc, hasher, keys, which, branch, spent, digest, first)?)?;
+        digests = others;
+        labels = other_labels(labels);
+    }
+    Ok(inputs)
+}

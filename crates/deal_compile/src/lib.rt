@@ -1,0 +1,18 @@
+//! Deals compiled: the transactions and scripts of a contract by the keys, deposits and hashes of real wallets.
+#![tactic(auto)]
+
+mod circle;
+mod compiling;
+mod depositing;
+mod inputs;
+mod keys;
+mod labels;
+mod seen;
+mod transactions;
+
+pub use bm_hash::{Hash32, Trail, TrailError};
+pub use bm_wellformed::Checked;
+pub use circle::circular;
+pub use compiling::{CompiledDeal, compile_deal};
+pub use keys::DealKeys;
+pub use spec_deal::{Deal, Input, Signer, Transaction};

@@ -1,9 +1,13 @@
 pub mod Xml
+pub mod Shapes
 pub mod Tree
 pub mod Taken
+pub mod Folds
 pub mod Words
-pub mod Layout
-pub mod Rows
+pub mod Style
+pub mod Graph
+pub mod Lanes
+pub mod Legend
 pub mod Picture
 pub mod Statements
 pub mod Drawing

@@ -1,20 +1,16 @@
 -- The words of the rows of a picture.
-use Rattle.std.specs.Prelude.{ℕ, ◌-◌, List, [], ◌∷◌, ◌++◌, take, length, map, nat_le, if◌then◌else◌, Option, Some, None, codes}
+use Rattle.std.specs.Prelude.{ℕ, List, [], ◌++◌, map, min, Option, Some, None, codes}
 use Rattle.std.specs.Fmt.{decimal}
 use Rattle.spec_calculus.specs.declared.step.Step.{Step}
 use Rattle.spec_calculus.specs.declared.step.Step.TheVariants as steps
-use Rattle.spec_run.specs.declared.outcome.Outcome.{Outcome}
-use Rattle.spec_run.specs.declared.outcome.Outcome.TheVariants.{Done, Accepted, Refused}
 use Rattle.spec_run.specs.declared.outcome.Reason.{Reason}
 use Rattle.spec_run.specs.declared.outcome.Reason.TheVariants as reason
 use Rattle.spec_text.specs.Canonical.{joined}
 use Rattle.spec_text.specs.OutcomeText.{refusal_name}
+use Rattle.spec_text.specs.RunText.{output_text}
+use Rattle.spec_text.specs.StepText.{leads_text}
 use Rattle.spec_tool.specs.declared.which.Which.{Which}
 use Rattle.spec_tool.specs.Listed.{which_text}
-
--- a text of at most so many bytes, two of which are dots where some are left out
-abbrev pub cut : ℕ → List ℕ → List ℕ
-cut most text = if nat_le (length text) most then text else take (most - 2) text ++ codes ".."
 
 -- ---- events
 
@@ -32,9 +28,27 @@ step_name (steps.PutReveal n i) = codes "putreveal"
 step_name (steps.Withdraw n i) = codes "withdraw"
 step_name (steps.Split n i) = codes "split"
 
--- the names of the steps of an event, with commas between them
-abbrev pub steps_text : List Step → List ℕ
-steps_text ss = joined (codes ", ") (map step_name ss)
+-- what a step says behind its name: the outputs that its event made, where the step makes some
+abbrev pub step_tail : List ℕ → Step → List ℕ
+step_tail made (steps.Delay n) = []
+step_tail made (steps.AuthMove a action) = []
+step_tail made (steps.Move action) = leads_text made
+step_tail made (steps.Advertise k bs) = []
+step_tail made (steps.Commit k a ls) = []
+step_tail made (steps.AuthInit k a x) = []
+step_tail made (steps.Init k) = leads_text made
+step_tail made (steps.Reveal k a s) = []
+step_tail made (steps.AuthBranch a n i) = []
+step_tail made (steps.PutReveal n i) = leads_text made
+step_tail made (steps.Withdraw n i) = leads_text made
+step_tail made (steps.Split n i) = leads_text made
+
+abbrev pub step_text : List ℕ → Step → List ℕ
+step_text made s = step_name s ++ step_tail made s
+
+-- the steps of an event, with commas between them
+abbrev pub steps_text : List ℕ → List Step → List ℕ
+steps_text made ss = joined (codes ", ") (map (step_text made) ss)
 
 abbrev pub reason_name : Reason → List ℕ
 reason_name reason.NoContract = codes "NoContract"
@@ -69,17 +83,6 @@ reason_name (reason.SecretUnknown a) = codes "SecretUnknown"
 reason_name reason.TimeLimit = codes "TimeLimit"
 reason_name (reason.Ledger r) = refusal_name r
 
--- that a transaction was accepted, and its name where it is one of the contract's
-abbrev pub accepted_text : Option Which → List ℕ
-accepted_text None = codes "accepted"
-accepted_text (Some which) = codes "accepted " ++ which_text which
-
--- what an event came to
-abbrev pub outcome_words : Option Which → Outcome → List ℕ
-outcome_words which Done = codes "done"
-outcome_words which (Accepted spent made lock) = accepted_text which
-outcome_words which (Refused r) = reason_name r
-
 -- ---- ids and marks
 
 abbrev pub node_id : Which → List ℕ
@@ -89,6 +92,15 @@ abbrev pub event_id : ℕ → List ℕ
 event_id n = codes "event-" ++ decimal n
 
 -- by which event a transaction was reached
-abbrev pub mark_text : Option ℕ → List ℕ
-mark_text None = codes "not reached"
-mark_text (Some n) = codes "event " ++ decimal n
+abbrev pub reached_text : Option ℕ → List ℕ
+reached_text None = []
+reached_text (Some n) = codes " event " ++ decimal n
+
+-- and the output that it made
+abbrev pub made_text : Option ℕ → List ℕ
+made_text None = []
+made_text (Some n) = codes " " ++ output_text n
+
+-- the look of the party with this number among the participants
+abbrev pub party_look : ℕ → List ℕ
+party_look n = codes "p" ++ decimal (min n 6)

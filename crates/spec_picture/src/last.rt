@@ -1,13 +1,13 @@
 //! How a run ends that is drawn.
 
-use spec_data::Name;
+use spec_data::{Name, Seq};
 use spec_run::Event;
 
 /// How a run ends.
 #[derive(Drop)]
 pub enum Last {
-    /// All events were played.
-    Whole,
+    /// All events were played, and these are offered.
+    Whole(Seq<Event>),
     /// This event guesses the party's secret.
     Guessed {
         event: Event,

@@ -5,4 +5,4 @@ pub mod last;
 pub mod tree_row;
 
 pub use last::Last;
-pub use tree_row::TreeRow;
+pub use tree_row::{Stem, TreeRow, Ways};

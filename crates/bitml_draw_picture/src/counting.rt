@@ -1,4 +1,4 @@
-//! Numbers of rows, of places and of events. One that is too great for its type is taken for want of memory.
+//! Numbers of rows, of letters and of events. One that is too great for its type is taken for want of memory.
 
 ghost use Rattle.std.specs.Prelude.{◌≡◌, ◌+◌, IfOk};
 
@@ -15,6 +15,16 @@ pub(crate) fn narrow(count: usize) -> Result<u32, OutOfMemory>
     Ok(count as u32)
 }
 
+/// A number as one of 32 bits.
+pub(crate) fn small(number: u64) -> Result<u32, OutOfMemory>
+    ensures { IfOk result (λ n. n ≡ number) }
+{
+    if number > u32::MAX as u64 {
+        return Err(AllocError);
+    }
+    Ok(number as u32)
+}
+
 /// A number so much greater.
 pub(crate) fn plus(number: u32, more: u32) -> Result<u32, OutOfMemory>
     ensures { IfOk result (λ n. n ≡ number + more) }
@@ -22,7 +32,7 @@ pub(crate) fn plus(number: u32, more: u32) -> Result<u32, OutOfMemory>
     number.checked_add(more).ok_or(AllocError)
 }
 
-/// An amount in satoshi, so much greater.
+/// An amount in satoshi, or a height, so much greater.
 pub(crate) fn added(amount: u64, more: u64) -> Result<u64, OutOfMemory>
     ensures { IfOk result (λ n. n ≡ amount + more) }
 {

@@ -1,19 +1,23 @@
 //! The picture of a contract and of a run with it, as SVG.
 #![tactic(auto)]
 
-mod columns;
 mod counting;
 mod drawing;
-mod heads;
+mod folding;
+mod graph;
+mod lanes;
+mod legend;
 mod marks;
 mod naming;
 mod phrases;
 mod placing;
 mod run_rows;
 mod shapes;
+mod stems;
+mod styles;
 mod sums;
-mod tree_rows;
 mod walking;
+mod words;
 mod xml;
 
 pub use drawing::draw;

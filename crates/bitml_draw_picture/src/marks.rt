@@ -1,182 +1,251 @@
-//! The words and ids of rows.
+//! The marks of an event in the lanes.
 
-ghost use Rattle.std.specs.Prelude.{◌≡◌, ◌-◌, ◌≤◌, ◌++◌, codes, map, IfOk, OnOk};
-ghost use Rattle.spec_text.specs.RunText as texts;
-ghost use Rattle.spec_tool.specs.Listed.{which_text};
-ghost use Rattle.spec_picture.specs.Words as spec;
-ghost use Rattle.spec_picture.specs.Rows as rows;
+ghost use Rattle.std.specs.Prelude.{◌≡◌, ◌≤◌, ◌+◌, ◌*◌, ◌++◌, true, false, IfOk, OnOk};
+ghost use Rattle.spec_picture.specs.Shapes.{shape_text, shapes_text};
+ghost use Rattle.spec_picture.specs.Lanes as spec;
 
-use crate::naming::{reason_name, step_name};
-use bm_keys::put_path;
-use bm_runfile::print_event;
-use bm_text::{put, put_decimal};
-use spec_calculus::Step;
+use crate::counting::{narrow, plus};
+use crate::folding::{actor, is_handed};
+use crate::graph::number_of;
+use crate::lanes::lane_x;
+use crate::shapes::{put_box, put_dot, put_line};
+use crate::words::party_look;
+use bm_text::put;
 use spec_data::{Name, OutOfMemory};
-use spec_picture::TreeRow;
 use spec_run::{Event, Outcome};
-use spec_tool::Which;
+use spec_text::Entry;
 use std::alloc::Global;
 
-/// Cuts a text to so many bytes, two of which are dots where some are left out.
-#[tactic(auto, using(std::proofs::Common::append_assoc))]
-pub(crate) fn cut(text: &mut Vec<u8>, most: usize) -> Result<(), OutOfMemory>
-    requires { 2 ≤ most }
-    ensures { OnOk result (text.new.items ≡ spec.cut most text.old.items) }
+fn lane_of_number(number: u32, parties: u32) -> Result<u32, OutOfMemory>
+    ensures { IfOk result (λ lane. lane ≡ spec.lane_of_number number parties) }
 {
-    if text.len() <= most {
-        return Ok(());
+    if number == parties {
+        return Ok(0);
     }
-    text.truncate(most - 2);
-    put(text, b"..")
+    plus(number, 1)
 }
 
-/// `init` or the path.
-pub(crate) fn put_which(alloc: Global, out: &mut Vec<u8>, which: &Which) -> Result<(), OutOfMemory>
-    ensures { OnOk result (out.new.items ≡ out.old.items ++ which_text which.now) }
+// The lane of a name: anyone's where it is that of no party.
+fn lane_of(name: &[u8], parties: &[Name]) -> Result<u32, OutOfMemory>
+    ensures { IfOk result (λ lane. lane ≡ spec.lane_of name.now parties.now) }
 {
-    match which {
-        Which::Init => put(out, b"init"),
-        Which::At(path) => put_path(alloc, out, path.steps()),
+    let number = number_of(name, parties)?;
+    lane_of_number(number, narrow(parties.len())?)
+}
+
+fn dot_look(alloc: Global, lane: u32) -> Result<Vec<u8>, OutOfMemory>
+    ensures { IfOk result (λ look. look.items ≡ spec.dot_look lane) }
+{
+    if lane == 0 {
+        let mut look = Vec::new(alloc);
+        put(&mut look, b"act")?;
+        return Ok(look);
     }
+    party_look(alloc, b"act ", lane - 1)
 }
 
-pub(crate) fn node_id(alloc: Global, which: &Which) -> Result<Vec<u8>, OutOfMemory>
-    ensures { IfOk result (λ text. text.items ≡ spec.node_id which.now) }
+// A mark where a party acts.
+fn put_act(alloc: Global, out: &mut Vec<u8>, y: u64, lane: u32) -> Result<(), OutOfMemory>
+    ensures { OnOk result (out.new.items ≡ out.old.items ++ shape_text (spec.act_mark y lane)) }
 {
-    let mut text = Vec::new(alloc);
-    put(&mut text, b"node-")?;
-    put_which(alloc, &mut text, which)?;
-    Ok(text)
+    let look = dot_look(alloc, lane)?;
+    put_dot(alloc, out, lane_x(lane), y, &look)
 }
 
-pub(crate) fn event_id(alloc: Global, number: u32) -> Result<Vec<u8>, OutOfMemory>
-    ensures { IfOk result (λ text. text.items ≡ spec.event_id number) }
+/// A cross where that is refused.
+pub(crate) fn put_cross(alloc: Global, out: &mut Vec<u8>, x: u64, y: u64) -> Result<(), OutOfMemory>
+    requires across { 5 ≤ x }
+    requires down { 5 ≤ y }
+    requires few_across { x ≤ 99999999999 }
+    requires few_down { y ≤ 99999999999 }
+    ensures { OnOk result (out.new.items ≡ out.old.items ++ shape_text (spec.cross_mark x y)) }
 {
-    let mut text = Vec::new(alloc);
-    put(&mut text, b"event-")?;
-    put_decimal(alloc, &mut text, number as u64)?;
-    Ok(text)
+    put_line(
+        alloc,
+        out,
+        &[
+            (x - 5, y - 5),
+            (x + 5, y + 5),
+            (x, y),
+            (x - 5, y + 5),
+            (x + 5, y - 5),
+        ],
+        b"refused",
+    )
 }
 
-/// By which event a transaction was reached.
-pub(crate) fn mark_text(alloc: Global, reached: Option<u32>) -> Result<Vec<u8>, OutOfMemory>
-    ensures { IfOk result (λ text. text.items ≡ spec.mark_text reached) }
-{
-    let mut text = Vec::new(alloc);
-    match reached {
-        None => put(&mut text, b"not reached")?,
-        Some(number) => {
-            put(&mut text, b"event ")?;
-            put_decimal(alloc, &mut text, number as u64)?;
-        }
-    }
-    Ok(text)
-}
-
-/// A transaction's name and what it asks for and does.
-#[tactic(auto, using(std::proofs::Common::append_assoc))]
-pub(crate) fn label_text(alloc: Global, row: &TreeRow) -> Result<Vec<u8>, OutOfMemory>
-    ensures { IfOk result (λ text. text.items ≡ rows.label_text row.now) }
-{
-    let mut text = Vec::new(alloc);
-    put_which(alloc, &mut text, &row.which)?;
-    put(&mut text, b": ")?;
-    put(&mut text, row.words.as_slice())?;
-    cut(&mut text, 96)?;
-    Ok(text)
-}
-
-/// The line of an event.
-pub(crate) fn event_text(alloc: Global, event: &Event) -> Result<Vec<u8>, OutOfMemory>
-    ensures { IfOk result (λ text. text.items ≡ spec.cut 34 (texts.event_text event.now)) }
-{
-    let mut text = print_event(alloc, event)?;
-    cut(&mut text, 34)?;
-    Ok(text)
-}
-
-// That a transaction was accepted.
-#[tactic(auto, using(std::proofs::Common::append_assoc))]
-fn put_accepted(alloc: Global, out: &mut Vec<u8>, which: &Option<Which>) -> Result<(), OutOfMemory>
-    ensures { OnOk result (out.new.items ≡ out.old.items ++ spec.accepted_text which.now) }
-{
-    match which {
-        None => put(out, b"accepted"),
-        Some(which) => {
-            put(out, b"accepted ")?;
-            put_which(alloc, out, which)
-        }
-    }
-}
-
-fn put_outcome(
+/// An arrow to the ledger.
+pub(crate) fn put_arrow(
     alloc: Global,
     out: &mut Vec<u8>,
-    which: &Option<Which>,
-    outcome: &Outcome,
+    x: u64,
+    ledger: u64,
+    y: u64,
 ) -> Result<(), OutOfMemory>
-    ensures { OnOk result (out.new.items ≡ out.old.items ++ spec.outcome_words which.now outcome.now) }
+    requires across { 6 ≤ ledger }
+    requires down { 5 ≤ y }
+    requires few { y ≤ 99999999999 }
+    ensures { OnOk result (out.new.items ≡ out.old.items ++ shape_text (spec.accepted_arrow x ledger y)) }
+{
+    put_line(
+        alloc,
+        out,
+        &[
+            (x, y),
+            (ledger, y),
+            (ledger - 6, y - 5),
+            (ledger, y),
+            (ledger - 6, y + 5),
+        ],
+        b"accepted",
+    )
+}
+
+// One that is crossed.
+fn put_crossed_arrow(
+    alloc: Global,
+    out: &mut Vec<u8>,
+    x: u64,
+    ledger: u64,
+    y: u64,
+) -> Result<(), OutOfMemory>
+    requires across { 5 ≤ ledger }
+    requires down { 5 ≤ y }
+    requires few_across { ledger ≤ 99999999999 }
+    requires few_down { y ≤ 99999999999 }
+    ensures { OnOk result (out.new.items ≡ out.old.items ++ shape_text (spec.refused_arrow x ledger y)) }
+{
+    put_line(
+        alloc,
+        out,
+        &[
+            (x, y),
+            (ledger, y),
+            (ledger - 5, y - 5),
+            (ledger + 5, y + 5),
+            (ledger, y),
+            (ledger - 5, y + 5),
+            (ledger + 5, y - 5),
+        ],
+        b"refused",
+    )
+}
+
+fn is_refused(outcome: &Outcome) -> bool
+    ensures { result ≡ spec.is_refused outcome.now }
 {
     match outcome {
-        Outcome::Done => put(out, b"done"),
-        Outcome::Accepted { .. } => put_accepted(alloc, out, which),
-        Outcome::Refused(reason) => put(out, reason_name(reason)),
+        Outcome::Refused(_) => true,
+        _ => false,
     }
 }
 
-/// What an event came to.
-pub(crate) fn outcome_text(
+// An arrow, and the mark of who hands a transaction over.
+#[tactic(auto, using(std::proofs::Common::append_assoc, crate::proofs::Whole::no_rest))]
+fn put_handed(
     alloc: Global,
-    which: &Option<Which>,
-    outcome: &Outcome,
-) -> Result<Vec<u8>, OutOfMemory>
-    ensures { IfOk result (λ text. text.items ≡ spec.cut 20 (spec.outcome_words which.now outcome.now)) }
+    out: &mut Vec<u8>,
+    refused: bool,
+    row: u32,
+    lane: u32,
+    ledger: u32,
+) -> Result<(), OutOfMemory>
+    ensures { OnOk result (out.new.items ≡ out.old.items ++ shapes_text (spec.marks true refused (20 * row + 10) lane ledger)) }
 {
-    let mut text = Vec::new(alloc);
-    put_outcome(alloc, &mut text, which, outcome)?;
-    cut(&mut text, 20)?;
-    Ok(text)
-}
-
-// The names of steps, with commas between them.
-#[tactic(auto, using(std::proofs::Common::append_assoc))]
-fn put_steps(out: &mut Vec<u8>, steps: &[Step]) -> Result<(), OutOfMemory>
-    ensures { OnOk result (out.new.items ≡ out.old.items ++ spec.steps_text steps.now) }
-{
-    let Some((first, others)) = steps.split_first() else {
-        return Ok(());
-    };
-    put(out, step_name(first))?;
-    for step in others {
-        put(out, b", ")?;
-        put(out, step_name(step))?;
+    let y = 20 * row as u64 + 10;
+    if refused {
+        return put_crossed_arrow(alloc, out, lane_x(lane), lane_x(ledger), y);
     }
-    Ok(())
+    put_arrow(alloc, out, lane_x(lane), lane_x(ledger), y)?;
+    put_act(alloc, out, y, lane)
 }
 
-/// The names of the steps of an event.
-pub(crate) fn steps_text(alloc: Global, steps: &[Step]) -> Result<Vec<u8>, OutOfMemory>
-    ensures { IfOk result (λ text. text.items ≡ spec.cut 32 (spec.steps_text steps.now)) }
-{
-    let mut text = Vec::new(alloc);
-    put_steps(&mut text, steps)?;
-    cut(&mut text, 32)?;
-    Ok(text)
-}
-
-/// What halted a run that guesses.
-#[tactic(auto, using(std::proofs::Common::append_assoc))]
-pub(crate) fn guessed_text(
+#[tactic(auto, using(crate::proofs::Whole::no_rest))]
+fn put_acted(
     alloc: Global,
-    party: &Name,
-    secret: &Name,
-) -> Result<Vec<u8>, OutOfMemory>
-    ensures { IfOk result (λ text. text.items ≡ codes "halted: guessed " ++ (party.now ++ (codes " " ++ secret.now))) }
+    out: &mut Vec<u8>,
+    refused: bool,
+    row: u32,
+    lane: u32,
+    ledger: u32,
+) -> Result<(), OutOfMemory>
+    ensures { OnOk result (out.new.items ≡ out.old.items ++ shapes_text (spec.marks false refused (20 * row + 10) lane ledger)) }
 {
-    let mut text = Vec::new(alloc);
-    put(&mut text, b"halted: guessed ")?;
-    put(&mut text, party.bytes())?;
-    put(&mut text, b" ")?;
-    put(&mut text, secret.bytes())?;
-    Ok(text)
+    let y = 20 * row as u64 + 10;
+    if refused {
+        return put_cross(alloc, out, lane_x(lane), y);
+    }
+    put_act(alloc, out, y, lane)
+}
+
+fn put_marks(
+    alloc: Global,
+    out: &mut Vec<u8>,
+    handed: bool,
+    refused: bool,
+    row: u32,
+    lane: u32,
+    ledger: u32,
+) -> Result<(), OutOfMemory>
+    ensures { OnOk result (out.new.items ≡ out.old.items ++ shapes_text (spec.marks handed refused (20 * row + 10) lane ledger)) }
+{
+    if handed {
+        put_handed(alloc, out, refused, row, lane, ledger)
+    } else {
+        put_acted(alloc, out, refused, row, lane, ledger)
+    }
+}
+
+fn brings_blocks(event: &Event) -> bool
+    ensures { result ≡ spec.brings_blocks event.now }
+{
+    match event {
+        Event::Mine { .. } => true,
+        _ => false,
+    }
+}
+
+/// Whether blocks pass.
+pub(crate) fn is_band(event: &Event, outcome: &Outcome) -> bool
+    ensures { result ≡ spec.is_band event.now outcome.now }
+{
+    if is_refused(outcome) {
+        return false;
+    }
+    brings_blocks(event)
+}
+
+fn put_entry_marks(
+    alloc: Global,
+    out: &mut Vec<u8>,
+    parties: &[Name],
+    row: u32,
+    entry: &Entry,
+) -> Result<(), OutOfMemory>
+    ensures { OnOk result (out.new.items ≡ out.old.items ++ shapes_text (spec.row_marks false 0 parties.now row entry.now)) }
+{
+    let handed = is_handed(&entry.event);
+    let refused = is_refused(&entry.outcome);
+    let lane = lane_of(actor(&entry.event), parties)?;
+    let ledger = plus(narrow(parties.len())?, 1)?;
+    put_marks(alloc, out, handed, refused, row, lane, ledger)
+}
+
+/// The marks of an event, or a band across the picture where blocks pass.
+#[tactic(auto, using(crate::proofs::Whole::no_rest))]
+pub(crate) fn put_row_marks(
+    alloc: Global,
+    out: &mut Vec<u8>,
+    band: bool,
+    wide: u32,
+    parties: &[Name],
+    row: u32,
+    entry: &Entry,
+) -> Result<(), OutOfMemory>
+    ensures { OnOk result (out.new.items ≡ out.old.items ++ shapes_text (spec.row_marks band wide parties.now row entry.now)) }
+{
+    if band {
+        return put_box(alloc, out, 0, 20 * row as u64 + 1, 8 * wide as u64, 18, b"band");
+    }
+    put_entry_marks(alloc, out, parties, row, entry)
 }

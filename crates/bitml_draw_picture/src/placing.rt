@@ -1,4 +1,4 @@
-//! Which of a contract's transactions each event takes.
+//! Which of a contract's transactions each event takes, which are offered, and which are out of reach.
 
 ghost use Rattle.std.specs.Prelude.{◌≡◌, map, [], IfOk, OnOk, option_map};
 ghost use Rattle.spec_text.specs.StepText.{made_by};
@@ -9,7 +9,8 @@ use crate::counting::plus;
 use crate::walking::longer;
 use spec_calculus::Step;
 use spec_data::OutOfMemory;
-use spec_run::Outcome;
+use spec_picture::Last;
+use spec_run::{Event, Outcome};
 use spec_terms::{Path, PathStep};
 use spec_text::Entry;
 use spec_tool::Which;
@@ -174,6 +175,10 @@ fn add_step(
             let path = path_at(alloc, places, *output, *branch)?;
             add_next(places, made, path)
         }
+        Step::Withdraw { output, branch } => {
+            let path = path_at(alloc, places, *output, *branch)?;
+            add_next(places, made, path)
+        }
         Step::Split { output, branch } => {
             let path = path_at(alloc, places, *output, *branch)?;
             add_split(alloc, places, made, path)
@@ -209,9 +214,13 @@ fn add_entry(alloc: Global, places: &mut Vec<(u32, Path)>, entry: &Entry) -> Res
     }
 }
 
-/// What each event of a run takes.
-pub(crate) fn takes_of(alloc: Global, entries: &[Entry]) -> Result<Vec<Option<Which>>, OutOfMemory>
-    ensures { IfOk result (λ takes. takes.items ≡ spec.taken entries.now) }
+/// What each event of a run takes, and the outputs behind them all.
+pub(crate) fn takes_of(
+    alloc: Global,
+    entries: &[Entry],
+) -> Result<(Vec<Option<Which>>, Vec<(u32, Path)>), OutOfMemory>
+    ensures takes { IfOk result (λ r. r.0.items ≡ spec.taken entries.now) }
+    ensures places { IfOk result (λ r. r.1.items ≡ spec.placed entries.now) }
 {
     let mut takes = Vec::new(alloc);
     let mut places = Vec::new(alloc);
@@ -219,7 +228,69 @@ pub(crate) fn takes_of(alloc: Global, entries: &[Entry]) -> Result<Vec<Option<Wh
         takes.push(steps_take(alloc, &places, entry.steps.as_slice())?)?;
         add_entry(alloc, &mut places, entry)?;
     }
-    Ok(takes)
+    Ok((takes, places))
+}
+
+/// The first output that stands for a position.
+pub(crate) fn output_at(position: &[PathStep], places: &[(u32, Path)]) -> Option<u32>
+    ensures { result ≡ spec.output_at position.now places.now }
+{
+    for (output, path) in places {
+        if *path.steps() == *position {
+            return Some(*output);
+        }
+    }
+    None
+}
+
+// The transaction of the contract that an event hands over.
+fn event_takes(
+    alloc: Global,
+    places: &[(u32, Path)],
+    event: &Event,
+) -> Result<Option<Which>, OutOfMemory>
+    ensures { IfOk result (λ which. which ≡ spec.event_takes places.now event.now) }
+{
+    match event {
+        Event::FireInit { contract } => {
+            if *contract == 0 {
+                Ok(Some(Which::Init))
+            } else {
+                Ok(None)
+            }
+        }
+        Event::Fire { output, branch } => branch_at(alloc, places, *output, *branch),
+        _ => Ok(None),
+    }
+}
+
+fn all_offered(
+    alloc: Global,
+    places: &[(u32, Path)],
+    events: &[Event],
+) -> Result<Vec<Option<Which>>, OutOfMemory>
+    ensures { IfOk result (λ list. list.items ≡ map (spec.event_takes places.now) events.now) }
+{
+    let mut list = Vec::new(alloc);
+    for event in events {
+        list.push(event_takes(alloc, places, event)?)?;
+    }
+    Ok(list)
+}
+
+/// What is offered at the end of a run.
+pub(crate) fn offered_by(
+    alloc: Global,
+    places: &[(u32, Path)],
+    last: &Last,
+) -> Result<Vec<Option<Which>>, OutOfMemory>
+    ensures { IfOk result (λ list. list.items ≡ spec.offered_by places.now last.now) }
+{
+    match last {
+        Last::Whole(offers) => all_offered(alloc, places, offers.as_slice()),
+        Last::Guessed { .. } => Ok(Vec::new(alloc)),
+        Last::Collided(_) => Ok(Vec::new(alloc)),
+    }
 }
 
 // Whether the two are the same.
@@ -254,4 +325,53 @@ pub(crate) fn reached(which: &Which, takes: &[Option<Which>]) -> Result<Option<u
         number = plus(number, 1)?;
     }
     Ok(None)
+}
+
+// Whether the ways to two transactions part at branches of one position.
+fn parted(taken: &[PathStep], path: &[PathStep]) -> bool
+    ensures { result ≡ spec.parted taken.now path.now }
+{
+    let Some((one, ones)) = taken.split_first() else {
+        return false;
+    };
+    let Some((other, others)) = path.split_first() else {
+        return false;
+    };
+    match (one, other) {
+        (PathStep::Branch(i), PathStep::Branch(j)) => *i != *j || parted(ones, others),
+        (PathStep::Part(k), PathStep::Part(l)) => *k == *l && parted(ones, others),
+        (PathStep::Branch(_), PathStep::Part(_)) => false,
+        (PathStep::Part(_), PathStep::Branch(_)) => false,
+    }
+}
+
+fn is_other(path: &[PathStep], taken: &Option<Which>) -> bool
+    ensures { result ≡ spec.is_other path.now taken.now }
+{
+    match taken {
+        None => false,
+        Some(Which::Init) => false,
+        Some(Which::At(taken)) => parted(taken.steps(), path),
+    }
+}
+
+fn is_passed(path: &[PathStep], takes: &[Option<Which>]) -> bool
+    ensures { result ≡ spec.is_passed path.now takes.now }
+{
+    for taken in takes {
+        if is_other(path, taken) {
+            return true;
+        }
+    }
+    false
+}
+
+/// Whether a transaction is out of reach once these were taken.
+pub(crate) fn is_out_of_reach(which: &Which, takes: &[Option<Which>]) -> bool
+    ensures { result ≡ spec.is_out_of_reach which.now takes.now }
+{
+    match which {
+        Which::Init => false,
+        Which::At(path) => is_passed(path.steps(), takes),
+    }
 }

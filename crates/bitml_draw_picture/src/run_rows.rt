@@ -1,248 +1,211 @@
-//! The rows of a run's events, and of a halt.
+//! The rows of a run, and what stands behind them.
 
-ghost use Rattle.std.specs.Prelude.{◌≡◌, ◌++◌, codes, IfOk, OnOk};
-ghost use Rattle.std.specs.Fmt.{decimal};
-ghost use Rattle.std.specs.List.{flat_map};
+ghost use Rattle.std.specs.Prelude.{◌≡◌, ◌++◌, codes, false, flat_map, map, IfOk, OnOk};
 ghost use Rattle.spec_text.specs.RunText as texts;
-ghost use Rattle.spec_picture.specs.Xml.{attribute_text, element_text, line_text};
-ghost use Rattle.spec_picture.specs.Layout as layout;
-ghost use Rattle.spec_picture.specs.Words as words;
-ghost use Rattle.spec_picture.specs.Rows as spec;
+ghost use Rattle.bitml_draw_picture.specs.Folds.{fold_of};
+ghost use Rattle.spec_picture.specs.Shapes.{shapes_text, group_line};
+ghost use Rattle.spec_picture.specs.Lanes as spec;
 
-use crate::counting::plus;
-use crate::marks::{cut, event_id, event_text, guessed_text, outcome_text, steps_text};
-use crate::shapes::{put_box, put_words};
-use crate::tree_rows::put_group;
-use bm_runfile::print_event;
+use crate::counting::{narrow, plus};
+use crate::folding::Fold;
+use crate::lanes::calculus_letter;
+use crate::marks::{is_band, put_row_marks};
+use crate::naming::reason_name;
+use crate::shapes::{put_close, put_label, put_open, put_open_plain};
+use crate::words::{event_id, number_text, put_steps};
+use bm_runfile::{print_event, put_event};
 use bm_text::{put, put_decimal};
-use spec_calculus::Step;
 use spec_data::{Name, OutOfMemory};
 use spec_picture::Last;
 use spec_run::{Event, Outcome};
 use spec_text::Entry;
-use spec_tool::Which;
 use std::alloc::Global;
 
-// The box of an event that came to this.
-fn put_run_box(
-    alloc: Global,
-    out: &mut Vec<u8>,
-    row: u32,
-    outcome: &Outcome,
-) -> Result<(), OutOfMemory>
-    ensures { OnOk result (out.new.items ≡ out.old.items
-        ++ element_text (layout.box_at layout.first_column row (layout.run_look outcome.now))) }
+// How many events there are, where there are more than one.
+#[tactic(auto, using(std::proofs::Common::append_assoc))]
+fn put_count(alloc: Global, out: &mut Vec<u8>, count: u32) -> Result<(), OutOfMemory>
+    ensures { OnOk result (out.new.items ≡ out.old.items ++ spec.count_text count) }
 {
-    match outcome {
-        Outcome::Done => put_box(alloc, out, 16, row, b"#fff", b"none"),
-        Outcome::Accepted { .. } => put_box(alloc, out, 16, row, b"#1a7f37", b"none"),
-        Outcome::Refused(_) => put_box(alloc, out, 16, row, b"#fff", b"2 2"),
+    if count <= 1 {
+        return Ok(());
     }
+    put_decimal(alloc, out, count as u64)?;
+    put(out, b"x ")
 }
 
-// The number of an event.
-fn put_event_number(
-    alloc: Global,
-    out: &mut Vec<u8>,
-    row: u32,
-    number: u32,
-) -> Result<(), OutOfMemory>
-    ensures { OnOk result (out.new.items ≡ out.old.items ++ element_text (layout.words_at layout.number_column row (decimal number))) }
+#[tactic(auto, using(std::proofs::Common::append_assoc))]
+fn event_text(alloc: Global, count: u32, event: &Event) -> Result<Vec<u8>, OutOfMemory>
+    ensures { IfOk result (λ text. text.items ≡ spec.count_text count ++ texts.event_text event.now) }
 {
     let mut text = Vec::new(alloc);
-    put_decimal(alloc, &mut text, number as u64)?;
-    put_words(alloc, out, 34, row, &text)
+    put_count(alloc, &mut text, count)?;
+    put_event(alloc, &mut text, event)?;
+    Ok(text)
 }
 
-// The line of an event.
-fn put_event_words(
-    alloc: Global,
-    out: &mut Vec<u8>,
-    row: u32,
-    event: &Event,
-) -> Result<(), OutOfMemory>
-    ensures { OnOk result (out.new.items ≡ out.old.items
-        ++ element_text (layout.words_at layout.event_column row (words.cut 34 (texts.event_text event.now)))) }
+fn put_came(alloc: Global, out: &mut Vec<u8>, entry: &Entry) -> Result<(), OutOfMemory>
+    ensures { OnOk result (out.new.items ≡ out.old.items ++ spec.came_text entry.now) }
 {
-    let text = event_text(alloc, event)?;
-    put_words(alloc, out, 76, row, &text)
-}
-
-fn outcome_column(outcome: &Outcome) -> u32
-    ensures { result ≡ layout.outcome_column outcome.now }
-{
-    match outcome {
-        Outcome::Done => 340,
-        Outcome::Accepted { .. } => 340,
-        Outcome::Refused(_) => 490,
+    match &entry.outcome {
+        Outcome::Accepted { made, .. } => {
+            put_steps(alloc, out, made.as_slice(), entry.steps.as_slice())
+        }
+        Outcome::Done => put_steps(alloc, out, &[], entry.steps.as_slice()),
+        Outcome::Refused(_) => put_steps(alloc, out, &[], entry.steps.as_slice()),
     }
 }
 
-// What it came to.
-fn put_outcome_words(
+fn put_result(
     alloc: Global,
     out: &mut Vec<u8>,
-    row: u32,
-    which: &Option<Which>,
-    outcome: &Outcome,
-) -> Result<(), OutOfMemory>
-    ensures { OnOk result (out.new.items ≡ out.old.items ++ element_text
-        (layout.words_at (layout.outcome_column outcome.now) row (words.cut 20 (words.outcome_words which.now outcome.now)))) }
-{
-    let text = outcome_text(alloc, which, outcome)?;
-    put_words(alloc, out, outcome_column(outcome), row, &text)
-}
-
-// Its steps.
-fn put_step_words(
-    alloc: Global,
-    out: &mut Vec<u8>,
-    row: u32,
-    steps: &[Step],
-) -> Result<(), OutOfMemory>
-    ensures { OnOk result (out.new.items ≡ out.old.items
-        ++ element_text (layout.words_at layout.calculus_column row (words.cut 32 (words.steps_text steps.now)))) }
-{
-    let text = steps_text(alloc, steps)?;
-    put_words(alloc, out, 640, row, &text)
-}
-
-// The row of an event up to its number.
-#[tactic(auto, using(std::proofs::Common::append_assoc))]
-fn put_run_front(
-    alloc: Global,
-    out: &mut Vec<u8>,
-    row: u32,
-    number: u32,
-    outcome: &Outcome,
-) -> Result<(), OutOfMemory>
-    ensures { OnOk result (out.new.items ≡ out.old.items ++ (codes "<g" ++ (attribute_text (codes "id", words.event_id number) ++ (codes ">"
-        ++ (element_text (layout.box_at layout.first_column row (layout.run_look outcome.now))
-        ++ element_text (layout.words_at layout.number_column row (decimal number))))))) }
-{
-    let id = event_id(alloc, number)?;
-    put_group(out, &id)?;
-    put_run_box(alloc, out, row, outcome)?;
-    put_event_number(alloc, out, row, number)
-}
-
-// What stands behind it.
-#[tactic(auto, using(std::proofs::Common::append_assoc))]
-fn put_run_back(
-    alloc: Global,
-    out: &mut Vec<u8>,
-    row: u32,
-    which: &Option<Which>,
     entry: &Entry,
+    height: u64,
 ) -> Result<(), OutOfMemory>
-    ensures { OnOk result (out.new.items ≡ out.old.items
-        ++ (element_text (layout.words_at layout.event_column row (words.cut 34 (texts.event_text entry.now.event)))
-        ++ (element_text (layout.words_at (layout.outcome_column entry.now.outcome) row
-        (words.cut 20 (words.outcome_words which.now entry.now.outcome)))
-        ++ (element_text (layout.words_at layout.calculus_column row (words.cut 32 (words.steps_text entry.now.steps)))
-        ++ codes "</g>")))) }
+    ensures { OnOk result (out.new.items ≡ out.old.items ++ spec.result_text false height entry.now entry.now.outcome) }
 {
-    put_event_words(alloc, out, row, &entry.event)?;
-    put_outcome_words(alloc, out, row, which, &entry.outcome)?;
-    put_step_words(alloc, out, row, entry.steps.as_slice())?;
-    put(out, b"</g>")
+    match &entry.outcome {
+        Outcome::Refused(reason) => put(out, reason_name(reason)),
+        Outcome::Done => put_came(alloc, out, entry),
+        Outcome::Accepted { .. } => put_came(alloc, out, entry),
+    }
 }
 
-// The row of an event, which takes this transaction or none.
-#[tactic(auto, using(std::proofs::Common::append_assoc), unfolding(spec_picture::specs::Rows::run_group))]
-fn put_run_group(
+// The height, the reason of a refusal, or the steps.
+fn result_text(
+    alloc: Global,
+    band: bool,
+    height: u64,
+    entry: &Entry,
+) -> Result<Vec<u8>, OutOfMemory>
+    ensures { IfOk result (λ text. text.items ≡ spec.result_text band height entry.now entry.now.outcome) }
+{
+    let mut text = Vec::new(alloc);
+    if band {
+        put(&mut text, b"block ")?;
+        put_decimal(alloc, &mut text, height)?;
+    } else {
+        put_result(alloc, &mut text, entry, height)?;
+    }
+    Ok(text)
+}
+
+#[tactic(auto, using(std::proofs::Common::append_assoc, crate::proofs::Whole::no_rest))]
+fn put_fold_texts(
     alloc: Global,
     out: &mut Vec<u8>,
+    wide: u32,
+    parties: u32,
     row: u32,
-    number: u32,
-    which: &Option<Which>,
-    entry: &Entry,
+    fold: &Fold<'_>,
 ) -> Result<(), OutOfMemory>
-    ensures { OnOk result (out.new.items ≡ out.old.items ++ element_text (spec.run_group row number which.now entry.now)) }
+    ensures { OnOk result (out.new.items ≡ out.old.items ++ shapes_text (spec.fold_texts wide parties row (fold_of fold.now))) }
 {
-    put_run_front(alloc, out, row, number, &entry.outcome)?;
-    put_run_back(alloc, out, row, which, entry)
+    let number = number_text(alloc, fold.first as u64)?;
+    let event = event_text(alloc, fold.count, &fold.entry.event)?;
+    let band = is_band(&fold.entry.event, &fold.entry.outcome);
+    let result = result_text(alloc, band, fold.height, fold.entry)?;
+    let letter = calculus_letter(parties)?;
+    put_label(alloc, out, 1, row, 5, b"number", &number)?;
+    put_label(alloc, out, 6, row, 19, b"event", &event)?;
+    put_label(alloc, out, letter, row, wide.saturating_sub(letter), b"result", &result)
 }
 
-// The same as a line.
+// A row.
+#[tactic(auto, using(std::proofs::Common::append_assoc, crate::proofs::Whole::shapes_append, crate::proofs::Whole::group_is), unfolding(spec_picture::specs::Lanes::fold_group))]
+fn put_fold(
+    alloc: Global,
+    out: &mut Vec<u8>,
+    wide: u32,
+    parties: &[Name],
+    row: u32,
+    fold: &Fold<'_>,
+) -> Result<(), OutOfMemory>
+    ensures { OnOk result (out.new.items ≡ out.old.items ++ group_line (spec.fold_group wide parties.now row (fold_of fold.now))) }
+{
+    let id = event_id(alloc, fold.first)?;
+    let band = is_band(&fold.entry.event, &fold.entry.outcome);
+    let count = narrow(parties.len())?;
+    put_open(out, &id, b"row")?;
+    put_row_marks(alloc, out, band, wide, parties, row, fold.entry)?;
+    put_fold_texts(alloc, out, wide, count, row, fold)?;
+    put_close(out)
+}
+
+/// The rows from this one on.
 #[tactic(auto, using(std::proofs::Common::append_assoc))]
-fn put_run_line(
+pub(crate) fn put_folds(
     alloc: Global,
     out: &mut Vec<u8>,
-    row: u32,
-    number: u32,
-    which: &Option<Which>,
-    entry: &Entry,
-) -> Result<(), OutOfMemory>
-    ensures { OnOk result (out.new.items ≡ out.old.items ++ line_text (spec.run_group row number which.now entry.now)) }
-{
-    put_run_group(alloc, out, row, number, which, entry)?;
-    put(out, b"\n")
-}
-
-/// The rows of these events, the first in this row, each with what it takes.
-pub(crate) fn put_run_groups(
-    alloc: Global,
-    out: &mut Vec<u8>,
+    wide: u32,
+    parties: &[Name],
     first: u32,
-    takes: &[Option<Which>],
-    entries: &[Entry],
+    folds: &[Fold<'_>],
 ) -> Result<(), OutOfMemory>
-    ensures { OnOk result (out.new.items ≡ out.old.items ++ flat_map line_text (spec.run_groups first 1 entries.now takes.now)) }
+    ensures { OnOk result (out.new.items ≡ out.old.items
+        ++ flat_map group_line (spec.fold_groups wide parties.now first (map fold_of folds.now))) }
 {
     let mut row = first;
-    let mut number = 1u32;
-    let mut left = takes;
-    for entry in entries {
-        let Some((which, others)) = left.split_first() else {
-            return Ok(());
-        };
-        put_run_line(alloc, out, row, number, which, entry)?;
-        left = others;
+    for fold in folds {
+        put_fold(alloc, out, wide, parties, row, fold)?;
         row = plus(row, 1)?;
-        number = plus(number, 1)?;
     }
     Ok(())
 }
 
-// The row of what halted the run, and how.
-#[tactic(auto, using(std::proofs::Common::append_assoc))]
-fn put_halt_group(
+// How many events aren't drawn.
+#[tactic(auto, using(std::proofs::Common::append_assoc, crate::proofs::Whole::no_rest, crate::proofs::Whole::group_is), unfolding(spec_picture::specs::Lanes::more_group))]
+fn put_more_group(
     alloc: Global,
     out: &mut Vec<u8>,
+    wide: u32,
+    row: u32,
+    more: u64,
+) -> Result<(), OutOfMemory>
+    ensures { OnOk result (out.new.items ≡ out.old.items ++ group_line (spec.more_group wide row more)) }
+{
+    let mut text = Vec::new(alloc);
+    put(&mut text, b"and ")?;
+    put_decimal(alloc, &mut text, more)?;
+    put(&mut text, b" events more")?;
+    put_open_plain(out, b"more")?;
+    put_label(alloc, out, 6, row, wide.saturating_sub(6), b"event", &text)?;
+    put_close(out)
+}
+
+#[tactic(auto, using(crate::proofs::Whole::no_rest))]
+pub(crate) fn put_more(
+    alloc: Global,
+    out: &mut Vec<u8>,
+    wide: u32,
+    row: u32,
+    more: u64,
+) -> Result<(), OutOfMemory>
+    ensures { OnOk result (out.new.items ≡ out.old.items ++ flat_map group_line (spec.more_groups wide row more)) }
+{
+    if more == 0 {
+        return Ok(());
+    }
+    put_more_group(alloc, out, wide, row, more)
+}
+
+// What halted the run, and how.
+#[tactic(auto, using(std::proofs::Common::append_assoc, crate::proofs::Whole::no_rest, crate::proofs::Whole::group_is), unfolding(spec_picture::specs::Lanes::halt_group))]
+fn put_halt(
+    alloc: Global,
+    out: &mut Vec<u8>,
+    wide: u32,
+    parties: u32,
     row: u32,
     what: &[u8],
     how: &[u8],
 ) -> Result<(), OutOfMemory>
-    ensures { OnOk result (out.new.items ≡ out.old.items ++ (codes "<g" ++ (attribute_text (codes "id", spec.halt_id) ++ (codes ">"
-        ++ (element_text (layout.box_at layout.first_column row layout.dashed)
-        ++ (element_text (layout.words_at layout.event_column row what.now)
-        ++ (element_text (layout.words_at layout.refused_column row how.now) ++ codes "</g>"))))))) }
+    ensures { OnOk result (out.new.items ≡ out.old.items ++ group_line (spec.halt_group wide parties row what.now how.now)) }
 {
-    put_group(out, b"halt")?;
-    put_box(alloc, out, 16, row, b"#fff", b"2 2")?;
-    put_words(alloc, out, 76, row, what)?;
-    put_words(alloc, out, 490, row, how)?;
-    put(out, b"</g>")
-}
-
-// The same as a line.
-#[tactic(auto, using(std::proofs::Common::append_assoc), unfolding(spec_picture::specs::Rows::halt_group))]
-fn put_halt(
-    alloc: Global,
-    out: &mut Vec<u8>,
-    row: u32,
-    what: Vec<u8>,
-    how: Vec<u8>,
-) -> Result<(), OutOfMemory>
-    ensures { OnOk result (out.new.items ≡ out.old.items ++ line_text (spec.halt_group row what.items how.items)) }
-{
-    let mut what = what;
-    let mut how = how;
-    cut(&mut what, 34)?;
-    cut(&mut how, 50)?;
-    put_halt_group(alloc, out, row, &what, &how)?;
-    put(out, b"\n")
+    let letter = calculus_letter(parties)?;
+    put_open(out, b"halt", b"halt")?;
+    put_label(alloc, out, 6, row, 19, b"event", what)?;
+    put_label(alloc, out, letter, row, wide.saturating_sub(letter), b"result", how)?;
+    put_close(out)
 }
 
 // What halted the run: an event, or the opening.
@@ -259,54 +222,71 @@ fn event_or_opening(alloc: Global, event: &Option<Event>) -> Result<Vec<u8>, Out
     }
 }
 
+#[tactic(auto, using(std::proofs::Common::append_assoc))]
+fn guessed_text(alloc: Global, party: &Name, secret: &Name) -> Result<Vec<u8>, OutOfMemory>
+    ensures { IfOk result (λ text. text.items ≡ spec.guessed_text party.now secret.now) }
+{
+    let mut text = Vec::new(alloc);
+    put(&mut text, b"guessed ")?;
+    put(&mut text, party.bytes())?;
+    put(&mut text, b" ")?;
+    put(&mut text, secret.bytes())?;
+    Ok(text)
+}
+
 fn put_guessed(
     alloc: Global,
     out: &mut Vec<u8>,
+    wide: u32,
+    parties: u32,
     row: u32,
     event: &Event,
-    party: &Name,
-    secret: &Name,
+    how: &[u8],
 ) -> Result<(), OutOfMemory>
-    ensures { OnOk result (out.new.items ≡ out.old.items ++ line_text
-        (spec.halt_group row (texts.event_text event.now) (codes "halted: guessed " ++ (party.now ++ (codes " " ++ secret.now))))) }
+    ensures { OnOk result (out.new.items ≡ out.old.items
+        ++ group_line (spec.halt_group wide parties row (texts.event_text event.now) how.now)) }
 {
     let what = print_event(alloc, event)?;
-    let how = guessed_text(alloc, party, secret)?;
-    put_halt(alloc, out, row, what, how)
+    put_halt(alloc, out, wide, parties, row, &what, how)
 }
 
 fn put_collided(
     alloc: Global,
     out: &mut Vec<u8>,
+    wide: u32,
+    parties: u32,
     row: u32,
     event: &Option<Event>,
 ) -> Result<(), OutOfMemory>
-    ensures { OnOk result (out.new.items ≡ out.old.items ++ line_text
-        (spec.halt_group row (spec.event_or_opening event.now) (codes "halted: collided"))) }
+    ensures { OnOk result (out.new.items ≡ out.old.items
+        ++ group_line (spec.halt_group wide parties row (spec.event_or_opening event.now) (codes "collided"))) }
 {
     let what = event_or_opening(alloc, event)?;
-    let mut how = Vec::new(alloc);
-    put(&mut how, b"halted: collided")?;
-    put_halt(alloc, out, row, what, how)
+    put_halt(alloc, out, wide, parties, row, &what, b"collided")
 }
 
 /// The row of a halt, none where all events were played.
-#[tactic(auto, using(std::proofs::Common::append_assoc, crate::proofs::Whole::no_rest))]
+#[tactic(auto, using(crate::proofs::Whole::no_rest))]
 pub(crate) fn put_last(
     alloc: Global,
     out: &mut Vec<u8>,
+    wide: u32,
+    parties: u32,
     row: u32,
     last: &Last,
 ) -> Result<(), OutOfMemory>
-    ensures { OnOk result (out.new.items ≡ out.old.items ++ flat_map line_text (spec.last_groups row last.now)) }
+    ensures { OnOk result (out.new.items ≡ out.old.items ++ flat_map group_line (spec.last_groups wide parties row last.now)) }
 {
     match last {
-        Last::Whole => Ok(()),
+        Last::Whole(_) => Ok(()),
         Last::Guessed {
             event,
             party,
             secret,
-        } => put_guessed(alloc, out, row, event, party, secret),
-        Last::Collided(event) => put_collided(alloc, out, row, event),
+        } => {
+            let how = guessed_text(alloc, party, secret)?;
+            put_guessed(alloc, out, wide, parties, row, event, &how)
+        }
+        Last::Collided(event) => put_collided(alloc, out, wide, parties, row, event),
     }
 }

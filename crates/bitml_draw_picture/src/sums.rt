@@ -4,10 +4,11 @@ ghost use Rattle.std.specs.Prelude.{◌≡◌, [], ◌∷◌, IfOk};
 ghost use Rattle.spec_data.specs.Lists.{look_up};
 ghost use Rattle.spec_terms.specs.Parties.{add_all};
 ghost use Rattle.spec_terms.specs.Precondition as pre_of;
+ghost use Rattle.bm_syntax.specs.View.{parts_view};
 ghost use Rattle.spec_picture.specs.Tree as spec;
 
 use crate::counting::added;
-use bm_syntax::{Advert, Name, Pre, add_new};
+use bm_syntax::{Advert, Name, Part, Pre, add_new};
 use spec_data::OutOfMemory;
 use std::alloc::Global;
 
@@ -68,6 +69,17 @@ pub(crate) fn value_after(advert: &Advert, value: u64, puts: &[Name]) -> Result<
     let more = value_of_puts(&advert.pre, puts)?;
     let sum = added(value, more)?;
     Ok(sum.saturating_sub(advert.fee))
+}
+
+/// What the parts of a split hold together.
+pub(crate) fn parts_value(parts: &[Part]) -> Result<u64, OutOfMemory>
+    ensures { IfOk result (λ total. total ≡ spec.parts_value (parts_view parts.now)) }
+{
+    let mut total = 0u64;
+    for part in parts {
+        total = added(total, part.value)?;
+    }
+    Ok(total)
 }
 
 /// What the contract begins with.

@@ -52,11 +52,19 @@ number_of name (x ∷ xs) = if bytes_eq x name then 0 else number_of name xs + 1
 
 -- ---- shapes
 
--- the line to a box, and the box with its three texts
+-- the line to a box, and the box
+abbrev pub edge_shape : TreeRow → Shape
+edge_shape r =
+    line ((r.stem.x, r.stem.y) ∷ (r.stem.x, 20 * r.row + 40) ∷ (40 * r.stem.depth + 4, 20 * r.row + 40) ∷ []) (codes "edge")
+
+abbrev pub frame_shape : TreeRow → Shape
+frame_shape r = box (40 * r.stem.depth + 4) (20 * r.row + 21) 200 38 (codes "box")
+
+-- and its three texts
 abbrev pub box_shapes : ℕ → ℕ → Option ℕ → Option ℕ → TreeRow → List Shape
 box_shapes wide fee event output r =
-    line ((r.stem.x, r.stem.y) ∷ (r.stem.x, 20 * r.row + 40) ∷ (40 * r.stem.depth + 4, 20 * r.row + 40) ∷ []) (codes "edge")
-    ∷ box (40 * r.stem.depth + 4) (20 * r.row + 21) 200 38 (codes "box")
+    edge_shape r
+    ∷ frame_shape r
     ∷ label (5 * r.stem.depth + 1) r.row (wide - (5 * r.stem.depth + 2)) (codes "needs") r.needs
     ∷ label (5 * r.stem.depth + 1) (r.row + 1) 24 (codes "name") (name_text r event output)
     ∷ label (5 * r.stem.depth + 1) (r.row + 2) 24 (codes "sum") (sum_text r.value fee) ∷ []
@@ -65,16 +73,16 @@ abbrev pub pay_look : ℕ → List ℕ
 pay_look n = codes "pay " ++ party_look n
 
 -- a party and what it is paid, in a box of its own
-abbrev pub paid_shapes : ℕ → ℕ → ℕ → ℕ → List ℕ → List Shape
-paid_shapes depth row value n party =
+abbrev pub paid_shapes : ℕ → ℕ → ℕ → List ℕ → List ℕ → List Shape
+paid_shapes depth row value look party =
     line ((40 * depth + 204, 20 * row + 40) ∷ (40 * depth + 212, 20 * row + 40) ∷ []) (codes "edge")
-    ∷ box (40 * depth + 212) (20 * row + 21) 104 38 (pay_look n)
+    ∷ box (40 * depth + 212) (20 * row + 21) 104 38 look
     ∷ label (5 * depth + 27) (row + 1) 12 (codes "name") party
     ∷ label (5 * depth + 27) (row + 2) 12 (codes "sum") (decimal value) ∷ []
 
 abbrev pub pay_shapes : List (List ℕ) → TreeRow → Option (List ℕ) → List Shape
 pay_shapes parties r None = []
-pay_shapes parties r (Some party) = paid_shapes r.stem.depth r.row r.value (number_of party parties) party
+pay_shapes parties r (Some party) = paid_shapes r.stem.depth r.row r.value (pay_look (number_of party parties)) party
 
 -- a circle from which one of the lines is taken, or a bar from which all are
 abbrev pub way_shapes : ℕ → ℕ → Ways → List Shape
@@ -110,17 +118,24 @@ abbrev pub row_shapes : Bool → ℕ → List (List ℕ) → ℕ → Option ℕ 
 row_shapes true wide parties fee event output r = part_shapes wide output r
 row_shapes false wide parties fee event output r = transaction_shapes wide parties fee event output r
 
--- a row that this event reached, if one did, and that has this output, if it has one
-unfoldable pub row_group : ℕ → List (List ℕ) → ℕ → List (Option Which) → List (Option Which) → Option ℕ → Option ℕ → TreeRow → Group
-row_group wide parties fee takes offered event output r = record {
+-- a row with this look, which this event reached, if one did, and which has this output, if it has one
+unfoldable pub row_group : ℕ → List (List ℕ) → ℕ → List ℕ → Option ℕ → Option ℕ → TreeRow → Group
+row_group wide parties fee look event output r = record {
   name = row_name r.part r.which;
-  look = row_look takes offered event output r;
+  look = look;
   shapes = row_shapes r.part wide parties fee event output r;
 }
+
+abbrev pub row_by : ℕ → List (List ℕ) → ℕ → List (Option Which) → List (Option Which) → Option ℕ → Option ℕ → TreeRow → Group
+row_by wide parties fee takes offered event output r =
+    row_group wide parties fee (row_look takes offered event output r) event output r
+
+abbrev pub row_of : ℕ → List (List ℕ) → ℕ → List (Option Which) → List (Option Which) → Places → TreeRow → Group
+row_of wide parties fee takes offered places r =
+    row_by wide parties fee takes offered (reached_from r.which 1 takes) (output_at (behind r.which) places) r
 
 -- the rows of a contract with this fee, once its transactions were taken and its outputs made, and these are offered
 abbrev pub graph_groups : ℕ → List (List ℕ) → ℕ → List (Option Which) → List (Option Which) → Places → List TreeRow → List Group
 graph_groups wide parties fee takes offered places [] = []
 graph_groups wide parties fee takes offered places (r ∷ rs) =
-    row_group wide parties fee takes offered (reached_from r.which 1 takes) (output_at (behind r.which) places) r
-    ∷ graph_groups wide parties fee takes offered places rs
+    row_of wide parties fee takes offered places r ∷ graph_groups wide parties fee takes offered places rs

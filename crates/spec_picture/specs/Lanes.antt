@@ -1,5 +1,5 @@
 -- The run's part of a picture: a lane for anyone, for each party and for the ledger, and an event a row.
-use Rattle.std.specs.Prelude.{ℕ, ◌+◌, ◌-◌, ◌*◌, zero, suc, List, [], ◌∷◌, ◌++◌, length, Bool, true, false, Option, Some, None, ◌==◌, if◌then◌else◌, codes}
+use Rattle.std.specs.Prelude.{ℕ, ◌+◌, ◌-◌, ◌*◌, nat_le, List, [], ◌∷◌, ◌++◌, length, Bool, true, false, Option, Some, None, ◌==◌, if◌then◌else◌, codes}
 use Rattle.std.specs.Fmt.{decimal}
 use Rattle.spec_run.specs.declared.event.Event.{Event}
 use Rattle.spec_run.specs.declared.event.Event.TheVariants as events
@@ -72,8 +72,7 @@ abbrev pub lane_of : List ℕ → List (List ℕ) → ℕ
 lane_of name parties = lane_of_number (number_of name parties) (length parties)
 
 abbrev pub dot_look : ℕ → List ℕ
-dot_look zero = codes "act"
-dot_look (suc n) = codes "act " ++ party_look n
+dot_look lane = if lane == 0 then codes "act" else codes "act " ++ party_look (lane - 1)
 
 -- a mark where a party acts, a cross where that is refused
 abbrev pub act_mark : ℕ → ℕ → Shape
@@ -133,9 +132,7 @@ row_marks false wide parties row e =
 
 -- how many events there are, where there are more than one
 abbrev pub count_text : ℕ → List ℕ
-count_text zero = []
-count_text (suc zero) = []
-count_text (suc (suc n)) = decimal (n + 2) ++ codes "x "
+count_text n = if nat_le n 1 then [] else decimal n ++ codes "x "
 
 abbrev pub came_text : Entry → List ℕ
 came_text e = steps_text (made_by e.outcome) e.steps
@@ -179,8 +176,7 @@ more_group wide row more = record {
 }
 
 abbrev pub more_groups : ℕ → ℕ → ℕ → List Group
-more_groups wide row zero = []
-more_groups wide row (suc n) = more_group wide row (n + 1) ∷ []
+more_groups wide row more = if more == 0 then [] else more_group wide row more ∷ []
 
 abbrev pub halt_id : List ℕ
 halt_id = codes "halt"

@@ -4,7 +4,6 @@ use Rattle.std.specs.Fmt.{decimal}
 use Rattle.spec_terms.specs.Advert.{Advert}
 use Rattle.spec_terms.specs.Parties.{participants}
 use Rattle.spec_text.specs.declared.entry.Entry.{Entry}
-use Rattle.spec_text.specs.Canonical.{joined}
 use Rattle.spec_tool.specs.declared.which.Which.{Which}
 use Rattle.spec_picture.specs.declared.last.Last.{Last}
 use Rattle.spec_picture.specs.declared.tree_row.TreeRow.{TreeRow}
@@ -86,9 +85,8 @@ groups s = graph_part s ++ (run_part s ++ end_part s)
 
 -- ---- the picture
 
--- the names of the files that it is drawn from
-unfoldable pub title : List (List ℕ) → Element
-title names = element (codes "title") [] (words (joined (codes " and ") names) nothing)
+unfoldable pub title : List ℕ → Element
+title text = element (codes "title") [] (words text nothing)
 
 unfoldable pub style : Element
 style = element (codes "style") [] (words style_text nothing)
@@ -108,15 +106,15 @@ picture_attributes wide high =
     (codes "xmlns", codes "http://www.w3.org/2000/svg") ∷ (codes "viewBox", view_box wide high) ∷ (codes "width", decimal (10 * wide))
     ∷ (codes "height", decimal (25 * high)) ∷ (codes "style", size_style wide) ∷ []
 
-unfoldable pub picture_of : List (List ℕ) → Scene → Element
-picture_of names s =
+unfoldable pub picture_of : List ℕ → Scene → Element
+picture_of text s =
     element (codes "svg") (picture_attributes (wide_of s) (high_of s))
-    (lines (title names ∷ style ∷ paper ∷ map group_element (groups s)))
+    (lines (title text ∷ style ∷ paper ∷ map group_element (groups s)))
 
--- the picture of a contract and of the events of a run with it, which stand in files of these names
-unfoldable pub picture : List (List ℕ) → Advert → List Entry → Last → Element
-picture names advert entries last = picture_of names (scene advert entries last)
+-- the picture of a contract and of the events of a run with it, with this title
+unfoldable pub picture : List ℕ → Advert → List Entry → Last → Element
+picture text advert entries last = picture_of text (scene advert entries last)
 
 -- its text
-abbrev pub picture_text : List (List ℕ) → Advert → List Entry → Last → List ℕ
-picture_text names advert entries last = document_text (picture names advert entries last)
+abbrev pub picture_text : List ℕ → Advert → List Entry → Last → List ℕ
+picture_text text advert entries last = document_text (picture text advert entries last)

@@ -1,7 +1,7 @@
 -- The shapes of a picture, and how SVG 1.1 of the W3C writes them. A picture is a grid: a letter is 8 units wide, a row is 20 high.
 use Rattle.std.specs.Prelude.{ℕ, ◌+◌, ◌-◌, ◌*◌, List, [], ◌∷◌, ◌++◌, map, flat_map, take, length, nat_le, if◌then◌else◌, codes, Option, Some, None}
 use Rattle.std.specs.Fmt.{decimal}
-use Rattle.spec_picture.specs.Xml.{Element, element, Content, nothing, words, inner, element_text, line_text}
+use Rattle.spec_picture.specs.Xml.{Element, element, Content, nothing, words, inner, attributes_then, element_text, line_text}
 
 -- ---- shapes
 
@@ -33,7 +33,7 @@ unfoldable pub label_at : ℕ → ℕ → ℕ → List ℕ → List ℕ → Elem
 label_at letter row most look text =
     element (codes "text")
     ((codes "x", decimal (8 * letter)) ∷ (codes "y", decimal (20 * row + 15)) ∷ (codes "class", look) ∷ [])
-    (shown most text)
+    (words [] (shown most text))
 
 unfoldable pub box_at : ℕ → ℕ → ℕ → ℕ → List ℕ → Element
 box_at x y wide high look =
@@ -71,6 +71,10 @@ unfoldable pub group_element : Group → Element
 group_element g = element (codes "g") (name_attributes g.name ++ (codes "class", g.look) ∷ []) (words [] (inside g.shapes))
 
 -- ---- their text
+
+-- the first tag of a group
+abbrev pub open_text : Option (List ℕ) → List ℕ → List ℕ
+open_text name look = codes "<g" ++ attributes_then (name_attributes name ++ (codes "class", look) ∷ []) (codes ">")
 
 abbrev pub shape_text : Shape → List ℕ
 shape_text s = element_text (element_of s)

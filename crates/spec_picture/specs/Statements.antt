@@ -52,8 +52,8 @@ pub record IsPictureOf (advert : Advert) (entries : List Entry) (last : Last) (t
 -- every text that is drawn is a picture of its contract and its run
 abbrev pub PicturesShowEach : Type 0
 PicturesShowEach =
-    (names : List (List ℕ)) (advert : Advert) (entries : List Entry) (last : Last)
-    → IsPictureOf advert entries last (picture_text names advert entries last)
+    (title : List ℕ) (advert : Advert) (entries : List Entry) (last : Last)
+    → IsPictureOf advert entries last (picture_text title advert entries last)
 
 -- Of a checked contract, and a run of as many events as can be numbered, nothing is drawn twice.
 abbrev pub DrawsOnce : Type 0

@@ -11,11 +11,11 @@ use Rattle.theory_picture.proofs.Drawn.{pictures_show_each}
 
 pub answers_are_pictures : AnswersArePictures
 unfolding draw_text
-answers_are_pictures hash run_text contract_text run advert e f =
+answers_are_pictures title hash run_text contract_text run advert e f =
     let s = setup_of hash run (advert ∷ []) in
     let end = ending s run.events in
     let rows = drawn_of end (entries s run.events) in
     subst (IsPictureOf advert rows (last_of end))
-    (sym (ap (λ (r : Judged Run). (both_judged (run_answer draw_text) hash r (onto_judged 0 (contract_of contract_text) (Ok []))).text) e
-    ∙ ap (λ (a : Judged Advert). (both_judged (run_answer draw_text) hash (Ok run) (onto_judged 0 a (Ok []))).text) f))
-    (pictures_show_each advert rows (last_of end))
+    (sym (ap (λ (r : Judged Run). (both_judged (run_answer (draw_text title)) hash r (onto_judged 0 (contract_of contract_text) (Ok []))).text) e
+    ∙ ap (λ (a : Judged Advert). (both_judged (run_answer (draw_text title)) hash (Ok run) (onto_judged 0 a (Ok []))).text) f))
+    (pictures_show_each title advert rows (last_of end))

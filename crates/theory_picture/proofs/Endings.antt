@@ -32,7 +32,7 @@ module _ (s : Setup) (es : List Event) where
 
   -- ---- what is drawn of it
 
-  pub whole_last : opening_collision s ≡ None → first_halt s es ≡ None → lasts.Whole ≡ last_of (ending s es)
+  pub whole_last : opening_collision s ≡ None → first_halt s es ≡ None → last_of (end_of (end_world s (course s es)) (end_configuration s (course s es))) ≡ last_of (ending s es)
   whole_last opens h = sym (ap last_of (opened_is None opens h))
 
   pub halted_last : (e : Event) (halt : Halt) → opening_collision s ≡ None → first_halt s es ≡ Some (e, halt)
@@ -52,22 +52,22 @@ status_is (shown.whole tip live g offers) = refl
 status_is (shown.guessed event party secret) = refl
 status_is (shown.collided event earlier later) = refl
 
-module _ (s : Setup) (es : List Event) (advert : Advert) (one : s.contracts ≡ advert ∷ []) where
+module _ (title : List ℕ) (s : Setup) (es : List Event) (advert : Advert) (one : s.contracts ≡ advert ∷ []) where
   -- of a run that opens
   pub left_answer : (rows : List Entry) (last : Last) → opening_collision s ≡ None → rows ≡ entries s es → last ≡ last_of (ending s es)
-      → prints (last_status last) (picture_text advert rows last) ≡ run_answer draw_text s es
+      → prints (last_status last) (picture_text title advert rows last) ≡ run_answer (draw_text title) s es
   unfolding draw_text
   left_answer rows last opens e f =
       let end = ending s es in
-      ap (λ (xs : List Entry). prints (last_status last) (picture_text advert xs last)) (e ∙ sym (all_drawn s es (first_halt s es) opens refl (entries s es)))
-      ∙ ap (λ (l : Last). prints (last_status l) (picture_text advert (drawn_of end (entries s es)) l)) f
-      ∙ ap (λ (n : ℕ). prints n (picture_text advert (drawn_of end (entries s es)) (last_of end))) (status_is end)
-      ∙ ap (λ (as' : List Advert). prints (ending_status end) (first_picture (entries s es) end as')) (sym one)
+      ap (λ (xs : List Entry). prints (last_status last) (picture_text title advert xs last)) (e ∙ sym (all_drawn s es (first_halt s es) opens refl (entries s es)))
+      ∙ ap (λ (l : Last). prints (last_status l) (picture_text title advert (drawn_of end (entries s es)) l)) f
+      ∙ ap (λ (n : ℕ). prints n (picture_text title advert (drawn_of end (entries s es)) (last_of end))) (status_is end)
+      ∙ ap (λ (as' : List Advert). prints (ending_status end) (first_picture title (entries s es) end as')) (sym one)
 
   -- of one whose opening collides
   pub unopened_answer : (earlier later : List ℕ) → opening_collision s ≡ Some (earlier, later)
-      → prints 8 (picture_text advert [] (lasts.Collided None)) ≡ run_answer draw_text s es
+      → prints 8 (picture_text title advert [] (lasts.Collided None)) ≡ run_answer (draw_text title) s es
   unfolding draw_text
   unopened_answer earlier later e =
-      sym (ap (λ (end : Ending). prints (ending_status end) (first_picture (entries s es) end s.contracts)) (unopened_is s es earlier later e)
-      ∙ ap (λ (as' : List Advert). prints 8 (first_picture (entries s es) (shown.collided None earlier later) as')) one)
+      sym (ap (λ (end : Ending). prints (ending_status end) (first_picture title (entries s es) end s.contracts)) (unopened_is s es earlier later e)
+      ∙ ap (λ (as' : List Advert). prints 8 (first_picture title (entries s es) (shown.collided None earlier later) as')) one)

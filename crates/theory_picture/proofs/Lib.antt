@@ -2,6 +2,7 @@ pub mod Lines
 pub mod Endings
 mod Named
 mod Order
+mod Held
 mod Drawn
 mod Answered
 mod Small

@@ -1,58 +1,79 @@
--- All names in a picture are names of XML.
-use Rattle.std.proofs.Common.{◌≡◌, ℕ, ◌+◌, List, [], ◌∷◌, ◌++◌, length, Bool, true, false, Option, Some, None, refl, sym, ap, ◌∙◌, IsTrue}
-use Rattle.std.specs.Prelude.{◌&&◌}
-use Rattle.std.specs.List.{list_all}
-use Rattle.spec_terms.specs.Advert.{Advert}
-use Rattle.spec_terms.specs.Parties.{participants}
-use Rattle.spec_text.specs.declared.entry.Entry.{Entry}
-use Rattle.spec_tool.specs.declared.which.Which.{Which}
-use Rattle.spec_picture.specs.declared.last.Last.{Last}
-use Rattle.spec_picture.specs.declared.last.Last.TheVariants.{Whole, Guessed, Collided}
-use Rattle.spec_picture.specs.declared.tree_row.TreeRow.{TreeRow}
-use Rattle.spec_picture.specs.Xml.{Element, is_named}
-use Rattle.spec_picture.specs.Tree.{rows_of}
-use Rattle.spec_picture.specs.Taken.{taken}
-use Rattle.spec_picture.specs.Layout.{words_at, box_at, guides_at}
-use Rattle.spec_picture.specs.Rows.{tree_group, run_group, halt_group, tree_groups, run_groups, last_groups}
-use Rattle.spec_picture.specs.Picture.{title, ground, tree_head, run_head, groups, picture_of, picture}
-use Rattle.theory_picture.proofs.Lines.{named_lines}
+-- All names in a picture are names of XML, and its ids are those of its groups.
+use Rattle.std.proofs.Common.{◌≡◌, ℕ, List, [], ◌∷◌, ◌++◌, length, map, Bool, true, false, Option, Some, None, refl, sym, ap, ◌∙◌}
+use Rattle.std.specs.Prelude.{◌&&◌, if◌then◌else◌, nat_le, take, codes, ◌-◌}
+use Rattle.std.specs.List.{flat_map, list_all}
+use Rattle.spec_picture.specs.Xml.{Element, element, Content, nothing, words, inner, is_named, are_named, ids, ids_inside}
+use Rattle.spec_picture.specs.Shapes.{Shape, label, box, dot, line, Group, shown, label_at, box_at, dot_at, line_through, inside, group_element}
+use Rattle.spec_picture.specs.Picture.{Scene, title, style, paper, groups, picture_of}
+use Rattle.theory_picture.proofs.Lines.{named_lines, ids_of_lines}
 
-all-append : (xs ys : List Element) → list_all is_named xs ≡ true → list_all is_named ys ≡ true → list_all is_named (xs ++ ys) ≡ true
-all-append [] ys h k = k
-all-append (x ∷ xs) ys h k = by_first (is_named x) h (all-append xs ys)
-  where
-    by_first : (t : Bool) → (t && list_all is_named xs) ≡ true
-        → (list_all is_named xs ≡ true → list_all is_named ys ≡ true → list_all is_named (xs ++ ys) ≡ true)
-        → (t && list_all is_named (xs ++ ys)) ≡ true
-    by_first true h f = f h k
-    by_first false h f = h
+-- ---- shapes
 
-tree_named : (row : ℕ) (takes : List (Option Which)) (rs : List TreeRow) → list_all is_named (tree_groups row takes rs) ≡ true
-unfolding words_at box_at guides_at tree_group
-tree_named row takes [] = refl
-tree_named row takes (r ∷ rs) = tree_named (row + 1) takes rs
+-- what is shown of a text
+cut_named : (fits : Bool) (front text : List ℕ)
+    → are_named (if fits then words text nothing else inner (element (codes "title") [] (words text nothing)) (words front (words (codes "..") nothing))) ≡ true
+cut_named true front text = refl
+cut_named false front text = refl
 
-run_named : (row n : ℕ) (es : List Entry) (takes : List (Option Which)) → list_all is_named (run_groups row n es takes) ≡ true
-unfolding words_at box_at run_group
-run_named row n [] takes = refl
-run_named row n (e ∷ es) [] = refl
-run_named row n (e ∷ es) (t ∷ ts) = run_named (row + 1) (n + 1) es ts
+cut_ids : (fits : Bool) (front text : List ℕ)
+    → ids_inside (if fits then words text nothing else inner (element (codes "title") [] (words text nothing)) (words front (words (codes "..") nothing))) ≡ []
+cut_ids true front text = refl
+cut_ids false front text = refl
 
-halt_named : (row : ℕ) (last : Last) → list_all is_named (last_groups row last) ≡ true
-unfolding words_at box_at halt_group
-halt_named row Whole = refl
-halt_named row (Guessed event party secret) = refl
-halt_named row (Collided event) = refl
+shapes_named : (ss : List Shape) → are_named (inside ss) ≡ true
+unfolding label_at box_at dot_at line_through
+shapes_named [] = refl
+shapes_named (label letter row most look text ∷ ss) =
+    (λ i. cut_named (nat_le (length text) most) (take (most - 2) text) text i && are_named (inside ss)) ∙ shapes_named ss
+shapes_named (box x y wide high look ∷ ss) = shapes_named ss
+shapes_named (dot x y look ∷ ss) = shapes_named ss
+shapes_named (line points look ∷ ss) = shapes_named ss
 
-pub pictures_are_named : (advert : Advert) (entries : List Entry) (last : Last) → is_named (picture advert entries last) ≡ true
-unfolding words_at title ground tree_head run_head groups picture_of picture
-pictures_are_named advert entries last =
-    let rows = rows_of advert in
-    let n = length rows in
-    let takes = taken entries in
-    let tree = tree_groups 2 takes rows in
-    let run = run_groups (n + 4) 1 entries takes in
-    let end = last_groups (n + 4 + length entries) last in
-    named_lines (groups (participants advert) rows takes entries last)
-    ∙ all-append tree (run_head (n + 3) ++ (run ++ end)) (tree_named 2 takes rows)
-    (all-append run end (run_named (n + 4) 1 entries takes) (halt_named (n + 4 + length entries) last))
+shapes_without_ids : (ss : List Shape) → ids_inside (inside ss) ≡ []
+unfolding label_at box_at dot_at line_through
+shapes_without_ids [] = refl
+shapes_without_ids (label letter row most look text ∷ ss) =
+    (λ i. cut_ids (nat_le (length text) most) (take (most - 2) text) text i ++ ids_inside (inside ss)) ∙ shapes_without_ids ss
+shapes_without_ids (box x y wide high look ∷ ss) = shapes_without_ids ss
+shapes_without_ids (dot x y look ∷ ss) = shapes_without_ids ss
+shapes_without_ids (line points look ∷ ss) = shapes_without_ids ss
+
+-- ---- groups
+
+abbrev pub if_named : Option (List ℕ) → List (List ℕ)
+if_named None = []
+if_named (Some name) = name ∷ []
+
+-- the names of groups
+abbrev pub names_in : List Group → List (List ℕ)
+names_in gs = flat_map (λ (g : Group). if_named g.name) gs
+
+by_name : (o : Option (List ℕ)) (look : List ℕ) (ss : List Shape)
+    → is_named (group_element (record { name = o; look = look; shapes = ss })) ≡ true
+unfolding group_element
+by_name None look ss = shapes_named ss
+by_name (Some name) look ss = shapes_named ss
+
+ids_by_name : (o : Option (List ℕ)) (look : List ℕ) (ss : List Shape)
+    → ids (group_element (record { name = o; look = look; shapes = ss })) ≡ if_named o
+unfolding group_element
+ids_by_name None look ss = shapes_without_ids ss
+ids_by_name (Some name) look ss = ap (λ (xs : List (List ℕ)). name ∷ xs) (shapes_without_ids ss)
+
+groups_named : (gs : List Group) → list_all is_named (map group_element gs) ≡ true
+groups_named [] = refl
+groups_named (g ∷ gs) = (λ i. by_name g.name g.look g.shapes i && list_all is_named (map group_element gs)) ∙ groups_named gs
+
+groups_ids : (gs : List Group) → flat_map ids (map group_element gs) ≡ names_in gs
+groups_ids [] = refl
+groups_ids (g ∷ gs) = λ i. ids_by_name g.name g.look g.shapes i ++ groups_ids gs i
+
+-- ---- pictures
+
+pub pictures_are_named : (text : List ℕ) (s : Scene) → is_named (picture_of text s) ≡ true
+unfolding title style paper picture_of
+pictures_are_named text s = named_lines (title text ∷ style ∷ paper ∷ map group_element (groups s)) ∙ groups_named (groups s)
+
+pub ids_are_names : (text : List ℕ) (s : Scene) → ids (picture_of text s) ≡ names_in (groups s)
+unfolding title style paper picture_of
+ids_are_names text s = ids_of_lines (title text ∷ style ∷ paper ∷ map group_element (groups s)) ∙ groups_ids (groups s)

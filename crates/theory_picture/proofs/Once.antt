@@ -22,12 +22,14 @@ use Rattle.spec_tool.specs.declared.which.Which.TheVariants.{Init, At}
 use Rattle.spec_picture.specs.declared.last.Last.{Last}
 use Rattle.spec_picture.specs.declared.last.Last.TheVariants.{Whole, Guessed, Collided}
 use Rattle.spec_picture.specs.Words.{node_id, event_id}
-use Rattle.spec_picture.specs.Rows.{halt_id}
-use Rattle.spec_picture.specs.Statements.{event_ids, last_ids, transaction_ids, DrawsOnce}
+use Rattle.spec_picture.specs.Folds.{Fold, held_by, drawn_rows}
+use Rattle.spec_picture.specs.Lanes.{halt_id}
+use Rattle.spec_picture.specs.Statements.{row_ids, last_ids, transaction_ids, HoldFrom, DrawsOnce}
 use Rattle.theory_bitcoin.proofs.Labels.{one_label}
 use Rattle.theory_text.proofs.ListFacts.{and_is, and_left, and_right, not_yes, not_no, or_no, or_left, or_right}
 use Rattle.theory_psbt.proofs.Order.{not_same}
 use Rattle.theory_script.specs.Listed.{is_path_among, are_once, PathsInOrder}
+use Rattle.theory_picture.proofs.Held.{drawn_hold, drawn_held}
 use Rattle.theory_picture.proofs.Small.{IsSmall, AreSmall, paths_small}
 
 -- ---- two lists
@@ -85,56 +87,64 @@ init_new (p ∷ ps) = init_new ps
 tail_of : (x y : List ℕ) → 101 ∷ 118 ∷ 101 ∷ 110 ∷ 116 ∷ 45 ∷ x ≡ 101 ∷ 118 ∷ 101 ∷ 110 ∷ 116 ∷ 45 ∷ y → x ≡ y
 tail_of x y e = cc
 
-later_new : (m n : ℕ) (es : List Entry) → m < n → n + length es ≤ 2 ^ 32 → is_among (event_id m) (event_ids n es) ≡ false
-later_new m n [] less few = refl
-later_new m n (e ∷ es) less few =
-    let differ : bytes_eq (event_id n) (event_id m) ≡ false =
-    not_same _ _ (λ same. let k = decimal_injective n m (omega (arith, few)) (omega (arith, few, less)) (tail_of _ _ same) in absurd (omega (arith, k, less))) in
-    or_no _ _ differ (later_new m (n + 1) es (omega (arith, less)) (omega (arith, few)))
+later_new : (m n : ℕ) (fs : List Fold) → m < n → HoldFrom n fs → n + held_by fs ≤ 2 ^ 32 → is_among (event_id m) (row_ids fs) ≡ false
+later_new m n [] less hold few = refl
+later_new m n (f ∷ fs) less hold few =
+    let first = hold.0 in
+    let some = hold.1 in
+    let differ : bytes_eq (event_id f.first) (event_id m) ≡ false =
+    not_same _ _ (λ same. let k = decimal_injective f.first m (omega (arith, few, first)) (omega (arith, few, less)) (tail_of _ _ same) in absurd (omega (arith, k, less, first))) in
+    or_no _ _ differ (later_new m (n + f.count) fs (omega (arith, less)) hold.2 (omega (arith, few)))
 
-events_differ : (n : ℕ) (es : List Entry) → n + length es ≤ 2 ^ 32 → are_different (event_ids n es) ≡ true
-events_differ n [] few = refl
-events_differ n (e ∷ es) few =
-    and_is _ _ (not_no _ (later_new n (n + 1) es (omega arith) (omega (arith, few)))) (events_differ (n + 1) es (omega (arith, few)))
+events_differ : (n : ℕ) (fs : List Fold) → HoldFrom n fs → n + held_by fs ≤ 2 ^ 32 → are_different (row_ids fs) ≡ true
+events_differ n [] hold few = refl
+events_differ n (f ∷ fs) hold few =
+    let first = hold.0 in
+    let some = hold.1 in
+    and_is _ _ (not_no _ (later_new f.first (n + f.count) fs (omega (arith, first, some)) hold.2 (omega (arith, few))))
+    (events_differ (n + f.count) fs hold.2 (omega (arith, few)))
 
 -- ---- all of them
 
 last_differ : (last : Last) → are_different (last_ids last) ≡ true
-last_differ Whole = refl
+last_differ (Whole offers) = refl
 last_differ (Guessed event party secret) = refl
 last_differ (Collided event) = refl
 
 event_no_halt : (n : ℕ) (last : Last) → is_among (event_id n) (last_ids last) ≡ false
-event_no_halt n Whole = refl
+event_no_halt n (Whole offers) = refl
 event_no_halt n (Guessed event party secret) = refl
 event_no_halt n (Collided event) = refl
 
-events_apart : (n : ℕ) (es : List Entry) (last : Last) → Apart (event_ids n es) (last_ids last)
-events_apart n [] last = tt
-events_apart n (e ∷ es) last = (event_no_halt n last, events_apart (n + 1) es last)
+events_apart : (fs : List Fold) (last : Last) → Apart (row_ids fs) (last_ids last)
+events_apart [] last = tt
+events_apart (f ∷ fs) last = (event_no_halt f.first last, events_apart fs last)
 
-node_no_event : (w : Which) (n : ℕ) (es : List Entry) → is_among (node_id w) (event_ids n es) ≡ false
-node_no_event w n [] = refl
-node_no_event w n (e ∷ es) = node_no_event w (n + 1) es
+node_no_event : (w : Which) (fs : List Fold) → is_among (node_id w) (row_ids fs) ≡ false
+node_no_event w [] = refl
+node_no_event w (f ∷ fs) = node_no_event w fs
 
 node_no_halt : (w : Which) (last : Last) → is_among (node_id w) (last_ids last) ≡ false
-node_no_halt w Whole = refl
+node_no_halt w (Whole offers) = refl
 node_no_halt w (Guessed event party secret) = refl
 node_no_halt w (Collided event) = refl
 
-nodes_apart : (ws : List Which) (n : ℕ) (es : List Entry) (last : Last) → Apart (map node_id ws) (event_ids n es ++ last_ids last)
-nodes_apart [] n es last = tt
-nodes_apart (w ∷ ws) n es last = (
-  list_any-append (λ (t : List ℕ). bytes_eq t (node_id w)) (event_ids n es) (last_ids last)
-      ∙ or_no _ _ (node_no_event w n es) (node_no_halt w last),
-  nodes_apart ws n es last,
+nodes_apart : (ws : List Which) (fs : List Fold) (last : Last) → Apart (map node_id ws) (row_ids fs ++ last_ids last)
+nodes_apart [] fs last = tt
+nodes_apart (w ∷ ws) fs last = (
+  list_any-append (λ (t : List ℕ). bytes_eq t (node_id w)) (row_ids fs) (last_ids last)
+      ∙ or_no _ _ (node_no_event w fs) (node_no_halt w last),
+  nodes_apart ws fs last,
 )
 
 pub draws_once : PathsInOrder → DrawsOnce
 draws_once order advert entries last well few =
     let once = (order (λ x. x) (record { contract = 0; advert = advert; bound = []; hashes = [] })).paths_once in
     let paths = branch_paths advert.root in
+    let rows = drawn_rows entries in
+    let held = drawn_held entries in
     let nodes = and_is _ _ (not_no _ (init_new paths)) (branches_differ paths (paths_small advert well) once) in
-    different_append (transaction_ids advert) (event_ids 1 entries ++ last_ids last) nodes
-    (different_append (event_ids 1 entries) (last_ids last) (events_differ 1 entries (omega (arith, few))) (last_differ last) (events_apart 1 entries last))
-    (nodes_apart (Init ∷ map At paths) 1 entries last)
+    different_append (transaction_ids advert) (row_ids rows ++ last_ids last) nodes
+    (different_append (row_ids rows) (last_ids last) (events_differ 1 rows (drawn_hold entries) (omega (arith, few, held))) (last_differ last)
+    (events_apart rows last))
+    (nodes_apart (Init ∷ map At paths) rows last)

@@ -54,6 +54,11 @@ group_lines : (gs : List Group) → flat_map line_text (map group_element gs) �
 group_lines [] = refl
 group_lines (g ∷ gs) = ap (λ (t : List ℕ). group_line g ++ t) (group_lines gs)
 
+three_lines : (a b c d e : List ℕ) → (a ++ (b ++ (c ++ d))) ++ e ≡ a ++ (b ++ (c ++ (d ++ e)))
+three_lines a b c d e =
+    append_assoc a (b ++ (c ++ d)) e
+    ∙ ap (λ (t : List ℕ). a ++ t) (append_assoc b (c ++ d) e ∙ ap (λ (t : List ℕ). b ++ t) (append_assoc c d e))
+
 -- a picture is its first tag, its lines, and its last tag
 pub whole : (text : List ℕ) (s : Scene) → element_text (picture_of text s)
     ≡ codes "<svg" ++ attributes_then (picture_attributes (wide_of s) (high_of s))
@@ -62,4 +67,5 @@ unfolding picture_of
 whole text s =
     ap (λ (t : List ℕ). codes "<svg" ++ attributes_then (picture_attributes (wide_of s) (high_of s)) (codes ">" ++ t))
     (lines_then (title text ∷ style ∷ paper ∷ map group_element (groups s)) (codes "</svg>")
-    ∙ {!!})
+    ∙ three_lines (line_text (title text)) (line_text style) (line_text paper) (flat_map line_text (map group_element (groups s))) (codes "</svg>")
+    ∙ ap (λ (t : List ℕ). line_text (title text) ++ (line_text style ++ (line_text paper ++ (t ++ codes "</svg>")))) (group_lines (groups s)))

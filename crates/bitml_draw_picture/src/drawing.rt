@@ -28,6 +28,7 @@ use spec_tool::Which;
 use std::alloc::Global;
 
 /// All that is read off a contract and a run.
+#[derive(Drop)]
 pub(crate) struct Scene<'a> {
     pub parties: Vec<Name>,
     pub fee: u64,

@@ -14,6 +14,7 @@ use spec_text::Entry;
 use std::alloc::Global;
 
 /// A row: the number of its first event, how many events it holds, the first of them, and the height behind the last.
+#[derive(Drop)]
 pub(crate) struct Fold<'a> {
     pub first: u32,
     pub count: u32,

@@ -274,7 +274,7 @@ fn initial_row(alloc: Global, advert: &Advert) -> Result<TreeRow, OutOfMemory>
 
 /// The initial transaction, and then that of each branch in the order of the text; and the row behind them.
 pub(crate) fn rows_of(alloc: Global, advert: &Advert) -> Result<(Vec<TreeRow>, u32), OutOfMemory>
-    ensures { IfOk result (λ r. r.0.items ≡ spec.rows_of advert.now) }
+    ensures rows { IfOk result (λ r. r.0.items ≡ spec.rows_of advert.now) }
     ensures end { IfOk result (λ r. r.1 ≡ spec.rows_end advert.now) }
 {
     let mut rows = Vec::new(alloc);

@@ -51,7 +51,7 @@ fn left_out(entries: &[Entry], rows: &[Fold<'_>]) -> Result<u64, OutOfMemory>
 }
 
 #[tactic(auto, unfolding(spec_picture::specs::Picture::scene))]
-fn scene<'a>(
+fn read_scene<'a>(
     alloc: Global,
     advert: &Advert,
     entries: &'a [Entry],
@@ -207,7 +207,7 @@ fn picture(
 ) -> Result<Vec<u8>, OutOfMemory>
     ensures { IfOk result (λ text. text.items ≡ spec.picture_text title.now advert.now entries.now last.now) }
 {
-    let read = scene(alloc, advert, entries, last)?;
+    let read = read_scene(alloc, advert, entries, last)?;
     all_drawn(alloc, title, &read)
 }
 

@@ -6,8 +6,8 @@ use Rattle.spec_run.specs.Setup.{Setup}
 use Rattle.spec_text.specs.Played.{entries, ending}
 use Rattle.spec_text.specs.Refusals.{contract_of, run_of}
 use Rattle.spec_tool.specs.Reads.{Read, Text, texts_read}
-use Rattle.spec_tool.specs.Commands.{Command, setup_of}
-use Rattle.spec_picture.specs.Drawing.{AnswersArePictures, drawn_of, last_of, draw_texts, read_drawn, drawn_answer}
+use Rattle.spec_tool.specs.Commands.{Command, files_of, setup_of}
+use Rattle.spec_picture.specs.Drawing.{AnswersArePictures, drawn_of, last_of, draw_texts, read_drawn, title_of, drawn_answer}
 use Rattle.spec_picture.specs.Statements.{DrawsOnce}
 use Rattle.bitml_headline.specs.Headline.{Around}
 use Rattle.bitml_command.proofs.FewEvents.{few_events}
@@ -15,31 +15,31 @@ use Rattle.bitml_draw.specs.Drawn.{AnswersOrGivesUp, DrawsOrGivesUp, ShowsRun, S
 use Rattle.bitml_draw.proofs.Taken.{well_formed, few_drawn}
 
 module _ (pictures : AnswersArePictures) (once : DrawsOnce) (hash : List ℕ → List ℕ) where
-  shows_run : (run_text contract_text : List ℕ) (run : Run) (advert : Advert) → run_of run_text ≡ Ok run → contract_of contract_text ≡ Ok advert
-      → ShowsRun (setup_of hash run (advert ∷ [])) run.events advert (draw_texts hash (Some run_text ∷ Some contract_text ∷ [])).text
-  shows_run run_text contract_text run advert r c =
+  shows_run : (title run_text contract_text : List ℕ) (run : Run) (advert : Advert) → run_of run_text ≡ Ok run → contract_of contract_text ≡ Ok advert
+      → ShowsRun (setup_of hash run (advert ∷ [])) run.events advert (draw_texts title hash (Some run_text ∷ Some contract_text ∷ [])).text
+  shows_run title run_text contract_text run advert r c =
       let s : Setup = setup_of hash run (advert ∷ []) in
       let rows = drawn_of (ending s run.events) (entries s run.events) in
       let a = few_events (Some run_text) run r in
       let b = few_drawn s run.events in
       let few : length rows < 2 ^ 31 = omega (arith, a, b) in
       record {
-        picture = pictures hash run_text contract_text run advert r c;
+        picture = pictures title hash run_text contract_text run advert r c;
         once = once advert rows (last_of (ending s run.events)) (well_formed contract_text advert c) few;
       }
 
-  shows_taken : (texts : List Text) → ShowsTaken hash texts (draw_texts hash texts)
-  shows_taken texts run_text contract_text run advert same r c =
-      subst (λ (ts : List Text). ShowsRun (setup_of hash run (advert ∷ [])) run.events advert (draw_texts hash ts).text) (sym same)
-      (shows_run run_text contract_text run advert r c)
+  shows_taken : (title : List ℕ) (texts : List Text) → ShowsTaken hash texts (draw_texts title hash texts)
+  shows_taken title texts run_text contract_text run advert same r c =
+      subst (λ (ts : List Text). ShowsRun (setup_of hash run (advert ∷ [])) run.events advert (draw_texts title hash ts).text) (sym same)
+      (shows_run title run_text contract_text run advert r c)
 
-  shows_texts : (o : Option (List Text)) → ShowsTexts hash o (read_drawn hash o)
-  shows_texts None = tt
-  shows_texts (Some texts) = shows_taken texts
+  shows_texts : (title : List ℕ) (o : Option (List Text)) → ShowsTexts hash o (read_drawn title hash o)
+  shows_texts title None = tt
+  shows_texts title (Some texts) = shows_taken title texts
 
   shows : (command : Option Command) (reads : List Read) → Shows hash command reads (drawn_answer hash command reads)
   shows None reads = tt
-  shows (Some command) reads = shows_texts (texts_read reads)
+  shows (Some command) reads = shows_texts (title_of (files_of command)) (texts_read reads)
 
   pub draws : (command : Option Command) (before now : Around) (status : ℕ) → AnswersOrGivesUp hash command before now status
       → DrawsOrGivesUp hash command before now status

@@ -14,13 +14,14 @@ use std::alloc::Global;
 pub(crate) fn draw_texts<H: Hash32 + Drop>(
     alloc: Global,
     hash: H,
+    title: &[u8],
     texts: &[Option<Bytes>],
 ) -> Result<Reply, OutOfMemory>
     requires { 2 ≤ length texts.now }
-    ensures { IfOk result (λ reply. printed reply ≡ spec.draw_texts (H.digest_of hash) texts.now) }
+    ensures { IfOk result (λ reply. printed reply ≡ spec.draw_texts title.now (H.digest_of hash) texts.now) }
 {
     match judge_two(alloc, texts)? {
         Judgement::Refused(reply) => Ok(reply),
-        Judgement::Taken(run, contracts) => draw_reply(alloc, hash, &run, contracts),
+        Judgement::Taken(run, contracts) => draw_reply(alloc, title, hash, &run, contracts),
     }
 }

@@ -2,7 +2,7 @@
 
 ghost use Rattle.std.specs.Prelude.{◌≡◌, false, Some, map, length, string_bytes, option_map, IfOk, OnErr};
 ghost use Rattle.spec_tool.specs.Commands.{plan, files_of as files_named};
-ghost use Rattle.spec_picture.specs.Drawing.{words_drawn, drawn_answer, read_drawn};
+ghost use Rattle.spec_picture.specs.Drawing.{words_drawn, drawn_answer, read_drawn, title_of};
 ghost use Rattle.spec_tool.specs.Reads.{texts_read};
 ghost use Rattle.bitml_command.specs.Seen.{printed};
 ghost use Rattle.bitml_command.specs.Files.{reads_of, AsksFront};
@@ -16,6 +16,7 @@ use bitml_command::{Command, Reading, Reply, files_of, read_all};
 use bitml_headline::finish;
 use bm_hash::Hash32;
 use bm_io::{Files, Sink};
+use bm_text::put;
 use spec_data::{Bytes, OutOfMemory};
 use std::alloc::Global;
 use theory_picture::{answers_are_pictures, nothing_is_drawn_twice};
@@ -24,10 +25,11 @@ use theory_picture::{answers_are_pictures, nothing_is_drawn_twice};
 fn reply_to<H: Hash32 + Drop>(
     alloc: Global,
     hash: H,
+    title: &[u8],
     reading: &Reading,
 ) -> Result<Reply, OutOfMemory>
     requires { reading.now.failed ≡ false → length reading.now.texts ≡ 2 }
-    ensures { IfOk result (λ reply. printed reply ≡ read_drawn (H.digest_of hash) (texts_read (reads_of reading.now))) }
+    ensures { IfOk result (λ reply. printed reply ≡ read_drawn title.now (H.digest_of hash) (texts_read (reads_of reading.now))) }
 {
     if reading.failed {
         return Ok(Reply {
@@ -35,7 +37,19 @@ fn reply_to<H: Hash32 + Drop>(
             text: Bytes::of(Vec::new(alloc)),
         });
     }
-    draw_texts(alloc, hash, reading.texts.as_slice())
+    draw_texts(alloc, hash, title, reading.texts.as_slice())
+}
+
+// The title: the names of the two files.
+#[tactic(auto, using(std::proofs::Common::append_assoc))]
+fn joined_title(alloc: Global, run: &str, contract: &str) -> Result<Vec<u8>, OutOfMemory>
+    ensures { IfOk result (λ title. title.items ≡ title_of (files_named (plan run.now contract.now))) }
+{
+    let mut title = Vec::new(alloc);
+    put(&mut title, run.as_bytes())?;
+    put(&mut title, b" and ")?;
+    put(&mut title, contract.as_bytes())?;
+    Ok(title)
 }
 
 /// Reads the files of a run and of its contract, and replies to them.
@@ -54,7 +68,8 @@ fn reply<H: Hash32 + Drop, F: Files>(
 {
     let list = files_of(alloc, &Command::Plan(run, contract))?;
     let reading = read_all(alloc, files, list.as_slice())?;
-    reply_to(alloc, hash, &reading)
+    let title = joined_title(alloc, run, contract)?;
+    reply_to(alloc, hash, &title, &reading)
 }
 
 /// Draws the run and the contract of these files.

@@ -1,11 +1,13 @@
 //! The whole picture.
 
-ghost use Rattle.std.specs.Prelude.{◌≡◌, ◌+◌, ◌-◌, ◌*◌, ◌++◌, max, length, map, flat_map, IfOk, OnOk};
+ghost use Rattle.std.specs.Prelude.{◌≡◌, ◌+◌, ◌-◌, ◌*◌, ◌++◌, ◌<◌, ◌^◌, max, length, true, map, flat_map, IfOk, OnOk};
+ghost use Rattle.spec_data.specs.Lists.{are_different};
 ghost use Rattle.spec_picture.specs.Xml.{document_text};
 ghost use Rattle.spec_picture.specs.Shapes.{group_line};
 ghost use Rattle.spec_picture.specs.Tree as tree;
 ghost use Rattle.spec_picture.specs.Folds as folds;
 ghost use Rattle.spec_picture.specs.Picture as spec;
+ghost use Rattle.spec_picture.specs.Statements.{IsPictureOf, IsLaidOut, drawn};
 ghost use Rattle.bitml_draw_picture.specs.Folds.{fold_of};
 ghost use Rattle.bitml_draw_picture.specs.Scenes.{scene_of};
 
@@ -26,6 +28,7 @@ use spec_picture::{Last, TreeRow};
 use spec_text::Entry;
 use spec_tool::Which;
 use std::alloc::Global;
+use theory_picture::{nothing_is_drawn_twice, pictures_show_each, texts_never_meet};
 
 /// All that is read off a contract and a run.
 #[derive(Drop)]
@@ -223,6 +226,12 @@ pub fn draw(
     last: &Last,
 ) -> Result<Vec<u8>, OutOfMemory>
     ensures text { IfOk result (λ text. text.items ≡ spec.picture_text title.now contract.now entries.now last.now) }
+    ensures shows { IfOk result (λ text. IsPictureOf contract.now entries.now last.now text.items) }
+    ensures once { length entries.now < 2 ^ 31 → are_different (drawn contract.now entries.now last.now) ≡ true }
+    ensures apart { IsLaidOut (spec.scene contract.now entries.now last.now) }
 {
+    pictures_show_each();
+    nothing_is_drawn_twice();
+    texts_never_meet();
     picture(alloc, title, contract.advert(), entries, last)
 }

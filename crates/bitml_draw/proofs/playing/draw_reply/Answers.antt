@@ -34,7 +34,7 @@ pub returns-in-Collided : goal.returns-in-Collided
 returns-in-Collided g c =
     let s : Setup = setup_of (g.H.Hash32.digest_of c.args.hash) c.args.run.now c.args.contracts.items in
     subst (λ (p : Printed). IfOk c.picture_reply.result (λ reply. printed reply ≡ p))
-    (unopened_answer s c.args.run.now.events c.in_ok-contract.contract
+    (unopened_answer c.args.title.now s c.args.run.now.events c.in_ok-contract.contract
     (only_one c.args.contracts.items c.index.result.now c.in_ok-contract.contract c.requires.one c.index.ensures c.in_ok-contract.ensures)
     c.in-Collided.field-0 c.in-Collided.field-1
     (c.in-Err.ensures.unopened.collided c.in-Collided.field-0 c.in-Collided.field-1 c.in-Collided.is))
@@ -47,6 +47,6 @@ returns g c =
     let left = c.in-Ok.world in
     let l : IsLeft digest s c.args.run.now.events left c.in-Ok.stop = c.in-Ok.ensures.left in
     subst (λ (p : Printed). IfOk c.left_reply-reply.result (λ reply. printed reply ≡ p))
-    (ap (run_answer draw_text (setup_in digest left)) c.as_slice.ensures
-    ∙ ap (λ (t : Setup). run_answer draw_text t c.args.run.now.events) l.setup)
+    (ap (run_answer (draw_text c.args.title.now) (setup_in digest left)) c.as_slice.ensures
+    ∙ ap (λ (t : Setup). run_answer (draw_text c.args.title.now) t c.args.run.now.events) l.setup)
     c.left_reply-reply.ensures

@@ -1,11 +1,11 @@
 -- The text of a picture, part by part.
-use Rattle.std.proofs.Common.{◌≡◌, ℕ, List, [], ◌∷◌, ◌++◌, map, refl, sym, ap, ◌∙◌, append-nil, append_assoc}
+use Rattle.std.proofs.Common.{◌≡◌, ℕ, ◌+◌, List, [], ◌∷◌, ◌++◌, map, refl, sym, ap, ◌∙◌, append-nil, append_assoc}
 use Rattle.std.specs.Prelude.{codes, None}
 use Rattle.std.specs.List.{flat_map}
 use Rattle.std.proofs.lemmas.List.Concat.{flat_map-append}
 use Rattle.spec_picture.specs.Xml.{Element, attributes_then, attribute_text, content_then, line_text, element_text}
 use Rattle.spec_picture.specs.Shapes.{Shape, Group, inside, group_element, name_attributes, open_text, shape_text, shapes_text, group_line}
-use Rattle.spec_picture.specs.Legend.{legend_group, meaning}
+use Rattle.spec_picture.specs.Legend.{legend_group, meaning, small_box, boxes}
 use Rattle.spec_picture.specs.Picture.{Scene, title, style, paper, groups, picture_of, picture_attributes, wide_of, high_of}
 use Rattle.theory_picture.proofs.Lines.{lines_then}
 
@@ -30,6 +30,9 @@ shapes_before [] rest = refl
 shapes_before (s ∷ ss) rest =
     ap (λ (t : List ℕ). shape_text s ++ t) (shapes_before ss rest) ∙ sym (append_assoc (shape_text s) (shapes_text ss) rest)
 
+four : (a b c d : List ℕ) → a ++ (b ++ (c ++ (d ++ []))) ≡ (a ++ b) ++ (c ++ d)
+four a b c d = ap (λ (t : List ℕ). a ++ (b ++ (c ++ t))) (append-nil d) ∙ sym (append_assoc a b (c ++ d))
+
 -- a group is its first tag, its shapes, and its last tag
 pub group_is : (g : Group) → element_text (group_element g) ≡ open_text g.name g.look ++ (shapes_text g.shapes ++ codes "</g>")
 unfolding group_element
@@ -48,6 +51,15 @@ legend_is wide row look shape text =
     ∙ ap (λ (t : List ℕ). open_text None look ++ t)
     (append_assoc (shape_text shape) (shape_text (meaning wide row text) ++ []) (codes "</g>")
     ∙ ap (λ (t : List ℕ). shape_text shape ++ (t ++ codes "</g>")) (append-nil (shape_text (meaning wide row text))))
+
+-- the entries of the legend
+pub boxes_are : (wide row : ℕ) → flat_map group_line (boxes wide row)
+    ≡ (group_line (legend_group wide row (codes "done") (small_box row) (codes "reached, with its event and its output"))
+    ++ group_line (legend_group wide (row + 1) (codes "offered") (small_box (row + 1)) (codes "offered at the end of the run")))
+    ++ (group_line (legend_group wide (row + 2) (codes "open") (small_box (row + 2)) (codes "not reached so far"))
+    ++ group_line (legend_group wide (row + 3) (codes "gone") (small_box (row + 3)) (codes "out of reach")))
+unfolding boxes
+boxes_are wide row = four _ _ _ _
 
 -- the lines of groups
 group_lines : (gs : List Group) → flat_map line_text (map group_element gs) ≡ flat_map group_line gs

@@ -1,7 +1,8 @@
 //! Headings, and the legend.
 
-ghost use Rattle.std.specs.Prelude.{◌≡◌, ◌++◌, ◌∷◌, [], flat_map, codes, OnOk};
+ghost use Rattle.std.specs.Prelude.{◌≡◌, ◌+◌, ◌*◌, ◌++◌, ◌∷◌, [], flat_map, codes, OnOk};
 ghost use Rattle.spec_picture.specs.Shapes.{shape_text, group_line};
+ghost use Rattle.spec_picture.specs.Lanes as lanes;
 ghost use Rattle.spec_picture.specs.Legend as spec;
 
 use crate::counting::plus;
@@ -87,12 +88,19 @@ fn put_bar(
     put_meaning(alloc, out, wide, row, text)
 }
 
+// The arrow of what is accepted.
+fn put_small_arrow(alloc: Global, out: &mut Vec<u8>, row: u32) -> Result<(), OutOfMemory>
+    ensures { OnOk result (out.new.items ≡ out.old.items ++ shape_text (lanes.accepted_arrow 8 40 (20 * row + 10))) }
+{
+    put_arrow(alloc, out, 8, 40, 20 * row as u64 + 10)
+}
+
 #[tactic(auto, using(std::proofs::Common::append_assoc, crate::proofs::Whole::legend_is))]
 fn put_accepted(alloc: Global, out: &mut Vec<u8>, wide: u32, row: u32) -> Result<(), OutOfMemory>
     ensures { OnOk result (out.new.items ≡ out.old.items ++ group_line (spec.accepted_line wide row)) }
 {
     put_open_plain(out, b"open")?;
-    put_arrow(alloc, out, 8, 40, 20 * row as u64 + 10)?;
+    put_small_arrow(alloc, out, row)?;
     put_meaning(alloc, out, wide, row, b"accepted by the ledger")
 }
 
@@ -105,14 +113,34 @@ fn put_refused(alloc: Global, out: &mut Vec<u8>, wide: u32, row: u32) -> Result<
     put_meaning(alloc, out, wide, row, b"refused")
 }
 
-#[tactic(auto, using(std::proofs::Common::append_assoc, crate::proofs::Whole::no_rest), unfolding(spec_picture::specs::Legend::boxes))]
+// A box that was reached, and one that is offered.
+#[tactic(auto, using(std::proofs::Common::append_assoc))]
+fn put_reached_boxes(alloc: Global, out: &mut Vec<u8>, wide: u32, row: u32) -> Result<(), OutOfMemory>
+    ensures { OnOk result (out.new.items ≡ out.old.items
+        ++ (group_line (spec.legend_group wide row (codes "done") (spec.small_box row) (codes "reached, with its event and its output"))
+        ++ group_line (spec.legend_group wide (row + 1) (codes "offered") (spec.small_box (row + 1)) (codes "offered at the end of the run")))) }
+{
+    put_small_box(alloc, out, wide, row, b"done", b"reached, with its event and its output")?;
+    put_small_box(alloc, out, wide, plus(row, 1)?, b"offered", b"offered at the end of the run")
+}
+
+// One that was not reached so far, and one that is out of reach.
+#[tactic(auto, using(std::proofs::Common::append_assoc))]
+fn put_other_boxes(alloc: Global, out: &mut Vec<u8>, wide: u32, row: u32) -> Result<(), OutOfMemory>
+    ensures { OnOk result (out.new.items ≡ out.old.items
+        ++ (group_line (spec.legend_group wide (row + 2) (codes "open") (spec.small_box (row + 2)) (codes "not reached so far"))
+        ++ group_line (spec.legend_group wide (row + 3) (codes "gone") (spec.small_box (row + 3)) (codes "out of reach")))) }
+{
+    put_small_box(alloc, out, wide, plus(row, 2)?, b"open", b"not reached so far")?;
+    put_small_box(alloc, out, wide, plus(row, 3)?, b"gone", b"out of reach")
+}
+
+#[tactic(auto, using(std::proofs::Common::append_assoc, crate::proofs::Whole::boxes_are))]
 fn put_boxes(alloc: Global, out: &mut Vec<u8>, wide: u32, row: u32) -> Result<(), OutOfMemory>
     ensures { OnOk result (out.new.items ≡ out.old.items ++ flat_map group_line (spec.boxes wide row)) }
 {
-    put_small_box(alloc, out, wide, row, b"done", b"reached, with its event and its output")?;
-    put_small_box(alloc, out, wide, plus(row, 1)?, b"offered", b"offered at the end of the run")?;
-    put_small_box(alloc, out, wide, plus(row, 2)?, b"open", b"not reached so far")?;
-    put_small_box(alloc, out, wide, plus(row, 3)?, b"gone", b"out of reach")
+    put_reached_boxes(alloc, out, wide, row)?;
+    put_other_boxes(alloc, out, wide, row)
 }
 
 #[tactic(auto, using(std::proofs::Common::append_assoc, crate::proofs::Whole::no_rest), unfolding(spec_picture::specs::Legend::signs))]

@@ -13,11 +13,13 @@ use spec_picture::{Stem, Ways};
 pub(crate) fn ways_of(branches: &[Guarded]) -> Ways
     ensures { result ≡ spec.ways_of (choice_view branches.now) }
 {
-    match branches {
-        [] => Ways::Ends,
-        [_] => Ways::One,
-        [_, _, ..] => Ways::Any,
-    }
+    let Some((_first, others)) = branches.split_first() else {
+        return Ways::Ends;
+    };
+    let Some((_second, _rest)) = others.split_first() else {
+        return Ways::One;
+    };
+    Ways::Any
 }
 
 // How far below a box the lines to the right begin.

@@ -56,51 +56,36 @@ fn put_title(out: &mut Vec<u8>, text: &[u8]) -> Result<(), OutOfMemory>
 {
     put(out, b"<title>")?;
     put_escaped(out, text)?;
-    put(out, b"</title>\n")
+    put(out, b"</title>")?;
+    put(out, b"\n")
 }
 
-// On light paper.
-#[tactic(auto, using(std::proofs::Common::append_assoc))]
-fn put_light(out: &mut Vec<u8>) -> Result<(), OutOfMemory>
-    ensures { OnOk result (out.new.items ≡ out.old.items ++ style.light) }
+fn style_text() -> &'static [u8]
+    ensures { result.now ≡ style.style_text }
 {
-    put(out, b"text{font:13px monospace;fill:#1f2328}rect,circle,polyline{fill:none;stroke:#59636e}.paper{fill:#fff;stroke:none}")?;
-    put(out, b".head,.name{font-weight:bold}.all{fill:#59636e}.any{fill:#fff;stroke-width:2}.lane,.act{stroke-width:2}.act{fill:#fff}")?;
-    put(out, b".done .edge{stroke:#1a7f37;stroke-width:4}.done .box{fill:#bfe8c9;stroke:#1a7f37;stroke-width:2}.done .pay{fill:#bfe8c9}")?;
-    put(out, b".offered .box{stroke:#0969da;stroke-width:4}.gone{opacity:.55}.gone .box,.gone .pay,.gone .edge{stroke-dasharray:2 3}.pay{stroke-width:2}")?;
-    put(out, b".band{fill:#8c959f;fill-opacity:.3;stroke:none}.accepted{stroke:#1a7f37;stroke-width:2}.refused{stroke:#cf222e;stroke-width:2;stroke-dasharray:5 2}")?;
-    put(out, b".p0{stroke:#0969da}.p1{stroke:#bc4c00}.p2{stroke:#8250df}.p3{stroke:#1b7c83}.p4{stroke:#bf3989}.p5{stroke:#7d4e00}")
-}
-
-// And on dark paper.
-#[tactic(auto, using(std::proofs::Common::append_assoc))]
-fn put_dark(out: &mut Vec<u8>) -> Result<(), OutOfMemory>
-    ensures { OnOk result (out.new.items ≡ out.old.items ++ style.dark) }
-{
-    put(out, b"@media(prefers-color-scheme:dark){text{fill:#e6edf3}rect,circle,polyline{stroke:#9198a1}.paper,.any,.act{fill:#0d1117}.paper,.band{stroke:none}.all{fill:#9198a1}")?;
-    put(out, b".done .edge{stroke:#3fb950}.done .box{fill:#12492b;stroke:#3fb950}.done .pay{fill:#12492b}.offered .box{stroke:#58a6ff}.accepted{stroke:#3fb950}")?;
-    put(out, b".refused{stroke:#ff7b72}.p0{stroke:#58a6ff}.p1{stroke:#f0883e}.p2{stroke:#bc8cff}.p3{stroke:#39c5cf}.p4{stroke:#f778ba}.p5{stroke:#d4a72c}}")
-}
-
-#[tactic(auto, using(std::proofs::Common::append_assoc))]
-fn style_text(alloc: Global) -> Result<Vec<u8>, OutOfMemory>
-    ensures { IfOk result (λ text. text.items ≡ style.style_text) }
-{
-    let mut text = Vec::new(alloc);
-    put_light(&mut text)?;
-    put_dark(&mut text)?;
-    Ok(text)
+    b"text{font:13px monospace;fill:#1f2328}rect,circle,polyline{fill:none;stroke:#59636e}.paper{fill:#fff;stroke:none}\
+.head,.name{font-weight:bold}.all{fill:#59636e}.any{fill:#fff;stroke-width:2}.lane,.act{stroke-width:2}.act{fill:#fff}\
+.done .edge{stroke:#1a7f37;stroke-width:4}.done .box{fill:#bfe8c9;stroke:#1a7f37;stroke-width:2}\
+.done .pay{fill:#bfe8c9}.offered .box{stroke:#0969da;stroke-width:4}.gone{opacity:.55}\
+.gone .box,.gone .pay,.gone .edge{stroke-dasharray:2 3}.pay{stroke-width:2}\
+.band{fill:#8c959f;fill-opacity:.3;stroke:none}.accepted{stroke:#1a7f37;stroke-width:2}\
+.refused{stroke:#cf222e;stroke-width:2;stroke-dasharray:5 2}.p0{stroke:#0969da}.p1{stroke:#bc4c00}.p2{stroke:#8250df}\
+.p3{stroke:#1b7c83}.p4{stroke:#bf3989}.p5{stroke:#7d4e00}@media(prefers-color-scheme:dark){text{fill:#e6edf3}\
+rect,circle,polyline{stroke:#9198a1}.paper,.any,.act{fill:#0d1117}.paper,.band{stroke:none}.all{fill:#9198a1}\
+.done .edge{stroke:#3fb950}.done .box{fill:#12492b;stroke:#3fb950}.done .pay{fill:#12492b}\
+.offered .box{stroke:#58a6ff}.accepted{stroke:#3fb950}.refused{stroke:#ff7b72}.p0{stroke:#58a6ff}.p1{stroke:#f0883e}\
+.p2{stroke:#bc8cff}.p3{stroke:#39c5cf}.p4{stroke:#f778ba}.p5{stroke:#d4a72c}}"
 }
 
 // The style as a line.
 #[tactic(auto, using(std::proofs::Common::append_assoc), unfolding(spec_picture::specs::Picture::style))]
-fn put_style(alloc: Global, out: &mut Vec<u8>) -> Result<(), OutOfMemory>
+fn put_style(out: &mut Vec<u8>) -> Result<(), OutOfMemory>
     ensures { OnOk result (out.new.items ≡ out.old.items ++ line_text spec.style) }
 {
-    let text = style_text(alloc)?;
     put(out, b"<style>")?;
-    put_escaped(out, &text)?;
-    put(out, b"</style>\n")
+    put_escaped(out, style_text())?;
+    put(out, b"</style>")?;
+    put(out, b"\n")
 }
 
 // What lies under all as a line.
@@ -130,6 +115,6 @@ pub(crate) fn put_front(
 {
     put_first_tag(alloc, out, wide, high)?;
     put_title(out, title)?;
-    put_style(alloc, out)?;
+    put_style(out)?;
     put_paper(out)
 }

@@ -172,12 +172,7 @@ fn put_end_part(
 
 // All groups.
 #[tactic(auto, using(std::proofs::Common::append_assoc, crate::proofs::Whole::groups_append))]
-fn put_groups(
-    alloc: Global,
-    out: &mut Vec<u8>,
-    wide: u32,
-    s: &Scene<'_>,
-) -> Result<(), OutOfMemory>
+fn put_groups(alloc: Global, out: &mut Vec<u8>, wide: u32, s: &Scene<'_>) -> Result<(), OutOfMemory>
     requires { wide ≡ spec.wide_of (scene_of s.now) }
     ensures { OnOk result (out.new.items ≡ out.old.items ++ flat_map group_line (spec.groups (scene_of s.now))) }
 {

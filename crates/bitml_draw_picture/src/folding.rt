@@ -1,6 +1,6 @@
 //! The rows of a run.
 
-ghost use Rattle.std.specs.Prelude.{◌≡◌, map, IfOk};
+ghost use Rattle.std.specs.Prelude.{◌≡◌, map, take, IfOk};
 ghost use Rattle.std.specs.Str.{bytes_eq};
 ghost use Rattle.bitml_draw_picture.specs.Folds.{fold_of};
 ghost use Rattle.spec_picture.specs.Folds as spec;
@@ -207,6 +207,14 @@ fn folded<'a>(alloc: Global, entries: &'a [Entry]) -> Result<Vec<Fold<'a>>, OutO
     Ok(rows)
 }
 
+// Leaves at most so many rows.
+#[tactic(auto, using(crate::proofs::Whole::front_of_folds))]
+fn keep_front(rows: &mut Vec<Fold<'_>>, most: usize)
+    ensures { map fold_of rows.new.items ≡ take most (map fold_of rows.old.items) }
+{
+    rows.truncate(most);
+}
+
 /// The rows that are drawn.
 pub(crate) fn drawn_rows<'a>(
     alloc: Global,
@@ -215,7 +223,7 @@ pub(crate) fn drawn_rows<'a>(
     ensures { IfOk result (λ rows. map fold_of rows.items ≡ spec.drawn_rows entries.now) }
 {
     let mut rows = folded(alloc, entries)?;
-    rows.truncate(400);
+    keep_front(&mut rows, 400);
     Ok(rows)
 }
 

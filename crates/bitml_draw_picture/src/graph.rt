@@ -167,7 +167,15 @@ fn put_box_shapes(
     let letter = letter_at(row.stem.depth, 1)?;
     let most = wide.saturating_sub(letter_at(row.stem.depth, 2)?);
     put_frame(alloc, out, row)?;
-    put_label(alloc, out, letter, row.row, most, b"needs", row.needs.as_slice())?;
+    put_label(
+        alloc,
+        out,
+        letter,
+        row.row,
+        most,
+        b"needs",
+        row.needs.as_slice(),
+    )?;
     put_label(alloc, out, letter, plus(row.row, 1)?, 24, b"name", &name)?;
     put_label(alloc, out, letter, plus(row.row, 2)?, 24, b"sum", &sum)
 }
@@ -189,9 +197,22 @@ fn put_paid(
     let top = 20 * row as u64;
     let sum = number_text(alloc, value)?;
     let letter = letter_at(depth, 27)?;
-    put_line(alloc, out, &[(left + 204, top + 40), (left + 212, top + 40)], b"edge")?;
+    put_line(
+        alloc,
+        out,
+        &[(left + 204, top + 40), (left + 212, top + 40)],
+        b"edge",
+    )?;
     put_box(alloc, out, left + 212, top + 21, 104, 38, look)?;
-    put_label(alloc, out, letter, plus(row, 1)?, 12, b"name", party.bytes())?;
+    put_label(
+        alloc,
+        out,
+        letter,
+        plus(row, 1)?,
+        12,
+        b"name",
+        party.bytes(),
+    )?;
     put_label(alloc, out, letter, plus(row, 2)?, 12, b"sum", &sum)
 }
 
@@ -265,7 +286,13 @@ fn put_part_ways(
     match ways {
         Ways::Ends => Ok(()),
         Ways::One => Ok(()),
-        Ways::Any => put_dot(alloc, out, 40 * depth as u64 + 32, 20 * row as u64 + 10, b"any"),
+        Ways::Any => put_dot(
+            alloc,
+            out,
+            40 * depth as u64 + 32,
+            20 * row as u64 + 10,
+            b"any",
+        ),
         Ways::All => Ok(()),
     }
 }
@@ -288,10 +315,22 @@ fn put_part(
     put_line(
         alloc,
         out,
-        &[(row.stem.x, row.stem.y), (row.stem.x, middle), (end, middle)],
+        &[
+            (row.stem.x, row.stem.y),
+            (row.stem.x, middle),
+            (end, middle),
+        ],
         b"edge",
     )?;
-    put_label(alloc, out, letter_at(row.stem.depth, 5)?, row.row, most, b"sum", &text)?;
+    put_label(
+        alloc,
+        out,
+        letter_at(row.stem.depth, 5)?,
+        row.row,
+        most,
+        b"sum",
+        &text,
+    )?;
     put_part_ways(alloc, out, row.stem.depth, row.row, row.ways)
 }
 

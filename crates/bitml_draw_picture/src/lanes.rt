@@ -51,7 +51,15 @@ fn put_lane(
     let letter = lane_letter(number)?;
     let own = plus(row, number)?;
     let x = lane_x(number);
-    put_label(alloc, out, letter, own, wide.saturating_sub(letter), b"name", name)?;
+    put_label(
+        alloc,
+        out,
+        letter,
+        own,
+        wide.saturating_sub(letter),
+        b"name",
+        name,
+    )?;
     put_line(alloc, out, &[(x, 20 * own as u64 + 20), (x, bottom)], look)
 }
 
@@ -69,7 +77,16 @@ fn put_party_lane(
         ++ shapes_text (spec.lane_shapes wide row bottom (number + 1) (spec.lane_look number) party.now)) }
 {
     let look = party_look(alloc, b"lane ", number)?;
-    put_lane(alloc, out, wide, row, bottom, plus(number, 1)?, &look, party.bytes())
+    put_lane(
+        alloc,
+        out,
+        wide,
+        row,
+        bottom,
+        plus(number, 1)?,
+        &look,
+        party.bytes(),
+    )
 }
 
 #[tactic(auto, using(std::proofs::Common::append_assoc, crate::proofs::Whole::shapes_append))]

@@ -1,8 +1,7 @@
 //! Headings, and the legend.
 
-ghost use Rattle.std.specs.Prelude.{◌≡◌, ◌+◌, ◌*◌, ◌++◌, ◌∷◌, [], flat_map, codes, OnOk};
+ghost use Rattle.std.specs.Prelude.{◌≡◌, ◌++◌, ◌∷◌, [], flat_map, codes, OnOk};
 ghost use Rattle.spec_picture.specs.Shapes.{shape_text, group_line};
-ghost use Rattle.spec_picture.specs.Lanes as lanes;
 ghost use Rattle.spec_picture.specs.Legend as spec;
 
 use crate::counting::plus;
@@ -60,7 +59,49 @@ fn put_small_box(
     put_meaning(alloc, out, wide, row, text)
 }
 
-#[tactic(auto, using(std::proofs::Common::append_assoc, crate::proofs::Whole::legend_is))]
+#[tactic(auto, using(std::proofs::Common::append_assoc, crate::proofs::Whole::legend_is), unfolding(spec_picture::specs::Legend::reached_line))]
+fn put_reached(alloc: Global, out: &mut Vec<u8>, wide: u32, row: u32) -> Result<(), OutOfMemory>
+    ensures { OnOk result (out.new.items ≡ out.old.items ++ group_line (spec.reached_line wide row)) }
+{
+    put_small_box(
+        alloc,
+        out,
+        wide,
+        row,
+        b"done",
+        b"reached, with its event and its output",
+    )
+}
+
+#[tactic(auto, using(std::proofs::Common::append_assoc, crate::proofs::Whole::legend_is), unfolding(spec_picture::specs::Legend::offered_line))]
+fn put_offered(alloc: Global, out: &mut Vec<u8>, wide: u32, row: u32) -> Result<(), OutOfMemory>
+    ensures { OnOk result (out.new.items ≡ out.old.items ++ group_line (spec.offered_line wide row)) }
+{
+    put_small_box(
+        alloc,
+        out,
+        wide,
+        row,
+        b"offered",
+        b"offered at the end of the run",
+    )
+}
+
+#[tactic(auto, using(std::proofs::Common::append_assoc, crate::proofs::Whole::legend_is), unfolding(spec_picture::specs::Legend::open_line))]
+fn put_unreached(alloc: Global, out: &mut Vec<u8>, wide: u32, row: u32) -> Result<(), OutOfMemory>
+    ensures { OnOk result (out.new.items ≡ out.old.items ++ group_line (spec.open_line wide row)) }
+{
+    put_small_box(alloc, out, wide, row, b"open", b"not reached so far")
+}
+
+#[tactic(auto, using(std::proofs::Common::append_assoc, crate::proofs::Whole::legend_is), unfolding(spec_picture::specs::Legend::gone_line))]
+fn put_gone(alloc: Global, out: &mut Vec<u8>, wide: u32, row: u32) -> Result<(), OutOfMemory>
+    ensures { OnOk result (out.new.items ≡ out.old.items ++ group_line (spec.gone_line wide row)) }
+{
+    put_small_box(alloc, out, wide, row, b"gone", b"out of reach")
+}
+
+#[tactic(auto, using(std::proofs::Common::append_assoc, crate::proofs::Whole::legend_is), unfolding(spec_picture::specs::Legend::circle_line))]
 fn put_circle(alloc: Global, out: &mut Vec<u8>, wide: u32, row: u32) -> Result<(), OutOfMemory>
     ensures { OnOk result (out.new.items ≡ out.old.items ++ group_line (spec.circle_line wide row)) }
 {
@@ -69,42 +110,24 @@ fn put_circle(alloc: Global, out: &mut Vec<u8>, wide: u32, row: u32) -> Result<(
     put_meaning(alloc, out, wide, row, b"one of the lines is taken")
 }
 
-// A box of this height, so far below the row's top, and what it means.
-#[tactic(auto, using(std::proofs::Common::append_assoc, crate::proofs::Whole::legend_is))]
-fn put_bar(
-    alloc: Global,
-    out: &mut Vec<u8>,
-    wide: u32,
-    row: u32,
-    below: u8,
-    high: u8,
-    look: &[u8],
-    text: &[u8],
-) -> Result<(), OutOfMemory>
-    ensures { OnOk result (out.new.items ≡ out.old.items ++ group_line (spec.bar_line wide row below high look.now text.now)) }
+#[tactic(auto, using(std::proofs::Common::append_assoc, crate::proofs::Whole::legend_is), unfolding(spec_picture::specs::Legend::bar_line))]
+fn put_bar(alloc: Global, out: &mut Vec<u8>, wide: u32, row: u32) -> Result<(), OutOfMemory>
+    ensures { OnOk result (out.new.items ≡ out.old.items ++ group_line (spec.bar_line wide row)) }
 {
     put_open_plain(out, b"open")?;
-    put_box(alloc, out, 8, 20 * row as u64 + below as u64, 32, high as u64, look)?;
-    put_meaning(alloc, out, wide, row, text)
+    put_box(alloc, out, 8, 20 * row as u64 + 7, 32, 5, b"all")?;
+    put_meaning(alloc, out, wide, row, b"all of the lines are taken")
 }
 
-// The arrow of what is accepted.
-fn put_small_arrow(alloc: Global, out: &mut Vec<u8>, row: u32) -> Result<(), OutOfMemory>
-    ensures { OnOk result (out.new.items ≡ out.old.items ++ shape_text (lanes.accepted_arrow 8 40 (20 * row + 10))) }
-{
-    put_arrow(alloc, out, 8, 40, 20 * row as u64 + 10)
-}
-
-#[tactic(auto, using(std::proofs::Common::append_assoc, crate::proofs::Whole::legend_is))]
 fn put_accepted(alloc: Global, out: &mut Vec<u8>, wide: u32, row: u32) -> Result<(), OutOfMemory>
     ensures { OnOk result (out.new.items ≡ out.old.items ++ group_line (spec.accepted_line wide row)) }
 {
     put_open_plain(out, b"open")?;
-    put_small_arrow(alloc, out, row)?;
+    put_arrow(alloc, out, 8, 40, 20 * row as u64 + 10)?;
     put_meaning(alloc, out, wide, row, b"accepted by the ledger")
 }
 
-#[tactic(auto, using(std::proofs::Common::append_assoc, crate::proofs::Whole::legend_is))]
+#[tactic(auto, using(std::proofs::Common::append_assoc, crate::proofs::Whole::legend_is), unfolding(spec_picture::specs::Legend::refused_line))]
 fn put_refused(alloc: Global, out: &mut Vec<u8>, wide: u32, row: u32) -> Result<(), OutOfMemory>
     ensures { OnOk result (out.new.items ≡ out.old.items ++ group_line (spec.refused_line wide row)) }
 {
@@ -113,34 +136,23 @@ fn put_refused(alloc: Global, out: &mut Vec<u8>, wide: u32, row: u32) -> Result<
     put_meaning(alloc, out, wide, row, b"refused")
 }
 
-// A box that was reached, and one that is offered.
-#[tactic(auto, using(std::proofs::Common::append_assoc))]
-fn put_reached_boxes(alloc: Global, out: &mut Vec<u8>, wide: u32, row: u32) -> Result<(), OutOfMemory>
-    ensures { OnOk result (out.new.items ≡ out.old.items
-        ++ (group_line (spec.legend_group wide row (codes "done") (spec.small_box row) (codes "reached, with its event and its output"))
-        ++ group_line (spec.legend_group wide (row + 1) (codes "offered") (spec.small_box (row + 1)) (codes "offered at the end of the run")))) }
+#[tactic(auto, using(std::proofs::Common::append_assoc, crate::proofs::Whole::legend_is), unfolding(spec_picture::specs::Legend::band_line))]
+fn put_band(alloc: Global, out: &mut Vec<u8>, wide: u32, row: u32) -> Result<(), OutOfMemory>
+    ensures { OnOk result (out.new.items ≡ out.old.items ++ group_line (spec.band_line wide row)) }
 {
-    put_small_box(alloc, out, wide, row, b"done", b"reached, with its event and its output")?;
-    put_small_box(alloc, out, wide, plus(row, 1)?, b"offered", b"offered at the end of the run")
+    put_open_plain(out, b"open")?;
+    put_box(alloc, out, 8, 20 * row as u64 + 1, 32, 18, b"band")?;
+    put_meaning(alloc, out, wide, row, b"blocks pass, up to this height")
 }
 
-// One that was not reached so far, and one that is out of reach.
-#[tactic(auto, using(std::proofs::Common::append_assoc))]
-fn put_other_boxes(alloc: Global, out: &mut Vec<u8>, wide: u32, row: u32) -> Result<(), OutOfMemory>
-    ensures { OnOk result (out.new.items ≡ out.old.items
-        ++ (group_line (spec.legend_group wide (row + 2) (codes "open") (spec.small_box (row + 2)) (codes "not reached so far"))
-        ++ group_line (spec.legend_group wide (row + 3) (codes "gone") (spec.small_box (row + 3)) (codes "out of reach")))) }
-{
-    put_small_box(alloc, out, wide, plus(row, 2)?, b"open", b"not reached so far")?;
-    put_small_box(alloc, out, wide, plus(row, 3)?, b"gone", b"out of reach")
-}
-
-#[tactic(auto, using(std::proofs::Common::append_assoc, crate::proofs::Whole::boxes_are))]
+#[tactic(auto, using(std::proofs::Common::append_assoc, crate::proofs::Whole::no_rest), unfolding(spec_picture::specs::Legend::boxes))]
 fn put_boxes(alloc: Global, out: &mut Vec<u8>, wide: u32, row: u32) -> Result<(), OutOfMemory>
     ensures { OnOk result (out.new.items ≡ out.old.items ++ flat_map group_line (spec.boxes wide row)) }
 {
-    put_reached_boxes(alloc, out, wide, row)?;
-    put_other_boxes(alloc, out, wide, row)
+    put_reached(alloc, out, wide, row)?;
+    put_offered(alloc, out, wide, plus(row, 1)?)?;
+    put_unreached(alloc, out, wide, plus(row, 2)?)?;
+    put_gone(alloc, out, wide, plus(row, 3)?)
 }
 
 #[tactic(auto, using(std::proofs::Common::append_assoc, crate::proofs::Whole::no_rest), unfolding(spec_picture::specs::Legend::signs))]
@@ -148,10 +160,10 @@ fn put_signs(alloc: Global, out: &mut Vec<u8>, wide: u32, row: u32) -> Result<()
     ensures { OnOk result (out.new.items ≡ out.old.items ++ flat_map group_line (spec.signs wide row)) }
 {
     put_circle(alloc, out, wide, row)?;
-    put_bar(alloc, out, wide, plus(row, 1)?, 7, 5, b"all", b"all of the lines are taken")?;
+    put_bar(alloc, out, wide, plus(row, 1)?)?;
     put_accepted(alloc, out, wide, plus(row, 2)?)?;
     put_refused(alloc, out, wide, plus(row, 3)?)?;
-    put_bar(alloc, out, wide, plus(row, 4)?, 1, 18, b"band", b"blocks pass, up to this height")
+    put_band(alloc, out, wide, plus(row, 4)?)
 }
 
 /// The legend from this row on.

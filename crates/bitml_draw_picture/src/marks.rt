@@ -245,7 +245,15 @@ pub(crate) fn put_row_marks(
     ensures { OnOk result (out.new.items ≡ out.old.items ++ shapes_text (spec.row_marks band wide parties.now row entry.now)) }
 {
     if band {
-        return put_box(alloc, out, 0, 20 * row as u64 + 1, 8 * wide as u64, 18, b"band");
+        return put_box(
+            alloc,
+            out,
+            0,
+            20 * row as u64 + 1,
+            8 * wide as u64,
+            18,
+            b"band",
+        );
     }
     put_entry_marks(alloc, out, parties, row, entry)
 }

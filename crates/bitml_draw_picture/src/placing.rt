@@ -331,18 +331,28 @@ pub(crate) fn reached(which: &Which, takes: &[Option<Which>]) -> Result<Option<u
 fn parted(taken: &[PathStep], path: &[PathStep]) -> bool
     ensures { result ≡ spec.parted taken.now path.now }
 {
-    let Some((one, ones)) = taken.split_first() else {
-        return false;
-    };
-    let Some((other, others)) = path.split_first() else {
-        return false;
-    };
-    match (one, other) {
-        (PathStep::Branch(i), PathStep::Branch(j)) => *i != *j || parted(ones, others),
-        (PathStep::Part(k), PathStep::Part(l)) => *k == *l && parted(ones, others),
-        (PathStep::Branch(_), PathStep::Part(_)) => false,
-        (PathStep::Part(_), PathStep::Branch(_)) => false,
+    let mut left = path;
+    for one in taken {
+        let Some((other, others)) = left.split_first() else {
+            return false;
+        };
+        match (one, other) {
+            (PathStep::Branch(i), PathStep::Branch(j)) => {
+                if *i != *j {
+                    return true;
+                }
+            }
+            (PathStep::Part(k), PathStep::Part(l)) => {
+                if *k != *l {
+                    return false;
+                }
+            }
+            (PathStep::Branch(_), PathStep::Part(_)) => return false,
+            (PathStep::Part(_), PathStep::Branch(_)) => return false,
+        }
+        left = others;
     }
+    false
 }
 
 fn is_other(path: &[PathStep], taken: &Option<Which>) -> bool

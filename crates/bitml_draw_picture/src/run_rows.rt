@@ -107,7 +107,15 @@ fn put_fold_texts(
     let letter = calculus_letter(parties)?;
     put_label(alloc, out, 1, row, 5, b"number", &number)?;
     put_label(alloc, out, 6, row, 19, b"event", &event)?;
-    put_label(alloc, out, letter, row, wide.saturating_sub(letter), b"result", &result)
+    put_label(
+        alloc,
+        out,
+        letter,
+        row,
+        wide.saturating_sub(letter),
+        b"result",
+        &result,
+    )
 }
 
 // A row.
@@ -204,7 +212,15 @@ fn put_halt(
     let letter = calculus_letter(parties)?;
     put_open(out, b"halt", b"halt")?;
     put_label(alloc, out, 6, row, 19, b"event", what)?;
-    put_label(alloc, out, letter, row, wide.saturating_sub(letter), b"result", how)?;
+    put_label(
+        alloc,
+        out,
+        letter,
+        row,
+        wide.saturating_sub(letter),
+        b"result",
+        how,
+    )?;
     put_close(out)
 }
 

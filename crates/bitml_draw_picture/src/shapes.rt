@@ -99,11 +99,7 @@ fn put_point(alloc: Global, out: &mut Vec<u8>, x: u64, y: u64) -> Result<(), Out
     put_decimal(alloc, out, y)
 }
 
-fn put_points(
-    alloc: Global,
-    out: &mut Vec<u8>,
-    points: &[(u64, u64)],
-) -> Result<(), OutOfMemory>
+fn put_points(alloc: Global, out: &mut Vec<u8>, points: &[(u64, u64)]) -> Result<(), OutOfMemory>
     ensures { OnOk result (out.new.items ≡ out.old.items ++ flat_map spec.point_text points.now) }
 {
     for (x, y) in points {

@@ -60,6 +60,7 @@ fn put_title(out: &mut Vec<u8>, text: &[u8]) -> Result<(), OutOfMemory>
     put(out, b"\n")
 }
 
+#[tactic(auto, unfolding(spec_picture::specs::Style::style_text))]
 fn style_text() -> &'static [u8]
     ensures { result.now ≡ style.style_text }
 {

@@ -94,7 +94,16 @@ fn add_choice(
         ++ spec.branches_rows advert.now position.now stem row value 0 (contract choice.now)) }
     ensures next { IfOk result (λ next. next ≡ row + spec.choice_tall (contract choice.now)) }
 {
-    add_branches(alloc, advert, rows, position, stem, row, value, &choice.branches)
+    add_branches(
+        alloc,
+        advert,
+        rows,
+        position,
+        stem,
+        row,
+        value,
+        &choice.branches,
+    )
 }
 
 #[cycle(walk)]
@@ -166,7 +175,17 @@ fn add_branch(
             let paid = value.saturating_sub(advert.fee);
             let mut needs = guard;
             put(&mut needs, b"pay out")?;
-            push_box(alloc, rows, path, stem, row, needs, paid, Some(*party), Ways::Ends)?;
+            push_box(
+                alloc,
+                rows,
+                path,
+                stem,
+                row,
+                needs,
+                paid,
+                Some(*party),
+                Ways::Ends,
+            )?;
             plus(row, 3)
         }
         Guarded::Split { parts } => add_split(alloc, advert, rows, path, stem, row, guard, parts),
@@ -245,7 +264,9 @@ fn add_part(
     push_part(alloc, rows, position, stem, row, part.value, ways)?;
     let beside = stem_beside(stem.depth, row, ways)?;
     let under = plus(row, 1)?;
-    add_choice(alloc, advert, rows, position, beside, under, part.value, &part.next)
+    add_choice(
+        alloc, advert, rows, position, beside, under, part.value, &part.next,
+    )
 }
 
 fn initial_row(alloc: Global, advert: &Advert) -> Result<TreeRow, OutOfMemory>
@@ -282,6 +303,15 @@ pub(crate) fn rows_of(alloc: Global, advert: &Advert) -> Result<(Vec<TreeRow>, u
     let value = first_value(advert)?;
     let root = Path::of(Vec::new(alloc));
     let stem = stem_below(0, 1, ways_of(&advert.root.branches))?;
-    let end = add_choice(alloc, advert, &mut rows, &root, stem, 4, value, &advert.root)?;
+    let end = add_choice(
+        alloc,
+        advert,
+        &mut rows,
+        &root,
+        stem,
+        4,
+        value,
+        &advert.root,
+    )?;
     Ok((rows, end))
 }

@@ -19,33 +19,39 @@ legend_group wide row look shape text = record { name = None; look = look; shape
 abbrev pub small_box : ℕ → Shape
 small_box row = box 12 (20 * row + 2) 24 16 (codes "box")
 
-abbrev pub circle_line : ℕ → ℕ → Group
+unfoldable pub reached_line : ℕ → ℕ → Group
+reached_line wide row = legend_group wide row (codes "done") (small_box row) (codes "reached, with its event and its output")
+
+unfoldable pub offered_line : ℕ → ℕ → Group
+offered_line wide row = legend_group wide row (codes "offered") (small_box row) (codes "offered at the end of the run")
+
+unfoldable pub open_line : ℕ → ℕ → Group
+open_line wide row = legend_group wide row (codes "open") (small_box row) (codes "not reached so far")
+
+unfoldable pub gone_line : ℕ → ℕ → Group
+gone_line wide row = legend_group wide row (codes "gone") (small_box row) (codes "out of reach")
+
+unfoldable pub circle_line : ℕ → ℕ → Group
 circle_line wide row = legend_group wide row (codes "open") (dot 24 (20 * row + 10) (codes "any")) (codes "one of the lines is taken")
 
--- a box of this height, so far below the row's top
-abbrev pub bar_line : ℕ → ℕ → ℕ → ℕ → List ℕ → List ℕ → Group
-bar_line wide row below high look text = legend_group wide row (codes "open") (box 8 (20 * row + below) 32 high look) text
+unfoldable pub bar_line : ℕ → ℕ → Group
+bar_line wide row = legend_group wide row (codes "open") (box 8 (20 * row + 7) 32 5 (codes "all")) (codes "all of the lines are taken")
 
-abbrev pub accepted_line : ℕ → ℕ → Group
+unfoldable pub accepted_line : ℕ → ℕ → Group
 accepted_line wide row = legend_group wide row (codes "open") (accepted_arrow 8 40 (20 * row + 10)) (codes "accepted by the ledger")
 
-abbrev pub refused_line : ℕ → ℕ → Group
+unfoldable pub refused_line : ℕ → ℕ → Group
 refused_line wide row = legend_group wide row (codes "open") (cross_mark 24 (20 * row + 10)) (codes "refused")
 
+unfoldable pub band_line : ℕ → ℕ → Group
+band_line wide row = legend_group wide row (codes "open") (box 8 (20 * row + 1) 32 18 (codes "band")) (codes "blocks pass, up to this height")
+
 unfoldable pub boxes : ℕ → ℕ → List Group
-boxes wide row =
-    legend_group wide row (codes "done") (small_box row) (codes "reached, with its event and its output")
-    ∷ legend_group wide (row + 1) (codes "offered") (small_box (row + 1)) (codes "offered at the end of the run")
-    ∷ legend_group wide (row + 2) (codes "open") (small_box (row + 2)) (codes "not reached so far")
-    ∷ legend_group wide (row + 3) (codes "gone") (small_box (row + 3)) (codes "out of reach") ∷ []
+boxes wide row = reached_line wide row ∷ offered_line wide (row + 1) ∷ open_line wide (row + 2) ∷ gone_line wide (row + 3) ∷ []
 
 unfoldable pub signs : ℕ → ℕ → List Group
 signs wide row =
-    circle_line wide row
-    ∷ bar_line wide (row + 1) 7 5 (codes "all") (codes "all of the lines are taken")
-    ∷ accepted_line wide (row + 2)
-    ∷ refused_line wide (row + 3)
-    ∷ bar_line wide (row + 4) 1 18 (codes "band") (codes "blocks pass, up to this height") ∷ []
+    circle_line wide row ∷ bar_line wide (row + 1) ∷ accepted_line wide (row + 2) ∷ refused_line wide (row + 3) ∷ band_line wide (row + 4) ∷ []
 
 -- the legend from this row on
 abbrev pub legend : ℕ → ℕ → List Group

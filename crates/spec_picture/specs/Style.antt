@@ -19,5 +19,5 @@ dark =
     ++ (codes ".done .edge{stroke:#3fb950}.done .box{fill:#12492b;stroke:#3fb950}.done .pay{fill:#12492b}.offered .box{stroke:#58a6ff}.accepted{stroke:#3fb950}"
     ++ codes ".refused{stroke:#ff7b72}.p0{stroke:#58a6ff}.p1{stroke:#f0883e}.p2{stroke:#bc8cff}.p3{stroke:#39c5cf}.p4{stroke:#f778ba}.p5{stroke:#d4a72c}}")
 
-abbrev pub style_text : List ℕ
+unfoldable pub style_text : List ℕ
 style_text = light ++ dark

@@ -16,7 +16,8 @@ use Rattle.spec_picture.specs.Words.{node_id, event_id}
 use Rattle.spec_picture.specs.Folds.{Fold, drawn_rows}
 use Rattle.spec_picture.specs.Graph.{row_name, row_group, graph_groups}
 use Rattle.spec_picture.specs.Lanes.{lanes_group, fold_group, fold_groups, more_group, more_groups, halt_group, last_groups}
-use Rattle.spec_picture.specs.Legend.{heading, legend_group, boxes, signs, legend}
+use Rattle.spec_picture.specs.Legend.{heading, legend_group, boxes, signs, legend, reached_line, offered_line, open_line, gone_line}
+use Rattle.spec_picture.specs.Legend.{circle_line, bar_line, accepted_line, refused_line, band_line}
 use Rattle.spec_picture.specs.Picture.{Scene, scene, wide_of, last_event, graph_part, run_part, end_part, groups, picture}
 use Rattle.spec_picture.specs.Statements.{PicturesShowEach, row_ids, last_ids, drawn}
 use Rattle.theory_picture.proofs.Named.{if_named, names_in, pictures_are_named, ids_are_names}
@@ -69,7 +70,7 @@ unfolding heading lanes_group run_part
 run_part_names s = fold_names _ s.parties _ s.folds
 
 legend_names : (wide row below : ℕ) (text : List ℕ) → names_in (heading wide row text ∷ (boxes wide below ++ signs wide (below + 4))) ≡ []
-unfolding heading legend_group boxes signs
+unfolding heading legend_group boxes signs reached_line offered_line open_line gone_line circle_line bar_line accepted_line refused_line band_line
 legend_names wide row below text = refl
 
 none_around : (xs ys zs : List (List ℕ)) (last : List (List ℕ)) → xs ≡ [] → ys ≡ last → zs ≡ [] → xs ++ (ys ++ zs) ≡ last

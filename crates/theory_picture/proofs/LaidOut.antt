@@ -17,7 +17,8 @@ use Rattle.spec_picture.specs.Folds.{Fold}
 use Rattle.spec_picture.specs.Graph.{box_shapes, pay_shapes, way_shapes, part_shapes, part_ways, row_shapes, row_group, graph_groups, behind}
 use Rattle.spec_picture.specs.Lanes.{lane_shapes, lane_look, party_lanes, all_lanes, column_heads, lanes_group, calculus_letter, marks, row_marks, is_band, is_refused}
 use Rattle.spec_picture.specs.Lanes.{lane_of, fold_texts, fold_group, fold_groups, more_group, more_groups, halt_group, last_groups}
-use Rattle.spec_picture.specs.Legend.{heading, legend_group, boxes, signs}
+use Rattle.spec_picture.specs.Legend.{heading, legend_group, reached_line, offered_line, open_line, gone_line, boxes}
+use Rattle.spec_picture.specs.Legend.{circle_line, bar_line, accepted_line, refused_line, band_line, signs}
 use Rattle.spec_picture.specs.Picture.{Scene, scene, wide_of, first_event, last_event, high_of, graph_part, run_part, end_part, groups}
 use Rattle.spec_picture.specs.Statements.{Apart, AllApart, IsInside, places_in, IsLaidOut, TextsNeverMeet}
 use Rattle.theory_picture.proofs.Apart.{Among, Block, below, nothing_stands, loosened, one_place, shapes_below, groups_below, group_above}
@@ -60,16 +61,34 @@ transaction_texts wide parties fee event output r (Some party) rest h e =
     ∷ record { letter = 5 * r.stem.depth + 27; row = r.row + 2; most = 12 } ∷ ps)) (sym e)
     (record {
       apart = (
-        (inl (omega arith), (inl (omega arith), (inl (omega arith), (inl (omega arith), tt)))), (
-        (inl (omega arith), (inr (inr (inl (omega arith))), (inl (omega arith), tt))), (
-        (inr (inl (omega arith)), (inr (inr (inl (omega arith))), tt)), (
-        (inl (omega arith), tt), (tt, tt)))));
+        (inl (omega arith), (inl (omega arith), (inl (omega arith), (inl (omega arith), tt)))),
+        (
+          (inl (omega arith), (inr (inr (inl (omega arith))), (inl (omega arith), tt))),
+          (
+            (inr (inl (omega arith)), (inr (inr (inl (omega arith))), tt)),
+            (
+              (inl (omega arith), tt),
+              (tt, tt),
+            ),
+          ),
+        ),
+      );
       among = (
-        (omega arith, omega arith, omega (arith, h)), (
-        (omega arith, omega arith, omega (arith, h)), (
-        (omega arith, omega arith, omega (arith, h)), (
-        (omega arith, omega arith, omega (arith, h)), (
-        (omega arith, omega arith, omega (arith, h)), tt)))));
+        (omega arith, omega arith, omega (arith, h)),
+        (
+          (omega arith, omega arith, omega (arith, h)),
+          (
+            (omega arith, omega arith, omega (arith, h)),
+            (
+              (omega arith, omega arith, omega (arith, h)),
+              (
+                (omega arith, omega arith, omega (arith, h)),
+                tt,
+              ),
+            ),
+          ),
+        ),
+      );
     })
 
 -- and of a part's text
@@ -209,33 +228,65 @@ last_stands wide parties row (Guessed event party secret) h = halt_stands wide p
 last_stands wide parties row (Collided event) h = halt_stands wide parties row _ _ h
 
 boxes_stand : (wide row : ℕ) → 55 ≤ wide → Block wide row (row + 4) (places_in (boxes wide row))
-unfolding boxes legend_group
+unfolding boxes reached_line offered_line open_line gone_line legend_group
 boxes_stand wide row h = record {
   apart = (
-    (inl (omega arith), (inl (omega arith), (inl (omega arith), tt))), (
-    (inl (omega arith), (inl (omega arith), tt)), (
-    (inl (omega arith), tt), (tt, tt))));
+    (inl (omega arith), (inl (omega arith), (inl (omega arith), tt))),
+    (
+      (inl (omega arith), (inl (omega arith), tt)),
+      (
+        (inl (omega arith), tt),
+        (tt, tt),
+      ),
+    ),
+  );
   among = (
-    (omega arith, omega arith, omega (arith, h)), (
-    (omega arith, omega arith, omega (arith, h)), (
-    (omega arith, omega arith, omega (arith, h)), (
-    (omega arith, omega arith, omega (arith, h)), tt))));
+    (omega arith, omega arith, omega (arith, h)),
+    (
+      (omega arith, omega arith, omega (arith, h)),
+      (
+        (omega arith, omega arith, omega (arith, h)),
+        (
+          (omega arith, omega arith, omega (arith, h)),
+          tt,
+        ),
+      ),
+    ),
+  );
 }
 
 signs_stand : (wide row : ℕ) → 55 ≤ wide → Block wide row (row + 5) (places_in (signs wide row))
-unfolding signs legend_group
+unfolding signs circle_line bar_line accepted_line refused_line band_line legend_group
 signs_stand wide row h = record {
   apart = (
-    (inl (omega arith), (inl (omega arith), (inl (omega arith), (inl (omega arith), tt)))), (
-    (inl (omega arith), (inl (omega arith), (inl (omega arith), tt))), (
-    (inl (omega arith), (inl (omega arith), tt)), (
-    (inl (omega arith), tt), (tt, tt)))));
+    (inl (omega arith), (inl (omega arith), (inl (omega arith), (inl (omega arith), tt)))),
+    (
+      (inl (omega arith), (inl (omega arith), (inl (omega arith), tt))),
+      (
+        (inl (omega arith), (inl (omega arith), tt)),
+        (
+          (inl (omega arith), tt),
+          (tt, tt),
+        ),
+      ),
+    ),
+  );
   among = (
-    (omega arith, omega arith, omega (arith, h)), (
-    (omega arith, omega arith, omega (arith, h)), (
-    (omega arith, omega arith, omega (arith, h)), (
-    (omega arith, omega arith, omega (arith, h)), (
-    (omega arith, omega arith, omega (arith, h)), tt)))));
+    (omega arith, omega arith, omega (arith, h)),
+    (
+      (omega arith, omega arith, omega (arith, h)),
+      (
+        (omega arith, omega arith, omega (arith, h)),
+        (
+          (omega arith, omega arith, omega (arith, h)),
+          (
+            (omega arith, omega arith, omega (arith, h)),
+            tt,
+          ),
+        ),
+      ),
+    ),
+  );
 }
 
 -- ---- the whole

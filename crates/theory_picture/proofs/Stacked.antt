@@ -45,14 +45,18 @@ module _ (a : Advert) where
     branch_stacked p stem row value guard (after height body) = branch_stacked p stem row value guard body
     branch_stacked p stem row value guard (put_reveal puts reveals test next) =
         let below = stem_below stem.depth row (ways_of next) in
-        let value' = value_after a value puts in
-        (refl, up_to (row + 3) (row + 3 + choice_tall next) (row + (3 + choice_tall next)) (branches_rows a p below (row + 3) value' 0 next) (omega arith)
-        (branches_stacked p below (row + 3) value' 0 next))
+        let value' = value_after a value puts in (
+          refl,
+          up_to (row + 3) (row + 3 + choice_tall next) (row + (3 + choice_tall next)) (branches_rows a p below (row + 3) value' 0 next) (omega arith)
+              (branches_stacked p below (row + 3) value' 0 next),
+        )
     branch_stacked p stem row value guard (withdraw party) = (refl, refl)
     branch_stacked p stem row value guard (split parts) =
-        let below = stem_of_parts stem.depth row in
-        (refl, up_to (row + 3) (row + 3 + parts_tall parts) (row + (3 + parts_tall parts)) (parts_rows a p below (row + 3) 0 parts) (omega arith)
-        (parts_stacked p below (row + 3) 0 parts))
+        let below = stem_of_parts stem.depth row in (
+          refl,
+          up_to (row + 3) (row + 3 + parts_tall parts) (row + (3 + parts_tall parts)) (parts_rows a p below (row + 3) 0 parts) (omega arith)
+              (parts_stacked p below (row + 3) 0 parts),
+        )
 
     parts_stacked : (p : List PathStep) (stem : Stem) (row k : ℕ) (ps : Parts) → Stacked row (parts_rows a p stem row k ps) (row + parts_tall ps)
     parts_stacked p stem row k no_part = omega arith
@@ -60,10 +64,12 @@ module _ (a : Advert) where
         let q = p ++ Into k ∷ [] in
         let beside = stem_beside stem.depth row (ways_of c) in
         let next = row + 1 + choice_tall c in
-        let rest = parts_rows a p stem next (k + 1) ps in
-        (refl, stacked_append (row + 1) next (row + parts_tall (part v c ps)) (branches_rows a q beside (row + 1) v 0 c) rest
-        (branches_stacked q beside (row + 1) v 0 c)
-        (up_to next (next + parts_tall ps) (row + parts_tall (part v c ps)) rest (omega arith) (parts_stacked p stem next (k + 1) ps)))
+        let rest = parts_rows a p stem next (k + 1) ps in (
+          refl,
+          stacked_append (row + 1) next (row + parts_tall (part v c ps)) (branches_rows a q beside (row + 1) v 0 c) rest
+              (branches_stacked q beside (row + 1) v 0 c)
+              (up_to next (next + parts_tall ps) (row + parts_tall (part v c ps)) rest (omega arith) (parts_stacked p stem next (k + 1) ps)),
+        )
 
   pub rows_stacked : Stacked 1 (rows_of a) (rows_end a)
   rows_stacked = (refl, branches_stacked [] (stem_below 0 1 (ways_of a.root)) 4 (first_value a) 0 a.root)

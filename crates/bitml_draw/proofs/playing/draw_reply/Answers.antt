@@ -30,14 +30,14 @@ left_reply-reply-requires-clause-contract g c =
     c.in-Ok.ensures.left
     ∙ only_one c.args.contracts.items c.index.result.now c.in_ok-contract.contract c.requires.one c.index.ensures c.in_ok-contract.ensures
 
-pub returns-in-Collided : goal.returns-in-Collided
-returns-in-Collided g c =
+pub returns-in-Err-Collided : goal.returns-in-Err-Collided
+returns-in-Err-Collided g c =
     let s : Setup = setup_of (g.H.Hash32.digest_of c.args.hash) c.args.run.now c.args.contracts.items in
     subst (λ (p : Printed). IfOk c.picture_reply.result (λ reply. printed reply ≡ p))
     (unopened_answer c.args.title.now s c.args.run.now.events c.in_ok-contract.contract
     (only_one c.args.contracts.items c.index.result.now c.in_ok-contract.contract c.requires.one c.index.ensures c.in_ok-contract.ensures)
-    c.in-Collided.field-0 c.in-Collided.field-1
-    (c.in-Err.ensures.unopened.collided c.in-Collided.field-0 c.in-Collided.field-1 c.in-Collided.is))
+    c.in-Err-Collided.field-0-0 c.in-Err-Collided.field-0-1
+    (c.in-Err-Collided.ensures.unopened.collided c.in-Err-Collided.field-0-0 c.in-Err-Collided.field-0-1 c.in-Err-Collided.field-0-is))
     c.picture_reply.ensures
 
 pub returns : goal.returns

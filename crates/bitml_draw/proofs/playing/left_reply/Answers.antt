@@ -28,8 +28,8 @@ returns g c =
     let w = c.args.world.now in
     subst (λ (p : Printed). IfOk c.picture_reply.result (λ reply. printed reply ≡ p))
     (drawn_is digest (setup_in digest w) c.args.events.now w c.args.title.now c.args.stop c.args.contract.now c.in_ok-made.made.steps c.deref.result.now
-    c.last_of.result c.requires.left c.requires.contract c.in_ok-made.ensures.steps
+    c.last_of-last.result c.requires.left c.requires.contract c.in_ok-made.ensures.steps
     (entries_same c.deref.result.now c.in_ok-entries.entries.items c.trace.result.now w.trace c.as_slice.result.now c.in_ok-made.made.steps
     c.deref.ensures.value c.in_ok-entries.ensures c.trace.ensures.trace c.as_slice.ensures)
-    (c.last_of.ensures ∙ ap last_of c.in_ok-end.ensures.ending))
+    (c.last_of-last.ensures ∙ ap last_of c.in_ok-end.ensures.ending))
     c.picture_reply.ensures

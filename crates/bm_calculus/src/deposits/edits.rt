@@ -14,8 +14,8 @@ use spec_data::OutOfMemory;
 use std::alloc::Global;
 use std::collections::{BTreeSet, VecDeque};
 
-// Up to so many deposits are taken out one by one, each of which moves those on its nearer side. A walk over all deposits costs about as
-// much as the moves of so many, and the oldest, which mostly go first, move next to nothing.
+// Up to so many deposits are taken out one by one, each of which moves those on its nearer side: next to nothing for the oldest, which
+// mostly go first. For more of them a walk over all deposits is worth its cost.
 const FEW: usize = 64;
 
 /// The place of the deposit of this number.

@@ -2,7 +2,7 @@ use Rattle.std.proofs.Common.{◌≡◌, ◌∙◌, map, sym, ap, subst, true, f
 use Rattle.std.specs.Prelude.{IfOk}
 use Rattle.theory_script.specs.Keyed.Listed.{are_once}
 use Rattle.bm_compile.specs.Keyed.Numbered.{numbered}
-use Rattle.bm_compile.specs.Numbered.{Numbered, named, keys_of_branches}
+use Rattle.bm_compile.specs.Numbered.{Numbered, named}
 use Rattle.bm_compile.proofs.Whole.{keys_whole, paths_prepared, paths_named, paths_once, scripts_named, scripts_once}
 use Rattle.bm_compile.proofs.compiling.gather.Goals as goal
 

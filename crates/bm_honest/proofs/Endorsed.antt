@@ -14,8 +14,8 @@ use Rattle.spec_bitcoin.specs.Keys.{Pair, key_of}
 use Rattle.spec_nodes.specs.Nodes.{asks_once}
 use Rattle.spec_compiler.specs.declared.prepared.Prepared.{Prepared}
 use Rattle.spec_compiler.specs.Compilation.{compilation}
-use Rattle.spec_compiler.specs.Instance.{Instance, branch_label, deposit_key}
-use Rattle.spec_compiler.specs.Endorsements.{Need, branch_needs, put_needs, needs_of, path_needs, needs, needed, put_owner}
+use Rattle.spec_compiler.specs.Instance.{Instance, branch_label}
+use Rattle.spec_compiler.specs.Endorsements.{Need, branch_needs, put_needs, needs_of, path_needs, needs, needed}
 use Rattle.spec_run.specs.Signing.{pairs_of_party}
 use Rattle.bm_compile.specs.Numbered.{Numbered, numbered}
 use Rattle.bm_honest.proofs.Unmet.{asked-once, keys_planned}

@@ -7,7 +7,7 @@ use Rattle.std.specs.Prelude.{slice_get}
 use Rattle.std.proofs.Math.Bool.{or-true, or-false}
 use Rattle.std.proofs.lemmas.List.Folds.{find-append, list_any-append}
 use Rattle.theory_calculus.proofs.Names.{bytes-true}
-use Rattle.spec_data.specs.Lists.{is_among, look_up, or_else}
+use Rattle.spec_data.specs.Lists.{is_among, or_else}
 use Rattle.spec_terms.specs.Term.{Guarded, auth, after, put_reveal, withdraw, split}
 use Rattle.spec_terms.specs.Advert.{Advert}
 use Rattle.spec_terms.specs.Core.{core, asks, puts_of}
@@ -15,7 +15,7 @@ use Rattle.spec_terms.specs.Parties.{participants, add_new, add_all}
 use Rattle.spec_terms.specs.Paths.{at}
 use Rattle.spec_terms.specs.declared.path.PathStep.{PathStep}
 use Rattle.spec_bitcoin.specs.Keys.{Pair, has_signed, key_of}
-use Rattle.spec_nodes.specs.Nodes.{Node, asks_once, deed_of, branch_head}
+use Rattle.spec_nodes.specs.Nodes.{Node, asks_once, deed_of}
 use Rattle.spec_nodes.specs.Numbers.{IsBranchOf}
 use Rattle.theory_nodes.specs.Walk.{deed_puts}
 use Rattle.spec_compiler.specs.declared.prepared.Prepared.{Prepared}
@@ -25,7 +25,6 @@ use Rattle.spec_compiler.specs.Endorsements.{Need, branch_needs, put_needs, need
 use Rattle.theory_script.specs.Endorsed.{MissingIsFirst}
 use Rattle.bm_compile.specs.Numbered.{Numbered, numbered}
 use Rattle.bm_honest.specs.declared.gate.Gate.{Gate}
-use Rattle.bm_honest.specs.declared.gate.Gate.TheVariants.{Yes, No}
 use Rattle.bm_honest.specs.Gates.{gate_of, gate_at, gate_or, gate_for, gate_of_paths, is_yes, Tells}
 use Rattle.bm_honest.specs.Unsigned.{plan_keys, unsigned_person, unsigned_owner, unsigned_for, seen_node, seen_branch, unsigned_seen}
 

@@ -1,2 +1,4 @@
+mod Causes
 mod Few
+mod Headlines
 mod Replied

@@ -10,7 +10,7 @@ ghost use Rattle.bitml_command.specs.Files.{reads_of, AsksFront};
 ghost use Rattle.bitml_command.specs.Logs.{LogsFront};
 ghost use Rattle.bitml_headline.specs.Headline.{around};
 ghost use Rattle.bitml_headline.specs.Replied.{standing, Replied};
-ghost use Rattle.bitml_next.specs.Told.{AnswersOrGivesUp};
+ghost use Rattle.bitml_next.specs.Told.{AnswersOrGivesUp, Tells};
 
 use crate::call::call_of;
 use crate::replying::next_texts;
@@ -77,9 +77,8 @@ fn serve<H: Hash32 + Drop, F: Files, S: Sink>(
     }
 }
 
-/// Says what may come next in a run, or writes the first lines of one, by what the words name, and answers the status. Nothing is read,
-/// and no memory asked, of words that are no command.
-pub fn next_tool<H: Hash32 + Drop, F: Files, S: Sink>(
+/// Does what words say. Nothing is read, and no memory asked, of words that are no command.
+fn answer_words<H: Hash32 + Drop, F: Files, S: Sink>(
     alloc: Global,
     words: &[String],
     hash: H,
@@ -94,4 +93,20 @@ pub fn next_tool<H: Hash32 + Drop, F: Files, S: Sink>(
         Some(call) => serve(alloc, hash, &call, files, out),
         None => finish(out, 2, b"usage\n"),
     }
+}
+
+/// Says what may come next in a run, or writes the first lines of one, by what the words name, and answers the status. Each status comes
+/// exactly by its cause. Nothing is read, and no memory asked, of words that are no command.
+pub fn next_tool<H: Hash32 + Drop, F: Files, S: Sink>(
+    alloc: Global,
+    words: &[String],
+    hash: H,
+    files: &mut F,
+    out: &mut S,
+) -> u8
+    ensures { Tells (H.digest_of hash) (map string_bytes words.now)
+        (around (F.told files.old) (F.log files.old) (F.taken files.old) (F.faults files.old) (S.pieces out.old) (S.faults out.old))
+        (around (F.told files.new) (F.log files.new) (F.taken files.new) (F.faults files.new) (S.pieces out.new) (S.faults out.new)) result }
+{
+    answer_words(alloc, words, hash, files, out)
 }

@@ -5,14 +5,16 @@ use Rattle.std.proofs.lemmas.Bool.{false≢true}
 use Rattle.spec_data.specs.Digits.{onto}
 use Rattle.spec_data.specs.Ranges.{most_contracts}
 use Rattle.spec_text.specs.Words.{given}
+use Rattle.spec_run.specs.Conditions.{HashesBytes}
 use Rattle.spec_tool.specs.Reads.{Asked, Read, Text, text_read, texts_read, are_made}
 use Rattle.spec_tool.specs.Commands.{Command, check, play, plan, make, psbt_of, psbt_shown, psbt_joined, weigh, audit, auto, Printed, contract_file, run_file}
 use Rattle.spec_tool.specs.Answers.{ended, tool_reads}
 use Rattle.spec_next.specs.NextAnswer.{next_words, next_answer, next_texts, read_next}
 use Rattle.theory_tool.proofs.Statuses.{apart}
 use Rattle.bitml_headline.specs.Headline.{Around, GivesUp}
-use Rattle.bitml_next.specs.Told.{Answers, AnswersOrGivesUp, CausedByTexts, Caused, Tells}
+use Rattle.bitml_next.specs.Told.{Answers, AnswersOrGivesUp, CausedByTexts, Caused, Tells, TellsAll}
 use Rattle.bitml_next.proofs.Causes.{causes, known}
+use Rattle.bitml_next.proofs.Shown.{Theorems, shows}
 
 -- ---- the words are no command, or one that reads files
 
@@ -130,13 +132,17 @@ write_failed printed false other e = refl
 
 -- ---- the call
 
-module _ (hash : List ℕ → List ℕ) (words : List (List ℕ)) (before now : Around) (status : ℕ) where
+module _ (t : Theorems) (hash : List ℕ → List ℕ) (bytes : HashesBytes hash) (words : List (List ℕ)) (before now : Around) (status : ℕ) where
   of_answer : Answers hash (next_words words) before now status → Tells hash words before now status
   of_answer a =
       let printed = next_answer hash (next_words words) a.reads in
       let s : Status (next_words words) a.reads printed.status = of_reads hash (next_words words) a.reads (reads_files words) a.made in
       record {
-        serves = inl (record { answers = a; caused = caused hash (next_words words) a.reads });
+        serves = inl (record {
+          answers = a;
+          caused = caused hash (next_words words) a.reads;
+          shows = shows t hash bytes (next_words words) a.reads;
+        });
         usage = λ e. s.usage (ended_with printed a.ends.went 2 (λ f. absurd (cc)) (sym e ∙ a.ends.status_is));
         unread = λ e. a.unread (s.unread (ended_with printed a.ends.went 3 (λ f. absurd (cc)) (sym e ∙ a.ends.status_is)));
         unwritten = λ e. a.ends.unwritten (write_failed printed a.ends.went s.written (sym e ∙ a.ends.status_is));
@@ -152,6 +158,9 @@ module _ (hash : List ℕ → List ℕ) (words : List (List ℕ)) (before now : 
     memory = λ e. g.some;
   }
 
-  pub tells : AnswersOrGivesUp hash (next_words words) before now status → Tells hash words before now status
+  tells : AnswersOrGivesUp hash (next_words words) before now status → Tells hash words before now status
   tells (inl a) = of_answer a
   tells (inr g) = of_none g
+
+pub tells_all : Theorems → TellsAll
+tells_all t hash bytes words before now status answers = tells t hash bytes words before now status answers

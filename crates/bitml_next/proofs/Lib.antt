@@ -2,3 +2,4 @@ mod Causes
 mod Few
 mod Headlines
 mod Replied
+mod Shown

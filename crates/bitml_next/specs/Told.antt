@@ -1,11 +1,13 @@
 -- What the program that says what comes next promises, from its words to its status.
 use Rattle.std.specs.Prelude.{◌≡◌, ℕ, List, [], ◌⊎◌, Option, Some, None, is_some}
+use Rattle.spec_run.specs.Conditions.{HashesBytes}
 use Rattle.spec_tool.specs.Reads.{Read, Text, texts_read}
 use Rattle.spec_tool.specs.Commands.{Command, Printed}
 use Rattle.spec_next.specs.NextAnswer.{next_answer, next_words}
 use Rattle.bm_io.specs.Counts.{RoseBy}
 use Rattle.bitml_headline.specs.Headline.{Around, AnswersBy, AnswersByOrGivesUp, GivesUp}
 use Rattle.bitml_next.specs.Causes.{HasCauses}
+use Rattle.bitml_next.specs.Shown.{Shows}
 
 -- ---- answers
 
@@ -31,10 +33,13 @@ Caused hash (Some command) reads printed = CausedByTexts hash (texts_read reads)
 
 -- ---- the whole call
 
--- an answer, whose status comes exactly by its cause
+-- an answer with what is known of it
 pub record Serves (hash : List ℕ → List ℕ) (command : Option Command) (before now : Around) (status : ℕ) : Type 0 where
   pub answers : Answers hash command before now status
+  -- its status comes exactly by its cause
   pub caused : Caused hash command answers.reads (next_answer hash command answers.reads)
+  -- what is said of a run, or written of the first lines of one, is what the theorems say of it
+  pub shows : Shows hash command answers.reads (next_answer hash command answers.reads)
 
 -- what a call with these words does to what stands around it, and its status
 pub record Tells (hash : List ℕ → List ℕ) (words : List (List ℕ)) (before now : Around) (status : ℕ) : Type 0 where
@@ -47,3 +52,8 @@ pub record Tells (hash : List ℕ → List ℕ) (words : List (List ℕ)) (befor
   pub unwritten : status ≡ 4 → RoseBy 1 before.write_faults now.write_faults
   -- memory is never wanting where the words are no command
   pub memory : status ≡ 5 → is_some (next_words words) ≡ true
+
+-- a call that gives the defined answer, or gives up for want of memory, tells all of this
+abbrev pub TellsAll : Type 0
+TellsAll = (hash : List ℕ → List ℕ) → HashesBytes hash → (words : List (List ℕ)) (before now : Around) (status : ℕ)
+    → AnswersOrGivesUp hash (next_words words) before now status → Tells hash words before now status

@@ -4,6 +4,7 @@
 mod call;
 mod playing;
 mod replying;
+mod theorem;
 mod tool;
 
 use bm_hash::Sha;

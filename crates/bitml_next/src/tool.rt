@@ -14,9 +14,10 @@ ghost use Rattle.bitml_next.specs.Told.{AnswersOrGivesUp, Tells};
 
 use crate::call::call_of;
 use crate::replying::next_texts;
+use crate::theorem::answers_tell_all;
 use bitml_command::{Command, Reading, Reply, files_of, read_all};
 use bitml_headline::finish;
-use bm_hash::Hash32;
+use bm_hash::{Hash32, hashes_bytes};
 use bm_io::{Files, Sink};
 use spec_data::{Bytes, OutOfMemory};
 use std::alloc::Global;
@@ -96,7 +97,7 @@ fn answer_words<H: Hash32 + Drop, F: Files, S: Sink>(
 }
 
 /// Says what may come next in a run, or writes the first lines of one, by what the words name, and answers the status. Each status comes
-/// exactly by its cause. Nothing is read, and no memory asked, of words that are no command.
+/// exactly by its cause, and what is written is what the theorems on what comes next say of it.
 pub fn next_tool<H: Hash32 + Drop, F: Files, S: Sink>(
     alloc: Global,
     words: &[String],
@@ -108,5 +109,7 @@ pub fn next_tool<H: Hash32 + Drop, F: Files, S: Sink>(
         (around (F.told files.old) (F.log files.old) (F.taken files.old) (F.faults files.old) (S.pieces out.old) (S.faults out.old))
         (around (F.told files.new) (F.log files.new) (F.taken files.new) (F.faults files.new) (S.pieces out.new) (S.faults out.new)) result }
 {
+    hashes_bytes(&hash);
+    answers_tell_all();
     answer_words(alloc, words, hash, files, out)
 }

@@ -1,5 +1,5 @@
 -- An answer has its causes.
-use Rattle.std.proofs.Common.{◌≡◌, ℕ, Bool, true, false, ◌==◌, cond, List, [], ◌∷◌, Option, Some, None, refl, sym, inl, inr, ◌∙◌, length, arith}
+use Rattle.std.proofs.Common.{◌≡◌, ℕ, Bool, true, false, ◌==◌, cond, List, [], ◌∷◌, Option, Some, None, refl, sym, inl, inr, ◌∙◌, length, map, arith}
 use Rattle.std.specs.Prelude.{nat_le}
 use Rattle.std.proofs.lemmas.Bool.{false≢true}
 use Rattle.spec_data.specs.Digits.{onto}
@@ -56,8 +56,8 @@ files_there file files [] h = absurd (false≢true h)
 files_there file files (read ∷ reads) h = onto_there (text_read read) (texts_read reads)
 
 texts_there : (command : Command) (reads : List Read) → ReadsFiles (Some command) → tool_reads (Some command) reads ≡ true → IsThere (texts_read reads)
-texts_there (check contract) reads r h = files_there (contract_file contract) _ reads h
-texts_there (play run contracts) reads r h = files_there (run_file run) _ reads h
+texts_there (check contract) reads r h = files_there (contract_file contract) [] reads h
+texts_there (play run contracts) reads r h = files_there (run_file run) (map contract_file contracts) reads h
 texts_there (plan run contract) reads r h = absurd r
 texts_there (make number size) reads r h = absurd r
 texts_there (psbt_of run contract which) reads r h = absurd r

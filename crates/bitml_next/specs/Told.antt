@@ -1,5 +1,5 @@
 -- What the program that says what comes next promises, from its words to its status.
-use Rattle.std.specs.Prelude.{◌≡◌, ℕ, List, [], ◌⊎◌, Option, Some, None, is_some}
+use Rattle.std.specs.Prelude.{◌≡◌, ℕ, List, [], true, ◌⊎◌, Option, Some, None, is_some}
 use Rattle.spec_run.specs.Conditions.{HashesBytes}
 use Rattle.spec_tool.specs.Reads.{Read, Text, texts_read}
 use Rattle.spec_tool.specs.Commands.{Command, Printed}

@@ -1,7 +1,7 @@
 use Rattle.std.proofs.Common.{map, ap, Some, ◌∙◌}
 use Rattle.spec_next.specs.NextAnswer.{next_answer}
 use Rattle.bitml_command.specs.Seen.{asked, command}
-use Rattle.bitml_headline.proofs.Ending.{replied}
+use Rattle.bitml_headline.proofs.Ending.{replied, wanted_after}
 use Rattle.bitml_next.proofs.tool.reply.Goals as goal
 
 pub returns-clause-reply : goal.returns-clause-reply
@@ -22,3 +22,10 @@ returns-clause-reply g c =
     })
     (map asked c.as_slice.result.now) c.in_ok-reading.reading c.reply_to.result (ap (map asked) c.as_slice.ensures.value ∙ c.in_ok-list.ensures)
     c.in_ok-reading.ensures.reads c.in_ok-reading.ensures.logged c.in_ok-reading.ensures.rose c.reply_to.ensures
+
+pub returns-clause-wanted : goal.returns-clause-wanted
+returns-clause-wanted g c =
+    wanted_after c.reply_to.result (g.F.Files.log c.args.files.now) (g.F.Files.log c.read_all.new.files) (g.F.Files.taken c.args.files.now)
+    (g.F.Files.taken c.read_all.new.files) (map asked c.as_slice.result.now) _ _
+    (ap (map asked) c.as_slice.ensures.value ∙ c.in_ok-list.ensures)
+    c.in_ok-reading.ensures.logged

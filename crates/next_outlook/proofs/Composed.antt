@@ -1,16 +1,13 @@
 -- Events that are asked for one after another, and contracts.
-use Rattle.std.proofs.Common.{◌≡◌, ℕ, ◌+◌, suc, ◌<◌, ◌≤◌, List, [], ◌∷◌, ◌++◌, length, Option, Some, None, refl, sym, ap, subst, ◌∙◌}
+use Rattle.std.proofs.Common.{◌≡◌, ℕ, ◌+◌, suc, ◌<◌, List, [], ◌∷◌, ◌++◌, length, refl, sym, ap, subst, ◌∙◌}
 use Rattle.std.proofs.Common.{append_assoc, append-nil, drop, get_or, add-one}
 use Rattle.std.proofs.Math.Seq.{drop-cons}
-use Rattle.std.proofs.Math.ListN.{drop_of_length-le}
-use Rattle.std.specs.Prelude.{flat_map}
 use Rattle.std.specs.List.{AllByRecursion}
 use Rattle.std.proofs.lemmas.Grind.{flat_map-append}
 use Rattle.std.proofs.lemmas.List.Concat.{flat_map-cons}
 use Rattle.spec_terms.specs.Advert.{Advert}
 use Rattle.spec_calculus.specs.Configuration.{Configuration}
 use Rattle.spec_run.specs.declared.event.Event.{Event}
-use Rattle.spec_run.specs.declared.outcome.Outcome.{Outcome}
 use Rattle.spec_run.specs.declared.outcome.Record.{Record}
 use Rattle.spec_run.specs.Conditions.{IsEvent}
 use Rattle.spec_run.specs.Setup.{Setup}
@@ -22,9 +19,9 @@ use Rattle.spec_next.specs.Candidates.{candidates, candidates_from}
 use Rattle.spec_next.specs.Foreseen.{foreseen_strings}
 use Rattle.bm_world.specs.declared.halt.Halt.{Halt}
 use Rattle.bm_world.specs.Playing.{Played, setup_in, most_records}
-use Rattle.next_outlook.specs.Heard.{Hears, Stopped}
+use Rattle.next_outlook.specs.Heard.{Stopped}
 use Rattle.next_outlook.specs.Foretold.{foretold, all_foretold, foretold_outlook, foretold_outlooks}
-use Rattle.next_outlook.specs.Seen.{Calm, SeesOne, Sees, SeesContract, AddsContract, SeesContracts, Midway, MidwayContracts}
+use Rattle.next_outlook.specs.Seen.{SeesOne, Sees, AddsContract, SeesContracts, Midway, MidwayContracts}
 use Rattle.next_outlook.proofs.Hearing.{setup_same, reach_none, reach_more, reach_stopped, reach_end}
 use Rattle.next_outlook.proofs.Hashless.{hashes_later, foretold_later, candidates_later, strings_later, outlook_later}
 

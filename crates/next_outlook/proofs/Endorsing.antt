@@ -1,6 +1,6 @@
 -- Whether a party has endorsed, by what a contract is compiled to.
-use Rattle.std.proofs.Common.{◌≡◌, ℕ, List, Bool, true, false, Option, Some, None, Result, refl, sym, ap, subst, ◌∙◌}
-use Rattle.std.specs.Prelude.{option_map, if◌then◌else◌, IfOk}
+use Rattle.std.proofs.Common.{◌≡◌, ℕ, List, Bool, true, false, Option, Some, None, refl, sym, ap, ◌∙◌}
+use Rattle.std.specs.Prelude.{option_map, if◌then◌else◌}
 use Rattle.spec_terms.specs.Advert.{Advert}
 use Rattle.spec_nodes.specs.Nodes.{nodes_of}
 use Rattle.spec_bitcoin.specs.Keys.{Pair}

@@ -1,5 +1,5 @@
 -- What is told of events reads nothing of the messages that were hashed.
-use Rattle.std.proofs.Common.{◌≡◌, ℕ, ◌+◌, List, [], ◌∷◌, ◌++◌, map, Bool, not, Option, Some, None, refl, ap, ◌∙◌, append-nil}
+use Rattle.std.proofs.Common.{◌≡◌, ℕ, ◌+◌, List, [], ◌∷◌, ◌++◌, map, not, Option, Some, None, refl, ap, ◌∙◌, append-nil}
 use Rattle.std.specs.Prelude.{filter, flat_map, if◌then◌else◌}
 use Rattle.spec_terms.specs.Advert.{Advert}
 use Rattle.spec_terms.specs.Parties.{participants}
@@ -10,7 +10,7 @@ use Rattle.spec_compiler.specs.Instance.{Instance}
 use Rattle.spec_run.specs.declared.event.Event.{Event}
 use Rattle.spec_run.specs.declared.event.Event.TheVariants as events
 use Rattle.spec_run.specs.declared.header.HeldSecret.{HeldSecret}
-use Rattle.spec_run.specs.Setup.{Setup, is_honest}
+use Rattle.spec_run.specs.Setup.{Setup}
 use Rattle.spec_run.specs.World.{World}
 use Rattle.spec_run.specs.Compiled.{compiled_instance}
 use Rattle.spec_run.specs.Draft.{Draft, guess, settle}
@@ -18,8 +18,6 @@ use Rattle.spec_run.specs.Event.{draft}
 use Rattle.spec_next.specs.declared.outlook.Ruling.{Ruling}
 use Rattle.spec_next.specs.declared.outlook.Ruling.TheVariants as rulings
 use Rattle.spec_next.specs.declared.outlook.Prospect.{Prospect}
-use Rattle.spec_next.specs.declared.outlook.Outlook.{Outlook}
-use Rattle.spec_next.specs.declared.want.Want.{Want}
 use Rattle.spec_next.specs.Candidates.{people, advertising, committing, has_endorsed, endorsing, starting, revealing, taking_active, actives_of}
 use Rattle.spec_next.specs.Candidates.{candidates, candidates_from}
 use Rattle.spec_next.specs.Wants.{Condition, agreed, endorsed_for, conditions, unmet, wants_of}
@@ -29,7 +27,7 @@ use Rattle.theory_world.proofs.Bookless.{compiled_same}
 use Rattle.theory_run.proofs.Events.Hashless.{carried, draft_same}
 use Rattle.bm_world.specs.Playing.{Played, setup_in}
 use Rattle.next_outlook.specs.Heard.{Hears}
-use Rattle.next_outlook.specs.Foretold.{calm_ruling, told, foretold, all_foretold, foretold_outlook, foretold_outlooks}
+use Rattle.next_outlook.specs.Foretold.{calm_ruling, told, foretold, all_foretold, foretold_outlook}
 use Rattle.next_outlook.proofs.Hearing.{setup_same}
 
 -- nothing more is told

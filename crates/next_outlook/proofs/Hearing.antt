@@ -16,7 +16,7 @@ use Rattle.bm_world.specs.Playing.{Played, SameSetup, setup_in}
 use Rattle.bm_world.specs.Foreseeing.{Foresees, StoppedForeseeing}
 use Rattle.bm_world.specs.Halts.{IsAgain}
 use Rattle.bm_world.proofs.Stopped.{stopped_again, kept_halt}
-use Rattle.next_outlook.specs.Heard.{Hears, Clashes, Stopped}
+use Rattle.next_outlook.specs.Heard.{Hears, Stopped}
 use Rattle.next_outlook.specs.Seen.{Calm, Reaches}
 
 -- ---- collisions of more strings
@@ -137,6 +137,11 @@ module _ {H : Type 0} (digest : H → List ℕ → List ℕ) where
 
       not_guessed : (party secret : List ℕ) → Memory ≡ Guessed party secret → ⊥
       not_guessed party secret q = cc
+
+  -- the same strings
+  pub stopped_same : (old new : Played H) (xs ys : List (List ℕ)) (halt : Halt) → xs ≡ ys → Stopped digest old new xs halt
+      → Stopped digest old new ys halt
+  stopped_same old new xs ys halt e h = subst (λ (zs : List (List ℕ)). Stopped digest old new zs halt) e h
 
   -- ---- strings that are hashed in turn
 

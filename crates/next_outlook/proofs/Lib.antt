@@ -3,5 +3,6 @@ mod Endorsing
 mod Events
 pub mod Hashless
 mod Hearing
+mod Listed
 mod Looked
 mod Told

@@ -1,6 +1,6 @@
 -- Where the strings of all candidates collide with none, what is told is what the definitions say.
-use Rattle.std.proofs.Common.{◌≡◌, ℕ, ◌+◌, List, [], ◌∷◌, ◌++◌, map, Bool, true, false, Option, Some, None, refl, sym, ap, subst, ◌∙◌}
-use Rattle.std.specs.Prelude.{filter, flat_map, if◌then◌else◌}
+use Rattle.std.proofs.Common.{◌≡◌, ℕ, ◌+◌, List, [], ◌∷◌, ◌++◌, map, Bool, true, false, None, Result, Ok, Err, refl, sym, ap, subst, ◌∙◌}
+use Rattle.std.specs.Prelude.{filter, if◌then◌else◌, IfOk}
 use Rattle.std.specs.Option.{option_or}
 use Rattle.std.proofs.lemmas.Grind.{flat_map-append}
 use Rattle.std.proofs.lemmas.List.Concat.{flat_map-cons}
@@ -13,14 +13,12 @@ use Rattle.spec_run.specs.Setup.{Setup}
 use Rattle.spec_run.specs.World.{World}
 use Rattle.spec_run.specs.Draft.{guess, settle}
 use Rattle.spec_run.specs.Event.{draft}
-use Rattle.spec_next.specs.declared.outlook.Prospect.{Prospect}
 use Rattle.spec_next.specs.declared.outlook.Outlook.{Outlook}
-use Rattle.spec_next.specs.declared.outlook.Ruling.{Ruling}
 use Rattle.spec_next.specs.Candidates.{candidates, candidates_from}
 use Rattle.spec_next.specs.Wants.{wants_of}
-use Rattle.spec_next.specs.Prospects.{ruling, ruling_of, is_shown, wants_by, prospect, prospects_of, outlook_by, outlooks_from, outlooks}
+use Rattle.spec_next.specs.Prospects.{ruling, ruling_of, is_shown, wants_by, prospect, prospects_of, outlook_by, outlooks_from}
 use Rattle.spec_next.specs.Foreseen.{foreseen_strings}
-use Rattle.theory_run.proofs.Fewer.{Within, collision_within}
+use Rattle.theory_run.proofs.Fewer.{collision_within}
 use Rattle.theory_world.proofs.Hashed.{all_more}
 use Rattle.bm_world.specs.Playing.{Played, setup_in}
 use Rattle.next_outlook.specs.Seen.{SeesContracts, Looked}
@@ -85,3 +83,10 @@ looked_by digest g old new list going h = record {
   calm = h.calm.calm;
   outlooks = h.told ∙ outlooks_are (setup_in digest old) g old.world 0 g.contracts h.calm.calm;
 }
+
+-- where all contracts were asked
+pub looked_if : {H E : Type 0} (digest : H → List ℕ → List ℕ) (g : Configuration) (old new : Played H) (cs : List Advert) (r : Result (List Outlook) E)
+    → old.halt ≡ None → cs ≡ g.contracts → IfOk r (SeesContracts digest old new g cs) → IfOk r (Looked digest old new g)
+looked_if digest g old new cs (Ok list) going e h =
+    looked_by digest g old new list going (subst (λ (ds : List Advert). SeesContracts digest old new g ds list) e h)
+looked_if digest g old new cs (Err error) going e h = tt

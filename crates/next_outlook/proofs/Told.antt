@@ -1,6 +1,6 @@
 -- What is told of an event by what it would come to.
-use Rattle.std.proofs.Common.{◌≡◌, ℕ, List, Option, Some, None, refl, sym, ap, ◌∙◌}
-use Rattle.spec_data.specs.Messages.{collision, noted_all}
+use Rattle.std.proofs.Common.{◌≡◌, ℕ, List, Option, None, refl, ap, ◌∙◌}
+use Rattle.spec_data.specs.Messages.{collision}
 use Rattle.spec_calculus.specs.Configuration.{Configuration}
 use Rattle.spec_run.specs.declared.event.Event.{Event}
 use Rattle.spec_run.specs.declared.outcome.Outcome.{Outcome}

@@ -13,6 +13,7 @@ use bm_world::World;
 use next_events::{advertising, put_actives, put_committing, put_revealing, put_starting};
 use spec_data::{Name, OutOfMemory, Seq};
 use spec_run::Event;
+use spec_terms::Pre;
 use std::alloc::Global;
 
 // Adds the endorsements of those of these people who have something left to sign.
@@ -39,6 +40,13 @@ fn put_endorsing<H: Hash32 + Drop>(
     Ok(())
 }
 
+// The precondition of a contract.
+fn pre_of(checked: &Checked) -> &[Pre]
+    ensures { result.now ≡ checked.now.pre }
+{
+    &checked.advert().pre
+}
+
 // The candidates by these people.
 #[tactic(auto, using(std::proofs::Common::append_assoc))]
 fn candidates_by<H: Hash32 + Drop>(
@@ -52,7 +60,7 @@ fn candidates_by<H: Hash32 + Drop>(
     ensures { IfOk result (λ found. found
         ≡ spec.candidates_by (setup_in H.digest_of world.now) config.now world.now.world contract checked.now people.now) }
 {
-    let pre = &checked.advert().pre;
+    let pre = pre_of(checked);
     let advertised = advertising(alloc, config, contract, pre)?;
     let mut found = Seq::new(alloc);
     found.push(advertised)?;

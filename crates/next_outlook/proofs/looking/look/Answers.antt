@@ -23,8 +23,8 @@ returns-in-Ok-clause-sees g c = record {
       (ruling_in c.in_ok-outcome.outcome) refl c.in_ok-outcome.ensures.foresees);
 }
 
-pub returns-in-Err-clause-stopped : goal.returns-in-Err-clause-stopped
-returns-in-Err-clause-stopped g c =
+pub returns-clause-stopped : goal.returns-clause-stopped
+returns-clause-stopped g c =
     wanting g.H.Hash32.digest_of c.args.world.now c.foresee.new.self _ _ Memory
     (foreseen_calm g.H.Hash32.digest_of c.args.world.now c.foresee.new.self c.args.event.now c.in_ok-outcome.outcome c.in_ok-outcome.ensures.foresees).hears
     refl

@@ -1,4 +1,4 @@
-use Rattle.std.proofs.Common.{◌≡◌, drop}
+use Rattle.std.proofs.Common.{drop}
 use Rattle.next_outlook.specs.Seen.{MidwayContracts}
 use Rattle.next_outlook.proofs.looking.look_contracts.Given as goal
 

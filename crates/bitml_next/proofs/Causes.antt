@@ -1,9 +1,8 @@
 -- Each status that texts are answered with comes exactly by its cause.
-use Rattle.std.proofs.Common.{◌≡◌, ℕ, ◌↔◌, Bool, true, false, ◌==◌, List, [], ◌∷◌, Option, Some, None, Ok, Err, refl, sym, ap, subst, inl, inr, ◌∙◌, arith}
-use Rattle.std.specs.Prelude.{◌⊎◌, ◌||◌, is_err}
+use Rattle.std.proofs.Common.{◌≡◌, ℕ, ◌↔◌, Bool, true, false, ◌==◌, List, [], ◌∷◌, Option, Some, None, Ok, Err, refl, sym, ap, inl, inr, arith}
+use Rattle.std.specs.Prelude.{◌||◌, is_err}
 use Rattle.std.proofs.lemmas.Bool.{false≢true}
 use Rattle.spec_data.specs.Lists.{has_number}
-use Rattle.spec_data.specs.Messages.{collision}
 use Rattle.spec_terms.specs.Advert.{Advert}
 use Rattle.spec_run.specs.declared.event.Event.{Event}
 use Rattle.spec_run.specs.declared.event.Run.{Run}
@@ -20,7 +19,7 @@ use Rattle.spec_next.specs.Foreseen.{foreseen_collision, unless_collided, next_p
 use Rattle.spec_next.specs.OutlookText.{next_text}
 use Rattle.spec_next.specs.NextAnswer.{begins_judged, next_texts}
 use Rattle.theory_run.proofs.Halting.Halts.{calm_is, collides}
-use Rattle.theory_tool.specs.Runs.{IsGuessing, IsColliding, IsUnhalted}
+use Rattle.theory_tool.specs.Runs.{IsGuessing, IsUnhalted}
 use Rattle.theory_tool.specs.Statuses.{PlaysFiles}
 use Rattle.theory_tool.proofs.Statuses.{apart}
 use Rattle.theory_tool.proofs.Runs.{Outcome, is_whole, is_guess, is_collision, Different, Exactly, exactly, run_exactly}

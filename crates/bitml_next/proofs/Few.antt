@@ -1,5 +1,5 @@
 -- The words name few files.
-use Rattle.std.proofs.Common.{◌≡◌, ◌≤◌, ℕ, suc, ◌+◌, List, length, map, Some, refl, arith}
+use Rattle.std.proofs.Common.{◌≡◌, ◌≤◌, suc, ◌+◌, length, map, Some, refl, arith}
 use Rattle.std.proofs.lemmas.List.{length-map}
 use Rattle.spec_data.specs.Ranges.{most_contracts}
 use Rattle.spec_tool.specs.Commands.{Command, check, play, plan, make, psbt_of, psbt_shown, psbt_joined, weigh, audit, auto, files_of, contract_file}

@@ -1,5 +1,5 @@
 -- What is written shows what the theorems on what comes next say.
-use Rattle.std.proofs.Common.{◌≡◌, ℕ, ◌+◌, ◌≤◌, List, [], ◌∷◌, length, map, Option, Some, None, Ok, Err, refl, sym, ap, subst, ◌∙◌, arith}
+use Rattle.std.proofs.Common.{◌≡◌, ℕ, ◌+◌, List, [], ◌∷◌, length, map, Option, Some, None, Ok, Err, refl, sym, ap, subst, ◌∙◌, arith}
 use Rattle.std.specs.Prelude.{if◌then◌else◌, nat_lt, Bool, true, false, Result}
 use Rattle.spec_terms.specs.Advert.{Advert}
 use Rattle.spec_terms.specs.Faults.{first_fault, first_limit, IsWellFormed}
@@ -10,7 +10,6 @@ use Rattle.spec_run.specs.Conditions.{HashesBytes}
 use Rattle.spec_run.specs.Draft.{Halt, Collided, Guessed}
 use Rattle.spec_run.specs.World.{World}
 use Rattle.spec_run.specs.declared.event.Event.{Event}
-use Rattle.spec_run.specs.declared.event.Run.{Run}
 use Rattle.spec_run.specs.Event.{opening_collision}
 use Rattle.spec_run.specs.Setup.{Setup}
 use Rattle.spec_run.specs.Statements.{IsRun}
@@ -20,7 +19,7 @@ use Rattle.spec_text.specs.Limits.{most_text_bytes}
 use Rattle.spec_text.specs.PlayText.{Ending, whole, guessed, collided}
 use Rattle.spec_text.specs.Played.{ending, ending_from}
 use Rattle.spec_text.specs.ReadAdvert.{read_answer}
-use Rattle.spec_text.specs.Refusals.{Judged, judged_limit, judged_fault, judged_answer, contract_of, run_of}
+use Rattle.spec_text.specs.Refusals.{Judged, judged_limit, judged_fault, judged_answer, contract_of}
 use Rattle.spec_tool.specs.Reads.{Read, Text, texts_read}
 use Rattle.spec_tool.specs.Commands.{Command, Printed, contracts_from, onto_judged, setup_of, ending_status, both_judged}
 use Rattle.spec_tool.specs.Answers.{contracts_in, if_whole, unless_stopped}
@@ -37,7 +36,7 @@ use Rattle.theory_next.specs.Ready.{ReadyComesTheorem}
 use Rattle.theory_next.specs.Wants.{WantsAreExactTheorem}
 use Rattle.theory_text.proofs.Within.Adverts.{read_is_readable}
 use Rattle.theory_tool.proofs.Runs.{opens_calmly}
-use Rattle.bitml_next.specs.Shown.{SaysOfRun, BeginsARun, ShowsRun, ShowsContract, ShowsTexts, Shows}
+use Rattle.bitml_next.specs.Shown.{SaysOfRun, ShowsRun, ShowsContract, ShowsTexts, Shows}
 
 -- the theorems that are cited
 pub record Theorems : Type 0 where

@@ -1,4 +1,4 @@
-use Rattle.std.proofs.Common.{subst, ◌∙◌}
+use Rattle.std.proofs.Common.{◌≡◌, subst, ◌∙◌}
 use Rattle.std.specs.Prelude.{IfOk}
 use Rattle.spec_tool.specs.Commands.{Printed}
 use Rattle.bitml_command.specs.Seen.{printed}

@@ -1,4 +1,4 @@
-use Rattle.std.proofs.Common.{subst}
+use Rattle.std.proofs.Common.{◌≡◌, subst}
 use Rattle.std.specs.Prelude.{IfOk}
 use Rattle.spec_calculus.specs.Configuration.{Configuration}
 use Rattle.bitml_command.specs.Seen.{printed}

@@ -8,3 +8,4 @@ pub mod Apart
 pub mod Once
 pub mod FirstLines
 pub mod FirstRun
+pub mod Onward

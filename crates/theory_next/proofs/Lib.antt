@@ -9,3 +9,5 @@ pub mod Once
 pub mod FirstLines
 pub mod FirstRun
 pub mod Onward
+pub mod FirstStage
+pub mod FirstFire

@@ -11,3 +11,4 @@ pub mod FirstRun
 pub mod Onward
 pub mod FirstStage
 pub mod FirstFire
+pub mod FirstNeeds

@@ -12,3 +12,5 @@ pub mod Onward
 pub mod FirstStage
 pub mod FirstFire
 pub mod FirstNeeds
+pub mod FirstQuiet
+pub mod FirstSigned

@@ -14,3 +14,4 @@ pub mod FirstFire
 pub mod FirstNeeds
 pub mod FirstQuiet
 pub mod FirstSigned
+pub mod FirstSecrets

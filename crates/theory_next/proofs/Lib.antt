@@ -15,3 +15,4 @@ pub mod FirstNeeds
 pub mod FirstQuiet
 pub mod FirstSigned
 pub mod FirstSecrets
+pub mod FirstCommits

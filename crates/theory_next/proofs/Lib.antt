@@ -16,3 +16,4 @@ pub mod FirstQuiet
 pub mod FirstSigned
 pub mod FirstSecrets
 pub mod FirstCommits
+pub mod FirstAdvert

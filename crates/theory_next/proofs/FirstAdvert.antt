@@ -56,11 +56,7 @@ not_below n (m ∷ seen) h = let less = h.0 in or_from _ _ (grind (arith, nat_te
 
 below_more : (n : ℕ) (seen : List ℕ) → AllBelow n seen → AllBelow (n + 1) (seen ++ n ∷ [])
 below_more n [] h = (omega arith, tt)
-below_more n (m ∷ seen) h = let less = h.0 in (omega (arith, less), further n seen h.1)
-  where
-    further : (n : ℕ) (seen : List ℕ) → AllBelow n seen → AllBelow (n + 1) (seen ++ n ∷ [])
-    further n [] h = (omega arith, tt)
-    further n (m ∷ seen) h = let less = h.0 in (omega (arith, less), further n seen h.1)
+below_more n (m ∷ seen) h = let less = h.0 in (omega (arith, less), below_more n seen h.1)
 
 never_repeated : (n : ℕ) (names : List (List ℕ)) (seen : List ℕ) → AllBelow n seen → repeated seen (bound_from n names) ≡ None
 never_repeated n [] seen h = refl
@@ -145,3 +141,82 @@ module _ (s : Setup) (advert : Advert) (first : IsFirst s advert) (w : World)
   all_suit n (d ∷ ds) h declared looked =
       rw (one_suits n d h.0 (declared d (inl refl)) (looked d (inl refl)))
       (all_suit (n + 1) ds h.1 (λ x i. declared x (inr i)) (λ x i. looked x (inr i)))
+
+-- ---- the event
+
+-- someone takes part, and so an honest party does
+some_honest : (s : Setup) (people : List (List ℕ)) (a : List ℕ) → is_among a people ≡ true
+    → ((p : List ℕ) → is_among p people ≡ true → is_honest s p ≡ true) → list_any (is_honest s) people ≡ true
+some_honest s [] a h honest = cc
+some_honest s (p ∷ people) a h honest = or_left _ _ (honest p (among_head p people))
+
+module _ (s : Setup) (advert : Advert) (first : IsFirst s advert) (setup : IsSetup s) (opens : opening_collision s ≡ None)
+    (given : s.header.deposits ≡ owned (deposits advert.pre)) where
+  abbrev w : World
+  w = opening_world s
+
+  abbrev ds : List (List ℕ × Holding)
+  ds = deposits advert.pre
+
+  abbrev bindings : List (List ℕ × ℕ)
+  bindings = bound_from 0 (names_of ds)
+
+  abbrev id : List ℕ
+  id = txid s.hash (opening_transaction (opening_outputs s))
+
+  owner_is : (p : List ℕ) → is_declared s p ≡ true → owner_by s (paid_to s p) ≡ Party p
+  owner_is = owner_paid s (opening_configuration s) w (opening_book s setup opens) w.hashed (clear s setup opens) (λ t h. h)
+
+  deposits_at : AreDepositsAt s w 0 ds
+  deposits_at =
+      made_in_order s w id ds [] 0 0 refl
+      (ap (λ xs. made_from holds_nothing id 0 (map {B = TxOut} (λ (d : List ℕ × ℕ). record { value = d.1; script = paid_to s (d.0) }) xs)) given)
+
+  abbrev pub advertised_world : World
+  advertised_world = record w {
+    advertised = w.advertised ++ record { contract = 0; bindings = arranged 0 (deposit_names s 0) bindings } ∷ [];
+  }
+
+  pub advertises : draft s w (events.Advertise 0 bindings) ≡ done advertised_world []
+  advertises =
+      let pre : pre_at s 0 ≡ advert.pre = ap pre_of first.there in
+      let names : deposit_names s 0 ≡ names_of ds = ap (λ p. names_of (deposits p)) pre in
+      let apart = deposits_different advert.pre (different_names advert first.well) in
+      let rearranged : are_rearranged (names_of bindings) (deposit_names s 0) ≡ true =
+      (λ i. are_rearranged (names_bound 0 (names_of ds) i) (names i))
+      ∙ and_from _ _ (and_from _ _ apart (same_names (names_of ds))) (same_names (names_of ds)) in
+      let declared : (d : List ℕ × Holding) → Is_in d ds → is_declared s (d.1).owner ≡ true =
+      λ d i. first.declared (d.1).owner (owner_takes_part advert d i) in
+      let looked : (d : List ℕ × Holding) → Is_in d ds → look_up (d.0) (deposits (pre_at s 0)) ≡ Some (d.1) =
+      λ d i. ap (λ p. look_up (d.0) (deposits p)) pre ∙ in_looked ds d apart i in
+      let one = a_person advert first.well in
+      let honest : list_any (is_honest s) (people_at s 0) ≡ true =
+      ap (λ o. list_any (is_honest s) (people_of o)) first.there ∙ some_honest s (participants advert) one.0 one.1 first.honest in
+      let row : first_reason (advertise_row s w 0 bindings) ≡ None =
+      none_reason (advertise_row s w 0 bindings) (
+        ap not (has_first s advert first),
+        (
+          refl,
+          (
+            ap not rearranged,
+            (
+              ap is_some (never_repeated 0 (names_of ds) [] tt),
+              (
+                ap is_some (all_are_live s advert first w owner_is 0 ds deposits_at),
+                (ap is_some (all_suit s advert first w owner_is 0 ds deposits_at declared looked), (ap not honest, tt)),
+              ),
+            ),
+          ),
+        ),
+      ) in
+      ap (λ r. unless r w [] (done advertised_world [])) row
+
+  -- nobody has committed then
+  pub none_committed : Committing s advert (participants advert) (settled w (done advertised_world []))
+  none_committed = record {
+    told = refl;
+    live = record { live = λ n o h. let r = get-made holds_nothing id 0 n (opening_outputs s) o h in ap (λ (x : Output). x.live) r.2 };
+    ahead = λ p i. refl;
+    promised = λ p h. inl (from_among p (participants advert) h);
+    used = λ d h. cc;
+  }

@@ -17,3 +17,5 @@ pub mod FirstSigned
 pub mod FirstSecrets
 pub mod FirstCommits
 pub mod FirstAdvert
+pub mod FirstHeld
+pub mod FirstEvents

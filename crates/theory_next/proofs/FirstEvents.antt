@@ -1,9 +1,9 @@
 -- The run that begins a contract goes through, unless it halts.
-use Rattle.std.proofs.Common.{◌≡◌, ℕ, List, [], ◌∷◌, ◌++◌, map, Bool, true, Option, Some, None, refl, sym, ap, ◌∙◌, subst, inl, inr}
+use Rattle.std.proofs.Common.{◌≡◌, ℕ, zero, suc, List, [], ◌∷◌, ◌++◌, map, Bool, true, Option, Some, None, refl, sym, ap, ◌∙◌, subst, inl, inr}
 use Rattle.std.specs.Prelude.{not}
 use Rattle.std.specs.List.{list_all}
 use Rattle.std.proofs.lemmas.Bool.{and_parts, and_from}
-use Rattle.spec_data.specs.Lists.{is_among}
+use Rattle.spec_data.specs.Lists.{is_among, has_number}
 use Rattle.spec_terms.specs.Advert.{Advert}
 use Rattle.spec_terms.specs.Parties.{participants, choice_mentions}
 use Rattle.spec_terms.specs.Precondition.{Holding, deposits, persistent, names_of, party_of}
@@ -12,7 +12,7 @@ use Rattle.spec_compiler.specs.Instance.{Instance}
 use Rattle.spec_run.specs.declared.event.Event.{Event}
 use Rattle.spec_run.specs.declared.event.Event.TheVariants as events
 use Rattle.spec_run.specs.declared.outcome.Record.{Record}
-use Rattle.spec_run.specs.Setup.{Setup}
+use Rattle.spec_run.specs.Setup.{Setup, contract_at}
 use Rattle.spec_run.specs.World.{World}
 use Rattle.spec_run.specs.Compiled.{instance_of}
 use Rattle.spec_run.specs.Draft.{Halt, done, settled}
@@ -31,7 +31,7 @@ use Rattle.theory_next.specs.FirstRun.{first_setup}
 use Rattle.theory_next.specs.FirstEvents.{GoesThroughOrHalts, FirstEventsGoThrough}
 use Rattle.theory_next.proofs.Apart.{Apart, apart_added}
 use Rattle.theory_next.proofs.FirstRun.{from_among, first_run_is_a_run}
-use Rattle.theory_next.proofs.Onward.{AllPass, GoesSoFar, Fine}
+use Rattle.theory_next.proofs.Onward.{AllPass, GoesSoFar, Fine, left}
 use Rattle.theory_next.proofs.FirstStage.{IsFirst}
 use Rattle.theory_next.proofs.FirstQuiet.{passes_quietly}
 use Rattle.theory_next.proofs.FirstFire.{begins}
@@ -125,6 +125,7 @@ goes_through s es run fine = record {
   all = λ on.
       map_map (λ (r : Record). r.event) record_in (course s es).turns
       ∙ subst (EndsAs s es (map (λ (t : Turn). t.event) (course s es).turns) (last_world s es)) on (halting.halts.runs s es run).ends;
+  begins = λ on. ap (λ (w : World). has_number 0 w.begun) (left s es) ∙ fine.begins on;
   halts = fine.halts;
 }
 
@@ -132,6 +133,10 @@ pub first_events_go_through : FirstEventsGoThrough
 first_events_go_through hash advert strings hashes well room are long opens =
     let s = first_setup hash advert strings in
     let run = first_run_is_a_run hash advert strings hashes well room are opens in
-    let first : IsFirst s advert = record { there = refl; well = well; declared = λ p h. h; honest = λ p h. h } in
+    let first : IsFirst s advert = record { there = refl; only = only; well = well; declared = λ p h. h; honest = λ p h. h } in
     goes_through s (first_events advert) run
     (run_is_fine s advert first (has_secrets hash advert strings well are long) opens run.setup refl)
+  where
+    only : (k : ℕ) (other : Advert) → contract_at (first_setup hash advert strings) k ≡ Some other → k ≡ 0
+    only zero other h = refl
+    only (suc k) other h = cc

@@ -1,11 +1,11 @@
 -- A contract whose deposits may all be taken begins, unless that halts the run.
 use Rattle.std.proofs.Common.{◌≡◌, ℕ, List, [], ◌∷◌, ◌++◌, map, Bool, true, false, not, Option, Some, None, refl, sym, ap, ◌∙◌, subst, inl, inr, append-nil}
-use Rattle.std.specs.Prelude.{◌&&◌, is_some}
+use Rattle.std.specs.Prelude.{◌&&◌, ◌==◌, is_some}
 use Rattle.std.specs.List.{flat_map, list_all}
 use Rattle.std.specs.Str.{bytes_eq}
-use Rattle.std.proofs.lemmas.Bool.{and_parts, and_from, or_cases}
+use Rattle.std.proofs.lemmas.Bool.{and_parts, and_from, or_cases, or_right}
 use Rattle.std.proofs.lemmas.List.Concat.{flat_map-cons}
-use Rattle.spec_data.specs.Lists.{is_among, look_up, first_reason, AllTrue}
+use Rattle.spec_data.specs.Lists.{is_among, has_number, look_up, first_reason, AllTrue}
 use Rattle.spec_data.specs.Messages.{collision}
 use Rattle.spec_terms.specs.Advert.{Advert}
 use Rattle.spec_terms.specs.Parties.{participants, choice_mentions}
@@ -31,7 +31,7 @@ use Rattle.spec_run.specs.Compiled.{compiled_instance}
 use Rattle.spec_run.specs.Draft.{Draft, Guessed, is_guessed, guess, unless}
 use Rattle.spec_run.specs.Giving.{deposit_witness}
 use Rattle.spec_run.specs.Firing.{witnessed, deposit_witnesses, initial_witnesses, initial_transaction, initial_by, reaches_if, fire_init_row}
-use Rattle.spec_run.specs.Ledger.{accepted, judged, items_of}
+use Rattle.spec_run.specs.Ledger.{accepted, judged, items_of, initial_of, kind_by, first_position, begun_after}
 use Rattle.spec_run.specs.Event.{draft, played}
 use Rattle.spec_run.specs.Steps.{is_bound_live}
 use Rattle.spec_run.specs.Values.{is_refused}
@@ -46,6 +46,9 @@ use Rattle.theory_world.proofs.Contracts.Endorsed.{in_map}
 use Rattle.theory_world.proofs.Later.{IsCompiledAt, compiled_is}
 use Rattle.theory_run.specs.KeptRuns.{KeptRun}
 use Rattle.theory_run.proofs.Following.{run_posts}
+use Rattle.theory_bitcoin.specs.Apart.{bare}
+use Rattle.theory_world.proofs.Ledger.Acceptable.{with-bare}
+use Rattle.theory_run.proofs.Accepted.WhatItIs.{initial_is, not_initial}
 use Rattle.theory_run.proofs.Steps.Beginnings.{bindings_same, committed_same, there_same}
 use Rattle.theory_offers.proofs.WholeRun.{KeptAll, kept_offers}
 use Rattle.theory_next.specs.FirstEvents.{MayHalt, SpendsDeposit, SecretSpendsDeposit}
@@ -213,9 +216,34 @@ module _ (s : Setup) (advert : Advert) (first : IsFirst s advert)
           spends = item_spends s st x.bytes own (sym (ap (is_among x.bytes) posts_are) ∙ posted);
         }
 
+    -- it is the initial transaction of the only contract
+    begins_it : initial_of s w kept.tx ≡ Some 0
+    begins_it = by_contract (initial_of s w kept.tx) refl
+      where
+        by_contract : (o : Option ℕ) → initial_of s w kept.tx ≡ o → o ≡ Some 0
+        by_contract None q =
+            let made = prepared s.hash (initial_unsigned s.hash st) in
+            absurd (not_initial s w kept.tx 0 st q compiled (ap bare tx_is ∙ with-bare made.tx (initial_witnesses s st made)))
+        by_contract (Some k) q =
+            let it = initial_is s w kept.tx k q in
+            let c = compiled_is s w k it.instance it.compiled in
+            ap Some (first.only k c.advert c.there)
+
+    begun_then : (draft s w e).world.begun ≡ w.begun ++ 0 ∷ []
+    begun_then =
+        ap (λ (d : Draft). d.world.begun) draft_is
+        ∙ ap (λ o. begun_after (kind_by s kept.tx kept.spent o (first_position w kept.spent)) w.begun) begins_it
+
+    number_there : (ns : List ℕ) → has_number 0 (ns ++ 0 ∷ []) ≡ true
+    number_there [] = refl
+    number_there (n ∷ ns) = or_right (n == 0) _ (number_there ns)
+
     pub begins : Fine s (played s (es ++ e ∷ []))
     begins = goes s es so e tt []
         (λ calm. ap (λ (d : Draft). is_refused d.outcome) draft_is)
         (λ pair h. tt)
         (λ x calm h. guessed x h)
-        (λ calm on. subst (λ xs. Fine s (played s xs)) (sym (append-nil (es ++ e ∷ []))) (fine_so_far s (es ++ e ∷ []) on.so_far))
+        (λ calm on.
+        let begun : has_number 0 (last_world s (es ++ e ∷ [])).begun ≡ true =
+        ap (λ (x : World). has_number 0 x.begun) on.world ∙ ap (has_number 0) begun_then ∙ number_there w.begun in
+        subst (λ xs. Fine s (played s xs)) (sym (append-nil (es ++ e ∷ []))) (fine_so_far s (es ++ e ∷ []) on.so_far begun))

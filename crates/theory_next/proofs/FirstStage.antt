@@ -21,9 +21,10 @@ use Rattle.theory_run.proofs.Following.{run_posts, KeptAfter, kept_at_end}
 use Rattle.theory_offers.proofs.WholeRun.{KeptAll, opening_all, keeps_all}
 use Rattle.theory_next.proofs.Onward.{GoesSoFar}
 
--- the first contract is this one, and everyone who takes part in it is declared and honest
+-- the only contract is this one, and everyone who takes part in it is declared and honest
 pub record IsFirst (s : Setup) (advert : Advert) : Type 0 where
   pub there : contract_at s 0 ≡ Some advert
+  pub only : (k : ℕ) (other : Advert) → contract_at s k ≡ Some other → k ≡ 0
   pub well : IsWellFormed advert
   pub declared : (party : List ℕ) → is_among party (participants advert) ≡ true → is_declared s party ≡ true
   pub honest : (party : List ℕ) → is_among party (participants advert) ≡ true → is_honest s party ≡ true

@@ -3,6 +3,7 @@ use Rattle.std.proofs.Common.{◌≡◌, ℕ, List, [], ◌∷◌, ◌++◌, Boo
 use Rattle.std.specs.Prelude.{not}
 use Rattle.std.specs.List.{list_all}
 use Rattle.std.proofs.lemmas.Bool.{and_from}
+use Rattle.spec_data.specs.Lists.{has_number}
 use Rattle.spec_data.specs.Messages.{collision}
 use Rattle.spec_run.specs.declared.event.Event.{Event}
 use Rattle.spec_run.specs.declared.header.HeldSecret.{HeldSecret}
@@ -30,13 +31,22 @@ pub record GoesSoFar (s : Setup) (es : List Event) : Type 0 where
   pub on : first_halt s es ≡ None
   pub fine : AllPass (played s es).passed
 
--- what was played is fine, and so is the halt
+-- what was played is fine, and so is the halt; without one the first contract has begun
 pub record Fine (s : Setup) (p : Progress) : Type 0 where
   pub passes : AllPass p.passed
+  pub begins : p.halt ≡ None → has_number 0 (world_after (opening_world s) p.passed).begun ≡ true
   pub halts : HaltsOnlySo s p.halt
 
-pub fine_so_far : (s : Setup) (es : List Event) → GoesSoFar s es → Fine s (played s es)
-fine_so_far s es so = record { passes = so.fine; halts = subst (HaltsOnlySo s) (sym so.on) tt }
+-- the world that was left
+pub left : (s : Setup) (es : List Event) → last_world s es ≡ world_after (opening_world s) (played s es).passed
+left s es = last_left s (run_posts s es) (played s es).passed (opening_configuration s) (opening_world s)
+
+pub fine_so_far : (s : Setup) (es : List Event) → GoesSoFar s es → has_number 0 (last_world s es).begun ≡ true → Fine s (played s es)
+fine_so_far s es so begun = record {
+  passes = so.fine;
+  begins = λ on. subst (λ (w : World). has_number 0 w.begun ≡ true) (left s es) begun;
+  halts = subst (HaltsOnlySo s) (sym so.on) tt;
+}
 
 -- where these events go on, the later ones are played from the world that they left
 played_on : (s : Setup) (es later : List Event) (w last : World)
@@ -66,16 +76,14 @@ module _ (s : Setup) (es : List Event) (so : GoesSoFar s es) (e : Event) (is : I
   abbrev d : Draft
   d = draft s w e
 
-  left : w ≡ world_after (opening_world s) (played s es).passed
-  left = last_left s (run_posts s es) (played s es).passed (opening_configuration s) (opening_world s)
-
   -- where it halts, the later events aren't played
   halting : (h : Halt) → event s w e ≡ Halted h → MayHalt s e h → Fine s (played s (es ++ e ∷ later))
   halting h answer may =
-      let all = played_on s es (e ∷ later) (opening_world s) w so.on (sym left)
+      let all = played_on s es (e ∷ later) (opening_world s) w so.on (sym (left s es))
       ∙ ap (before (played s es).passed) (played-halted s w e later h answer) in
       subst (Fine s) (sym all) (record {
         passes = all_append (λ (p : Passed). not (is_refused p.draft.outcome)) (played s es).passed [] so.fine refl;
+        begins = λ on. cc;
         halts = may;
       })
 
@@ -87,7 +95,7 @@ module _ (s : Setup) (es : List Event) (so : GoesSoFar s es) (e : Event) (is : I
   further : collision s.hash w.hashed d.hashes ≡ None → guess s w.posted d.posts d.allowed ≡ None
       → is_refused d.outcome ≡ false → GoesOnSo
   further calm unguessed passes =
-      let more = played_more s es e (opening_world s) w so.on (sym left) calm unguessed in
+      let more = played_more s es e (opening_world s) w so.on (sym (left s es)) calm unguessed in
       record {
         so_far = record {
           run = record { setup = so.run.setup; opens = so.run.opens; events = all_push (IsEvent s) es e so.run.events is };
@@ -96,8 +104,7 @@ module _ (s : Setup) (es : List Event) (so : GoesSoFar s es) (e : Event) (is : I
               (all_append (λ (p : Passed). not (is_refused p.draft.outcome)) (played s es).passed (passing s w e ∷ []) so.fine
               (and_from _ _ (ap not passes) refl));
         };
-        world = last_left s (run_posts s (es ++ e ∷ [])) (played s (es ++ e ∷ [])).passed (opening_configuration s) (opening_world s)
-            ∙ ap (λ (p : Progress). world_after (opening_world s) p.passed) more
+        world = left s (es ++ e ∷ []) ∙ ap (λ (p : Progress). world_after (opening_world s) p.passed) more
             ∙ left_more (played s es).passed (passing s w e) (opening_world s);
       }
 

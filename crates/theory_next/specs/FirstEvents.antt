@@ -1,6 +1,7 @@
 -- What is claimed of the events of the run that begins a contract: each is done or accepted, unless the run halts.
 use Rattle.std.specs.Prelude.{◌≡◌, ◌⊎◌, ℕ, List, map, not, true, Option, Some, None}
 use Rattle.std.specs.List.{Contains, list_all}
+use Rattle.spec_data.specs.Lists.{has_number}
 use Rattle.spec_terms.specs.Advert.{Advert}
 use Rattle.spec_terms.specs.Faults.{IsWellFormed}
 use Rattle.spec_bitcoin.specs.Keys.{signature_of}
@@ -15,7 +16,7 @@ use Rattle.spec_run.specs.Values.{is_refused}
 use Rattle.spec_run.specs.Committing.{is_secret_long}
 use Rattle.spec_run.specs.Conditions.{HashesBytes}
 use Rattle.spec_run.specs.Event.{opening_collision}
-use Rattle.spec_run.specs.Translation.{trace, first_halt}
+use Rattle.spec_run.specs.Translation.{trace, last_world, first_halt}
 use Rattle.spec_next.specs.FirstLines.{first_events}
 use Rattle.theory_next.specs.FirstRun.{first_setup, HasRoom, AreSecrets}
 
@@ -51,8 +52,9 @@ HaltsOnlySo s (Some h) = MayHalt s (h.0) (h.1)
 pub record GoesThroughOrHalts (s : Setup) (es : List Event) : Type 0 where
   -- no event is refused: each is done or accepted
   pub passes : list_all (λ r. not (is_refused r.outcome)) (trace s es) ≡ true
-  -- these are all events, unless the run halts
+  -- unless the run halts, these are all events, and the contract has begun
   pub all : first_halt s es ≡ None → map (λ r. r.event) (trace s es) ≡ es
+  pub begins : first_halt s es ≡ None → has_number 0 (last_world s es).begun ≡ true
   -- and it halts only so
   pub halts : HaltsOnlySo s (first_halt s es)
 

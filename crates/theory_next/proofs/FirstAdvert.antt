@@ -1,23 +1,21 @@
 -- A contract is advertised with the deposits of its own header.
-use Rattle.std.proofs.Common.{◌≡◌, ℕ, ◌+◌, ◌<◌, List, [], ◌∷◌, ◌++◌, map, length, Bool, true, false, not, Option, Some, None, refl, sym, ap, ◌∙◌, subst, arith, inl, inr, append_assoc, length-append}
-use Rattle.std.specs.Prelude.{◌&&◌, ◌||◌, ◌==◌, is_some, is_none, slice_get}
+use Rattle.std.proofs.Common.{◌≡◌, ℕ, ◌+◌, ◌<◌, List, [], ◌∷◌, ◌++◌, map, length, true, false, not, Some, None, refl, sym, ap, ◌∙◌, arith, inl, inr, append_assoc, length-append}
+use Rattle.std.specs.Prelude.{◌&&◌, is_some, is_none, slice_get}
 use Rattle.std.specs.List.{list_any, list_all}
-use Rattle.std.proofs.lemmas.Bool.{and_from, or_left, or_right, or_from, eq-eqb}
+use Rattle.std.proofs.lemmas.Bool.{and_from, or_left, or_from, eq-eqb}
 use Rattle.std.proofs.lemmas.Bool.Decides.{nat_tests}
-use Rattle.spec_data.specs.Lists.{is_among, are_different, has_number, look_up, first_reason}
+use Rattle.spec_data.specs.Lists.{is_among, has_number, look_up, first_reason}
 use Rattle.spec_terms.specs.Advert.{Advert}
 use Rattle.spec_terms.specs.Parties.{participants}
 use Rattle.spec_terms.specs.Precondition.{Holding, deposits, names_of}
 use Rattle.spec_bitcoin.specs.declared.tx.TxOut.{TxOut}
 use Rattle.spec_bitcoin.specs.Digests.{txid, opening_transaction}
 use Rattle.spec_calculus.specs.declared.step.Owner.TheVariants.{Party}
-use Rattle.spec_calculus.specs.Same.{owner_eq}
-use Rattle.spec_run.specs.declared.event.Event.{Event}
 use Rattle.spec_run.specs.declared.event.Event.TheVariants as events
 use Rattle.spec_run.specs.Setup.{Setup, is_declared, is_honest, people_at, people_of, pre_at, pre_of}
-use Rattle.spec_run.specs.World.{Output, World, output_at, is_deposit, is_advertised}
+use Rattle.spec_run.specs.World.{Output, World, output_at, is_deposit}
 use Rattle.spec_run.specs.Draft.{done, settled, unless}
-use Rattle.spec_run.specs.Owners.{paid_to, owner_by, owner_of, deposit_value, suits}
+use Rattle.spec_run.specs.Owners.{paid_to, owner_by, suits}
 use Rattle.spec_run.specs.Advertising.{are_rearranged, arranged, repeated, not_live, unsuited, deposit_names, advertise_row}
 use Rattle.spec_run.specs.Ledger.{made_from}
 use Rattle.spec_run.specs.Conditions.{IsSetup}
@@ -25,18 +23,16 @@ use Rattle.spec_run.specs.Event.{draft, holds_nothing, opening_outputs, opening_
 use Rattle.spec_run.specs.Translation.{opening_configuration}
 use Rattle.spec_next.specs.FirstLines.{owned, bound_from}
 use Rattle.theory_calculus.specs.Members.{Is_in}
-use Rattle.theory_calculus.proofs.Members.{all_in}
 use Rattle.theory_calculus.proofs.Names.{bytes_refl, different_names, deposits_different, in_looked}
 use Rattle.theory_world.proofs.Hashed.{among_head, among_tail}
 use Rattle.theory_world.proofs.Contracts.Mentions.{a_person}
 use Rattle.theory_world.proofs.Later.{get-made}
 use Rattle.theory_world.proofs.Ledger.Acceptable.{none_reason}
-use Rattle.theory_world.proofs.Tests.{any-append}
 use Rattle.theory_run.proofs.Facts.Opening.{clear, opening_book}
 use Rattle.theory_run.proofs.Facts.Owned.{owner_paid}
 use Rattle.theory_next.proofs.FirstNeeds.{owner_takes_part}
 use Rattle.theory_next.proofs.FirstRun.{from_among}
-use Rattle.theory_next.proofs.FirstStage.{IsFirst, AllLive, has_first}
+use Rattle.theory_next.proofs.FirstStage.{IsFirst, has_first}
 use Rattle.theory_next.proofs.FirstCommits.{Committing}
 
 -- ---- bindings in order

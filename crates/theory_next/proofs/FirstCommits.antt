@@ -1,21 +1,20 @@
 -- Once a contract is advertised all commit, unless strings collide.
-use Rattle.std.proofs.Common.{◌≡◌, ℕ, List, [], ◌∷◌, ◌++◌, map, length, Bool, true, false, not, Option, Some, None, refl, sym, ap, ◌∙◌, subst, inl, inr, ◌⊎◌, append-nil}
-use Rattle.std.specs.Prelude.{◌&&◌, ◌||◌, ◌==◌, is_some, if◌then◌else◌}
-use Rattle.std.specs.List.{list_any, list_all, find}
+use Rattle.std.proofs.Common.{◌≡◌, ℕ, List, [], ◌∷◌, ◌++◌, map, length, true, false, not, Option, Some, None, refl, sym, ap, ◌∙◌, subst, inl, inr, ◌⊎◌, append-nil}
+use Rattle.std.specs.Prelude.{◌==◌, is_some, if◌then◌else◌}
 use Rattle.std.specs.Str.{bytes_eq}
-use Rattle.std.proofs.lemmas.Bool.{and_from, or_left, or_right, or_from, both_ways, false_from_ne_true}
+use Rattle.std.proofs.lemmas.Bool.{and_from, or_left, or_right, or_from, false_from_ne_true}
 use Rattle.spec_data.specs.Lists.{is_among, first_reason}
-use Rattle.spec_data.specs.Messages.{noted_all, collision}
+use Rattle.spec_data.specs.Messages.{collision}
 use Rattle.spec_terms.specs.Advert.{Advert}
 use Rattle.spec_terms.specs.Parties.{participants}
 use Rattle.spec_run.specs.declared.event.Event.{Event}
 use Rattle.spec_run.specs.declared.event.Event.TheVariants as events
 use Rattle.spec_run.specs.declared.header.HeldSecret.{HeldSecret}
 use Rattle.spec_run.specs.declared.outcome.Reason.{Reason}
-use Rattle.spec_run.specs.Setup.{Setup, is_declared, is_honest}
+use Rattle.spec_run.specs.Setup.{Setup, is_honest}
 use Rattle.spec_run.specs.World.{Promise, World, is_advertised, is_promise_of, has_promised, have_promised}
 use Rattle.spec_run.specs.Compiled.{compiled_instance, instance_of}
-use Rattle.spec_run.specs.Draft.{Draft, done, guess, settled, unless}
+use Rattle.spec_run.specs.Draft.{Draft, guess, settled, unless}
 use Rattle.spec_run.specs.Advertising.{arranged, are_rearranged}
 use Rattle.spec_run.specs.Committing.{secrets_at, own_digests, own_strings, missing_secret, bad_secret, committed_digests, committed_strings, used_digests, used_again}
 use Rattle.spec_run.specs.Committing.{commit_row, repeated_digest, digest_row, with_promise, strings_compiled, committed_draft, not_held, badly_long}
@@ -25,18 +24,16 @@ use Rattle.spec_run.specs.Translation.{last_world}
 use Rattle.spec_terms.specs.Precondition.{names_of}
 use Rattle.theory_calculus.specs.Members.{Is_in}
 use Rattle.theory_calculus.proofs.Names.{bytes-true, bytes_refl}
-use Rattle.theory_world.specs.KeptApart.{NoClash}
 use Rattle.theory_world.proofs.Tests.{any-append}
 use Rattle.theory_world.proofs.Hashed.{among_left, among_right, among_split, all_more, all_new}
 use Rattle.theory_world.proofs.Once.{digests_in, used-append}
 use Rattle.theory_world.proofs.Ledger.Acceptable.{none_reason}
 use Rattle.theory_world.proofs.Contracts.Endorsed.{in_among}
 use Rattle.theory_world.proofs.Later.{compiled_from}
-use Rattle.theory_run.proofs.Halting.Halts.{all_noted, calm_is}
+use Rattle.theory_run.proofs.Halting.Halts.{calm_is}
 use Rattle.theory_next.proofs.Apart.{Apart}
 use Rattle.theory_next.proofs.OneMore.{none_guessed}
 use Rattle.theory_next.proofs.Onward.{GoesSoFar, Fine, goes}
-use Rattle.theory_next.proofs.FirstRun.{from_among}
 use Rattle.theory_next.proofs.FirstStage.{IsFirst, AllLive, has_first, takes_part_in, kept_so_far}
 use Rattle.theory_next.proofs.FirstSecrets.{HasSecrets, bytes_of, own_from, own_heard, own_in_order, all_held, all_long, own_new}
 
@@ -187,29 +184,29 @@ module _ (s : Setup) (advert : Advert) (first : IsFirst s advert) (has : HasSecr
         used = λ d h. elim (among_split d (used_digests w.promises) (digests_in promise.digests)
             (sym (ap (is_among d) (used-append w.promises (promise ∷ []) ∙ ap (λ xs. used_digests w.promises ++ xs)
             (append-nil (digests_in promise.digests)))) ∙ h)) [
-          | inl a ↦
-              let u = so_far.used d a in
-              record {
-                owner = u.owner;
-                name = u.name;
-                secret = u.secret;
-                behind = λ i. u.behind (inr i);
-                is = u.is;
-                heard = all_more w.hashed committed.hashes (bytes_of s u.owner u.name) u.heard;
-              }
-          | inr b ↦
-              let r = own_in_promise d b in
-              record {
-                owner = party;
-                name = r.0;
-                secret = r.1;
-                behind = alone;
-                is = r.2;
-                heard = all_new w.hashed committed.hashes (bytes_of s party r.0)
-                    (among_left (bytes_of s party r.0) strings (strings_compiled s (compiled_instance s next 0))
-                    (subst (λ xs. is_among (bytes_of s party r.0) xs ≡ true) (sym strings_are) (own_heard s party r.0 names r.1)));
-              }
-        ];
+              | inl a ↦
+                  let u = so_far.used d a in
+                  record {
+                    owner = u.owner;
+                    name = u.name;
+                    secret = u.secret;
+                    behind = λ i. u.behind (inr i);
+                    is = u.is;
+                    heard = all_more w.hashed committed.hashes (bytes_of s u.owner u.name) u.heard;
+                  }
+              | inr b ↦
+                  let r = own_in_promise d b in
+                  record {
+                    owner = party;
+                    name = r.0;
+                    secret = r.1;
+                    behind = alone;
+                    is = r.2;
+                    heard = all_new w.hashed committed.hashes (bytes_of s party r.0)
+                        (among_left (bytes_of s party r.0) strings (strings_compiled s (compiled_instance s next 0))
+                        (subst (λ xs. is_among (bytes_of s party r.0) xs ≡ true) (sym strings_are) (own_heard s party r.0 names r.1)));
+                  }
+            ];
       }
 
   -- ---- all of them

@@ -1,5 +1,5 @@
 -- The run that begins a contract goes through, unless it halts.
-use Rattle.std.proofs.Common.{◌≡◌, ℕ, zero, suc, List, [], ◌∷◌, ◌++◌, map, Bool, true, Option, Some, None, refl, sym, ap, ◌∙◌, subst, inl, inr}
+use Rattle.std.proofs.Common.{◌≡◌, ℕ, zero, suc, List, [], ◌∷◌, ◌++◌, map, true, Some, None, refl, sym, ap, ◌∙◌, subst, inl, inr}
 use Rattle.std.specs.Prelude.{not}
 use Rattle.std.specs.List.{list_all}
 use Rattle.std.proofs.lemmas.Bool.{and_parts, and_from}
@@ -15,11 +15,10 @@ use Rattle.spec_run.specs.declared.outcome.Record.{Record}
 use Rattle.spec_run.specs.Setup.{Setup, contract_at}
 use Rattle.spec_run.specs.World.{World}
 use Rattle.spec_run.specs.Compiled.{instance_of}
-use Rattle.spec_run.specs.Draft.{Halt, done, settled}
 use Rattle.spec_run.specs.Event.{Passed, opening_world, opening_collision, played}
 use Rattle.spec_run.specs.Values.{is_refused}
 use Rattle.spec_run.specs.Conditions.{IsSetup}
-use Rattle.spec_run.specs.Translation.{Turn, turn_of, turns_from, world_after, record_in, opening_configuration, course, trace, last_configuration, last_world, first_halt}
+use Rattle.spec_run.specs.Translation.{Turn, turn_of, turns_from, world_after, record_in, opening_configuration, course, last_configuration, last_world}
 use Rattle.spec_run.specs.Statements.{IsRun, EndsAs}
 use Rattle.spec_next.specs.FirstLines.{owned, bound_from, first_events}
 use Rattle.theory_calculus.specs.Members.{Is_in}

@@ -1,17 +1,15 @@
 -- A contract whose deposits may all be taken begins, unless that halts the run.
-use Rattle.std.proofs.Common.{◌≡◌, ℕ, List, [], ◌∷◌, ◌++◌, map, Bool, true, false, not, Option, Some, None, refl, sym, ap, ◌∙◌, subst, inl, inr, append-nil}
+use Rattle.std.proofs.Common.{◌≡◌, ℕ, List, [], ◌∷◌, ◌++◌, map, true, false, not, Option, Some, None, refl, sym, ap, ◌∙◌, subst, inl, inr, append-nil}
 use Rattle.std.specs.Prelude.{◌&&◌, ◌==◌, is_some}
-use Rattle.std.specs.List.{flat_map, list_all}
+use Rattle.std.specs.List.{flat_map}
 use Rattle.std.specs.Str.{bytes_eq}
 use Rattle.std.proofs.lemmas.Bool.{and_parts, and_from, or_cases, or_right}
 use Rattle.std.proofs.lemmas.List.Concat.{flat_map-cons}
 use Rattle.spec_data.specs.Lists.{is_among, has_number, look_up, first_reason, AllTrue}
-use Rattle.spec_data.specs.Messages.{collision}
 use Rattle.spec_terms.specs.Advert.{Advert}
-use Rattle.spec_terms.specs.Parties.{participants, choice_mentions}
-use Rattle.spec_terms.specs.Precondition.{Holding, persistent, names_of, party_of}
+use Rattle.spec_terms.specs.Parties.{participants}
+use Rattle.spec_terms.specs.Precondition.{Holding, persistent, names_of}
 use Rattle.spec_bitcoin.specs.declared.tx.TxIn.{TxIn}
-use Rattle.spec_bitcoin.specs.declared.tx.Tx.{Tx}
 use Rattle.spec_bitcoin.specs.Keys.{signature_of}
 use Rattle.spec_calculus.specs.declared.step.Step.TheVariants as steps
 use Rattle.spec_calculus.specs.Configuration.{Configuration}
@@ -20,12 +18,11 @@ use Rattle.spec_calculus.specs.Beginning.{are_there, bindings_of, persistent_nam
 use Rattle.spec_calculus.specs.Steps.{premises, init_premises}
 use Rattle.spec_compiler.specs.Instance.{Instance, deposit_key}
 use Rattle.spec_compiler.specs.Transactions.{party_script, prepared, initial_unsigned, input_of}
-use Rattle.spec_compiler.specs.declared.unsigned.Spent.{Spent}
 use Rattle.spec_run.specs.declared.event.Event.{Event}
 use Rattle.spec_run.specs.declared.event.Event.TheVariants as events
 use Rattle.spec_run.specs.declared.header.HeldSecret.{HeldSecret}
 use Rattle.spec_run.specs.declared.outcome.Reason.TheVariants as reason
-use Rattle.spec_run.specs.Setup.{Setup, is_declared, has_contract}
+use Rattle.spec_run.specs.Setup.{Setup, is_declared}
 use Rattle.spec_run.specs.World.{World, bindings_at, have_promised}
 use Rattle.spec_run.specs.Compiled.{compiled_instance}
 use Rattle.spec_run.specs.Draft.{Draft, Guessed, is_guessed, guess, unless}
@@ -50,8 +47,8 @@ use Rattle.theory_bitcoin.specs.Apart.{bare}
 use Rattle.theory_world.proofs.Ledger.Acceptable.{with-bare}
 use Rattle.theory_run.proofs.Accepted.WhatItIs.{initial_is, not_initial}
 use Rattle.theory_run.proofs.Steps.Beginnings.{bindings_same, committed_same, there_same}
-use Rattle.theory_offers.proofs.WholeRun.{KeptAll, kept_offers}
-use Rattle.theory_next.specs.FirstEvents.{MayHalt, SpendsDeposit, SecretSpendsDeposit}
+use Rattle.theory_offers.proofs.WholeRun.{kept_offers}
+use Rattle.theory_next.specs.FirstEvents.{MayHalt, SpendsDeposit}
 use Rattle.theory_next.proofs.Ready.{no_premise, offered}
 use Rattle.theory_next.proofs.Onward.{GoesSoFar, Fine, fine_so_far, goes}
 use Rattle.theory_next.proofs.FirstStage.{IsFirst, AllLive, has_first, kept_so_far, bound_live}

@@ -1,7 +1,6 @@
 -- The secrets of the run that begins a contract are held by their parties, and differ.
-use Rattle.std.proofs.Common.{◌≡◌, ℕ, List, [], ◌∷◌, length, Bool, true, false, Option, Some, None, refl, sym, ap, ◌∙◌, subst, arith, inl, inr}
+use Rattle.std.proofs.Common.{◌≡◌, ℕ, List, [], ◌∷◌, length, Bool, true, false, Some, refl, sym, ap, ◌∙◌, subst, arith, inl, inr}
 use Rattle.std.specs.Prelude.{not, ◌&&◌, ◌||◌, is_some, if◌then◌else◌}
-use Rattle.std.specs.List.{list_all}
 use Rattle.std.specs.Str.{bytes_eq}
 use Rattle.std.proofs.lemmas.Bool.{and_parts, and_from, or_cases, or_left, or_right, both_ways, not-true, not_from_false, false_from_ne_true}
 use Rattle.spec_data.specs.Lists.{is_among, are_different}
@@ -11,7 +10,7 @@ use Rattle.spec_terms.specs.Precondition.{names_of, names_of_party, secrets}
 use Rattle.spec_run.specs.Setup.{held_among, bytes_or_none}
 use Rattle.spec_run.specs.Committing.{is_secret_long}
 use Rattle.spec_next.specs.FirstLines.{held}
-use Rattle.theory_calculus.proofs.Names.{bytes-true, bytes_refl, all_among, different_names}
+use Rattle.theory_calculus.proofs.Names.{bytes-true, all_among, different_names}
 use Rattle.theory_world.proofs.Hashed.{among_head, among_tail}
 use Rattle.theory_run.proofs.Accepted.Tested.{secrets_different}
 use Rattle.theory_next.specs.FirstRun.{first_setup, AreSecrets}

@@ -1,17 +1,15 @@
 -- Whoever is needed for the endorsements of a contract takes part in it.
-use Rattle.std.proofs.Common.{◌≡◌, ℕ, List, [], ◌∷◌, ◌++◌, map, Bool, true, false, not, Option, Some, None, refl, sym, ap, ◌∙◌, subst, inl, inr, ◌⊎◌}
-use Rattle.std.specs.Prelude.{◌&&◌}
+use Rattle.std.proofs.Common.{◌≡◌, ℕ, List, [], ◌∷◌, ◌++◌, map, true, not, Option, Some, None, refl, sym, ap, subst, inl, inr}
 use Rattle.std.specs.List.{list_all, filter}
 use Rattle.std.specs.Option.{option_map_or, option_and_then}
 use Rattle.std.specs.Str.{bytes_eq}
 use Rattle.std.proofs.lemmas.Bool.{and_parts, or_left, or_right}
-use Rattle.spec_data.specs.Lists.{is_among, look_up}
+use Rattle.spec_data.specs.Lists.{is_among}
 use Rattle.spec_terms.specs.Advert.{Advert}
 use Rattle.spec_terms.specs.Core.{core, puts_of, is_asked}
 use Rattle.spec_terms.specs.Term as term
 use Rattle.spec_terms.specs.Faults.{IsWellFormed}
 use Rattle.spec_terms.specs.Parties.{participants, choice_mentions}
-use Rattle.spec_terms.specs.Paths.{at}
 use Rattle.spec_terms.specs.Precondition.{Holding, deposits, volatile, names_of, party_of}
 use Rattle.spec_terms.specs.declared.pre.Pre.{Pre}
 use Rattle.spec_terms.specs.declared.pre.Pre.TheVariants.{Persistent, Volatile, Secret}
@@ -20,7 +18,7 @@ use Rattle.spec_bitcoin.specs.Keys.{key_of}
 use Rattle.spec_compiler.specs.declared.prepared.Prepared.{Prepared}
 use Rattle.spec_compiler.specs.declared.unsigned.Unsigned.{Unsigned}
 use Rattle.spec_compiler.specs.Instance.{Instance, branch_label}
-use Rattle.spec_compiler.specs.Transactions.{Standing, prepared, holding_or_none}
+use Rattle.spec_compiler.specs.Transactions.{prepared, holding_or_none}
 use Rattle.spec_compiler.specs.Compilation.{path_transactions, compilation}
 use Rattle.spec_compiler.specs.ByPath as by_path
 use Rattle.spec_compiler.specs.ByPath.{PathEnd, end_at, as_unsigned, unsigned_at}

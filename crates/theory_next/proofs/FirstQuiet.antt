@@ -1,18 +1,17 @@
 -- An event of a run that is done and hashes nothing never halts.
-use Rattle.std.proofs.Common.{◌≡◌, ℕ, List, [], ◌∷◌, ◌++◌, Option, Some, None, refl, sym, ap, ◌∙◌, subst}
+use Rattle.std.proofs.Common.{◌≡◌, ℕ, List, [], ◌∷◌, ◌++◌, Some, None, sym, ap, ◌∙◌}
 use Rattle.spec_data.specs.Messages.{collision}
 use Rattle.spec_run.specs.declared.event.Event.{Event}
 use Rattle.spec_run.specs.declared.header.HeldSecret.{HeldSecret}
 use Rattle.spec_run.specs.Setup.{Setup}
 use Rattle.spec_run.specs.World.{World}
-use Rattle.spec_run.specs.Draft.{Draft, Collided, Guessed, done, guess, settled}
+use Rattle.spec_run.specs.Draft.{Draft, done, guess, settled}
 use Rattle.spec_run.specs.Event.{draft, played}
 use Rattle.spec_run.specs.Values.{is_refused}
 use Rattle.spec_run.specs.Conditions.{IsEvent}
 use Rattle.spec_run.specs.Translation.{last_world}
-use Rattle.theory_next.specs.FirstEvents.{MayHalt}
 use Rattle.theory_next.proofs.OneMore.{none_guessed}
-use Rattle.theory_next.proofs.Onward.{GoesSoFar, GoesOnSo, Fine, goes}
+use Rattle.theory_next.proofs.Onward.{GoesSoFar, Fine, goes}
 
 module _ (s : Setup) (es : List Event) (so : GoesSoFar s es) (e : Event) (is : IsEvent s e) (later : List Event) (next : World)
     (is_done : draft s (last_world s es) e ≡ done next []) where

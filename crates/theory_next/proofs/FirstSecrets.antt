@@ -1,14 +1,14 @@
 -- An honest party's secrets that differ from all that were committed before have new digests, unless strings collide.
-use Rattle.std.proofs.Common.{◌≡◌, ℕ, List, [], ◌∷◌, ◌++◌, map, Bool, true, false, not, Option, Some, None, refl, sym, ap, ◌∙◌, subst, inl, inr}
-use Rattle.std.specs.Prelude.{◌||◌, ◌&&◌, is_some, if◌then◌else◌}
+use Rattle.std.proofs.Common.{◌≡◌, ℕ, List, [], ◌∷◌, ◌++◌, true, false, not, None, refl, sym, ap, ◌∙◌, subst, inl, inr}
+use Rattle.std.specs.Prelude.{is_some}
 use Rattle.std.specs.Str.{bytes_eq}
 use Rattle.std.proofs.lemmas.Bool.{and_parts, and_from, or_cases, or_from, both_ways, not-true, not_from_false, false_from_ne_true}
-use Rattle.spec_data.specs.Lists.{is_among, are_different, look_up}
+use Rattle.spec_data.specs.Lists.{is_among, are_different}
 use Rattle.spec_run.specs.Setup.{Setup, held_secret, bytes_or_none}
 use Rattle.spec_run.specs.Advertising.{arranged, or_else_this}
 use Rattle.spec_run.specs.Committing.{secrets_at, is_secret_long, own_digests, own_strings, not_held, badly_long, used_again}
-use Rattle.theory_calculus.proofs.Names.{bytes-true, bytes_refl, among-append}
-use Rattle.theory_world.proofs.Hashed.{among_head, among_tail, among_right}
+use Rattle.theory_calculus.proofs.Names.{bytes-true, among-append}
+use Rattle.theory_world.proofs.Hashed.{among_head, among_tail}
 use Rattle.theory_world.proofs.Once.{digests_in}
 use Rattle.theory_run.proofs.Steps.CommitSteps.{own_looked}
 

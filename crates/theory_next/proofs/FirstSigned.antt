@@ -1,7 +1,7 @@
 -- Once all have committed, all endorse and all sign the initial transaction.
-use Rattle.std.proofs.Common.{◌≡◌, ℕ, List, [], ◌∷◌, ◌++◌, map, Bool, true, false, not, Option, Some, None, refl, sym, ap, ◌∙◌, subst, inl, inr, ◌⊎◌}
-use Rattle.std.specs.Prelude.{◌&&◌, ◌||◌, is_some, is_none, if◌then◌else◌}
-use Rattle.std.specs.List.{list_all, filter}
+use Rattle.std.proofs.Common.{◌≡◌, ℕ, List, [], ◌∷◌, ◌++◌, map, Bool, true, false, not, Some, None, refl, sym, ap, ◌∙◌, subst, inl, inr, ◌⊎◌}
+use Rattle.std.specs.Prelude.{◌&&◌, is_some, if◌then◌else◌}
+use Rattle.std.specs.List.{filter}
 use Rattle.std.specs.Str.{bytes_eq}
 use Rattle.std.proofs.lemmas.Bool.{and_from, or_left, or_right}
 use Rattle.spec_data.specs.Lists.{is_among, first_reason}
@@ -9,7 +9,6 @@ use Rattle.spec_terms.specs.Advert.{Advert}
 use Rattle.spec_terms.specs.Parties.{participants}
 use Rattle.spec_terms.specs.Precondition.{Holding, persistent}
 use Rattle.spec_bitcoin.specs.Keys.{Pair, has_signed}
-use Rattle.spec_calculus.specs.declared.parts.InitAuthorisation.{InitAuthorisation}
 use Rattle.spec_calculus.specs.Configuration.{Configuration}
 use Rattle.spec_calculus.specs.Beginning.{is_init_authorised}
 use Rattle.spec_calculus.specs.Steps.{after_steps}
@@ -17,8 +16,8 @@ use Rattle.spec_compiler.specs.Instance.{Instance}
 use Rattle.spec_compiler.specs.Endorsements.{Need, is_met, all_met, missing_endorsement}
 use Rattle.spec_run.specs.declared.event.Event.{Event}
 use Rattle.spec_run.specs.declared.event.Event.TheVariants as events
-use Rattle.spec_run.specs.Setup.{Setup, is_declared, is_honest, pre_at, pre_of}
-use Rattle.spec_run.specs.World.{World, is_advertised}
+use Rattle.spec_run.specs.Setup.{Setup, pre_at, pre_of}
+use Rattle.spec_run.specs.World.{World}
 use Rattle.spec_run.specs.Compiled.{compiled_instance}
 use Rattle.spec_run.specs.Draft.{done, settled, unless}
 use Rattle.spec_run.specs.Signing.{signed_all, with_pairs, needs_at, pairs_of_party, endorsing_pairs, endorse_row, initial_pairs, missing_need, missed_need, init_row}
@@ -27,7 +26,7 @@ use Rattle.spec_run.specs.Steps.{is_of_party, is_bound_live, init_steps}
 use Rattle.spec_run.specs.Translation.{last_configuration, last_world}
 use Rattle.theory_calculus.specs.Members.{Is_in}
 use Rattle.theory_calculus.proofs.Members.{all_then, filter_has}
-use Rattle.theory_calculus.proofs.Names.{bytes-true, bytes_refl}
+use Rattle.theory_calculus.proofs.Names.{bytes_refl}
 use Rattle.theory_script.proofs.Missing.{none_unmet}
 use Rattle.theory_world.proofs.Book.{signed_more, signed_new}
 use Rattle.theory_world.proofs.Ledger.Acceptable.{none_reason}

@@ -1,7 +1,7 @@
 -- What is known of a run up to the beginning of its first contract, of which all participants are honest.
-use Rattle.std.proofs.Common.{◌≡◌, ℕ, List, [], ◌∷◌, ◌++◌, Bool, true, false, Option, Some, None, refl, sym, ap, ◌∙◌, subst}
+use Rattle.std.proofs.Common.{◌≡◌, ℕ, List, true, Some, None, sym, ap, ◌∙◌, subst}
 use Rattle.std.specs.Prelude.{◌&&◌, is_some, is_none, slice_get}
-use Rattle.spec_data.specs.Lists.{is_among, look_up}
+use Rattle.spec_data.specs.Lists.{is_among}
 use Rattle.spec_terms.specs.Advert.{Advert}
 use Rattle.spec_terms.specs.Faults.{IsWellFormed}
 use Rattle.spec_terms.specs.Parties.{participants}
@@ -9,14 +9,14 @@ use Rattle.spec_terms.specs.Precondition.{Holding, persistent}
 use Rattle.spec_calculus.specs.Configuration.{Configuration}
 use Rattle.spec_run.specs.declared.event.Event.{Event}
 use Rattle.spec_run.specs.Setup.{Setup, contract_at, has_contract, takes_part, is_declared, is_honest}
-use Rattle.spec_run.specs.World.{Output, World, is_deposit, bindings_at, is_advertised}
+use Rattle.spec_run.specs.World.{Output, World, is_deposit, is_advertised}
 use Rattle.spec_run.specs.Setup.{people_of}
 use Rattle.spec_run.specs.Steps.{names_deposit, is_bound_live}
 use Rattle.spec_run.specs.Translation.{last_configuration, last_world}
 use Rattle.spec_run.specs.Statements.{spends_with_leave}
 use Rattle.theory_calculus.specs.Members.{Is_in}
 use Rattle.theory_calculus.proofs.Names.{persistent_deposit}
-use Rattle.theory_run.specs.KeptBook.{KeptBook, AdvertFine, IsBound}
+use Rattle.theory_run.specs.KeptBook.{KeptBook}
 use Rattle.theory_run.proofs.Following.{run_posts, KeptAfter, kept_at_end}
 use Rattle.theory_offers.proofs.WholeRun.{KeptAll, opening_all, keeps_all}
 use Rattle.theory_next.proofs.Onward.{GoesSoFar}

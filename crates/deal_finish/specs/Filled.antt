@@ -1,5 +1,5 @@
 -- Witnesses, by what is known of the transactions.
-use Rattle.std.specs.Prelude.{ℕ, ◌+◌, List, [], ◌∷◌, ◌++◌, length, map, reverse, slice_get, Option, Some, None}
+use Rattle.std.specs.Prelude.{ℕ, ◌+◌, List, [], ◌∷◌, ◌++◌, length, map, reverse, slice_get, Bool, ◌||◌, ◌==◌, Option, Some, None}
 use Rattle.std.specs.List.{find}
 use Rattle.std.specs.Option.{option_map}
 use Rattle.spec_terms.specs.Term as term
@@ -7,9 +7,11 @@ use Rattle.spec_terms.specs.Term.{Contract, branches}
 use Rattle.spec_terms.specs.Advert.{Advert}
 use Rattle.spec_terms.specs.Core.{core, reveals_of}
 use Rattle.spec_terms.specs.Paths.{at, contract_under}
+use Rattle.spec_terms.specs.Value.{holds}
 use Rattle.spec_terms.specs.declared.path.PathStep.{PathStep}
 use Rattle.spec_bitcoin.specs.declared.tx.Tx.{Tx}
 use Rattle.spec_bitcoin.specs.declared.tx.TxIn.{TxIn}
+use Rattle.spec_compiler.specs.Keyed.Statements.{secret_lengths}
 use Rattle.spec_compiler.specs.Witness.{witness_of}
 use Rattle.spec_run.specs.Firing.{with_witnesses}
 use Rattle.spec_tool.specs.declared.which.Which.{Which}
@@ -27,6 +29,10 @@ use Rattle.spec_deal.specs.Finished.{bytes_or_none, strings_of}
 abbrev pub branch_of : Advert → Which → Option term.Guarded
 branch_of advert names.Init = None
 branch_of advert (names.At path) = at advert.root path
+
+-- whether there are no names, or a predicate is true of the lengths of their secrets
+abbrev pub fits_by : List Shown → List (List ℕ) → term.Pred → Bool
+fits_by strings names test = (length names == 0) || holds (secret_lengths names (strings_of strings names)) test
 
 -- ---- signatures
 

@@ -16,7 +16,7 @@ ghost use Rattle.deal_finish.specs.Finishes.{Allows};
 
 use crate::branches::{branch_of, reveals_of};
 use crate::error::FinishError;
-use crate::secrets::{first_hidden, is_allowed};
+use crate::secrets::{do_fit, first_hidden};
 use bm_syntax::Guarded;
 use bm_wellformed::Checked;
 use deal_missing::{first_unendorsed, first_unsigned};
@@ -89,7 +89,7 @@ fn allowed(
     let Some(branch) = branch else {
         return Ok(());
     };
-    if is_allowed(alloc, strings, branch)? {
+    if do_fit(alloc, strings, branch)? {
         Ok(())
     } else {
         Err(FinishError::Refused(FinishRefusal::Predicate))

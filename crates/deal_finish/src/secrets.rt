@@ -1,6 +1,6 @@
 //! The secrets that a branch reveals.
 
-ghost use Rattle.std.specs.Prelude.{◌≡◌, ◌-◌, ◌≤◌, not, is_some, Some, None, true, length, All, if◌then◌else◌, IfOk};
+ghost use Rattle.std.specs.Prelude.{◌≡◌, ◌-◌, ◌≤◌, not, is_some, true, length, All, IfOk};
 ghost use Rattle.std.specs.List.{find};
 ghost use Rattle.spec_data.specs.Ranges.{least_secret_bytes, most_item_bytes};
 ghost use Rattle.spec_terms.specs.Bound.{is_bounded};
@@ -10,8 +10,8 @@ ghost use Rattle.spec_terms.specs.Value.{holds};
 ghost use Rattle.spec_compiler.specs.Keyed.Statements.{secret_lengths};
 ghost use Rattle.spec_deal.specs.SecretFile.{string_for};
 ghost use Rattle.spec_deal.specs.Finished as spec;
-ghost use Rattle.spec_deal.specs.declared.finish.FinishRefusal.TheVariants as refusals;
 ghost use Rattle.bm_syntax.specs.View.{guarded, test as test_view};
+ghost use Rattle.deal_finish.specs.Filled.{fits_by};
 
 use bm_pred::value;
 use bm_syntax::{Guarded, Pred, core};
@@ -100,18 +100,34 @@ fn holds_of(
     Ok(value(test, &lengths))
 }
 
+// Whether there are no names, or a predicate is true of their secrets.
+fn fits_of(
+    alloc: Global,
+    strings: &Strings,
+    names: &[Name],
+    test: &Pred,
+) -> Result<bool, OutOfMemory>
+    requires { is_bounded (test_view test.now) ≡ true }
+    ensures { IfOk result (λ b. b ≡ fits_by strings.now names.now (test_view test.now)) }
+{
+    if names.is_empty() {
+        return Ok(true);
+    }
+    holds_of(alloc, strings, names, test)
+}
+
 /// Whether a branch reveals no secrets, or its predicate is true of them.
-pub(crate) fn is_allowed(alloc: Global, strings: &Strings, branch: &Guarded) -> Result<bool, OutOfMemory>
+pub(crate) fn do_fit(
+    alloc: Global,
+    strings: &Strings,
+    branch: &Guarded,
+) -> Result<bool, OutOfMemory>
     requires { is_bounded (terms.test_of (core_of (guarded branch.now))) ≡ true }
-    ensures { IfOk result (λ b. spec.predicate_refusal strings.now (Some (guarded branch.now)) ≡ (if b then None else Some refusals.Predicate)) }
+    ensures { IfOk result (λ b. b ≡ fits_by strings.now (terms.reveals_of (core_of (guarded branch.now)))
+        (terms.test_of (core_of (guarded branch.now)))) }
 {
     match core(branch) {
-        Guarded::PutReveal { reveals, test, .. } => {
-            if reveals.is_empty() {
-                return Ok(true);
-            }
-            holds_of(alloc, strings, reveals, test)
-        }
+        Guarded::PutReveal { reveals, test, .. } => fits_of(alloc, strings, reveals, test),
         _ => Ok(true),
     }
 }

@@ -1,3 +1,3 @@
 pub mod Bounded
 pub mod Witnessed
-pub mod Refusing
+pub mod Reasons

@@ -1,3 +1,4 @@
-pub mod Strings
-pub mod Lines
+pub mod FoundStrings
+pub mod LinesSay
 pub mod Hashing
+pub mod RefusedTold

@@ -1,19 +1,18 @@
 -- Strings that are found by the names of their secrets.
 use Rattle.std.proofs.Common.{◌≡◌, ℕ, ◌≤◌, List, [], ◌∷◌, ◌++◌, length, map, Bool, true, false, cond, Option, Some, None}
-use Rattle.std.proofs.Common.{refl, sym, ap, subst, ◌∙◌, arith}
-use Rattle.std.specs.Prelude.{option_map, IfSome, nat_le, ◌&&◌}
-use Rattle.std.specs.Borrow.{Bor}
+use Rattle.std.proofs.Common.{refl, sym, ap, subst, arith}
+use Rattle.std.specs.Prelude.{option_map, IfSome, nat_le}
 use Rattle.std.specs.List.{find, list_all}
 use Rattle.std.specs.Str.{bytes_eq}
 use Rattle.std.proofs.lemmas.Bool.{and_parts}
 use Rattle.spec_data.specs.Ranges.{least_secret_bytes, most_item_bytes}
 use Rattle.spec_deal.specs.declared.entry.Shown.{Shown}
-use Rattle.spec_deal.specs.SecretFile.{has_length, string_for}
+use Rattle.spec_deal.specs.SecretFile.{has_length}
 use Rattle.deal_index.proofs.Finding.{find_map}
 use Rattle.deal_secrets.specs.declared.strings.Entry.{Entry}
 use Rattle.deal_secrets.specs.Seen.{shown_in}
 
-abbrev is_named : List ℕ → Entry → Bool
+abbrev pub is_named : List ℕ → Entry → Bool
 is_named name e = bytes_eq e.shown.name name
 
 -- the string of this name
@@ -57,3 +56,7 @@ short_found es name r all e =
 pub shown_push : (es : List Entry) (shown : Shown) → map shown_in (es ++ (record { shown = shown }) ∷ []) ≡ map shown_in es ++ shown ∷ []
 shown_push [] shown = refl
 shown_push (e ∷ es) shown = ap (λ more. shown_in e ∷ more) (shown_push es shown)
+
+pub if_some_of : {X Y : Type 0} (f : X → Y) (P : Y → Type 0) (o : Option X) → IfSome (option_map f o) P → IfSome o (λ x. P (f x))
+if_some_of f P None h = tt
+if_some_of f P (Some x) h = h

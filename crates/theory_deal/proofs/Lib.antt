@@ -10,3 +10,4 @@ mod ReadSignatures
 mod Shapes
 mod Unsigned
 mod Whole
+mod WholeDeals

@@ -2,7 +2,7 @@
 #![tactic(auto)]
 
 ghost use Rattle.theory_deal.specs.Causes.{DealCausesTheorem};
-ghost use Rattle.theory_deal.specs.Files.{DealsAreSized, SecretsFit, SignaturesAreShaped};
+ghost use Rattle.theory_deal.specs.Files.{DealsAreSized, DealsGiveAll, SecretsFit, SignaturesAreShaped};
 ghost use Rattle.theory_deal.specs.Finished.{FinishedOpens, FinishedIsPlanned, FalseWithoutOne};
 ghost use Rattle.theory_deal.specs.Plan.{PlanOfRuns};
 ghost use Rattle.theory_deal.specs.Shapes.{ShapeExactly, ShapeIsShort};
@@ -57,6 +57,11 @@ pub fn signatures_are_shaped()
 /// Each string of a file of secrets that is taken fits its secret.
 pub fn secrets_fit()
     ensures { SecretsFit }
+{}
+
+/// A deal that is taken gives all that its contract needs, in order.
+pub fn deals_give_all()
+    ensures { DealsGiveAll }
 {}
 
 /// The keys and hashes of a deal that is taken have their sizes.

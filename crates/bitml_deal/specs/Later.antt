@@ -13,9 +13,12 @@ use Rattle.spec_deal.specs.Answers.{of_transaction, of_signatures, with_secrets,
 use Rattle.spec_deal.specs.Commands as commands
 use Rattle.spec_deal.specs.Commands.{DealCommand}
 use Rattle.spec_deal.specs.DealText.{plan_text, psbts_text, unsigned_psbt, missing_text, held_text}
+use Rattle.spec_deal.specs.RefusedText.{finish_refused_line}
 use Rattle.spec_deal.specs.SecretFile.{SecretsRead, shows}
 use Rattle.spec_deal.specs.SignatureFile.{read_given}
 use Rattle.bitml_command.specs.Seen.{printed}
+use Rattle.deal_finish.specs.declared.error.FinishError.{FinishError}
+use Rattle.deal_finish.specs.declared.error.FinishError.TheVariants as finishes
 use Rattle.bitml_deal.specs.Opens.{Answer}
 use Rattle.bitml_deal.specs.declared.secrets.Shown.{Shown}
 use Rattle.bitml_deal.specs.declared.secrets.Shown.TheVariants.{Refused, Taken}
@@ -44,3 +47,8 @@ given_in ts (Some text) = read_given ts text
 abbrev pub Tells : SecretsRead → Shown → Type 0
 Tells read (Refused reply) = (answer : List Told → Printed) → with_secrets answer read ≡ printed reply
 Tells read (Taken strings) = read ≡ shows strings
+
+-- a transaction isn't finished for this, and so it is replied
+abbrev pub IsUnfinished : FinishError → Printed → Type 0
+IsUnfinished (finishes.Refused refusal) printed = printed ≡ prints 16 (finish_refused_line refusal)
+IsUnfinished finishes.Memory printed = Unit {0}

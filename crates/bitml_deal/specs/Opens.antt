@@ -13,6 +13,9 @@ use Rattle.spec_deal.specs.Transactions.{transactions}
 use Rattle.bm_hash.specs.Trails.{Hashed}
 use Rattle.bitml_command.specs.Seen.{printed}
 use Rattle.deal_compile.specs.Signable.{is_signable}
+use Rattle.spec_deal.specs.Answers.{deal_refused}
+use Rattle.deal_file.specs.declared.error.DealError.{DealError}
+use Rattle.deal_file.specs.declared.error.DealError.TheVariants as deals
 use Rattle.bitml_deal.specs.declared.opening.Compiled.{Compiled}
 use Rattle.bitml_deal.specs.declared.opening.Opening.{Opening}
 use Rattle.bitml_deal.specs.declared.opening.Opening.TheVariants.{Refused, Taken}
@@ -46,3 +49,9 @@ pub record IsTaken (hash : List ℕ → List ℕ) (judged : Answer → Printed) 
 abbrev pub Leads : (List ℕ → List ℕ) → (Answer → Printed) → List (List ℕ) → Opening → Type 0
 Leads hash judged messages (Refused reply) = (answer : Answer) → judged answer ≡ printed reply
 Leads hash judged messages (Taken c) = IsTaken hash judged messages c
+
+-- a deal isn't taken for this, and so it is replied
+abbrev pub IsRefused : DealError → Opening → Type 0
+IsRefused (deals.Refused fault) (Refused reply) = printed reply ≡ deal_refused fault
+IsRefused (deals.Refused fault) (Taken c) = ⊥
+IsRefused deals.Memory opening = Unit {0}

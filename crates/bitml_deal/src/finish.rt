@@ -8,6 +8,7 @@ ghost use Rattle.spec_tool.specs.Keyed.Listed.{Listed};
 ghost use Rattle.spec_deal.specs.Answers as answers;
 ghost use Rattle.spec_deal.specs.RefusedText.{finish_refused_line};
 ghost use Rattle.bitml_command.specs.Seen.{printed};
+ghost use Rattle.bitml_deal.specs.Later.{IsUnfinished};
 ghost use Rattle.bitml_deal.specs.Named.{IsOne};
 ghost use Rattle.bitml_deal.specs.Opens.{answered, IsMade, HashedAll};
 
@@ -36,6 +37,16 @@ fn finish_refused(alloc: Global, refusal: &FinishRefusal) -> Result<Reply, OutOf
         status: 16,
         text: Bytes::of(text),
     })
+}
+
+// What is replied where it isn't.
+fn not_finished(alloc: Global, error: &FinishError) -> Result<Reply, OutOfMemory>
+    ensures { IfOk result (λ reply. IsUnfinished error.now (printed reply)) }
+{
+    match error {
+        FinishError::Refused(refusal) => finish_refused(alloc, refusal),
+        FinishError::Memory => Err(AllocError),
+    }
 }
 
 // The transaction, in hexadecimal.
@@ -72,8 +83,7 @@ fn finish_by(
         strings,
     ) {
         Ok(bytes) => finished(alloc, &bytes),
-        Err(FinishError::Refused(refusal)) => finish_refused(alloc, &refusal),
-        Err(FinishError::Memory) => Err(AllocError),
+        Err(error) => not_finished(alloc, &error),
     }
 }
 

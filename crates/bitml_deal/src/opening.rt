@@ -8,7 +8,7 @@ ghost use Rattle.spec_deal.specs.Setting.{deal_keys, deal_instance};
 ghost use Rattle.bm_hash.specs.Messages.{evidence_of};
 ghost use Rattle.bitml_command.specs.Seen.{printed};
 ghost use Rattle.deal_file.specs.Gives.{Gives};
-ghost use Rattle.bitml_deal.specs.Opens.{answered, IsMade, HashedAll, Leads};
+ghost use Rattle.bitml_deal.specs.Opens.{answered, IsMade, HashedAll, Leads, IsRefused};
 
 use bitml_command::{JudgeError, Reply, contract_in, contract_refused};
 use bitml_shows::collided_reply;
@@ -22,36 +22,20 @@ use std::alloc::{AllocError, Global};
 use theory_deal::deals_give_all;
 
 /// A contract with its deal, and what they are compiled to.
+#[derive(Drop)]
 pub(crate) struct Compiled {
     pub(crate) contract: Checked,
     pub(crate) deal: Deal,
     pub(crate) made: CompiledDeal,
 }
 
-impl Drop for Compiled {
-    fn drop(self) {
-        let Compiled {
-            contract: _,
-            deal: _,
-            made: _,
-        } = self;
-    }
-}
-
 /// What the first two files of a command come to.
+#[derive(Drop)]
 pub(crate) enum Opening {
     /// One is refused, or strings collide, and this is replied.
     Refused(Reply),
     /// Both are taken.
     Taken(Compiled),
-}
-
-impl Drop for Opening {
-    fn drop(self) {
-        match self {
-            Opening::Refused(_) | Opening::Taken(_) => {}
-        }
-    }
 }
 
 // ---- replies
@@ -141,6 +125,16 @@ fn compile<H: Hash32 + Drop>(
     }
 }
 
+// What is replied where no deal is taken.
+fn not_taken(alloc: Global, error: &DealError) -> Result<Opening, OutOfMemory>
+    ensures { IfOk result (IsRefused error.now) }
+{
+    match error {
+        DealError::Refused(fault) => Ok(Opening::Refused(deal_refused(alloc, fault)?)),
+        DealError::Memory => Err(AllocError),
+    }
+}
+
 // The deal of a contract that is taken.
 fn open_taken<H: Hash32 + Drop>(
     alloc: Global,
@@ -155,8 +149,7 @@ fn open_taken<H: Hash32 + Drop>(
 {
     match deal_in(alloc, &contract, text) {
         Ok(deal) => compile(alloc, trail, contract, deal),
-        Err(DealError::Refused(fault)) => Ok(Opening::Refused(deal_refused(alloc, &fault)?)),
-        Err(DealError::Memory) => Err(AllocError),
+        Err(error) => not_taken(alloc, &error),
     }
 }
 

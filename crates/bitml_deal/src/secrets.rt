@@ -18,19 +18,12 @@ use spec_deal::SecretFault;
 use std::alloc::{AllocError, Global};
 
 /// What a file of secrets comes to.
+#[derive(Drop)]
 pub(crate) enum Shown {
     /// It is refused, or strings collide, and this is replied.
     Refused(Reply),
     /// It gives these strings.
     Taken(Strings),
-}
-
-impl Drop for Shown {
-    fn drop(self) {
-        match self {
-            Shown::Refused(_) | Shown::Taken(_) => {}
-        }
-    }
 }
 
 // The file of secrets is refused.

@@ -1,6 +1,7 @@
 mod Branches
 mod Causes
 mod FinishedOpens
+mod InOrder
 mod Listed
 mod PlanOfRuns
 mod Planned

@@ -79,7 +79,7 @@ pub fn finish_theorem()
     ensures { FinishTheorem }
 {}
 
-/// Each status of the program for deals comes by its cause.
+/// Each status of the program for deals comes by its cause, the first of them in their order.
 pub fn deal_statuses_have_causes()
     ensures { DealCausesTheorem }
 {}

@@ -4,13 +4,14 @@ use Rattle.std.proofs.Common.{Result, Ok, Err, refl, sym, ap, subst, ◌∙◌, 
 use Rattle.std.proofs.Math.Seq.{drop-cons, take-suc, drop-length}
 use Rattle.std.proofs.lemmas.List.{map-append, get_or-map, length-take-le, length-map}
 use Rattle.std.specs.Borrow.{Bor}
-use Rattle.std.specs.Prelude.{OnErr}
+use Rattle.std.proofs.lemmas.Bool.{and_parts, and_from}
+use Rattle.std.specs.Prelude.{OnErr, IfSome}
 use Rattle.spec_data.specs.Lists.{look_up}
 use Rattle.bm_io.specs.declared.files.ReadError.{ReadError}
 use Rattle.bm_io.specs.declared.files.ReadError.TheVariants as errors
 use Rattle.bm_io.specs.Files as io
 use Rattle.bm_io.specs.Files.{Told}
-use Rattle.spec_tool.specs.Reads.{Asked, Read, Text, got, too_long, failed, are_made, within, is_to_fail, read_at, reads_in, onto_reads}
+use Rattle.spec_tool.specs.Reads.{Asked, Read, Text, got, too_long, failed, are_made, fits, all_fit, within, is_to_fail, read_at, reads_in, onto_reads}
 use Rattle.bitml_command.specs.Files.{read_of, taken, asked_also, ReadsOne, AsksOne, Tells, ReadsAll, AsksFront, Went}
 use Rattle.bitml_command.specs.Seen.{asked}
 
@@ -167,18 +168,33 @@ asks_so_far (Some told) now files texts h = (length texts, h.1)
 
 -- ---- which reads are made
 
-pub made_all : (files : List Asked) (texts : List Text) → length texts ≡ length files → are_made files (taken texts ++ []) ≡ true
-made_all [] [] e = refl
-made_all [] (t ∷ texts) e = absurd (omega (arith, e))
-made_all (f ∷ files) [] e = absurd (omega (arith, e))
-made_all (f ∷ files) (None ∷ texts) e = made_all files texts (omega (arith, e))
-made_all (f ∷ files) (Some bytes ∷ texts) e = made_all files texts (omega (arith, e))
+pub made_all : (files : List Asked) (texts : List Text) → length texts ≡ length files → all_fit files texts ≡ true
+    → are_made files (taken texts ++ []) ≡ true
+made_all [] [] e fit = refl
+made_all [] (t ∷ texts) e fit = absurd (omega (arith, e))
+made_all (f ∷ files) [] e fit = absurd (omega (arith, e))
+made_all (f ∷ files) (None ∷ texts) e fit = made_all files texts (omega (arith, e)) fit
+made_all (f ∷ files) (Some bytes ∷ texts) e fit =
+    let p = and_parts (fits f (Some bytes)) (all_fit files texts) fit in
+    and_from (fits f (Some bytes)) (are_made files (taken texts ++ [])) p.0 (made_all files texts (omega (arith, e)) p.1)
 
-pub made_some : (files : List Asked) (texts : List Text) → length texts < length files → are_made files (taken texts ++ failed ∷ []) ≡ true
-made_some [] texts less = absurd (omega (arith, less))
-made_some (f ∷ files) [] less = refl
-made_some (f ∷ files) (None ∷ texts) less = made_some files texts (omega (arith, less))
-made_some (f ∷ files) (Some bytes ∷ texts) less = made_some files texts (omega (arith, less))
+pub made_some : (files : List Asked) (texts : List Text) → length texts < length files → all_fit files texts ≡ true
+    → are_made files (taken texts ++ failed ∷ []) ≡ true
+made_some [] texts less fit = absurd (omega (arith, less))
+made_some (f ∷ files) [] less fit = refl
+made_some (f ∷ files) (None ∷ texts) less fit = made_some files texts (omega (arith, less)) fit
+made_some (f ∷ files) (Some bytes ∷ texts) less fit =
+    let p = and_parts (fits f (Some bytes)) (all_fit files texts) fit in
+    and_from (fits f (Some bytes)) (are_made files (taken texts ++ failed ∷ [])) p.0 (made_some files texts (omega (arith, less)) p.1)
+
+-- with what is taken of the next file
+fit_next : (files : List Asked) (texts : List Text) (d : Asked) (t : Text) → length texts < length files → all_fit files texts ≡ true
+    → fits (get_or files (length texts) d) t ≡ true → all_fit files (texts ++ t ∷ []) ≡ true
+fit_next [] texts d t less fit e = absurd (omega (arith, less))
+fit_next (f ∷ files) [] d t less fit e = and_from (fits f t) true e refl
+fit_next (f ∷ files) (s ∷ texts) d t less fit e =
+    let p = and_parts (fits f s) (all_fit files texts) fit in
+    and_from (fits f s) (all_fit files (texts ++ t ∷ [])) p.0 (fit_next files texts d t (omega (arith, less)) p.1 e)
 
 -- ---- files as the code names them
 
@@ -193,7 +209,8 @@ asked_is list d i n e less = sym (get_or-map asked list i d (asked d) less) ∙ 
 pub before_end : (list : List (Bor (List ℕ) × ℕ)) (i n : ℕ) → n ≡ i → i < length list → n < length (map asked list)
 before_end list i n e less = let f : length (map asked list) ≡ length list = length-map list asked in omega (arith, e, f, less)
 
-module _ (before mid now : Option Told) (list : List (Bor (List ℕ) × ℕ)) (d : Bor (List ℕ) × ℕ) (i : ℕ) (texts : List Text) (e : length texts ≡ i) (less : i < length list) (h : Went before mid (map asked list) texts) where
+module _ (before mid now : Option Told) (list : List (Bor (List ℕ) × ℕ)) (d : Bor (List ℕ) × ℕ) (i : ℕ) (texts : List Text) (e : length texts ≡ i) (less : i < length list) (h : Went before mid (map asked list) texts)
+    (fit : all_fit (map asked list) texts ≡ true) where
   pub list_goes_on : (o : Option Text) (t : Text) → o ≡ Some t → ReadsOne mid now (asked (get_or list i d)) (read_of o) → Went before now (map asked list) (texts ++ t ∷ [])
   list_goes_on o t is r =
       went_on before mid now (map asked list) texts (asked d) t (before_end list i (length texts) e less) h
@@ -202,11 +219,18 @@ module _ (before mid now : Option Told) (list : List (Bor (List ℕ) × ℕ)) (d
 
   pub list_fails : (o : Option Text) → o ≡ None → ReadsOne mid now (asked (get_or list i d)) (read_of o) → ReadsAll before now (map asked list) (taken texts ++ failed ∷ [])
   list_fails o is r = record {
-    made = made_some (map asked list) texts (before_end list i (length texts) e less);
+    made = made_some (map asked list) texts (before_end list i (length texts) e less) fit;
     told = went_no_further before mid now (map asked list) texts (asked d) (before_end list i (length texts) e less) h
         (subst (λ (file : Asked). ReadsOne mid now file failed) (asked_is list d i (length texts) e less)
         (subst (λ (x : Option Text). ReadsOne mid now (asked (get_or list i d)) (read_of x)) is r));
   }
+
+  pub list_fits : (o : Option Text) (t : Text) → o ≡ Some t → IfSome o (λ x. fits (asked (get_or list i d)) x ≡ true)
+      → all_fit (map asked list) (texts ++ t ∷ []) ≡ true
+  list_fits o t is r =
+      fit_next (map asked list) texts (asked d) t (before_end list i (length texts) e less) fit
+      (subst (λ (file : Asked). fits file t ≡ true) (asked_is list d i (length texts) e less)
+      (subst (λ (x : Option Text). IfSome x (λ y. fits (asked (get_or list i d)) y ≡ true)) is r))
 
   pub list_asks : AsksOne mid now ((asked (get_or list i d)).0) → AsksFront before now (map asked list)
   list_asks r =
@@ -215,7 +239,8 @@ module _ (before mid now : Option Told) (list : List (Bor (List ℕ) × ℕ)) (d
 
 -- all were read
 pub list_ends : (before now : Option Told) (list : List (Bor (List ℕ) × ℕ)) (texts : List Text) → length texts ≡ length list
-    → Went before now (map asked list) texts → ReadsAll before now (map asked list) (taken texts ++ [])
-list_ends before now list texts e h =
+    → Went before now (map asked list) texts → all_fit (map asked list) texts ≡ true
+    → ReadsAll before now (map asked list) (taken texts ++ [])
+list_ends before now list texts e h fit =
     let same : length texts ≡ length (map asked list) = e ∙ sym (length-map list asked) in
-    record { made = made_all (map asked list) texts same; told = went_through before now (map asked list) texts same h }
+    record { made = made_all (map asked list) texts same fit; told = went_through before now (map asked list) texts same h }

@@ -1,6 +1,7 @@
 //! The files of a command are read in order, up to the first read that fails.
 
-ghost use Rattle.std.specs.Prelude.{◌≡◌, ◌≤◌, map, IfOk, OnErr};
+ghost use Rattle.std.specs.Prelude.{◌≡◌, ◌≤◌, map, true, IfOk, OnErr, IfSome};
+ghost use Rattle.spec_tool.specs.Reads.{fits};
 ghost use Rattle.bm_io.specs.Counts.{RoseBy};
 ghost use Rattle.bitml_command.specs.Seen.{asked};
 ghost use Rattle.bitml_command.specs.Files.{read_of, reads_of, ReadsOne, AsksFront, AsksOne, ReadsAll, CountsAll, RoseIfFailed};
@@ -27,6 +28,7 @@ fn read_one<F: Files>(
     limit: usize,
 ) -> Result<Option<Option<Bytes>>, OutOfMemory>
     ensures reads { IfOk result (λ text. ReadsOne (F.told files.old) (F.told files.new) (name.now, limit) (read_of text)) }
+    ensures few { IfOk result (λ text. IfSome text (λ t. fits (name.now, limit) t ≡ true)) }
     ensures memory { OnErr result (AsksOne (F.told files.old) (F.told files.new) name.now) }
     ensures logged { IfOk result (λ text. LogsOne (F.log files.old) (F.log files.new) (F.taken files.old) (F.taken files.new)
         (name.now, limit) (read_of text)) }

@@ -1,13 +1,14 @@
 -- What `play` answers to a run and contracts that are taken is a faithful run, and every other command shows what is said of it: the
 -- theorems at one command and its reads.
 use Rattle.std.proofs.Common.{◌≡◌, ℕ, suc, ◌+◌, ◌≤◌, true, List, [], ◌∷◌, length, Option, Some, None, refl, sym, ap, subst, ◌∙◌, arith}
+use Rattle.std.proofs.lemmas.Bool.{and_parts, and_from}
 use Rattle.std.proofs.lemmas.List.{length-map}
 use Rattle.spec_run.specs.Conditions.{HashesBytes}
 use Rattle.spec_data.specs.Digits.{onto}
 use Rattle.spec_data.specs.Ranges.{most_contracts}
 use Rattle.spec_text.specs.Refusals.{contract_of, run_of}
 use Rattle.spec_text.specs.Played.{play_text}
-use Rattle.spec_tool.specs.Reads.{Asked, Read, got, too_long, failed, Text, texts_read, are_made}
+use Rattle.spec_tool.specs.Reads.{Asked, Read, got, too_long, failed, Text, texts_read, are_made, fits, all_fit}
 use Rattle.spec_tool.specs.Commands.{Command, check, play, plan, make, psbt_of, psbt_shown, psbt_joined, weigh, audit, auto}
 use Rattle.spec_tool.specs.Commands.{Printed, onto_judged, contracts_from, both_judged, run_answer, play_answer, files_of, contract_file}
 use Rattle.spec_tool.specs.Answers.{tool_answer, tool_reads, read_answer, text_answer, contracts_in}
@@ -39,9 +40,31 @@ texts_count : (files : List Asked) (reads : List Read) → are_made files reads 
 texts_count [] [] e = refl
 texts_count [] (read ∷ reads) e = absurd (cc)
 texts_count (file ∷ files) [] e = absurd (cc)
-texts_count (file ∷ files) (got bytes ∷ reads) e = onto_counts (length files) (Some (Some bytes)) (texts_read reads) (texts_count files reads e)
+texts_count (file ∷ files) (got bytes ∷ reads) e =
+    onto_counts (length files) (Some (Some bytes)) (texts_read reads) (texts_count files reads (and_parts (fits file (Some bytes)) _ e).1)
 texts_count (file ∷ files) (too_long ∷ reads) e = onto_counts (length files) (Some None) (texts_read reads) (texts_count files reads e)
 texts_count (file ∷ files) (failed ∷ reads) e = tt
+
+-- ---- as many bytes as were asked for, or fewer
+
+abbrev Fit : List Asked → Option (List Text) → Type 0
+Fit files None = Unit {0}
+Fit files (Some texts) = all_fit files texts ≡ true
+
+onto_fit : (file : Asked) (files : List Asked) (text : Text) (ts : Option (List Text)) → fits file text ≡ true → Fit files ts
+    → Fit (file ∷ files) (onto (Some text) ts)
+onto_fit file files text None e h = tt
+onto_fit file files text (Some texts) e h = and_from (fits file text) (all_fit files texts) e h
+
+texts_fit : (files : List Asked) (reads : List Read) → are_made files reads ≡ true → Fit files (texts_read reads)
+texts_fit [] [] e = refl
+texts_fit [] (read ∷ reads) e = absurd (cc)
+texts_fit (file ∷ files) [] e = absurd (cc)
+texts_fit (file ∷ files) (got bytes ∷ reads) e =
+    let p = and_parts (fits file (Some bytes)) (are_made files reads) e in
+    onto_fit file files (Some bytes) (texts_read reads) p.0 (texts_fit files reads p.1)
+texts_fit (file ∷ files) (too_long ∷ reads) e = onto_fit file files None (texts_read reads) refl (texts_fit files reads e)
+texts_fit (file ∷ files) (failed ∷ reads) e = tt
 
 -- ---- the headline
 
@@ -69,13 +92,13 @@ module _ (theorem : HeadlineTheorem) (kept : RunsAreKept) (told : PlaysAreRead) 
   of_play reads made = of_read (texts_read reads) (texts_count (files_of (play run contracts)) reads made)
 
 module _ (commands : CommandsShow) (hash : List ℕ → List ℕ) (bytes : HashesBytes hash) where
-  of_files : (command : Command) (o : Option (List Text)) → ShowsFiles hash command o (read_answer hash command o)
-  of_files command None = tt
-  of_files command (Some texts) = commands hash bytes command texts
+  of_files : (command : Command) (o : Option (List Text)) → Fit (files_of command) o → ShowsFiles hash command o (read_answer hash command o)
+  of_files command None few = tt
+  of_files command (Some texts) few = commands hash bytes command texts few
 
-  of_command : (command : Command) (reads : List Read)
+  of_command : (command : Command) (reads : List Read) → are_made (files_of command) reads ≡ true
       → ShowsFiles hash command (texts_read reads) (tool_answer hash (Some command) reads)
-  of_command command reads = of_files command (texts_read reads)
+  of_command command reads made = of_files command (texts_read reads) (texts_fit (files_of command) reads made)
 
 pub shows : HeadlineTheorem → RunsAreKept → PlaysAreRead → CommandsShow → (hash : List ℕ → List ℕ) → HashesBytes hash
     → (command : Option Command) (reads : List Read) → HasFew command → tool_reads command reads ≡ true
@@ -83,16 +106,16 @@ pub shows : HeadlineTheorem → RunsAreKept → PlaysAreRead → CommandsShow �
 shows theorem kept told commands hash bytes None reads few made = tt
 shows theorem kept told commands hash bytes (Some (play run contracts)) reads few made =
     of_play theorem kept told hash bytes run contracts few reads made
-shows theorem kept told commands hash bytes (Some (check contract)) reads few made = of_command commands hash bytes (check contract) reads
-shows theorem kept told commands hash bytes (Some (plan run contract)) reads few made = of_command commands hash bytes (plan run contract) reads
-shows theorem kept told commands hash bytes (Some (make number size)) reads few made = of_command commands hash bytes (make number size) reads
+shows theorem kept told commands hash bytes (Some (check contract)) reads few made = of_command commands hash bytes (check contract) reads made
+shows theorem kept told commands hash bytes (Some (plan run contract)) reads few made = of_command commands hash bytes (plan run contract) reads made
+shows theorem kept told commands hash bytes (Some (make number size)) reads few made = of_command commands hash bytes (make number size) reads made
 shows theorem kept told commands hash bytes (Some (psbt_of run contract which)) reads few made =
-    of_command commands hash bytes (psbt_of run contract which) reads
-shows theorem kept told commands hash bytes (Some (psbt_shown file)) reads few made = of_command commands hash bytes (psbt_shown file) reads
+    of_command commands hash bytes (psbt_of run contract which) reads made
+shows theorem kept told commands hash bytes (Some (psbt_shown file)) reads few made = of_command commands hash bytes (psbt_shown file) reads made
 shows theorem kept told commands hash bytes (Some (psbt_joined first second)) reads few made =
-    of_command commands hash bytes (psbt_joined first second) reads
-shows theorem kept told commands hash bytes (Some (weigh run contract)) reads few made = of_command commands hash bytes (weigh run contract) reads
+    of_command commands hash bytes (psbt_joined first second) reads made
+shows theorem kept told commands hash bytes (Some (weigh run contract)) reads few made = of_command commands hash bytes (weigh run contract) reads made
 shows theorem kept told commands hash bytes (Some (audit run contract file)) reads few made =
-    of_command commands hash bytes (audit run contract file) reads
+    of_command commands hash bytes (audit run contract file) reads made
 shows theorem kept told commands hash bytes (Some (auto run contract strategy)) reads few made =
-    of_command commands hash bytes (auto run contract strategy) reads
+    of_command commands hash bytes (auto run contract strategy) reads made

@@ -1,6 +1,7 @@
 //! Hash functions of 32 bytes, a trail of the messages that were hashed, and the buffer that holds them.
 #![tactic(auto)]
 
+mod again;
 mod hashing;
 mod key;
 mod messages;

@@ -1,6 +1,6 @@
 //! The messages that were hashed.
 
-ghost use Rattle.std.specs.Prelude.{◌≡◌, ◌++◌, ◌∷◌, [], IfOk, OnOk, OnErr, length, is_some, IfNone, IfSome, Some, None};
+ghost use Rattle.std.specs.Prelude.{◌≡◌, ◌++◌, ◌∷◌, [], IfOk, OnOk, OnErr, length, is_some, IfNone, IfSome, Some, None, slice_index_or, true};
 ghost use Rattle.std.specs.Option.{option_map, option_copied};
 ghost use Rattle.std.specs.Vec.{vec_len};
 ghost use Rattle.indexmap.specs.IndexMap.{IsUnchanged};
@@ -9,6 +9,7 @@ ghost use Rattle.bm_hash.specs.declared.messages.TrailError.TheVariants.{Collide
 ghost use Rattle.bm_hash.specs.Messages.{evidence_of, message_of, IsAt};
 ghost use Rattle.bm_hash.specs.Trails.{Hashed, Hashes, IsClash, HaveApartDigests};
 
+use crate::again::Again;
 use crate::hashing::Hash32;
 use crate::key::Key;
 use crate::pieces::Pieces;
@@ -52,6 +53,7 @@ pub struct Trail<H: Hash32> {
     messages: Pieces,
     index: IndexMap<Key, usize>,
     collision: Option<usize>,
+    again: Again,
 }
 
 impl<H: Hash32> Model for Trail<H> {
@@ -72,6 +74,7 @@ impl<H: Hash32 + Drop> Drop for Trail<H> {
             messages: _,
             index: _,
             collision: _,
+            again: _,
         } = self;
     }
 }
@@ -109,15 +112,48 @@ fn digest_at(index: &IndexMap<Key, usize>, place: usize) -> Option<[u8; 32]>
     }
 }
 
-// The digest of a message, if it is one of the last ones.
-fn recent_digest(
+// Whether the message stands at a place.
+fn stands_at(messages: &Pieces, place: usize, message: &[u8]) -> bool
+    ensures { result ≡ true → slice_index_or messages.now place [] ≡ message.now }
+{
+    if place >= messages.len() {
+        return false;
+    }
+    messages.get(place) == message
+}
+
+// Which of these places the message stands at.
+fn place_among(messages: &Pieces, places: &[usize], message: &[u8]) -> Option<usize>
+    ensures { IfSome result (λ place. slice_index_or messages.now place [] ≡ message.now) }
+{
+    for place in places {
+        if stands_at(messages, *place, message) {
+            return Some(*place);
+        }
+    }
+    None
+}
+
+// The place of a message, if it is one of the last ones or stands at one of these places.
+fn known_place(messages: &Pieces, places: &[usize], message: &[u8]) -> Option<usize>
+    ensures { IfSome result (λ place. slice_index_or messages.now place [] ≡ message.now) }
+{
+    match messages.find_last(message, RECENT) {
+        Some(place) => Some(place),
+        None => place_among(messages, places, message),
+    }
+}
+
+// The digest of a message, if it is one of the last ones or stands at one of these places.
+fn known_digest(
     messages: &Pieces,
     index: &IndexMap<Key, usize>,
+    places: &[usize],
     message: &[u8],
 ) -> Option<[u8; 32]>
     ensures { IfSome result (λ d. IsAt messages.now (place_in index.now d) message.now) }
 {
-    let place = messages.find_last(message, RECENT)?;
+    let place = known_place(messages, places, message)?;
     digest_at(index, place)
 }
 
@@ -131,6 +167,7 @@ impl<H: Hash32 + Drop> Trail<H> {
             messages: Pieces::new(alloc),
             index: IndexMap::new(alloc),
             collision: None,
+            again: Again::new(),
         }
     }
 
@@ -141,7 +178,8 @@ impl<H: Hash32 + Drop> Trail<H> {
         &self.hasher
     }
 
-    // The digest of a message that is among the last ones of a trail on which nothing clashed. To hash it again would change nothing.
+    // The digest of a message that is among the last ones of a trail on which nothing clashed, or comes again and again. To hash it
+    // once more would change nothing.
     fn recall(&self, message: &[u8]) -> Option<[u8; 32]>
         ensures digest { IfSome result (λ d. d ≡ H.digest_of self.now.hasher message.now) }
         ensures trail { IfSome result (λ d. Hashed (H.digest_of self.now.hasher) self.now.messages self.now.messages (message.now ∷ [])) }
@@ -149,7 +187,7 @@ impl<H: Hash32 + Drop> Trail<H> {
         if self.collision.is_some() {
             return None;
         }
-        recent_digest(&self.messages, &self.index, message)
+        known_digest(&self.messages, &self.index, self.again.places(), message)
     }
 
     // The digest of a message as the hash function gives it; the message is then on the trail.
@@ -164,6 +202,7 @@ impl<H: Hash32 + Drop> Trail<H> {
         match self.index.get(&Key { digest }).copied() {
             Some(place) => {
                 if self.messages.get(place) == message {
+                    self.again.note(place);
                     return Ok(digest);
                 }
                 self.messages.push(message)?;
@@ -177,7 +216,8 @@ impl<H: Hash32 + Drop> Trail<H> {
         }
     }
 
-    /// The digest of a message, which is then on the trail. The hash function is spared where the message is among the last ones.
+    /// The digest of a message, which is then on the trail. The hash function is spared where the message is among the last
+    /// ones, or among those that come again and again.
     pub fn hash(&mut self, message: &[u8]) -> Result<[u8; 32], TrailError>
         ensures digest { IfOk result (λ d. d ≡ H.digest_of self.old.hasher message.now) }
         ensures trail { Hashes H.digest_of self.old self.new (message.now ∷ []) result }

@@ -1,5 +1,5 @@
 -- What the reads of a command's files answer, and what is taken of them.
-use Rattle.std.specs.Prelude.{ℕ, ◌+◌, List, [], ◌∷◌, length, take, map, Bool, true, false, ◌==◌, nat_le, if◌then◌else◌, Option, Some}
+use Rattle.std.specs.Prelude.{ℕ, ◌+◌, List, [], ◌∷◌, length, take, map, Bool, true, false, ◌&&◌, ◌==◌, nat_le, if◌then◌else◌, Option, Some}
 use Rattle.std.specs.Prelude.{None, slice_get}
 use Rattle.std.specs.Option.{option_and_then}
 use Rattle.spec_data.specs.Lists.{look_up}
@@ -11,6 +11,23 @@ use Rattle.spec_data.specs.Digits.{onto}
 abbrev pub Asked : Type 0
 Asked = List ℕ × ℕ
 
+-- ---- what is taken
+
+-- the bytes of a file, nothing where it is too long
+abbrev pub Text : Type 0
+Text = Option (List ℕ)
+
+-- whether what is taken of a file has no more bytes than were asked for
+abbrev pub fits : Asked → Text → Bool
+fits file None = true
+fits file (Some bytes) = nat_le (length bytes) (file.1)
+
+-- whether what is taken of these files, of each in order, has no more bytes than were asked for
+abbrev pub all_fit : List Asked → List Text → Bool
+all_fit files [] = true
+all_fit [] (text ∷ texts) = true
+all_fit (file ∷ files) (text ∷ texts) = fits file text && all_fit files texts
+
 -- ---- what is answered
 
 pub data Read : Type 0 where
@@ -20,12 +37,13 @@ pub data Read : Type 0 where
   too_long : Read
   failed : Read
 
--- whether these are the reads that are made of these files: one of each in order, up to the first that fails
+-- whether these are the reads that are made of these files: one of each in order, up to the first that fails, and none that gives more
+-- bytes than were asked for
 abbrev pub are_made : List Asked → List Read → Bool
 are_made [] [] = true
 are_made [] (read ∷ reads) = false
 are_made (file ∷ files) [] = false
-are_made (file ∷ files) (got bytes ∷ reads) = are_made files reads
+are_made (file ∷ files) (got bytes ∷ reads) = fits file (Some bytes) && are_made files reads
 are_made (file ∷ files) (too_long ∷ reads) = are_made files reads
 are_made (file ∷ files) (failed ∷ reads) = length reads == 0
 
@@ -62,11 +80,7 @@ reads_in there failing number [] = []
 reads_in there failing number (file ∷ files) =
     onto_reads (read_at there failing number file) (reads_in there failing (number + 1) files)
 
--- ---- what is taken
-
--- the bytes of a file, nothing where it is too long
-abbrev pub Text : Type 0
-Text = Option (List ℕ)
+-- ---- what the reads give
 
 -- what a read gives, unless it failed
 abbrev pub text_read : Read → Option Text

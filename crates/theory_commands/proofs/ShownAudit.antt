@@ -15,6 +15,7 @@ use Rattle.spec_tool.specs.Reads.{Text, text_at}
 use Rattle.theory_audit.specs.Audited.{HaltsAs}
 use Rattle.theory_audit.proofs.Audited.{audits_find}
 use Rattle.theory_lines.proofs.Audits.{audit_back}
+use Rattle.theory_lines.specs.Statements.{IsWithin}
 use Rattle.theory_commands.specs.ContractFiles.{HoldsContract}
 use Rattle.theory_commands.specs.Files.{ShowsPlayed}
 use Rattle.theory_commands.specs.RunFiles.{HoldsRun}
@@ -58,14 +59,14 @@ module _ (hash : List ℕ → List ℕ) (bytes : HashesBytes hash) where
         (by_collision s es text (audit_collision s (last_world s es) text)
         (audits_find.halts s es text (is_run hash bytes run_text contract_text run advert h k (calm s es u).opens))))
 
-    audit_shown : (file : Text) → ShowsAudit file s es (audited_file file s es)
-    audit_shown file = record {
+    audit_shown : (file : Text) → IsWithin file → ShowsAudit file s es (audited_file file s es)
+    audit_shown file few = record {
       shown = finds file;
-      read = audit_back s es (known_run run_text run h) (is_run hash bytes run_text contract_text run advert h k) file;
+      read = audit_back s es (known_run run_text run h) (is_run hash bytes run_text contract_text run advert h k) file few;
     }
 
-  pub audit_is_shown : (file : Text) (texts : List Text) → ShowsPlayed hash texts (with_contract (audited_file file) hash texts)
+  pub audit_is_shown : (file : Text) → IsWithin file → (texts : List Text) → ShowsPlayed hash texts (with_contract (audited_file file) hash texts)
       (λ s es. ShowsAudit file s es (with_contract (audited_file file) hash texts))
-  audit_is_shown file texts =
+  audit_is_shown file few texts =
       played (audited_file file) hash texts (ShowsAudit file)
-      (λ run advert h k. audit_shown (text_at texts 0) (text_at texts 1) run advert h k file)
+      (λ run advert h k. audit_shown (text_at texts 0) (text_at texts 1) run advert h k file few)

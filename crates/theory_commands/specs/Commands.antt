@@ -1,10 +1,10 @@
 -- What each command shows, from the texts of its files to what it prints.
-use Rattle.std.specs.Prelude.{◌≡◌, ℕ, ◌≤◌, List, Some}
+use Rattle.std.specs.Prelude.{◌≡◌, ℕ, ◌≤◌, List, true, Some}
 use Rattle.spec_run.specs.Conditions.{HashesBytes}
 use Rattle.spec_tool.specs.Answers.{text_answer}
 use Rattle.spec_tool.specs.Commands.{Command, check, play, plan, make, psbt_of, psbt_shown, psbt_joined, weigh, audit, auto, Printed}
-use Rattle.spec_tool.specs.Commands.{most_size, command_of}
-use Rattle.spec_tool.specs.Reads.{Text, text_at}
+use Rattle.spec_tool.specs.Commands.{most_size, command_of, files_of}
+use Rattle.spec_tool.specs.Reads.{Text, text_at, all_fit}
 use Rattle.theory_commands.specs.Files.{ShowsPlayed}
 use Rattle.theory_commands.specs.Shown.Audit.{ShowsAudit}
 use Rattle.theory_commands.specs.Shown.Auto.{ShowsAuto}
@@ -29,10 +29,10 @@ ShowsCommand hash (audit run contract file) texts printed =
 ShowsCommand hash (auto run contract strategy) texts printed =
     ShowsPlayed hash texts printed (λ s es. ShowsAuto (text_at texts 0) (text_at texts 2) s es printed)
 
--- what a command answers to the texts of its files shows that, for every hash of 32 bytes
+-- what a command answers to the texts of its files, none of more bytes than were asked for, shows that, for every hash of 32 bytes
 abbrev pub CommandsShow : Type 0
 CommandsShow = (hash : List ℕ → List ℕ) → HashesBytes hash → (command : Command) (texts : List Text)
-    → ShowsCommand hash command texts (text_answer hash command texts)
+    → all_fit (files_of command) texts ≡ true → ShowsCommand hash command texts (text_answer hash command texts)
 
 -- the size of `make` in words that are a command is one that it takes
 abbrev pub MadeSizesAreTaken : Type 0

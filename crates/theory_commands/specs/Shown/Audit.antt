@@ -11,7 +11,6 @@ use Rattle.spec_tool.specs.Commands.{Printed, prints}
 use Rattle.spec_tool.specs.Reads.{Text}
 use Rattle.theory_audit.specs.Audited.{IsAudit, HaltsAs}
 use Rattle.theory_lines.specs.Audit.{audit_of, shown_audit}
-use Rattle.theory_lines.specs.Statements.{IsWithin}
 use Rattle.theory_commands.specs.Files.{IfWhole}
 
 -- nothing collides: what the file's lines are, which transactions are absent and which signatures are missing is written
@@ -37,4 +36,4 @@ FindsIf (Some text) s es printed = IfWhole s es printed (Finds s es text printed
 pub record ShowsAudit (file : Text) (s : Setup) (es : List Event) (printed : Printed) : Type 0 where
   pub shown : FindsIf file s es printed
   -- the text is read as all that is found, is absent and is missing, or as what stands in its place
-  pub read : IsWithin file → audit_of printed.text ≡ Some (shown_audit file s es)
+  pub read : audit_of printed.text ≡ Some (shown_audit file s es)

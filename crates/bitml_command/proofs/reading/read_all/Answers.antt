@@ -1,10 +1,10 @@
-use Rattle.std.proofs.Common.{rules, ◌≡◌, ℕ, ◌+◌, List, [], ◌∷◌, ◌++◌, map, sym, ap, subst, ◌∙◌, arith, length, length-append}
+use Rattle.std.proofs.Common.{rules, refl, true, ◌≡◌, ℕ, ◌+◌, List, [], ◌∷◌, ◌++◌, map, sym, ap, subst, ◌∙◌, arith, length, length-append}
 use Rattle.std.specs.Borrow.{Bor}
-use Rattle.spec_tool.specs.Reads.{Text}
+use Rattle.spec_tool.specs.Reads.{Text, all_fit}
 use Rattle.bitml_command.specs.Seen.{asked}
 use Rattle.bitml_command.specs.Files.{taken, Went}
 use Rattle.bitml_command.specs.Logs.{Logs}
-use Rattle.bitml_command.proofs.Told.{on_err, asks_so_far, list_goes_on, list_fails, list_asks, list_ends}
+use Rattle.bitml_command.proofs.Told.{on_err, asks_so_far, list_goes_on, list_fits, list_fails, list_asks, list_ends}
 use Rattle.bitml_command.proofs.Logged.{log_goes_on, log_fails, log_wants, log_front, log_ends, log_starts}
 use Rattle.bitml_command.proofs.reading.read_all.Goals as goal
 
@@ -15,7 +15,7 @@ pub returns-in_err-text-clause-memory : goal.returns-in_err-text-clause-memory
 returns-in_err-text-clause-memory g c =
     on_err c.from_residual.result _
     (list_asks (g.F.Files.told c.args.files.now) (g.F.Files.told c.loop-name.files) (g.F.Files.told c.read_one.new.files) c.args.list.now nothing c.loop-name.name-index
-    c.loop-name.texts c.loop-name.invariant.counted c.loop-name-test.true c.loop-name.invariant.went c.in_err-text.ensures.memory)
+    c.loop-name.texts c.loop-name.invariant.counted c.loop-name-test.true c.loop-name.invariant.went c.loop-name.invariant.fit c.in_err-text.ensures.memory)
 
 pub returns-in_err-text-clause-wanted : goal.returns-in_err-text-clause-wanted
 returns-in_err-text-clause-wanted g c =
@@ -36,14 +36,14 @@ returns-in_default-clause-logged g c =
 pub returns-in_default-clause-reads : goal.returns-in_default-clause-reads
 returns-in_default-clause-reads g c =
     list_fails (g.F.Files.told c.args.files.now) (g.F.Files.told c.loop-name.files) (g.F.Files.told c.read_one.new.files) c.args.list.now nothing c.loop-name.name-index
-    c.loop-name.texts c.loop-name.invariant.counted c.loop-name-test.true c.loop-name.invariant.went c.in_ok-text.field-0 c.in_default.is c.in_ok-text.ensures.reads
+    c.loop-name.texts c.loop-name.invariant.counted c.loop-name-test.true c.loop-name.invariant.went c.loop-name.invariant.fit c.in_ok-text.field-0 c.in_default.is c.in_ok-text.ensures.reads
 
 pub returns-in_err-push-clause-memory : goal.returns-in_err-push-clause-memory
 returns-in_err-push-clause-memory g c =
     on_err c.from_residual-in_err-push.result _
     (asks_so_far (g.F.Files.told c.args.files.now) (g.F.Files.told c.read_one.new.files) (map asked c.args.list.now) (c.loop-name.texts ++ c.in-Some.text ∷ [])
     (list_goes_on (g.F.Files.told c.args.files.now) (g.F.Files.told c.loop-name.files) (g.F.Files.told c.read_one.new.files) c.args.list.now nothing c.loop-name.name-index
-    c.loop-name.texts c.loop-name.invariant.counted c.loop-name-test.true c.loop-name.invariant.went c.in_ok-text.field-0 c.in-Some.text c.in-Some.is c.in_ok-text.ensures.reads))
+    c.loop-name.texts c.loop-name.invariant.counted c.loop-name-test.true c.loop-name.invariant.went c.loop-name.invariant.fit c.in_ok-text.field-0 c.in-Some.text c.in-Some.is c.in_ok-text.ensures.reads))
 
 pub returns-in_err-push-clause-wanted : goal.returns-in_err-push-clause-wanted
 returns-in_err-push-clause-wanted g c =
@@ -68,7 +68,7 @@ loop-name-preserved g c =
       counted = ap length pushed ∙ length-append c.loop-name.texts (c.in-Some.text ∷ []) ∙ ap (λ (n : ℕ). n + 1) c.loop-name.invariant.counted;
       went = subst (λ (texts : List Text). Went (g.F.Files.told c.args.files.now) (g.F.Files.told c.read_one.new.files) (map asked c.args.list.now) texts) (sym pushed)
           (list_goes_on (g.F.Files.told c.args.files.now) (g.F.Files.told c.loop-name.files) (g.F.Files.told c.read_one.new.files) c.args.list.now nothing c.loop-name.name-index
-          c.loop-name.texts c.loop-name.invariant.counted c.loop-name-test.true c.loop-name.invariant.went c.in_ok-text.field-0 c.in-Some.text c.in-Some.is c.in_ok-text.ensures.reads);
+          c.loop-name.texts c.loop-name.invariant.counted c.loop-name-test.true c.loop-name.invariant.went c.loop-name.invariant.fit c.in_ok-text.field-0 c.in-Some.text c.in-Some.is c.in_ok-text.ensures.reads);
       logs = subst (λ (texts : List Text). Logs (g.F.Files.log c.args.files.now) (g.F.Files.log c.read_one.new.files)
           (g.F.Files.taken c.args.files.now) (g.F.Files.taken c.read_one.new.files) (map asked c.args.list.now) (taken texts)) (sym pushed)
           (log_goes_on (g.F.Files.log c.args.files.now) (g.F.Files.log c.loop-name.files) (g.F.Files.log c.read_one.new.files)
@@ -76,18 +76,22 @@ loop-name-preserved g c =
           nothing c.loop-name.name-index c.loop-name.texts
           c.loop-name.invariant.counted c.loop-name-test.true c.loop-name.invariant.logs c.in_ok-text.field-0 c.in-Some.text c.in-Some.is
           c.in_ok-text.ensures.logged);
+      fit = subst (λ (texts : List Text). all_fit (map asked c.args.list.now) texts ≡ true) (sym pushed)
+          (list_fits (g.F.Files.told c.args.files.now) (g.F.Files.told c.loop-name.files) (g.F.Files.told c.read_one.new.files) c.args.list.now nothing c.loop-name.name-index
+          c.loop-name.texts c.loop-name.invariant.counted c.loop-name-test.true c.loop-name.invariant.went c.loop-name.invariant.fit c.in_ok-text.field-0 c.in-Some.text c.in-Some.is c.in_ok-text.ensures.few);
       later = let so_far = c.loop-name.invariant.later in let more = c.read_one.ensures.later in omega (arith, so_far, more);
     }
 
 pub returns-clause-reads : goal.returns-clause-reads
 returns-clause-reads g c =
     list_ends (g.F.Files.told c.args.files.now) (g.F.Files.told c.loop-name.files) c.args.list.now c.loop-name.texts
-    (let counted = c.loop-name.invariant.counted in let over = c.loop-name-test.false in let end = c.loop-name.auto.name-index-end in omega (arith, counted, over, end)) c.loop-name.invariant.went
+    (let counted = c.loop-name.invariant.counted in let over = c.loop-name-test.false in let end = c.loop-name.auto.name-index-end in omega (arith, counted, over, end)) c.loop-name.invariant.went c.loop-name.invariant.fit
 
 pub loop-name-init : goal.loop-name-init
 loop-name-init g c = record {
   counted = search rules;
   went = search rules;
+  fit = search rules;
   logs = log_starts _ _ _ _ c.new-texts.ensures;
   later = search rules;
 }

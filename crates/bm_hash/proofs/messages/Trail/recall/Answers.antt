@@ -4,8 +4,8 @@ use Rattle.bm_hash.proofs.messages.Trail.recall.Goals as goal
 
 pub returns-clause-digest : goal.returns-clause-digest
 returns-clause-digest g c =
-    rw (← c.self.view_is) ((recalled _ _ _ _ c.self.invariant (sym c.is_some.ensures ∙ c.if-is_some.false) _ _ c.recent_digest.ensures).0)
+    rw (← c.self.view_is) ((recalled _ _ _ _ c.self.invariant (sym c.is_some.ensures ∙ c.if-is_some.false) _ _ c.known_digest.ensures).0)
 
 pub returns-clause-trail : goal.returns-clause-trail
 returns-clause-trail g c =
-    rw (← c.self.view_is) ((recalled _ _ _ _ c.self.invariant (sym c.is_some.ensures ∙ c.if-is_some.false) _ _ c.recent_digest.ensures).1)
+    rw (← c.self.view_is) ((recalled _ _ _ _ c.self.invariant (sym c.is_some.ensures ∙ c.if-is_some.false) _ _ c.known_digest.ensures).1)

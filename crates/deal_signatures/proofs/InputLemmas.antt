@@ -81,16 +81,6 @@ module _ (wanted : List Spot) (tx : List ℕ) (k : ℕ) (old : List Signed) (ps 
       take_both wanted tx k old ps qs ∙ ap (λ t. and_then t (λ more. take_signatures wanted tx k more qs)) h
   stopped_before lines.Memory h = tt
 
--- one signature alone
-pub take_one : (wanted : List Spot) (tx : List ℕ) (k : ℕ) (given : List Signed) (p : Pairing)
-    → take_signatures wanted tx k given (p ∷ []) ≡ take_signature wanted given (record { tx = tx; input = k; key = p.0; signature = p.1 })
-take_one wanted tx k given p = by_taken (take_signature wanted given (record { tx = tx; input = k; key = p.0; signature = p.1 }))
-  where
-    by_taken : (r : Taken)
-        → elim r [ Ok more ↦ take_signatures wanted tx k more [] | Err reason ↦ Err reason ] ≡ r
-    by_taken (Ok more) = refl
-    by_taken (Err reason) = refl
-
 -- ---- an input
 
 -- by whether what its records say is so

@@ -1,5 +1,5 @@
 -- The transaction that has some bytes, by its number.
-use Rattle.std.proofs.Common.{◌≡◌, ℕ, ◌+◌, List, [], ◌∷◌, ◌++◌, map, Bool, true, false, cond, Option, Some, None}
+use Rattle.std.proofs.Common.{◌≡◌, ℕ, ◌+◌, List, [], ◌∷◌, map, Bool, true, false, cond, Option, Some, None}
 use Rattle.std.proofs.Common.{refl, sym, ap, ◌∙◌}
 use Rattle.std.specs.Prelude.{option_map, slice_get}
 use Rattle.std.specs.List.{find}
@@ -45,7 +45,3 @@ transaction_found ts ns q o all here =
     ∙ ap (find (λ (p : List ℕ × ℕ). bytes_eq p.0 q)) all)
     ∙ numbers q 0 ts)
     ∙ found_place bytes_of q ts
-
-pub known_push : (ns : List Known) (n : Known) → map known_in (ns ++ n ∷ []) ≡ map known_in ns ++ known_in n ∷ []
-known_push [] n = refl
-known_push (x ∷ ns) n = ap (λ more. known_in x ∷ more) (known_push ns n)

@@ -1,5 +1,5 @@
 -- What is found by the input, the key and the transaction.
-use Rattle.std.proofs.Common.{◌≡◌, ℕ, ◌<◌, ◌^◌, List, [], ◌∷◌, ◌++◌, length, map, Bool, true, false, Option, Some, None}
+use Rattle.std.proofs.Common.{◌≡◌, ℕ, ◌<◌, ◌^◌, List, ◌++◌, length, map, Bool, true, false, Option, Some, None}
 use Rattle.std.proofs.Common.{refl, sym, ap, ◌∙◌, arith}
 use Rattle.std.specs.Prelude.{◌&&◌, ◌==◌, nat_lt, option_map, is_some}
 use Rattle.std.specs.List.{find, list_all, list_any}
@@ -54,10 +54,6 @@ signature_found es tx i key found_by all sized here =
     (λ e h. same_place_key e.signed.tx tx e.signed.input i e.signed.key key h sized) es all)
     ∙ sym (find_map signed_in (is_at (record { tx = tx; input = i; key = key })) es)
 
-pub signed_push : (es : List Entry) (g : Signed) → map signed_in (es ++ (record { signed = g }) ∷ []) ≡ map signed_in es ++ g ∷ []
-signed_push [] g = refl
-signed_push (e ∷ es) g = ap (λ more. signed_in e ∷ more) (signed_push es g)
-
 -- ---- where signatures are wanted
 
 pub some_mapped : {A B : Type 0} (f : A → B) (o : Option A) → is_some o ≡ is_some (option_map f o)
@@ -92,7 +88,3 @@ wanted_found ps g found_by all sized here =
     ∙ some_mapped spot_in (find (λ (p : Place). is_at (spot_in p) g) ps)
     ∙ ap is_some (sym (find_map spot_in (λ spot. is_at spot g) ps))
     ∙ sym (any_found (λ spot. is_at spot g) (map spot_in ps))
-
-pub place_push : (ps : List Place) (p : Place) → map spot_in (ps ++ p ∷ []) ≡ map spot_in ps ++ spot_in p ∷ []
-place_push [] p = refl
-place_push (x ∷ ps) p = ap (λ more. spot_in x ∷ more) (place_push ps p)

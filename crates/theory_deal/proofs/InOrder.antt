@@ -1,6 +1,6 @@
 -- The status of an answer is that of the first cause in their order.
-use Rattle.std.proofs.Common.{◌≡◌, ℕ, Bool, true, false, List, [], ◌∷◌, Option, Some, None, refl}
-use Rattle.std.specs.Prelude.{Result, Ok, Err, ◌&&◌, is_err, is_some}
+use Rattle.std.proofs.Common.{◌≡◌, ℕ, Bool, List, [], ◌∷◌, Option, Some, None, refl}
+use Rattle.std.specs.Prelude.{Result, Ok, Err, is_err, is_some}
 use Rattle.std.specs.Option.{is_none}
 use Rattle.spec_data.specs.Messages.{collision}
 use Rattle.spec_terms.specs.Advert.{Advert}
@@ -15,12 +15,11 @@ use Rattle.spec_tool.specs.Keyed.Listed.{Listed, listed_at}
 use Rattle.spec_tool.specs.PsbtText.{psbt_line}
 use Rattle.spec_tool.specs.Reads.{Text, text_at}
 use Rattle.spec_deal.specs.declared.deal.Deal.{Deal}
-use Rattle.spec_deal.specs.declared.entry.Shown.{Shown}
 use Rattle.spec_deal.specs.declared.fault.DealFault.{DealFault}
 use Rattle.spec_deal.specs.declared.fault.SignatureFault.{SignatureFault}
 use Rattle.spec_deal.specs.declared.finish.FinishRefusal.{FinishRefusal}
 use Rattle.spec_deal.specs.declared.signed.Signed.{Signed}
-use Rattle.spec_deal.specs.Answers.{circular, unless_circular, unless_collided, with_deal, deal_in, of_deal, if_there, of_transaction}
+use Rattle.spec_deal.specs.Answers.{circular, unless_circular, unless_collided, with_deal, deal_in, if_there, of_transaction}
 use Rattle.spec_deal.specs.Answers.{of_signatures, with_signatures, signatures_in, with_secrets, secrets_in, unless_refused, finished_answer}
 use Rattle.spec_deal.specs.Answers.{finish_answer, finish_with_answer, with_advert, deal_text_answer}
 use Rattle.spec_deal.specs.Commands as commands

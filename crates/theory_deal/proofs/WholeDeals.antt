@@ -4,7 +4,6 @@ use Rattle.std.specs.Prelude.{Result, Ok, Err, nat_lt}
 use Rattle.spec_terms.specs.Advert.{Advert}
 use Rattle.spec_terms.specs.Precondition.{names_of}
 use Rattle.spec_text.specs.Lines.{lines_of}
-use Rattle.spec_deal.specs.declared.deal.Deal.{Deal}
 use Rattle.spec_deal.specs.declared.deal.Needed.{Needed}
 use Rattle.spec_deal.specs.declared.entry.Entry.{Entry}
 use Rattle.spec_deal.specs.declared.fault.DealFault.{DealFault}

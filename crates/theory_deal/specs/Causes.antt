@@ -161,9 +161,12 @@ later_causes hash command texts so =
     ∷ (so (λ keys s. reads_signatures command && is_err (signatures_in hash keys s (text_at texts 2))), 14)
     ∷ (so (λ keys s. reads_secrets command && are_bad (secrets_in hash keys s (text_at texts 3))), 15)
     ∷ (so (λ keys s. reads_secrets command && are_clashing (secrets_in hash keys s (text_at texts 3))), 8)
-    ∷ (so (λ keys s.
-    is_unfinished hash keys s (given_of (signatures_in hash keys s (text_at texts 2))) (strings_by hash command (text_at texts 3) keys s)
-    (to_finish hash command keys s)), 16)
+    ∷ (
+      so (λ keys s.
+          is_unfinished hash keys s (given_of (signatures_in hash keys s (text_at texts 2))) (strings_by hash command (text_at texts 3) keys s)
+          (to_finish hash command keys s)),
+      16,
+    )
     ∷ []
 
 -- of a deal: strings that collide, and a deposit that the deal itself makes

@@ -1,4 +1,4 @@
-pub mod Inputs
-pub mod Known
-pub mod Lines
-pub mod Places
+pub mod InputLemmas
+pub mod KnownLemmas
+pub mod PlaceLemmas
+pub mod RefusalLemmas

@@ -4,6 +4,14 @@ use Rattle.spec_bitcoin.specs.Spelling.{word}
 use Rattle.spec_deal.specs.declared.signed.Signed.{Signed}
 use Rattle.spec_deal.specs.Transactions.{Spot}
 
+-- a signature of an input of the transaction with these bytes
+abbrev pub signed_by : List ℕ → ℕ → List ℕ → List ℕ → Signed
+signed_by tx input key signature = record { tx = tx; input = input; key = key; signature = signature }
+
+-- the same place without a signature
+abbrev pub spot_of : List ℕ → ℕ → List ℕ → Spot
+spot_of tx input key = record { tx = tx; input = input; key = key }
+
 -- the number of the input, the key and the bytes of the transaction
 abbrev pub place_key : List ℕ → ℕ → List ℕ → List ℕ
 place_key tx input key = word input ++ (key ++ tx)

@@ -1,6 +1,7 @@
 -- Why a file of signatures is refused, as a text.
 use Rattle.std.specs.Prelude.{ℕ, List, ◌++◌, codes}
 use Rattle.std.specs.Fmt.{decimal}
+use Rattle.spec_text.specs.RunText.{newline}
 use Rattle.spec_deal.specs.declared.fault.SignatureReason.{SignatureReason}
 use Rattle.spec_deal.specs.declared.fault.SignatureReason.TheVariants as reasons
 use Rattle.spec_deal.specs.declared.fault.SignatureFault.{SignatureFault}
@@ -23,3 +24,6 @@ reason_text (reasons.Conflict k) = at_input (codes "conflict") k
 abbrev pub fault_text : SignatureFault → List ℕ
 fault_text faults.Size = codes "size"
 fault_text (faults.Line n reason) = codes "line " ++ (decimal n ++ (codes " " ++ reason_text reason))
+
+abbrev pub refused_text : SignatureFault → List ℕ
+refused_text fault = codes "signatures refused " ++ (fault_text fault ++ newline)

@@ -4,6 +4,7 @@ ghost use Rattle.std.specs.Prelude.{◌≡◌, ◌++◌, ◌∷◌, [], option_m
 ghost use Rattle.std.specs.List.{find};
 ghost use Rattle.spec_deal.specs.Transactions.{is_at};
 ghost use Rattle.spec_deal.specs.declared.signed.Signed.{Signed as Told};
+ghost use Rattle.deal_signatures.specs.Keying.{signed_by, spot_of};
 
 use crate::places::place_key;
 use deal_index::{Indexed, Keyed};
@@ -71,7 +72,7 @@ impl Given {
         key: &[u8; 33],
     ) -> Result<Option<&Bytes>, OutOfMemory>
         ensures { IfOk result (λ o. option_map (λ s. s.now) o ≡ option_map (λ (g : Told). g.signature)
-            (find (is_at (record { tx = tx.now; input = input; key = key.now })) self.now)) }
+            (find (is_at (spot_of tx.now input key.now)) self.now)) }
     {
         let place = place_key(alloc, tx, input, key)?;
         match self.entries.find(&place) {
@@ -89,8 +90,7 @@ impl Given {
         key: &[u8; 33],
         signature: &[u8],
     ) -> Result<(), OutOfMemory>
-        ensures ok { OnOk result (self.new ≡ self.old
-            ++ (record { tx = tx.now; input = input; key = key.now; signature = signature.now }) ∷ []) }
+        ensures ok { OnOk result (self.new ≡ self.old ++ signed_by tx.now input key.now signature.now ∷ []) }
         ensures err { OnErr result (self.new ≡ self.old) }
     {
         let place = place_key(alloc, tx, input, key)?;

@@ -1,6 +1,6 @@
 //! The signatures of a transaction's inputs.
 
-ghost use Rattle.std.specs.Prelude.{◌≡◌, map, option_map};
+ghost use Rattle.std.specs.Prelude.{◌≡◌, ◌++◌, map, option_map};
 ghost use Rattle.spec_deal.specs.SignatureFile as spec;
 ghost use Rattle.deal_signatures.specs.Seen.{spot_in};
 ghost use Rattle.deal_signatures.specs.Gives.{Takes, one_or_none};
@@ -29,10 +29,30 @@ fn take_final(
         (spec.take_signatures (map spot_in wanted.now) tx.now number given.old (one_or_none (option_map (λ p. (p.0, p.1.now)) last.entry))) }
 {
     match last {
-        Some((key, signature)) => {
-            take_signature(alloc, wanted, given, tx, number, &key, signature.as_slice())
+        Some(last) => {
+            let key = last.0;
+            take_signature(alloc, wanted, given, tx, number, &key, last.1.as_slice())
         }
         None => Ok(()),
+    }
+}
+
+// The signatures of an input's records, and then that of its final witness.
+fn take_fitting(
+    alloc: Global,
+    wanted: &Indexed<Place>,
+    given: &mut Given,
+    tx: &[u8],
+    number: u32,
+    pairs: &[([u8; 33], Bytes)],
+    last: Option<([u8; 33], &Bytes)>,
+) -> Result<(), LineError>
+    ensures { Takes given.old given.new result (spec.take_signatures (map spot_in wanted.now) tx.now number given.old
+        (pairs.now ++ one_or_none (option_map (λ p. (p.0, p.1.now)) last.entry))) }
+{
+    match take_signatures(alloc, wanted, given, tx, number, pairs) {
+        Ok(()) => take_final(alloc, wanted, given, tx, number, last),
+        Err(error) => Err(error),
     }
 }
 
@@ -59,8 +79,15 @@ fn take_input(
     let Some(last) = final_signature(script, &said.witness) else {
         return Err(LineError::Bad(SignatureReason::Witness(number)));
     };
-    take_signatures(alloc, wanted, given, tx, number, said.partial.as_slice())?;
-    take_final(alloc, wanted, given, tx, number, last)
+    take_fitting(
+        alloc,
+        wanted,
+        given,
+        tx,
+        number,
+        said.partial.as_slice(),
+        last,
+    )
 }
 
 /// The signatures of the inputs in order, as far as something is said of them.

@@ -4,6 +4,7 @@ ghost use Rattle.std.specs.Prelude.{◌≡◌, ◌++◌, ◌∷◌, [], List, �
 ghost use Rattle.std.specs.List.{find, list_any};
 ghost use Rattle.spec_deal.specs.Transactions as spec;
 ghost use Rattle.spec_deal.specs.SignatureFile.{has_bytes};
+ghost use Rattle.deal_signatures.specs.Keying.{signed_by, spot_of};
 ghost use Rattle.deal_signatures.specs.Seen.{spot_in, known_in, numbered};
 
 use crate::places::place_key;
@@ -79,7 +80,7 @@ fn put_place(
     input: u32,
     key: &[u8; 33],
 ) -> Result<(), OutOfMemory>
-    ensures { OnOk result (map spot_in wanted.new ≡ map spot_in wanted.old ++ (record { tx = tx.now; input = input; key = key.now }) ∷ []) }
+    ensures { OnOk result (map spot_in wanted.new ≡ map spot_in wanted.old ++ spot_of tx.now input key.now ∷ []) }
 {
     let found_by = place_key(alloc, tx, input, key)?;
     let place = Place {
@@ -146,8 +147,8 @@ pub(crate) fn is_wanted(
     input: u32,
     key: &[u8; 33],
 ) -> Result<bool, OutOfMemory>
-    ensures { (signature : List ℕ) → let g = record { tx = tx.now; input = input; key = key.now; signature = signature } in
-        IfOk result (λ b. b ≡ list_any (λ spot. spec.is_at spot g) (map spot_in wanted.now)) }
+    ensures { (signature : List ℕ) → IfOk result (λ b. b
+        ≡ list_any (λ spot. spec.is_at spot (signed_by tx.now input key.now signature)) (map spot_in wanted.now)) }
 {
     let place = place_key(alloc, tx, input, key)?;
     Ok(wanted.find(&place).is_some())

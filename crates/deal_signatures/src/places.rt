@@ -1,7 +1,7 @@
 //! The byte string by which a signature is found.
 
-ghost use Rattle.std.specs.Prelude.{◌≡◌, IfOk};
-ghost use Rattle.deal_signatures.specs.Keying.{place_key};
+ghost use Rattle.std.specs.Prelude.{◌≡◌, true, IfOk};
+ghost use Rattle.deal_signatures.specs.Keying.{place_key, is_place};
 
 use bm_text::put;
 use bm_tx::put_word;
@@ -16,7 +16,8 @@ pub(crate) fn place_key(
     input: u32,
     key: &[u8; 33],
 ) -> Result<Vec<u8>, OutOfMemory>
-    ensures { IfOk result (λ place. place.items ≡ place_key tx.now input key.now) }
+    ensures key { IfOk result (λ place. place.items ≡ place_key tx.now input key.now) }
+    ensures sized { is_place input key.now ≡ true }
 {
     let mut place = Vec::new(alloc);
     put_word(&mut place, input)?;

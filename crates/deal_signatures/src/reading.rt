@@ -39,7 +39,14 @@ fn take_psbt(
 {
     let bytes = encode_stripped(alloc, psbt.tx())?;
     match transaction_of(transactions, known, &bytes) {
-        Some(found) => take_inputs(alloc, wanted, given, &bytes, found.inputs.as_slice(), psbt.inputs()),
+        Some(found) => take_inputs(
+            alloc,
+            wanted,
+            given,
+            &bytes,
+            found.inputs.as_slice(),
+            psbt.inputs(),
+        ),
         None => Err(LineError::Bad(SignatureReason::Foreign)),
     }
 }

@@ -59,8 +59,16 @@ fn put_fault(alloc: Global, out: &mut Vec<u8>, fault: SignatureFault) -> Result<
     }
 }
 
+// The line that refuses it.
+fn put_refused(alloc: Global, out: &mut Vec<u8>, fault: SignatureFault) -> Result<(), OutOfMemory>
+    ensures { OnOk result (out.new.items ≡ out.old.items ++ texts.refused_text fault) }
+{
+    put(out, b"signatures refused ")?;
+    put_fault(alloc, out, fault)?;
+    put(out, b"\n")
+}
+
 /// Writes the line that refuses a file of signatures.
-#[tactic(auto, using(std::proofs::Common::append_assoc))]
 pub fn put_signatures_refused(
     alloc: Global,
     out: &mut Vec<u8>,
@@ -68,7 +76,5 @@ pub fn put_signatures_refused(
 ) -> Result<(), OutOfMemory>
     ensures { OnOk result (out.new.items ≡ out.old.items ++ spec.signatures_refused_line fault) }
 {
-    put(out, b"signatures refused ")?;
-    put_fault(alloc, out, fault)?;
-    put(out, b"\n")
+    put_refused(alloc, out, fault)
 }

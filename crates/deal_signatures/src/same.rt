@@ -36,12 +36,25 @@ pub(crate) fn script_fits(script: &[u8], said: &Option<Bytes>) -> bool
     }
 }
 
+// The first bytes, this many or all.
+fn front(bytes: &[u8], count: usize) -> &[u8]
+    ensures { result.now ≡ take count bytes.now }
+{
+    &bytes[..count.min(bytes.len())]
+}
+
+// The bytes behind the first, this many.
+fn behind(bytes: &[u8], count: usize) -> &[u8]
+    ensures { result.now ≡ drop count bytes.now }
+{
+    &bytes[count.min(bytes.len())..]
+}
+
 // The bytes of a script where its key would stand.
 fn script_key(script: &[u8]) -> &[u8]
     ensures { result.now ≡ spec.script_key script.now }
 {
-    let rest = &script[1.min(script.len())..];
-    &rest[..33.min(rest.len())]
+    front(behind(script, 1), 33)
 }
 
 // The key of a script that is a push of a key, and CHECKSIG.

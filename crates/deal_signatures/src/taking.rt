@@ -3,6 +3,7 @@
 ghost use Rattle.std.specs.Prelude.{◌≡◌, ◌++◌, ◌∷◌, [], List, ℕ, map};
 ghost use Rattle.spec_deal.specs.SignatureFile as spec;
 ghost use Rattle.std.specs.List.{find};
+ghost use Rattle.deal_signatures.specs.Keying.{signed_by};
 ghost use Rattle.deal_signatures.specs.Seen.{spot_in};
 ghost use Rattle.deal_signatures.specs.Gives.{Takes};
 
@@ -24,7 +25,7 @@ fn take_once(
     key: &[u8; 33],
     signature: &[u8],
 ) -> Result<(), LineError>
-    ensures { let g = record { tx = tx.now; input = input; key = key.now; signature = signature.now } in
+    ensures { let g = signed_by tx.now input key.now signature.now in
         Takes given.old given.new result (spec.taken_once given.old g (find (λ earlier. spec.same_place earlier g) given.old)) }
 {
     match given.signature(alloc, tx, input, key)? {
@@ -52,7 +53,7 @@ pub(crate) fn take_signature(
     key: &[u8; 33],
     signature: &[u8],
 ) -> Result<(), LineError>
-    ensures { let g = record { tx = tx.now; input = input; key = key.now; signature = signature.now } in
+    ensures { let g = signed_by tx.now input key.now signature.now in
         Takes given.old given.new result (spec.take_signature (map spot_in wanted.now) given.old g) }
 {
     if !is_wanted(alloc, wanted, tx, input, key)? {

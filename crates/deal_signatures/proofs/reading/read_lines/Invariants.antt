@@ -1,4 +1,4 @@
-use Rattle.std.proofs.Common.{◌≡◌, ◌≤◌, ◌+◌, [], length, map}
+use Rattle.std.proofs.Common.{◌≡◌, ◌≤◌, ◌+◌, [], length}
 use Rattle.spec_text.specs.Lines.{lines_of}
 use Rattle.spec_deal.specs.SignatureFile.{take_lines}
 use Rattle.deal_signatures.proofs.reading.read_lines.Given as goal

@@ -1,14 +1,14 @@
 -- What is found by the input, the key and the transaction.
-use Rattle.std.proofs.Common.{◌≡◌, ℕ, ◌+◌, ◌<◌, ◌^◌, List, [], ◌∷◌, ◌++◌, length, map, Bool, true, false, cond, Option, Some, None}
-use Rattle.std.proofs.Common.{refl, sym, ap, subst, ◌∙◌, arith}
-use Rattle.std.specs.Prelude.{◌&&◌, ◌||◌, ◌==◌, nat_lt, option_map, is_some}
+use Rattle.std.proofs.Common.{◌≡◌, ℕ, ◌<◌, ◌^◌, List, ◌++◌, length, map, Bool, true, false, Option, Some, None}
+use Rattle.std.proofs.Common.{refl, sym, ap, ◌∙◌, arith}
+use Rattle.std.specs.Prelude.{◌&&◌, ◌==◌, nat_lt, option_map, is_some}
 use Rattle.std.specs.List.{find, list_all, list_any}
 use Rattle.std.specs.Cmp.Lexicographic.{nat_list_eq_equiv}
 use Rattle.std.specs.Str.{bytes_eq}
 use Rattle.std.proofs.lemmas.Bool.{and_parts}
 use Rattle.spec_deal.specs.declared.signed.Signed.{Signed}
-use Rattle.spec_deal.specs.Transactions.{Spot, is_at}
-use Rattle.deal_index.proofs.Finding.{find_by, find_map, find_alike, any_found, same_numbered, same_behind}
+use Rattle.spec_deal.specs.Transactions.{is_at}
+use Rattle.deal_index.proofs.Finding.{find_by, find_map, any_found, same_numbered, same_behind}
 use Rattle.deal_signatures.specs.declared.given.Entry.{Entry}
 use Rattle.deal_signatures.specs.declared.known.Place.{Place}
 use Rattle.deal_signatures.specs.Keying.{place_key, is_place, signed_key, is_sized}
@@ -54,11 +54,11 @@ signature_found es tx i key found_by all sized here =
     (λ e h. same_place_key e.signed.tx tx e.signed.input i e.signed.key key h sized) es all)
     ∙ sym (find_map signed_in (is_at (record { tx = tx; input = i; key = key })) es)
 
-pub signed_push : (es : List Entry) (g : Signed) → map signed_in (es ++ (record { signed = g }) ∷ []) ≡ map signed_in es ++ g ∷ []
-signed_push [] g = refl
-signed_push (e ∷ es) g = ap (λ more. signed_in e ∷ more) (signed_push es g)
-
 -- ---- where signatures are wanted
+
+pub some_mapped : {A B : Type 0} (f : A → B) (o : Option A) → is_some o ≡ is_some (option_map f o)
+some_mapped f None = refl
+some_mapped f (Some a) = refl
 
 same_number : (i j : ℕ) → (i == j) ≡ (j == i)
 same_number i j = by (i == j) refl (j == i) refl
@@ -85,14 +85,6 @@ wanted_found ps g found_by all sized here =
     (find_by (λ (p : Place). bytes_eq (place_key p.tx p.input p.key) (place_key g.tx g.input g.key))
     (λ (p : Place). is_at (spot_in p) g) (λ (p : Place). is_place p.input p.key)
     (λ p h. same_place_key p.tx g.tx p.input g.input p.key g.key h sized ∙ is_at_turned p.tx g.tx p.input g.input p.key g.key) ps all)
-    ∙ some_map (find (λ (p : Place). is_at (spot_in p) g) ps)
+    ∙ some_mapped spot_in (find (λ (p : Place). is_at (spot_in p) g) ps)
     ∙ ap is_some (sym (find_map spot_in (λ spot. is_at spot g) ps))
     ∙ sym (any_found (λ spot. is_at spot g) (map spot_in ps))
-  where
-    some_map : (o : Option Place) → is_some o ≡ is_some (option_map spot_in o)
-    some_map None = refl
-    some_map (Some p) = refl
-
-pub place_push : (ps : List Place) (p : Place) → map spot_in (ps ++ p ∷ []) ≡ map spot_in ps ++ spot_in p ∷ []
-place_push [] p = refl
-place_push (x ∷ ps) p = ap (λ more. spot_in x ∷ more) (place_push ps p)

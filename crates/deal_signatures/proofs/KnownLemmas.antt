@@ -1,5 +1,5 @@
 -- The transaction that has some bytes, by its number.
-use Rattle.std.proofs.Common.{◌≡◌, ℕ, ◌+◌, List, [], ◌∷◌, ◌++◌, length, map, Bool, true, false, cond, Option, Some, None}
+use Rattle.std.proofs.Common.{◌≡◌, ℕ, ◌+◌, List, [], ◌∷◌, map, Bool, true, false, cond, Option, Some, None}
 use Rattle.std.proofs.Common.{refl, sym, ap, ◌∙◌}
 use Rattle.std.specs.Prelude.{option_map, slice_get}
 use Rattle.std.specs.List.{find}
@@ -13,7 +13,7 @@ use Rattle.deal_index.proofs.Placing.{found_place}
 use Rattle.deal_signatures.specs.declared.known.Known.{Known}
 use Rattle.deal_signatures.specs.Seen.{known_in, numbered}
 
-bytes_of : Transaction → List ℕ
+abbrev bytes_of : Transaction → List ℕ
 bytes_of t = t.bytes
 
 numbers : (q : List ℕ) (k : ℕ) (ts : List Transaction)
@@ -45,7 +45,3 @@ transaction_found ts ns q o all here =
     ∙ ap (find (λ (p : List ℕ × ℕ). bytes_eq p.0 q)) all)
     ∙ numbers q 0 ts)
     ∙ found_place bytes_of q ts
-
-pub known_push : (ns : List Known) (n : Known) → map known_in (ns ++ n ∷ []) ≡ map known_in ns ++ known_in n ∷ []
-known_push [] n = refl
-known_push (x ∷ ns) n = ap (λ more. known_in x ∷ more) (known_push ns n)

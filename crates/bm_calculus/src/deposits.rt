@@ -140,19 +140,24 @@ impl Deposits {
 
     /// Removes the deposits of these numbers.
     #[tactic(auto, using(theory_calculus::proofs::Numbered::filtered_ascends))]
-    pub fn remove(&mut self, numbers: &[u32])
+    pub fn remove(&mut self, alloc: Global, numbers: &[u32])
         ensures { self.new ≡ spec.kept self.old numbers.now }
     {
-        remove(&mut self.items, numbers);
+        remove(alloc, &mut self.items, numbers);
     }
 
     /// Puts deposits with later numbers in the place of those of these numbers.
-    pub fn replace(&mut self, numbers: &[u32], others: Vec<Deposit>) -> Result<(), OutOfMemory>
+    pub fn replace(
+        &mut self,
+        alloc: Global,
+        numbers: &[u32],
+        others: Vec<Deposit>,
+    ) -> Result<(), OutOfMemory>
         requires ascending { are_ascending (map (λ d. d.number) (spec.kept self.old numbers.now ++ others.items)) ≡ true }
         ensures ok { OnOk result (self.new ≡ spec.kept self.old numbers.now ++ others.items) }
         ensures err { OnErr result (self.new ≡ self.old) }
     {
-        replace(&mut self.items, numbers, others)
+        replace(alloc, &mut self.items, numbers, others)
     }
 
     /// Adds a deposit of the party, which is named by a later number than all others.

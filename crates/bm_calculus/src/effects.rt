@@ -35,7 +35,8 @@ impl State {
         let outputs = action.outputs.as_slice();
         let mut made = Vec::new(self.alloc);
         push_made(&mut made, self.next, outputs)?;
-        self.deposits.replace(action.inputs.as_slice(), made)?;
+        self.deposits
+            .replace(self.alloc, action.inputs.as_slice(), made)?;
         self.next += outputs.len() as u32;
         forget(&mut self.move_authorised, action);
         Ok(())
@@ -106,7 +107,7 @@ impl State {
         let numbers = persistent_numbers(self.alloc, bindings, &checked.advert().pre)?;
         let balance = left(self.deposits.gone_value(&numbers), checked.advert().fee);
         self.active.begin(self.alloc, self.next, contract, balance)?;
-        self.deposits.remove(&numbers);
+        self.deposits.remove(self.alloc, &numbers);
         self.next += 1;
         Ok(())
     }
@@ -157,7 +158,7 @@ impl State {
         let numbers = self.numbers_put(output, branch)?;
         let next = self.continuation(output, branch, &numbers)?;
         self.active.replace(output, next)?;
-        self.deposits.remove(&numbers);
+        self.deposits.remove(self.alloc, &numbers);
         self.next += 1;
         Ok(())
     }

@@ -7,7 +7,7 @@ use Rattle.spec_terms.specs.declared.path.PathStep.{PathStep}
 use Rattle.spec_bitcoin.specs.Keys.{label_text}
 use Rattle.spec_compiler.specs.declared.prepared.Prepared.{Prepared}
 use Rattle.spec_compiler.specs.Keyed.Keys.{Keys, by_plan, given as handed}
-use Rattle.spec_compiler.specs.Keyed.Instance.{Instance, people, branch_label, position_script}
+use Rattle.spec_compiler.specs.Keyed.Instance.{Instance, people, branch_label, branch_keys, position_script}
 use Rattle.spec_compiler.specs.Keyed.Transactions.{prepared, initial_unsigned}
 use Rattle.spec_compiler.specs.Keyed.Compilation.{compilation, path_transactions, scripts}
 use Rattle.spec_compiler.specs.Keyed.Hashed.{key_strings}
@@ -15,11 +15,11 @@ use Rattle.spec_nodes.specs.Nodes.{Node, choice_node, branch_node, nodes_of}
 use Rattle.theory_nodes.specs.Keyed.Walk.{node_script, script_of, walk, node_paths, listed_scripts, NodesGiveTransactions, NodesGivePaths, NodesGiveScripts}
 use Rattle.theory_nodes.proofs.Begins.{Begins, begins_get, begins_right}
 use Rattle.theory_script.specs.Keyed.Listed.{are_once, PathsInOrder}
-use Rattle.bm_compile.specs.Numbered.{named}
+use Rattle.bm_compile.specs.Numbered.{named, keys_of_branches}
 use Rattle.bm_compile.proofs.Chains.{map-view}
 use Rattle.bm_compile.proofs.Places.{named_paths, named_positions}
 use Rattle.bm_compile.specs.Keyed.Detailed.{ready}
-use Rattle.bm_compile.specs.Passes.{labels_of_path, labels_of_node, script_of_node, scripts_of_node, listed_script, root_with}
+use Rattle.bm_compile.specs.Passes.{keys_of_node, labels_of_path, labels_of_node, script_of_node, scripts_of_node, listed_script, root_with}
 
 -- ---- lists
 
@@ -60,6 +60,22 @@ module _ (hash : List ℕ → List ℕ) (keys : Keys) (s : Instance) where
       ∙ labels_of_paths (nodes_of s.advert.root)
       ∙ ap (flat_map (key_strings keys s)) (paths hash keys s)
       ∙ flat_map-map (λ p. p.0) (key_strings keys s) (path_transactions hash keys s)
+
+  -- the keys of the branches' nodes are those of their paths
+  kept_keys : (ns : List Node) → keys_of_branches ns (map (keys_of_node hash keys s) ns) ≡ map (branch_keys hash keys s) (node_paths ns)
+  kept_keys [] = refl
+  kept_keys (choice_node position branches ∷ ns) = kept_keys ns
+  kept_keys (branch_node path asked height deed ∷ ns) = ap (λ l. branch_keys hash keys s path ∷ l) (kept_keys ns)
+
+  pub keys_whole : (ns : List Node) (table : List (List (List ℕ))) → NodesGivePaths → ns ≡ nodes_of s.advert.root
+      → table ≡ map (keys_of_node hash keys s) (nodes_of s.advert.root)
+      → keys_of_branches ns table ≡ map (λ p. branch_keys hash keys s p.0) (compilation hash keys s).paths
+  keys_whole ns table given is made =
+      (λ j. keys_of_branches (is j) (made j))
+      ∙ kept_keys (nodes_of s.advert.root)
+      ∙ ap (map (branch_keys hash keys s)) (given hash keys s)
+      ∙ map-view (λ p. p.0) (branch_keys hash keys s) (path_transactions hash keys s)
+      ∙ sym (map-view (λ p. (p.0, prepared hash p.1)) (λ p. branch_keys hash keys s p.0) (path_transactions hash keys s))
 
   -- ---- scripts
 

@@ -1,10 +1,10 @@
 -- A compiled contract with its numbered nodes, and what is found in it by a node's number.
-use Rattle.std.specs.Prelude.{◌≡◌, ℕ, ◌+◌, Bool, not, if◌then◌else◌, List, [], ◌∷◌, map, Option, Some, None, option_map, slice_get}
+use Rattle.std.specs.Prelude.{◌≡◌, ℕ, ◌+◌, Bool, true, not, if◌then◌else◌, List, [], ◌∷◌, map, Option, Some, None, option_map, slice_get}
 use Rattle.spec_terms.specs.Advert.{Advert}
 use Rattle.spec_terms.specs.declared.path.PathStep.{PathStep}
 use Rattle.spec_bitcoin.specs.declared.tx.OutPoint.{OutPoint}
 use Rattle.spec_compiler.specs.declared.prepared.Prepared.{Prepared}
-use Rattle.spec_compiler.specs.Instance.{Instance}
+use Rattle.spec_compiler.specs.Instance.{Instance, branch_keys}
 use Rattle.spec_compiler.specs.Compilation.{compilation}
 use Rattle.spec_compiler.specs.ByPath.{prepared_at, position_at}
 use Rattle.spec_nodes.specs.Nodes.{Node, choice_node, branch_node, nodes_of}
@@ -14,12 +14,14 @@ use Rattle.theory_script.specs.Listed.{at_path}
 abbrev pub instance_with : ℕ → Advert → List (List ℕ × OutPoint) → List (List ℕ × List ℕ) → Instance
 instance_with contract advert bound hashes = record { contract = contract; advert = advert; bound = bound; hashes = hashes }
 
--- a contract's nodes, its initial transaction, the transaction of each path, and the script of each position
+-- a contract's nodes, its initial transaction, the transaction of each path, the script of each position, and each participant's key of
+-- each path, in the order of the transactions
 pub record Numbered : Type 0 where
   pub nodes : List Node
   pub init : Prepared
   pub paths : List (List PathStep × Prepared)
   pub scripts : List (List PathStep × List ℕ)
+  pub keys : List (List (List ℕ))
 
 -- what a contract is compiled to
 abbrev pub numbered : (List ℕ → List ℕ) → Instance → Numbered
@@ -28,6 +30,7 @@ numbered hash s = record {
   init = (compilation hash s).init;
   paths = (compilation hash s).paths;
   scripts = (compilation hash s).scripts;
+  keys = map (λ p. branch_keys hash s p.0) (compilation hash s).paths;
 }
 
 -- ---- by a node
@@ -88,3 +91,11 @@ named branch (n ∷ ns) = if is_kind branch n then path_of n ∷ named branch ns
 abbrev pub places_from : Bool → ℕ → List Node → List (Option ℕ)
 places_from branch k [] = []
 places_from branch k (n ∷ ns) = if is_kind branch n then Some k ∷ places_from branch (k + 1) ns else None ∷ places_from branch k ns
+
+-- ---- keys
+
+-- of the keys of all nodes, those of the branches' nodes
+abbrev pub keys_of_branches : List Node → List (List (List ℕ)) → List (List (List ℕ))
+keys_of_branches [] table = []
+keys_of_branches (n ∷ ns) [] = []
+keys_of_branches (n ∷ ns) (k ∷ ks) = if is_kind true n then k ∷ keys_of_branches ns ks else keys_of_branches ns ks

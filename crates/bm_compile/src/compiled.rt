@@ -17,12 +17,14 @@ use std::marker::Model;
 use theory_script::{paths_are_listed, scripts_are_listed};
 
 /// A contract's nodes, its initial transaction, the transaction of each path and the witness script (BIP 141) of each
-/// position, both in the order of the text. What a node is compiled to is found by the node's number, without a search.
+/// position, both in the order of the text, and the keys of each path, so that no key is worked out a second time. What a node is
+/// compiled to is found by the node's number, without a search.
 pub struct Compiled {
     arena: Arena,
     init: Prepared,
     paths: Seq<(Path, Prepared)>,
     scripts: Seq<(Path, Bytes)>,
+    keys: Seq<Seq<[u8; 33]>>,
     branches: Seq<Option<u32>>,
     choices: Seq<Option<u32>>,
 }
@@ -36,7 +38,7 @@ impl Model for Compiled {
 
     ghost coded = { Prim.hlevel (codes, coded_test) };
 
-    ghost view = { λ c. record { nodes = c.arena; init = c.init; paths = c.paths; scripts = c.scripts } };
+    ghost view = { λ c. record { nodes = c.arena; init = c.init; paths = c.paths; scripts = c.scripts; keys = c.keys } };
 
     ghost invariant = { λ c. IsIndexed c.arena c.paths c.scripts c.branches c.choices };
 }
@@ -48,6 +50,7 @@ impl Drop for Compiled {
             init: _,
             paths: _,
             scripts: _,
+            keys: _,
             branches: _,
             choices: _,
         } = self;
@@ -76,19 +79,21 @@ fn find_path<'a, V>(entries: &'a [(Path, V)], path: &Path) -> Option<&'a V>
 }
 
 impl Compiled {
-    /// The whole of these parts: the transactions of all branches and the scripts of all positions, in the order of the nodes.
+    /// The whole of these parts: the transactions of all branches, the scripts of all positions and the keys of all branches, in the
+    /// order of the nodes.
     pub(crate) fn of(
         alloc: Global,
         arena: Arena,
         init: Prepared,
         paths: Seq<(Path, Prepared)>,
         scripts: Seq<(Path, Bytes)>,
+        keys: Seq<Seq<[u8; 33]>>,
     ) -> Result<Compiled, OutOfMemory>
         requires paths { map (λ p. p.0) paths ≡ spec.named true arena }
         requires paths_once { are_once (map (λ p. p.0) paths) ≡ true }
         requires scripts { map (λ p. p.0) scripts ≡ spec.named false arena }
         requires scripts_once { are_once (map (λ p. p.0) scripts) ≡ true }
-        ensures { IfOk result (λ c. c ≡ record { nodes = arena; init = init; paths = paths; scripts = scripts }) }
+        ensures { IfOk result (λ c. c ≡ record { nodes = arena; init = init; paths = paths; scripts = scripts; keys = keys }) }
     {
         let _ = arena.len();
         let branches = places(alloc, arena.nodes(), true)?;
@@ -98,6 +103,7 @@ impl Compiled {
             init,
             paths,
             scripts,
+            keys,
             branches,
             choices,
         })
@@ -129,6 +135,13 @@ impl Compiled {
         ensures { result.now ≡ self.now.scripts }
     {
         self.scripts.as_slice()
+    }
+
+    /// The keys of each path, in the order of the text, each participant's in order.
+    pub fn keys(&self) -> &[Seq<[u8; 33]>]
+        ensures { result.now ≡ self.now.keys }
+    {
+        self.keys.as_slice()
     }
 
     /// The transaction of the branch whose node has this number, `None` where the node is a choice or isn't there.

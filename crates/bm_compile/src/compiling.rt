@@ -19,7 +19,7 @@ ghost use Rattle.bm_compile.specs.Keyed.Detailed.{detailed, details, ready};
 ghost use Rattle.bm_compile.specs.Keyed.Numbered as keyed;
 ghost use Rattle.bm_compile.specs.Limits.{MeetNoLimit};
 ghost use Rattle.bm_compile.specs.Numbered.{numbered, instance_with};
-ghost use Rattle.bm_compile.specs.Passes.{has_short_reveals, listed_script, root_with};
+ghost use Rattle.bm_compile.specs.Passes.{has_short_reveals, keys_of_node, listed_script, root_with};
 
 use crate::compiled::Compiled;
 use crate::detailed::{Detailed, Details};
@@ -28,7 +28,7 @@ use crate::preparing::detail;
 use crate::scripting::script_table;
 use crate::setting::Setting;
 use crate::sourcing::{KeyPlan, KeySource};
-use crate::tables::position_scripts;
+use crate::tables::{branches_keys, position_scripts};
 use crate::unsigned::{initial_unsigned, root_value};
 use crate::walking::prepare_nodes;
 use bm_arena::Arena;
@@ -43,19 +43,21 @@ use theory_nodes::any_keys::{nodes_give_paths, nodes_give_scripts, nodes_give_tr
 use theory_nodes::{Waiting, few_nodes};
 use theory_script::any_keys::{no_limit_is_met, paths_in_order};
 
-// The script of each node. What it takes to have the branches' keys is hashed, and then the scripts.
+// The keys and the script of each node. What it takes to have the branches' keys is hashed, and then the scripts.
 fn node_scripts<H: Hash32 + Drop, K: KeySource>(
     alloc: Global,
     trail: &mut Trail<H>,
     source: &K,
     setting: &Setting,
     arena: &Arena,
-) -> Result<Seq<Bytes>, TrailError>
+) -> Result<(Seq<Seq<[u8; 33]>>, Seq<Bytes>), TrailError>
     requires clear { evidence_of (H.digest_of trail.old.hasher) trail.old.messages ≡ None }
     requires root { arena.now ≡ nodes_of setting.now.advert.root }
     requires few { list_all has_short_reveals arena.now ≡ true }
+    ensures keys { let hash = H.digest_of trail.old.hasher in
+        IfOk result (λ made. made.0 ≡ map (keys_of_node hash (K.keys source.now) setting.now) (nodes_of setting.now.advert.root)) }
     ensures scripts { let hash = H.digest_of trail.old.hasher in
-        IfOk result (λ table. (n : ℕ) → listed_script table n ≡ script_of hash (K.keys source.now) setting.now (nodes_of setting.now.advert.root) n) }
+        IfOk result (λ made. (n : ℕ) → listed_script made.1 n ≡ script_of hash (K.keys source.now) setting.now (nodes_of setting.now.advert.root) n) }
     ensures trail { let hash = H.digest_of trail.old.hasher in
         let labels = flat_map (λ p. key_strings (K.keys source.now) setting.now p.0) (path_transactions hash (K.keys source.now) setting.now) in
         Hashes H.digest_of trail.old trail.new (labels ++ map (λ p. p.1) (scripts_of hash (K.keys source.now) setting.now)) result }
@@ -65,7 +67,7 @@ fn node_scripts<H: Hash32 + Drop, K: KeySource>(
     let nodes = arena.nodes();
     let keys = key_table(alloc, trail, source, setting, nodes)?;
     let scripts = script_table(alloc, trail, source, setting, nodes, keys.as_slice())?;
-    Ok(scripts)
+    Ok((keys, scripts))
 }
 
 // The initial transaction, ready to be signed. Its strings are hashed.
@@ -161,31 +163,35 @@ fn prepare_all<H: Hash32 + Drop, K: KeySource>(
     Ok((init, paths))
 }
 
-// All transactions and scripts. The strings of the keys, of the scripts and of the transactions are hashed.
+// All transactions and scripts, and the keys of each node. The strings of the keys, of the scripts and of the transactions are hashed.
 fn detail_all<H: Hash32 + Drop, K: KeySource>(
     alloc: Global,
     trail: &mut Trail<H>,
     source: &K,
     setting: &Setting,
     arena: &Arena,
-) -> Result<Details, TrailError>
+) -> Result<(Details, Seq<Seq<[u8; 33]>>), TrailError>
     requires clear { evidence_of (H.digest_of trail.old.hasher) trail.old.messages ≡ None }
     requires root { arena.now ≡ nodes_of setting.now.advert.root }
     requires few { list_all has_short_reveals arena.now ≡ true }
-    ensures details { IfOk result (λ d. d ≡ details (H.digest_of trail.old.hasher) (K.keys source.now) setting.now) }
+    ensures details { IfOk result (λ made. made.0 ≡ details (H.digest_of trail.old.hasher) (K.keys source.now) setting.now) }
+    ensures keys { let hash = H.digest_of trail.old.hasher in
+        IfOk result (λ made. made.1 ≡ map (keys_of_node hash (K.keys source.now) setting.now) (nodes_of setting.now.advert.root)) }
     ensures trail { let hash = H.digest_of trail.old.hasher in
         Hashes H.digest_of trail.old trail.new (compiled_strings hash (K.keys source.now) setting.now) result }
 {
     nodes_give_scripts();
-    let scripts = node_scripts(alloc, trail, source, setting, arena)?;
+    let keyed = node_scripts(alloc, trail, source, setting, arena)?;
+    let (keys, scripts) = keyed;
     let made = prepare_all(alloc, trail, source, setting, scripts.as_slice(), arena)?;
     let listed = position_scripts(alloc, arena.nodes(), scripts.as_slice())?;
     let (init, paths) = made;
-    Ok(Details {
+    let details = Details {
         init,
         paths,
         scripts: listed,
-    })
+    };
+    Ok((details, keys))
 }
 
 // The transactions of the paths without their details.
@@ -210,9 +216,12 @@ fn gather<H: Hash32, K: KeySource>(
     setting: &Setting,
     arena: Arena,
     made: Details,
+    table: Seq<Seq<[u8; 33]>>,
 ) -> Result<Compiled, OutOfMemory>
     requires root { arena ≡ nodes_of setting.now.advert.root }
     requires made { made ≡ details (H.digest_of trail.now.hasher) (K.keys source.now) setting.now }
+    requires keys { let hash = H.digest_of trail.now.hasher in
+        table ≡ map (keys_of_node hash (K.keys source.now) setting.now) (nodes_of setting.now.advert.root) }
     ensures { IfOk result (λ c. c ≡ keyed.numbered (H.digest_of trail.now.hasher) (K.keys source.now) setting.now) }
 {
     nodes_give_scripts();
@@ -220,7 +229,8 @@ fn gather<H: Hash32, K: KeySource>(
     paths_in_order();
     let (init, paths, scripts) = made.into_parts();
     let bare = without_details(alloc, paths)?;
-    Compiled::of(alloc, arena, init.into_prepared(), bare, scripts)
+    let keys = branches_keys(alloc, arena.nodes(), table)?;
+    Compiled::of(alloc, arena, init.into_prepared(), bare, scripts, keys)
 }
 
 // The contract of these nodes.
@@ -240,8 +250,8 @@ fn compile_nodes<H: Hash32 + Drop, K: KeySource>(
     ensures trail { let hash = H.digest_of trail.old.hasher in
         Hashes H.digest_of trail.old trail.new (compiled_strings hash (K.keys source.now) setting.now) result }
 {
-    let made = detail_all(alloc, trail, source, setting, &arena)?;
-    let compiled = gather(alloc, trail, source, setting, arena, made)?;
+    let (made, table) = detail_all(alloc, trail, source, setting, &arena)?;
+    let compiled = gather(alloc, trail, source, setting, arena, made, table)?;
     Ok(compiled)
 }
 
@@ -283,7 +293,8 @@ pub fn compile_details<H: Hash32 + Drop, K: KeySource>(
     let advert = checked.advert();
     let setting = setting_of(contract, checked, bound, hashes);
     let arena = Arena::of(alloc, &advert.root)?;
-    detail_all(alloc, trail, source, &setting, &arena)
+    let (details, _) = detail_all(alloc, trail, source, &setting, &arena)?;
+    Ok(details)
 }
 
 /// The transactions, digests and scripts that a checked contract is compiled to, with its numbered nodes, by the keys that `source`

@@ -1,4 +1,4 @@
-//! The tables by which a node's number leads to what it is compiled to.
+//! The tables by which a node's number leads to what it is compiled to, and lists of what branches or choices have.
 
 ghost use Rattle.std.specs.Prelude.{◌≡◌, ◌<◌, ◌^◌, ◌++◌, [], ◌∷◌, map, IfOk, OnOk, length};
 ghost use Rattle.bm_arena.specs.NodeView.{node_view};
@@ -42,6 +42,28 @@ pub(crate) fn places(
         }
     }
     Ok(places)
+}
+
+/// The keys of the branches' nodes, by those of all nodes.
+pub(crate) fn branches_keys(
+    alloc: Global,
+    nodes: &[Node],
+    table: Seq<Seq<[u8; 33]>>,
+) -> Result<Seq<Seq<[u8; 33]>>, OutOfMemory>
+    ensures { IfOk result (λ made. made ≡ spec.keys_of_branches (map node_view nodes.now) table) }
+{
+    let mut made = Seq::new(alloc);
+    let mut rest = nodes;
+    for keys in table.into_vec() {
+        let Some((node, others)) = rest.split_first() else {
+            return Ok(made);
+        };
+        if is_kind(true, node) {
+            made.push(keys)?;
+        }
+        rest = others;
+    }
+    Ok(made)
 }
 
 // The script of a position under its path, put to the others.

@@ -8,7 +8,7 @@ use Rattle.spec_terms.specs.Term.{Guarded, auth, after, put_reveal, withdraw, sp
 use Rattle.spec_terms.specs.Advert.{Advert}
 use Rattle.spec_terms.specs.Core.{core, puts_of}
 use Rattle.spec_terms.specs.Faults.{IsWellFormed}
-use Rattle.spec_terms.specs.Paths.{Subterm, position, at_branch, below, next_subterm, subterm_from, as_branch, as_contract, at, contract_under}
+use Rattle.spec_terms.specs.Paths.{Subterm, position, at_branch, below, next_subterm, subterm_from, as_branch, as_contract, at}
 use Rattle.spec_terms.specs.Precondition.{names_of, volatile}
 use Rattle.spec_terms.specs.declared.path.PathStep.{PathStep}
 use Rattle.spec_terms.specs.declared.path.PathStep.TheVariants.{Branch as To, Part as Into}

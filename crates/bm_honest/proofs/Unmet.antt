@@ -7,7 +7,7 @@ use Rattle.std.specs.Prelude.{slice_get}
 use Rattle.std.proofs.Math.Bool.{or-true, or-false}
 use Rattle.std.proofs.lemmas.List.Folds.{find-append, list_any-append}
 use Rattle.theory_calculus.proofs.Names.{bytes-true}
-use Rattle.spec_data.specs.Lists.{is_among, look_up, or_else}
+use Rattle.spec_data.specs.Lists.{is_among, or_else}
 use Rattle.spec_terms.specs.Term.{Guarded, auth, after, put_reveal, withdraw, split}
 use Rattle.spec_terms.specs.Advert.{Advert}
 use Rattle.spec_terms.specs.Core.{core, asks, puts_of}
@@ -15,7 +15,7 @@ use Rattle.spec_terms.specs.Parties.{participants, add_new, add_all}
 use Rattle.spec_terms.specs.Paths.{at}
 use Rattle.spec_terms.specs.declared.path.PathStep.{PathStep}
 use Rattle.spec_bitcoin.specs.Keys.{Pair, has_signed, key_of}
-use Rattle.spec_nodes.specs.Nodes.{Node, asks_once, deed_of, branch_head}
+use Rattle.spec_nodes.specs.Nodes.{Node, asks_once, deed_of}
 use Rattle.spec_nodes.specs.Numbers.{IsBranchOf}
 use Rattle.theory_nodes.specs.Walk.{deed_puts}
 use Rattle.spec_compiler.specs.declared.prepared.Prepared.{Prepared}
@@ -25,9 +25,8 @@ use Rattle.spec_compiler.specs.Endorsements.{Need, branch_needs, put_needs, need
 use Rattle.theory_script.specs.Endorsed.{MissingIsFirst}
 use Rattle.bm_compile.specs.Numbered.{Numbered, numbered}
 use Rattle.bm_honest.specs.declared.gate.Gate.{Gate}
-use Rattle.bm_honest.specs.declared.gate.Gate.TheVariants.{Yes, No}
 use Rattle.bm_honest.specs.Gates.{gate_of, gate_at, gate_or, gate_for, gate_of_paths, is_yes, Tells}
-use Rattle.bm_honest.specs.Unsigned.{unsigned_person, unsigned_owner, unsigned_for, seen_node, seen_branch, unsigned_seen}
+use Rattle.bm_honest.specs.Unsigned.{plan_keys, unsigned_person, unsigned_owner, unsigned_for, seen_node, seen_branch, unsigned_seen}
 
 -- ---- several needs
 
@@ -73,28 +72,32 @@ asked-once b p = among-all p [] (asks b)
 -- ---- one branch
 
 module _ (hash : List ℕ → List ℕ) (book : List Pair) (contract : ℕ) (advert : Advert) (path : List PathStep) where
-  same_person : (b : Guarded) (digest : List ℕ) (people : List (List ℕ))
-      → unsigned_person hash book contract path (asks_once b) digest people ≡ unsigned_person hash book contract path (asks b) digest people
-  same_person b digest [] = refl
-  same_person b digest (p ∷ ps) = rw (asked-once b p, same_person b digest ps) refl
+  same_person : (b : Guarded) (digest : List ℕ) (people keys : List (List ℕ))
+      → unsigned_person book (asks_once b) digest people keys ≡ unsigned_person book (asks b) digest people keys
+  same_person b digest [] keys = refl
+  same_person b digest (p ∷ ps) [] = refl
+  same_person b digest (p ∷ ps) (k ∷ ks) = rw (asked-once b p, same_person b digest ps ks) refl
+
+  abbrev key : List ℕ → List ℕ
+  key party = key_of hash (branch_label contract path party)
 
   abbrev signed_by : List ℕ → List ℕ → Bool
-  signed_by digest party = has_signed book (key_of hash (branch_label contract path party)) digest
+  signed_by digest party = has_signed book (key party) digest
 
   abbrev person_need : List ℕ → List ℕ → Need
-  person_need digest party = record { path = path; party = party; key = key_of hash (branch_label contract path party); digest = digest }
+  person_need digest party = record { path = path; party = party; key = key party; digest = digest }
 
   person_gate : (asked : List (List ℕ)) (digest : List ℕ) (people : List (List ℕ))
       → gate_of (first_unmet book (map (person_need digest) (filter (λ party. not (is_among party asked)) people)))
-      ≡ gate_at path (unsigned_person hash book contract path asked digest people)
+      ≡ gate_at path (unsigned_person book asked digest people (map key people))
   person_gate asked digest [] = refl
   person_gate asked digest (p ∷ ps) = by_tests (is_among p asked) (signed_by digest p) refl (person_gate asked digest ps)
     where
       by_tests : (a b : Bool) → signed_by digest p ≡ b
           → gate_of (first_unmet book (map (person_need digest) (filter (λ party. not (is_among party asked)) ps)))
-          ≡ gate_at path (unsigned_person hash book contract path asked digest ps)
+          ≡ gate_at path (unsigned_person book asked digest ps (map key ps))
           → gate_of (first_unmet book (map (person_need digest) (cond (not a) (p ∷ filter (λ party. not (is_among party asked)) ps) (filter (λ party. not (is_among party asked)) ps))))
-          ≡ gate_at path (cond (a || signed_by digest p) (unsigned_person hash book contract path asked digest ps) (Some p))
+          ≡ gate_at path (cond (a || signed_by digest p) (unsigned_person book asked digest ps (map key ps)) (Some p))
       by_tests true b e ih = ih
       by_tests false true e ih = rw e ih
       by_tests false false e ih = rw e refl
@@ -115,21 +118,21 @@ module _ (hash : List ℕ → List ℕ) (book : List Pair) (contract : ℕ) (adv
 
   branch_gate : (b : Guarded) (digests : List (List ℕ))
       → gate_of (first_unmet book (needs_of hash contract advert path b digests))
-      ≡ gate_at path (unsigned_for hash book contract advert path (asks_once b) (puts_of (core b)) digests)
+      ≡ gate_at path (unsigned_for hash book advert (map key (participants advert)) (asks_once b) (puts_of (core b)) digests)
   branch_gate b [] = refl
   branch_gate b (digest ∷ digests) =
       first_gate book (branch_needs hash contract advert path b digest) (put_needs hash advert path (puts_of (core b)) digests)
-      ∙ rw (same_person b digest (participants advert)) (ap (λ g. gate_or g (gate_of (first_unmet book (put_needs hash advert path (puts_of (core b)) digests)))) (person_gate (asks b) digest (participants advert)))
-      ∙ ap (gate_or (gate_at path (unsigned_person hash book contract path (asks_once b) digest (participants advert)))) (owner_gate (puts_of (core b)) digests)
-      ∙ sym (gate_at-or path (unsigned_person hash book contract path (asks_once b) digest (participants advert)) (unsigned_owner hash book advert.pre (puts_of (core b)) digests))
+      ∙ rw (same_person b digest (participants advert) (map key (participants advert))) (ap (λ g. gate_or g (gate_of (first_unmet book (put_needs hash advert path (puts_of (core b)) digests)))) (person_gate (asks b) digest (participants advert)))
+      ∙ ap (gate_or (gate_at path (unsigned_person book (asks_once b) digest (participants advert) (map key (participants advert))))) (owner_gate (puts_of (core b)) digests)
+      ∙ sym (gate_at-or path (unsigned_person book (asks_once b) digest (participants advert) (map key (participants advert))) (unsigned_owner hash book advert.pre (puts_of (core b)) digests))
 
-  -- the gate of a path, by what is seen of the branch there
-  pub path_gate : (made : Prepared) → gate_for hash book contract advert path made
-      ≡ gate_at path (unsigned_seen hash book contract advert path (seen_branch (at advert.root path)) made.digests)
+  -- the gate of a path, by what is seen of the branch there, and by the plan's keys
+  path_gate : (made : Prepared) → gate_of (first_unmet book (path_needs hash contract advert path made))
+      ≡ gate_for hash book advert (map key (participants advert)) path made
   path_gate made = by_branch (at advert.root path)
     where
       by_branch : (o : Option Guarded) → gate_of (first_unmet book (option_map_or (λ b. needs_of hash contract advert path b made.digests) o []))
-          ≡ gate_at path (unsigned_seen hash book contract advert path (seen_branch o) made.digests)
+          ≡ gate_at path (unsigned_seen hash book advert (map key (participants advert)) (seen_branch o) made.digests)
       by_branch None = refl
       by_branch (Some b) = branch_gate b made.digests
 
@@ -153,13 +156,27 @@ node_shows nodes path (Some n) None h = absurd h
 
 -- ---- a contract
 
--- the gates of all paths are the gate of all needs
-pub all_paths : (hash : List ℕ → List ℕ) (book : List Pair) (contract : ℕ) (advert : Advert) (paths : List (List PathStep × Prepared))
-    → gate_of_paths hash book contract advert paths ≡ gate_of (first_unmet book (needs hash contract advert paths))
-all_paths hash book contract advert [] = refl
-all_paths hash book contract advert (p ∷ ps) =
-    ap (gate_or (gate_for hash book contract advert p.0 p.1)) (all_paths hash book contract advert ps)
-    ∙ sym (first_gate book (path_needs hash contract advert p.0 p.1) (needs hash contract advert ps))
+module _ (hash : List ℕ → List ℕ) (book : List Pair) (contract : ℕ) (advert : Advert) where
+  planned_paths : (paths : List (List PathStep × Prepared))
+      → gate_of_paths hash book advert paths (plan_keys hash contract advert paths) ≡ gate_of (first_unmet book (needs hash contract advert paths))
+  planned_paths [] = refl
+  planned_paths (p ∷ ps) =
+      ap (λ g. gate_or g (gate_of_paths hash book advert ps (plan_keys hash contract advert ps))) (sym (path_gate hash book contract advert p.0 p.1))
+      ∙ ap (gate_or (gate_of (first_unmet book (path_needs hash contract advert p.0 p.1)))) (planned_paths ps)
+      ∙ sym (first_gate book (path_needs hash contract advert p.0 p.1) (needs hash contract advert ps))
+
+  -- by the plan's keys the gates of all paths are the gate of all needs
+  pub all_paths : (paths : List (List PathStep × Prepared)) (table : List (List (List ℕ))) → table ≡ plan_keys hash contract advert paths
+      → gate_of_paths hash book advert paths table ≡ gate_of (first_unmet book (needs hash contract advert paths))
+  all_paths paths table planned = ap (gate_of_paths hash book advert paths) planned ∙ planned_paths paths
+
+-- a contract that is compiled by the plan has the plan's keys
+pub keys_planned : (hash : List ℕ → List ℕ) (s : Instance) (contract : ℕ) (advert : Advert) (compiled : Numbered) → compiled ≡ numbered hash s
+    → s.contract ≡ contract → s.advert ≡ advert → compiled.keys ≡ plan_keys hash contract advert compiled.paths
+keys_planned hash s contract advert compiled e number text =
+    let keys : compiled.keys ≡ plan_keys hash s.contract s.advert (compilation hash s).paths = ap (λ (n : Numbered). n.keys) e in
+    let paths : compiled.paths ≡ (compilation hash s).paths = ap (λ (n : Numbered). n.paths) e in
+    keys ∙ (λ j. plan_keys hash (number j) (text j) (sym paths j))
 
 is_yes-gate_of : (o : Option Need) → is_yes (gate_of o) ≡ is_none o
 is_yes-gate_of None = refl
@@ -167,9 +184,11 @@ is_yes-gate_of (Some need) = refl
 
 -- the gate of a contract that is compiled so tells of its endorsements
 pub tells : (hash : List ℕ → List ℕ) (s : Instance) (book : List Pair) (contract : ℕ) (advert : Advert) (compiled : Numbered) (gate : Gate)
-    → MissingIsFirst → gate ≡ gate_of (first_unmet book (needs hash contract advert compiled.paths))
+    → MissingIsFirst
+    → (compiled.keys ≡ plan_keys hash contract advert compiled.paths → gate ≡ gate_of (first_unmet book (needs hash contract advert compiled.paths)))
     → compiled ≡ numbered hash s → s.contract ≡ contract → s.advert ≡ advert → Tells hash s book gate
-tells hash s book contract advert compiled gate theorem is e number text =
+tells hash s book contract advert compiled gate theorem by_plan e number text =
+    let is = by_plan (keys_planned hash s contract advert compiled e number text) in
     let paths : compiled.paths ≡ (compilation hash s).paths = ap (λ (n : Numbered). n.paths) e in
     let first : gate ≡ gate_of (missing_endorsement hash s book) = rw (is, paths, ← number, ← text) refl in
     record {

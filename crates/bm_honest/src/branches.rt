@@ -66,62 +66,50 @@ pub(crate) fn seen_at<'a>(
     Some((asked, puts))
 }
 
-// The first party that hasn't signed for a branch which asks and puts these, by the digests of its transaction's inputs.
+// The first party that hasn't signed for a branch which has these keys of the participants, and asks and puts these, by the digests
+// of its transaction's inputs.
 fn first_for<H: Hash32>(
     alloc: Global,
     hash: &H,
     book: &Book,
-    contract: u32,
     checked: &Checked,
-    path: &Path,
+    keys: &[[u8; 33]],
     asked: &[Name],
     puts: &[Name],
     digests: &[[u8; 32]],
 ) -> Result<Option<Name>, OutOfMemory>
     requires { list_all (λ name. is_among name (names_of (volatile checked.now.pre))) puts.now ≡ true }
     ensures { IfOk result (λ party. party
-        ≡ unsigned_for (H.digest_of hash.now) book.now contract checked.now path.now asked.now puts.now digests.now) }
+        ≡ unsigned_for (H.digest_of hash.now) book.now checked.now keys.now asked.now puts.now digests.now) }
 {
     let Some((digest, others)) = digests.split_first() else {
         return Ok(None);
     };
-    let person = first_person(
-        alloc,
-        hash,
-        book,
-        contract,
-        path,
-        asked,
-        digest,
-        checked.parties(),
-    )?;
+    let person = first_person(book, asked, digest, checked.parties(), keys);
     if let Some(person) = person {
         return Ok(Some(person));
     }
     first_owner(alloc, hash, book, &checked.advert().pre, puts, others)
 }
 
-/// The first party that hasn't signed for the branch at a path.
-#[tactic(auto, using(crate::proofs::Unmet::path_gate))]
+/// The first party that hasn't signed for the branch at a path, which has these keys of the participants.
 pub(crate) fn first_at<H: Hash32>(
     alloc: Global,
     hash: &H,
     book: &Book,
-    contract: u32,
     checked: &Checked,
     arena: &Arena,
+    keys: &[[u8; 33]],
     path: &Path,
     made: &Prepared,
 ) -> Result<Option<Name>, OutOfMemory>
     requires { arena.now ≡ nodes_of checked.now.root }
-    ensures { IfOk result (λ party. gate_for (H.digest_of hash.now) book.now contract checked.now path.now made.now
+    ensures { IfOk result (λ party. gate_for (H.digest_of hash.now) book.now checked.now keys.now path.now made.now
         ≡ gate_at path.now party) }
 {
     let Some((asked, puts)) = seen_at(checked, arena, path) else {
         return Ok(None);
     };
     let digests = made.digests.as_slice();
-    first_for(
-        alloc, hash, book, contract, checked, path, asked, puts, digests,
-    )
+    first_for(alloc, hash, book, checked, keys, asked, puts, digests)
 }

@@ -10,6 +10,7 @@ ghost use Rattle.spec_nodes.specs.Nodes.{nodes_of};
 ghost use Rattle.spec_run.specs.Signing.{pairs_of_party};
 ghost use Rattle.bm_compile.specs.Numbered.{numbered};
 ghost use Rattle.bm_honest.specs.Pairs.{person_pairs, owner_pairs, pairs_for, pairs_at, pairs_of_paths};
+ghost use Rattle.bm_honest.specs.Unsigned.{plan_keys};
 
 use crate::branches::seen_at;
 use crate::keys::deposit_key;
@@ -17,60 +18,55 @@ use crate::needs::owner_of;
 use bm_arena::Arena;
 use bm_compile::Compiled;
 use bm_hash::Hash32;
-use bm_keys::branch_key;
 use bm_wellformed::Checked;
 use spec_compiler::Prepared;
-use spec_data::{Name, OutOfMemory};
+use spec_data::{Name, OutOfMemory, Seq};
 use spec_terms::{Path, Pre};
 use std::alloc::Global;
 
 /// A key and the digest that it signs.
 pub type Pair = ([u8; 33], [u8; 32]);
 
-// The pair of a participant that is the party, unless the branch asks it.
-fn put_person<H: Hash32>(
-    alloc: Global,
-    hash: &H,
+// The pair of a participant that is the party, by its key of the branch, unless that asks it.
+fn put_person(
     pairs: &mut Vec<Pair>,
-    contract: u32,
-    path: &Path,
     asked: &[Name],
     digest: &[u8; 32],
     party: &Name,
     person: &Name,
+    key: &[u8; 33],
 ) -> Result<(), OutOfMemory>
     ensures { OnOk result (pairs.new.items ≡ pairs.old.items
-        ++ person_pairs (H.digest_of hash.now) contract path.now asked.now digest.now party.now (person.now ∷ [])) }
+        ++ person_pairs asked.now digest.now party.now (person.now ∷ []) (key.now ∷ [])) }
 {
     if asked.contains(person) {
         return Ok(());
     }
     if *person == *party {
-        let key = branch_key(alloc, hash, contract, path, person)?;
-        pairs.push((key, *digest))?;
+        pairs.push((*key, *digest))?;
     }
     Ok(())
 }
 
-// The pairs of the participants that are the party, unless the branch asks it.
-fn put_people<H: Hash32>(
-    alloc: Global,
-    hash: &H,
+// The pairs of the participants, who have these keys of the branch, that are the party, unless the branch asks it.
+fn put_people(
     pairs: &mut Vec<Pair>,
-    contract: u32,
-    path: &Path,
     asked: &[Name],
     digest: &[u8; 32],
     party: &Name,
     people: &[Name],
+    keys: &[[u8; 33]],
 ) -> Result<(), OutOfMemory>
     ensures { OnOk result (pairs.new.items ≡ pairs.old.items
-        ++ person_pairs (H.digest_of hash.now) contract path.now asked.now digest.now party.now people.now) }
+        ++ person_pairs asked.now digest.now party.now people.now keys.now) }
 {
+    let mut rest = keys;
     for person in people {
-        put_person(
-            alloc, hash, pairs, contract, path, asked, digest, party, person,
-        )?;
+        let Some((key, others)) = rest.split_first() else {
+            return Ok(());
+        };
+        put_person(pairs, asked, digest, party, person, key)?;
+        rest = others;
     }
     Ok(())
 }
@@ -127,10 +123,9 @@ fn put_both<H: Hash32>(
     alloc: Global,
     hash: &H,
     pairs: &mut Vec<Pair>,
-    contract: u32,
     people: &[Name],
+    keys: &[[u8; 33]],
     pre: &[Pre],
-    path: &Path,
     party: &Name,
     asked: &[Name],
     puts: &[Name],
@@ -139,24 +134,22 @@ fn put_both<H: Hash32>(
 ) -> Result<(), OutOfMemory>
     requires { list_all (λ name. is_among name (names_of (volatile pre.now))) puts.now ≡ true }
     ensures { OnOk result (pairs.new.items ≡ pairs.old.items
-        ++ (person_pairs (H.digest_of hash.now) contract path.now asked.now digest.now party.now people.now
+        ++ (person_pairs asked.now digest.now party.now people.now keys.now
         ++ owner_pairs (H.digest_of hash.now) pre.now party.now puts.now others.now)) }
 {
-    put_people(
-        alloc, hash, pairs, contract, path, asked, digest, party, people,
-    )?;
+    put_people(pairs, asked, digest, party, people, keys)?;
     put_owners(alloc, hash, pairs, pre, party, puts, others)?;
     Ok(())
 }
 
-// What the party signs for a branch which asks and puts these, by the digests of its transaction's inputs.
+// What the party signs for a branch which has these keys of the participants, and asks and puts these, by the digests of its
+// transaction's inputs.
 fn put_branch<H: Hash32>(
     alloc: Global,
     hash: &H,
     pairs: &mut Vec<Pair>,
-    contract: u32,
     checked: &Checked,
-    path: &Path,
+    keys: &[[u8; 33]],
     party: &Name,
     asked: &[Name],
     puts: &[Name],
@@ -164,7 +157,7 @@ fn put_branch<H: Hash32>(
 ) -> Result<(), OutOfMemory>
     requires { list_all (λ name. is_among name (names_of (volatile checked.now.pre))) puts.now ≡ true }
     ensures { OnOk result (pairs.new.items ≡ pairs.old.items
-        ++ pairs_for (H.digest_of hash.now) contract checked.now path.now party.now asked.now puts.now digests.now) }
+        ++ pairs_for (H.digest_of hash.now) checked.now keys.now party.now asked.now puts.now digests.now) }
 {
     let Some((digest, others)) = digests.split_first() else {
         return Ok(());
@@ -173,10 +166,9 @@ fn put_branch<H: Hash32>(
         alloc,
         hash,
         pairs,
-        contract,
         checked.parties(),
+        keys,
         &checked.advert().pre,
-        path,
         party,
         asked,
         puts,
@@ -185,57 +177,63 @@ fn put_branch<H: Hash32>(
     )
 }
 
-// What the party signs of the path of a branch.
-#[tactic(auto, using(crate::proofs::Endorsed::path_pairs))]
+// What the party signs of the path of a branch, which has these keys of the participants.
 fn put_path<H: Hash32>(
     alloc: Global,
     hash: &H,
     pairs: &mut Vec<Pair>,
-    contract: u32,
     checked: &Checked,
     arena: &Arena,
+    keys: &[[u8; 33]],
     party: &Name,
     path: &Path,
     made: &Prepared,
 ) -> Result<(), OutOfMemory>
     requires { arena.now ≡ nodes_of checked.now.root }
     ensures { OnOk result (pairs.new.items ≡ pairs.old.items
-        ++ pairs_at (H.digest_of hash.now) contract checked.now party.now path.now made.now) }
+        ++ pairs_at (H.digest_of hash.now) checked.now keys.now party.now path.now made.now) }
 {
     let Some((asked, puts)) = seen_at(checked, arena, path) else {
         return Ok(());
     };
     let digests = made.digests.as_slice();
     put_branch(
-        alloc, hash, pairs, contract, checked, path, party, asked, puts, digests,
+        alloc, hash, pairs, checked, keys, party, asked, puts, digests,
     )
 }
 
-// What the party signs of these paths.
+// What the party signs of these paths, each with the participants' keys of it.
 fn pairs_by_paths<H: Hash32>(
     alloc: Global,
     hash: &H,
-    contract: u32,
     checked: &Checked,
     arena: &Arena,
     party: &Name,
     paths: &[(Path, Prepared)],
+    table: &[Seq<[u8; 33]>],
 ) -> Result<Vec<Pair>, OutOfMemory>
     requires { arena.now ≡ nodes_of checked.now.root }
     ensures { IfOk result (λ pairs. pairs.items
-        ≡ pairs_of_paths (H.digest_of hash.now) contract checked.now party.now paths.now) }
+        ≡ pairs_of_paths (H.digest_of hash.now) checked.now party.now paths.now table.now) }
 {
     let mut pairs = Vec::new(alloc);
+    let mut rest = table;
     for (path, made) in paths {
+        let Some((keys, others)) = rest.split_first() else {
+            return Ok(pairs);
+        };
+        let keys = keys.as_slice();
         put_path(
-            alloc, hash, &mut pairs, contract, checked, arena, party, path, made,
+            alloc, hash, &mut pairs, checked, arena, keys, party, path, made,
         )?;
+        rest = others;
     }
     Ok(pairs)
 }
 
 /// What a party signs to endorse a contract of this number, with its keys by this hash: of all that the contract needs, what
-/// is the party's, in the same order. The contract is compiled to `compiled`.
+/// is the party's, in the same order. The contract is compiled to `compiled`, which has the participants' keys of each path, so that
+/// none is hashed anew: the keys are the plan's where it was compiled by the plan.
 pub fn endorsing_pairs<H: Hash32>(
     alloc: Global,
     hash: &H,
@@ -245,7 +243,10 @@ pub fn endorsing_pairs<H: Hash32>(
     party: &Name,
 ) -> Result<Vec<Pair>, OutOfMemory>
     requires { compiled.now.nodes ≡ nodes_of checked.now.root }
-    ensures pairs { IfOk result (λ pairs. pairs.items
+    ensures listed { IfOk result (λ pairs. pairs.items
+        ≡ pairs_of_paths (H.digest_of hash.now) checked.now party.now compiled.now.paths compiled.now.keys) }
+    ensures pairs { compiled.now.keys ≡ plan_keys (H.digest_of hash.now) contract checked.now compiled.now.paths
+        → IfOk result (λ pairs. pairs.items
         ≡ pairs_of_party party.now (needs (H.digest_of hash.now) contract checked.now compiled.now.paths)) }
     ensures defined { (s : Instance) → compiled.now ≡ numbered (H.digest_of hash.now) s → s.contract ≡ contract → s.advert ≡ checked.now
         → IfOk result (λ pairs. pairs.items ≡ pairs_of_party party.now (needed (H.digest_of hash.now) s)) }
@@ -253,11 +254,11 @@ pub fn endorsing_pairs<H: Hash32>(
     let pairs = pairs_by_paths(
         alloc,
         hash,
-        contract,
         checked,
         compiled.arena(),
         party,
         compiled.paths(),
+        compiled.keys(),
     )?;
     Ok(pairs)
 }

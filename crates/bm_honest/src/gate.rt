@@ -6,6 +6,7 @@ ghost use Rattle.spec_compiler.specs.Endorsements.{needs, first_unmet};
 ghost use Rattle.spec_nodes.specs.Nodes.{nodes_of};
 ghost use Rattle.bm_compile.specs.Numbered.{numbered};
 ghost use Rattle.bm_honest.specs.Gates.{gate_of, gate_of_paths, Tells};
+ghost use Rattle.bm_honest.specs.Unsigned.{plan_keys};
 
 use crate::branches::first_at;
 use bm_arena::Arena;
@@ -14,7 +15,7 @@ use bm_compile::Compiled;
 use bm_hash::Hash32;
 use bm_wellformed::Checked;
 use spec_compiler::Prepared;
-use spec_data::{Name, OutOfMemory};
+use spec_data::{Name, OutOfMemory, Seq};
 use spec_terms::Path;
 use std::alloc::Global;
 use theory_script::missing_is_first;
@@ -27,34 +28,41 @@ pub enum Gate {
     No { path: Path, party: Name },
 }
 
-// The gate of these transactions by their paths.
+// The gate of these transactions by their paths, each with the participants' keys of it.
 fn gate_by_paths<H: Hash32>(
     alloc: Global,
     hash: &H,
     book: &Book,
-    contract: u32,
     checked: &Checked,
     arena: &Arena,
     paths: &[(Path, Prepared)],
+    table: &[Seq<[u8; 33]>],
 ) -> Result<Gate, OutOfMemory>
     requires { arena.now ≡ nodes_of checked.now.root }
-    ensures { IfOk result (λ gate. gate ≡ gate_of_paths (H.digest_of hash.now) book.now contract checked.now paths.now) }
+    ensures { IfOk result (λ gate. gate ≡ gate_of_paths (H.digest_of hash.now) book.now checked.now paths.now table.now) }
 {
+    let mut rest = table;
     for (path, made) in paths {
-        let party = first_at(alloc, hash, book, contract, checked, arena, path, made)?;
+        let Some((keys, others)) = rest.split_first() else {
+            return Ok(Gate::Yes);
+        };
+        let keys = keys.as_slice();
+        let party = first_at(alloc, hash, book, checked, arena, keys, path, made)?;
         if let Some(party) = party {
             return Ok(Gate::No {
                 path: path.copy(alloc)?,
                 party,
             });
         }
+        rest = others;
     }
     Ok(Gate::Yes)
 }
 
 /// Whether a contract of this number is endorsed, with its keys by this hash: `No` with the first endorsement that the book
 /// misses, by path in the order of the text, and for each path first the participants whom the branch doesn't ask and then the
-/// owners of what it puts. The contract is compiled to `compiled`; the book is asked by its index.
+/// owners of what it puts. The contract is compiled to `compiled`, which has the participants' keys of each path, so that none is
+/// hashed anew: the keys are the plan's where it was compiled by the plan. The book is asked by its index.
 pub fn may<H: Hash32>(
     alloc: Global,
     hash: &H,
@@ -64,7 +72,10 @@ pub fn may<H: Hash32>(
     book: &Book,
 ) -> Result<Gate, OutOfMemory>
     requires { compiled.now.nodes ≡ nodes_of checked.now.root }
-    ensures gate { IfOk result (λ gate. gate
+    ensures listed { IfOk result (λ gate. gate
+        ≡ gate_of_paths (H.digest_of hash.now) book.now checked.now compiled.now.paths compiled.now.keys) }
+    ensures gate { compiled.now.keys ≡ plan_keys (H.digest_of hash.now) contract checked.now compiled.now.paths
+        → IfOk result (λ gate. gate
         ≡ gate_of (first_unmet book.now (needs (H.digest_of hash.now) contract checked.now compiled.now.paths))) }
     ensures tells { (s : Instance) → compiled.now ≡ numbered (H.digest_of hash.now) s → s.contract ≡ contract → s.advert ≡ checked.now
         → IfOk result (λ gate. Tells (H.digest_of hash.now) s book.now gate) }
@@ -74,10 +85,10 @@ pub fn may<H: Hash32>(
         alloc,
         hash,
         book,
-        contract,
         checked,
         compiled.arena(),
         compiled.paths(),
+        compiled.keys(),
     )?;
     Ok(gate)
 }

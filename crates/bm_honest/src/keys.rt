@@ -1,16 +1,14 @@
-//! Which keys have signed.
+//! Which keys of deposits have signed.
 
 ghost use Rattle.std.specs.Prelude.{◌≡◌, IfOk};
 ghost use Rattle.spec_bitcoin.specs.Keys as spec;
 ghost use Rattle.spec_compiler.specs.Instance as instance;
-ghost use Rattle.spec_compiler.specs.Instance.{branch_label};
 
 use bm_book::Book;
 use bm_hash::Hash32;
-use bm_keys::{branch_key, label_key};
+use bm_keys::label_key;
 use spec_bitcoin::Label;
 use spec_data::{Name, OutOfMemory};
-use spec_terms::Path;
 use std::alloc::Global;
 
 /// A party's key of its deposits.
@@ -22,23 +20,6 @@ pub fn deposit_key<H: Hash32>(
     ensures { IfOk result (λ key. key ≡ instance.deposit_key (H.digest_of hash.now) party.now) }
 {
     label_key(alloc, hash, &Label::Deposit { party: *party })
-}
-
-/// Whether a participant's key of a branch has signed the digest.
-pub(crate) fn branch_signed<H: Hash32>(
-    alloc: Global,
-    hash: &H,
-    book: &Book,
-    contract: u32,
-    path: &Path,
-    party: &Name,
-    digest: &[u8; 32],
-) -> Result<bool, OutOfMemory>
-    ensures { IfOk result (λ signed. signed
-        ≡ spec.has_signed book.now (spec.key_of (H.digest_of hash.now) (branch_label contract path.now party.now)) digest.now) }
-{
-    let key = branch_key(alloc, hash, contract, path, party)?;
-    Ok(book.has(&key, digest))
 }
 
 /// Whether a party's key of its deposits has signed the digest.

@@ -4,57 +4,47 @@ ghost use Rattle.std.specs.Prelude.{◌≡◌, ◌||◌, IfOk, true};
 ghost use Rattle.std.specs.List.{list_all};
 ghost use Rattle.spec_data.specs.Lists.{is_among, look_up};
 ghost use Rattle.spec_terms.specs.Precondition.{names_of, volatile};
-ghost use Rattle.spec_bitcoin.specs.Keys.{has_signed, key_of};
-ghost use Rattle.spec_compiler.specs.Instance.{branch_label};
+ghost use Rattle.spec_bitcoin.specs.Keys.{has_signed};
 ghost use Rattle.bm_honest.specs.Unsigned.{unsigned_person, unsigned_owner, owner_in, unsigned_for};
 
-use crate::keys::{branch_signed, deposit_signed};
+use crate::keys::deposit_signed;
 use bm_book::Book;
 use bm_hash::Hash32;
 use spec_data::{Name, OutOfMemory};
-use spec_terms::{Path, Pre};
+use spec_terms::Pre;
 use std::alloc::Global;
 
 // Whether nothing more is needed of a participant: the branch asks it, or its key of the branch has signed the digest.
-fn is_ready<H: Hash32>(
-    alloc: Global,
-    hash: &H,
-    book: &Book,
-    contract: u32,
-    path: &Path,
-    asked: &[Name],
-    digest: &[u8; 32],
-    person: &Name,
-) -> Result<bool, OutOfMemory>
-    ensures { IfOk result (λ ready. ready ≡ (is_among person.now asked.now
-        || has_signed book.now (key_of (H.digest_of hash.now) (branch_label contract path.now person.now)) digest.now)) }
+fn is_ready(book: &Book, asked: &[Name], digest: &[u8; 32], person: &Name, key: &[u8; 33]) -> bool
+    ensures { result ≡ (is_among person.now asked.now || has_signed book.now key.now digest.now) }
 {
     if asked.contains(person) {
-        return Ok(true);
+        return true;
     }
-    branch_signed(alloc, hash, book, contract, path, person, digest)
+    book.has(key, digest)
 }
 
-/// The first of these participants whom the branch doesn't ask and whose key of the branch hasn't signed the digest.
-pub(crate) fn first_person<H: Hash32>(
-    alloc: Global,
-    hash: &H,
+/// The first of these participants, who have these keys of the branch, whom it doesn't ask and whose key hasn't signed the digest.
+pub(crate) fn first_person(
     book: &Book,
-    contract: u32,
-    path: &Path,
     asked: &[Name],
     digest: &[u8; 32],
     people: &[Name],
-) -> Result<Option<Name>, OutOfMemory>
-    ensures { IfOk result (λ person. person
-        ≡ unsigned_person (H.digest_of hash.now) book.now contract path.now asked.now digest.now people.now) }
+    keys: &[[u8; 33]],
+) -> Option<Name>
+    ensures { result ≡ unsigned_person book.now asked.now digest.now people.now keys.now }
 {
+    let mut rest = keys;
     for person in people {
-        if !is_ready(alloc, hash, book, contract, path, asked, digest, person)? {
-            return Ok(Some(*person));
+        let Some((key, others)) = rest.split_first() else {
+            return None;
+        };
+        if !is_ready(book, asked, digest, person, key) {
+            return Some(*person);
         }
+        rest = others;
     }
-    Ok(None)
+    None
 }
 
 /// The owner of the volatile deposit of this name.

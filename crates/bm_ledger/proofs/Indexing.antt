@@ -17,7 +17,7 @@ use Rattle.bm_ledger.proofs.Spending.{same_outpoint-is, at_place-remove_entry}
 same_numbers : (n : ℕ) → n == n ≡ true
 same_numbers n = grind arith
 
-same-itself : (a : OutPoint) → same_outpoint a a ≡ true
+pub same-itself : (a : OutPoint) → same_outpoint a a ≡ true
 same-itself a = rw ((bytes_eq-Decides a.txid a.txid).1 refl) (same_numbers a.vout)
 
 pub other-place : (a b : OutPoint) → same_outpoint a b ≡ false → same_outpoint b a ≡ false

@@ -4,4 +4,5 @@ mod Indexing
 mod Numbering
 mod Rows
 mod Spending
+mod Thinning
 mod Witnesses

@@ -1,9 +1,9 @@
 -- Live outputs by birth number.
 use Rattle.std.specs.Prelude.{◌≡◌, ℕ, ◌+◌, ◌^◌, ◌<◌, ◌≤◌, List, [], ◌∷◌, ◌==◌, if◌then◌else◌, Option, Some, None}
-use Rattle.std.specs.List.{find}
+use Rattle.std.specs.List.{find, list_any}
 use Rattle.std.specs.Option.{option_map}
 use Rattle.spec_bitcoin.specs.declared.tx.OutPoint.{OutPoint}
-use Rattle.spec_bitcoin.specs.Live.{Entry, at_place}
+use Rattle.spec_bitcoin.specs.Live.{Entry, same_outpoint, at_place}
 
 -- the live output of this birth number, with its place
 abbrev pub numbered : List Entry → ℕ → Option Entry
@@ -32,3 +32,8 @@ pub record AreIndexed (number : OutPoint → Option ℕ) (live : List Entry) : T
   pub in_order : AreInOrder 0 (2 ^ 32) live
   pub apart : AreApart live
   pub numbers : (place : OutPoint) → number place ≡ number_at live place
+
+-- the second function gives what the first does, but nothing at these places
+abbrev pub LosesPlaces : (OutPoint → Option ℕ) → (OutPoint → Option ℕ) → List OutPoint → Type 0
+LosesPlaces before after places =
+    (q : OutPoint) → after q ≡ (if list_any (λ p. same_outpoint p q) places then None else before q)

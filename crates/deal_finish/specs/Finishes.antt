@@ -9,6 +9,11 @@ abbrev pub Refuses : FinishError → Option FinishRefusal → Type 0
 Refuses (finishes.Refused refusal) why = why ≡ Some refusal
 Refuses finishes.Memory why = Unit {0}
 
+-- nothing is refused, or the code says why
+abbrev pub Allows : {U : Type 0} → Result U FinishError → Option FinishRefusal → Type 0
+Allows (Ok done) why = why ≡ None
+Allows (Err e) why = Refuses e why
+
 -- what a function returned, seen by view, is the transaction where nothing is missing, else the code says the first that is
 abbrev pub Finishes : {X : Type 0} → (X → List ℕ) → Result X FinishError → Option FinishRefusal → List ℕ → Type 0
 Finishes view (Ok x) why spelled = (why ≡ None) × (view x ≡ spelled)

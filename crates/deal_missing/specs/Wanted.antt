@@ -1,7 +1,7 @@
 -- The signatures that are needed, by what is known of the transactions.
-use Rattle.std.specs.Prelude.{ℕ, ◌+◌, List, [], ◌∷◌, ◌++◌, map, Bool, true, false, not, ◌&&◌, Option, Some, None, codes}
+use Rattle.std.specs.Prelude.{ℕ, ◌+◌, List, [], ◌∷◌, ◌++◌, map, Bool, true, false, not, ◌&&◌, Option, Some, None, is_some, codes}
 use Rattle.std.specs.Fmt.{decimal}
-use Rattle.std.specs.List.{find, flat_map, list_any}
+use Rattle.std.specs.List.{find, flat_map}
 use Rattle.std.specs.Option.{option_map}
 use Rattle.spec_data.specs.Digits.{hex_text}
 use Rattle.spec_terms.specs.declared.path.PathStep.{PathStep}
@@ -18,7 +18,7 @@ use Rattle.spec_deal.specs.declared.transaction.Transaction.{Transaction}
 use Rattle.spec_deal.specs.Transactions.{Spot, is_at}
 use Rattle.spec_deal.specs.Slots.{is_endorsement}
 use Rattle.spec_deal.specs.Finished.{label_party, which_path}
-use Rattle.spec_deal.specs.DealText.{verb_text}
+use Rattle.spec_deal.specs.DealText.{line_of, verb_text}
 use Rattle.deal_missing.specs.declared.wants.Want.{Want}
 
 -- a signature that is needed: of which input of which transaction, by whom, and of which digest
@@ -60,7 +60,7 @@ abbrev pub signature_of : List Signed → Wanted → Option (List ℕ)
 signature_of given w = option_map (λ (g : Signed). g.signature) (find (is_at (spot_of w)) given)
 
 abbrev pub is_there : List Signed → Wanted → Bool
-is_there given w = list_any (is_at (spot_of w)) given
+is_there given w = is_some (signature_of given w)
 
 -- whether it is an endorsement that isn't there
 abbrev pub is_unendorsed : List Signed → Wanted → Bool
@@ -74,15 +74,19 @@ wanted_text w =
     which_text w.which ++ (codes " " ++ (decimal w.input ++ (codes " " ++ (label_text w.signer.label
     ++ (codes " " ++ verb_text w.signer.verb)))))
 
+abbrev pub wanted_words : Wanted → List (List ℕ)
+wanted_words w = which_text w.which ∷ decimal w.input ∷ label_text w.signer.label ∷ verb_text w.signer.verb ∷ []
+
 abbrev pub missing_line : Wanted → List ℕ
-missing_line w = codes "missing " ++ (wanted_text w ++ newline)
+missing_line w = line_of (codes "missing" ∷ wanted_words w)
 
 -- the key, the digest and the signature
 abbrev pub proof_text : Wanted → List ℕ → List ℕ
 proof_text w signature = hex_text w.signer.key ++ (codes " " ++ (hex_text w.digest ++ (codes " " ++ hex_text signature)))
 
 abbrev pub held_line : Wanted → List ℕ → List ℕ
-held_line w signature = codes "held " ++ (wanted_text w ++ (codes " " ++ (proof_text w signature ++ newline)))
+held_line w signature =
+    line_of (codes "held" ∷ (wanted_words w ++ hex_text w.signer.key ∷ hex_text w.digest ∷ hex_text signature ∷ []))
 
 -- the line of one that is there, nothing of another
 abbrev pub line_if_held : Wanted → Option (List ℕ) → List ℕ
@@ -103,8 +107,13 @@ told_if_missing given w = line_if_missing w (is_there given w)
 -- whether the initial transaction may be signed, or whose endorsement is missing
 abbrev pub gate_line : Option Wanted → List ℕ
 gate_line None = codes "init may be signed" ++ newline
-gate_line (Some w) =
-    codes "init not endorsed " ++ (which_text w.which ++ (codes " " ++ (label_party w.signer.label ++ newline)))
+gate_line (Some w) = line_of (codes "init not endorsed" ∷ which_text w.which ∷ label_party w.signer.label ∷ [])
+
+abbrev pub missing_by : List Signed → List Wanted → List ℕ
+missing_by given ws = flat_map (told_if_missing given) ws ++ gate_line (find (is_unendorsed given) ws)
+
+abbrev pub held_by : List Signed → List Wanted → List ℕ
+held_by given ws = flat_map (told_if_held given) ws
 
 -- ---- what is said of it
 
@@ -113,8 +122,3 @@ path_and_party w = (which_path w.which, label_party w.signer.label)
 
 abbrev pub input_and_label : Wanted → ℕ × Label
 input_and_label w = (w.input, w.signer.label)
-
--- ---- all of it
-
-abbrev pub missing_by : List Signed → List Wanted → List ℕ
-missing_by given ws = flat_map (told_if_missing given) ws ++ gate_line (find (is_unendorsed given) ws)

@@ -1,7 +1,6 @@
 //! What `missing` and `held` print.
 
 ghost use Rattle.std.specs.Prelude.{◌≡◌, ◌++◌, ℕ, List, map, flat_map, IfOk, OnOk};
-ghost use Rattle.std.specs.List.{find};
 ghost use Rattle.spec_compiler.specs.Keyed.Instance.{Instance};
 ghost use Rattle.spec_compiler.specs.Keyed.Keys.{Keys};
 ghost use Rattle.spec_deal.specs.DealText as texts;
@@ -97,7 +96,7 @@ fn held_of(
     transactions: &[Transaction],
     given: &Given,
 ) -> Result<Vec<u8>, OutOfMemory>
-    ensures { IfOk result (λ text. text.items ≡ flat_map (spec.told_if_held given.now) (spec.wanted transactions.now)) }
+    ensures { IfOk result (λ text. text.items ≡ spec.held_by given.now (spec.wanted transactions.now)) }
 {
     let wants = all_wants(alloc, transactions)?;
     let mut out = Vec::new(alloc);

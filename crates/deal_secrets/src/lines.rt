@@ -3,9 +3,13 @@
 ghost use Rattle.std.specs.Prelude.{◌≡◌, ◌∷◌, [], ℕ, List, None, map, true, OnOk};
 ghost use Rattle.std.specs.List.{find};
 ghost use Rattle.std.specs.Str.{bytes_eq};
+ghost use Rattle.spec_data.specs.Digits as digits;
+ghost use Rattle.spec_data.specs.Messages.{clash};
 ghost use Rattle.spec_text.specs.Lines.{words_of};
+ghost use Rattle.spec_text.specs.Words.{one_of};
 ghost use Rattle.spec_compiler.specs.Keyed.Instance.{Instance};
 ghost use Rattle.spec_deal.specs.declared.entry.Shown.{Shown as Told};
+ghost use Rattle.spec_deal.specs.Needed.{needed_secrets};
 ghost use Rattle.spec_deal.specs.SecretFile as spec;
 ghost use Rattle.bm_hash.specs.Messages.{evidence_of};
 ghost use Rattle.deal_secrets.specs.Gives.{Leads, LeadsOn, IsHashed, Takes};
@@ -37,7 +41,7 @@ fn has_length(bytes: &[u8]) -> bool
 // The string that a word gives to a secret.
 fn shown_by(alloc: Global, line: u32, name: Name, word: &[u8]) -> Result<Shown, LineError>
     ensures { (hash : List ℕ → List ℕ) (s : Instance) (messages : List (List ℕ)) (taken : List Told)
-        → Leads hash s messages taken result (spec.with_bytes hash s messages taken line name (read_hex word.now)) }
+        → Leads hash s messages taken result (spec.with_bytes hash s messages taken line name (digits.read_hex word.now)) }
 {
     match read_hex(alloc, word) {
         Ok(bytes) => Ok(Shown {
@@ -48,6 +52,13 @@ fn shown_by(alloc: Global, line: u32, name: Name, word: &[u8]) -> Result<Shown, 
         Err(HexError::Bad) => Err(LineError::Bad(SecretReason::Value)),
         Err(HexError::Memory) => Err(LineError::Memory),
     }
+}
+
+// The name of the secret that a word is, if the contract has it.
+fn secret_of(checked: &Checked, word: &[u8]) -> Option<Name>
+    ensures { result ≡ one_of (needed_secrets checked.now) word.now }
+{
+    secret_named(&checked.advert().pre, word)
 }
 
 // What these words behind the first give.
@@ -61,7 +72,7 @@ fn named(
     ensures { (hash : List ℕ → List ℕ) (s : Instance) (messages : List (List ℕ)) (taken : List Told) → s.advert ≡ checked.now
         → Leads hash s messages taken result (spec.named_line hash s messages taken line name.now word.now) }
 {
-    match secret_named(&checked.advert().pre, name) {
+    match secret_of(checked, name) {
         Some(name) => shown_by(alloc, line, name, word),
         None => Err(LineError::Bad(SecretReason::Foreign)),
     }
@@ -117,8 +128,8 @@ fn take_new<H: Hash32 + Drop>(
     ensures clear { OnOk result (evidence_of (H.digest_of trail.old.hasher) trail.new.messages ≡ None) }
     ensures takes { let hash = H.digest_of trail.old.hasher in
         (s : Instance) → s.hashes ≡ hashes.now
-        → Takes hash (trail.old.messages) (trail.new.messages) strings.old strings.new result
-        (spec.hashed_line hash s shown (spec.clash hash trail.old.messages shown.bytes)) }
+        → Takes hash trail.old.messages trail.new.messages strings.old strings.new result
+        (spec.hashed_line hash s shown (clash hash trail.old.messages shown.bytes)) }
 {
     let digest = hash_of(trail, shown.bytes.as_slice())?;
     if !is_hash_of(hashes, &shown.name, &digest) {
@@ -141,7 +152,7 @@ fn take_shown<H: Hash32 + Drop>(
     ensures clear { OnOk result (evidence_of (H.digest_of trail.old.hasher) trail.new.messages ≡ None) }
     ensures takes { let hash = H.digest_of trail.old.hasher in
         (s : Instance) → s.hashes ≡ hashes.now
-        → Takes hash (trail.old.messages) (trail.new.messages) strings.old strings.new result
+        → Takes hash trail.old.messages trail.new.messages strings.old strings.new result
         (spec.if_new hash s trail.old.messages shown (find (λ (x : Told). bytes_eq x.name shown.name) strings.old)) }
 {
     if let Some(earlier) = strings.line_for(&shown.name) {
@@ -168,7 +179,7 @@ pub(crate) fn take_line<H: Hash32 + Drop>(
     ensures clear { OnOk result (evidence_of (H.digest_of trail.old.hasher) trail.new.messages ≡ None) }
     ensures takes { let hash = H.digest_of trail.old.hasher in
         (s : Instance) → s.advert ≡ checked.now → s.hashes ≡ hashes.now
-        → Takes hash (trail.old.messages) (trail.new.messages) strings.old strings.new result
+        → Takes hash trail.old.messages trail.new.messages strings.old strings.new result
         (spec.line_says hash s trail.old.messages strings.old number (words_of line.now)) }
 {
     let words = words_of(alloc, line)?;

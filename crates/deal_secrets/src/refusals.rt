@@ -2,7 +2,6 @@
 
 ghost use Rattle.std.specs.Prelude.{◌≡◌, ◌++◌, codes, OnOk};
 ghost use Rattle.std.specs.Fmt.{decimal};
-ghost use Rattle.spec_text.specs.RunText.{newline};
 ghost use Rattle.spec_deal.specs.RefusedText as spec;
 ghost use Rattle.deal_secrets.specs.Refusals as texts;
 
@@ -45,8 +44,17 @@ fn put_fault(alloc: Global, out: &mut Vec<u8>, fault: SecretFault) -> Result<(),
     }
 }
 
-/// Writes the line that refuses a file of secrets.
+// The line that refuses a file.
 #[tactic(auto, using(std::proofs::Common::append_assoc))]
+fn put_line(alloc: Global, out: &mut Vec<u8>, fault: SecretFault) -> Result<(), OutOfMemory>
+    ensures { OnOk result (out.new.items ≡ out.old.items ++ texts.refused_line fault) }
+{
+    put(out, b"secrets refused ")?;
+    put_fault(alloc, out, fault)?;
+    put(out, b"\n")
+}
+
+/// Writes the line that refuses a file of secrets.
 pub fn put_secrets_refused(
     alloc: Global,
     out: &mut Vec<u8>,
@@ -54,7 +62,5 @@ pub fn put_secrets_refused(
 ) -> Result<(), OutOfMemory>
     ensures { OnOk result (out.new.items ≡ out.old.items ++ spec.secrets_refused_line fault) }
 {
-    put(out, b"secrets refused ")?;
-    put_fault(alloc, out, fault)?;
-    put(out, b"\n")
+    put_line(alloc, out, fault)
 }

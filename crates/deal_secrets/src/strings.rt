@@ -6,6 +6,7 @@ ghost use Rattle.std.specs.Str.{bytes_eq};
 ghost use Rattle.spec_data.specs.Ranges.{most_item_bytes};
 ghost use Rattle.spec_deal.specs.SecretFile.{has_length, string_for};
 ghost use Rattle.spec_deal.specs.declared.entry.Shown.{Shown as Told};
+ghost use Rattle.deal_secrets.specs.Seen.{shown_in};
 
 use deal_index::{Indexed, Keyed};
 use spec_data::{Bytes, Name, OutOfMemory};
@@ -56,7 +57,7 @@ impl Drop for Strings {
 
 // The string that was found.
 fn bytes_of(entry: Option<&Entry>) -> Option<&Bytes>
-    ensures bytes { option_map (λ b. b.now) result ≡ option_map (λ (x : Told). x.bytes) (option_map (λ e. e.now.shown) entry.entry) }
+    ensures { option_map (λ b. b.now) result ≡ option_map (λ (x : Told). x.bytes) (option_map shown_in (option_map (λ e. e.now) entry.entry)) }
 {
     match entry {
         Some(entry) => Some(&entry.shown.bytes),
@@ -66,7 +67,7 @@ fn bytes_of(entry: Option<&Entry>) -> Option<&Bytes>
 
 // The line that gives the string that was found.
 fn line_of(entry: Option<&Entry>) -> Option<u32>
-    ensures { result ≡ option_map (λ (x : Told). x.line) (option_map (λ e. e.now.shown) entry.entry) }
+    ensures { result ≡ option_map (λ (x : Told). x.line) (option_map shown_in (option_map (λ e. e.now) entry.entry)) }
 {
     match entry {
         Some(entry) => Some(entry.shown.line),

@@ -1,14 +1,22 @@
-//! What is found and changed in a list of deposits by ascending numbers. Nothing here walks all of them.
+//! What is found and changed in a list of deposits by ascending numbers. Only where many go are all of them walked, once.
 
-ghost use Rattle.std.specs.Prelude.{◌≡◌, ◌≤◌, ◌<◌, ◌++◌, ◌∷◌, [], map, true, length, slice_get, IfOk, IfErr, OnOk, OnErr, None};
+ghost use Rattle.std.specs.Prelude.{◌≡◌, ◌≤◌, ◌<◌, ◌++◌, ◌∷◌, [], map, filter, not, true, length, slice_get, IfOk, IfErr, OnOk, OnErr, None, ℕ};
 ghost use Rattle.std.specs.VecDeque.{deque_len, deque_capacity};
+ghost use Rattle.std.specs.BTreeSet.{contains};
+ghost use Rattle.std.specs.Ordering.{nat_cmp};
 ghost use Rattle.std.specs.List as lists;
+ghost use Rattle.spec_data.specs.Lists.{has_number};
 ghost use Rattle.spec_calculus.specs.Moves as spec;
 ghost use Rattle.spec_calculus.specs.InOrder.{are_ascending};
 
 use spec_calculus::Deposit;
 use spec_data::OutOfMemory;
-use std::collections::VecDeque;
+use std::alloc::Global;
+use std::collections::{BTreeSet, VecDeque};
+
+// Up to so many deposits are taken out one by one, each of which moves those on its nearer side: next to nothing for the oldest, which
+// mostly go first. For more of them a walk over all deposits is worth its cost.
+const FEW: usize = 64;
 
 /// The place of the deposit of this number.
 pub fn place(deposits: &VecDeque<Deposit>, number: u32) -> Result<usize, usize>
@@ -33,9 +41,9 @@ fn remove_one(deposits: &mut VecDeque<Deposit>, number: u32)
     }
 }
 
-/// Removes the deposits of these numbers, which takes no memory.
+// Removes the deposits of these numbers, which takes no memory.
 #[tactic(auto, using(crate::proofs::Gone::kept_all, crate::proofs::Gone::kept_next, theory_calculus::proofs::Numbered::filtered_ascends))]
-pub fn remove(deposits: &mut VecDeque<Deposit>, numbers: &[u32])
+fn remove_singly(deposits: &mut VecDeque<Deposit>, numbers: &[u32])
     requires ascending { are_ascending (map (λ d. d.number) deposits.old.items) ≡ true }
     ensures items { deposits.new.items ≡ spec.kept deposits.old.items numbers.now }
     ensures len { deque_len deposits.new ≤ deque_len deposits.old }
@@ -46,8 +54,43 @@ pub fn remove(deposits: &mut VecDeque<Deposit>, numbers: &[u32])
     }
 }
 
+// These numbers, in which each is found by its order.
+fn ordered(alloc: Global, numbers: &[u32]) -> Result<BTreeSet<u32>, OutOfMemory>
+    ensures { IfOk result (λ set. (n : ℕ) → contains nat_cmp set n ≡ has_number n numbers.now) }
+{
+    numbers.iter().copied().collect(alloc)
+}
+
+// Removes the deposits of the numbers in a set, in one walk.
+fn remove_walking(deposits: &mut VecDeque<Deposit>, gone: &BTreeSet<u32>)
+    ensures items { deposits.new.items ≡ filter (λ d. not (contains nat_cmp gone.now d.number)) deposits.old.items }
+    ensures len { deque_len deposits.new ≤ deque_len deposits.old }
+    ensures capacity { deque_capacity deposits.new ≡ deque_capacity deposits.old }
+{
+    deposits.retain(|d| !gone.contains(&d.number));
+}
+
+/// Removes the deposits of these numbers. Many go in one walk over all deposits; where there is no memory for an ordered set of the numbers,
+/// they go one by one.
+pub fn remove(alloc: Global, deposits: &mut VecDeque<Deposit>, numbers: &[u32])
+    requires ascending { are_ascending (map (λ d. d.number) deposits.old.items) ≡ true }
+    ensures items { deposits.new.items ≡ spec.kept deposits.old.items numbers.now }
+    ensures len { deque_len deposits.new ≤ deque_len deposits.old }
+    ensures capacity { deque_capacity deposits.new ≡ deque_capacity deposits.old }
+{
+    if numbers.len() <= FEW {
+        remove_singly(deposits, numbers);
+        return;
+    }
+    match ordered(alloc, numbers) {
+        Ok(gone) => remove_walking(deposits, &gone),
+        Err(_) => remove_singly(deposits, numbers),
+    }
+}
+
 /// Puts others in the place of the deposits of these numbers. The memory is taken before anything goes.
 pub fn replace(
+    alloc: Global,
     deposits: &mut VecDeque<Deposit>,
     numbers: &[u32],
     others: Vec<Deposit>,
@@ -58,7 +101,7 @@ pub fn replace(
 {
     let mut others = VecDeque::from_vec(others);
     deposits.reserve(others.len())?;
-    remove(deposits, numbers);
+    remove(alloc, deposits, numbers);
     match deposits.append(&mut others) {
         Ok(()) => Ok(()),
         Err(_) => unreachable!(),

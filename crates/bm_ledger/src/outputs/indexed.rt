@@ -1,17 +1,17 @@
 //! The live outputs in order of birth, with the birth number at each place.
 
-ghost use Rattle.std.specs.Prelude.{◌≡◌, ◌↔◌, ◌++◌, ◌-◌, ◌∷◌, [], None, IsTrue, OnOk, OnErr, is_some, length, not, slice_get, take};
-ghost use Rattle.std.specs.List.{list_any};
+ghost use Rattle.std.specs.Prelude.{◌≡◌, ◌↔◌, ◌++◌, ◌-◌, ◌∷◌, [], None, IsTrue, OnOk, OnErr, is_some, length, map, not, slice_get, take};
+ghost use Rattle.std.specs.List.{filter, list_any};
 ghost use Rattle.std.specs.Map.{remove_entry};
 ghost use Rattle.std.specs.Option.{option_copied};
 ghost use Rattle.std.specs.Str.{bytes_eq};
 ghost use Rattle.indexmap.specs.IndexMap.{get};
-ghost use Rattle.spec_bitcoin.specs.Live.{at_place, same_outpoint, IsNewTxid};
-ghost use Rattle.bm_ledger.specs.Ordered.{numbered, AreInOrder, AreIndexed};
+ghost use Rattle.spec_bitcoin.specs.Live.{at_place, same_outpoint, without, IsNewTxid};
+ghost use Rattle.bm_ledger.specs.Ordered.{numbered, AreInOrder, AreIndexed, LosesPlaces};
 
 use super::numbers::{Entry, find_number, place_of_number};
 use indexmap::IndexMap;
-use spec_bitcoin::{OutPoint, TxOut};
+use spec_bitcoin::{OutPoint, TxIn, TxOut};
 use spec_data::OutOfMemory;
 use std::alloc::Global;
 use std::collections::VecDeque;
@@ -38,8 +38,13 @@ impl Model for Live {
     ghost invariant = { λ l. AreIndexed (get same_outpoint l.numbers) l.entries.items };
 }
 
-// Takes out the entry at a place, if there is one.
-fn take_out(entries: &mut VecDeque<Entry>, numbers: &mut IndexMap<OutPoint, u32>, place: &OutPoint)
+// Takes out the entry at a place, if there is one. What it answers is of the time alone: how many entries stand on the shorter side,
+// which are moved.
+fn take_out(
+    entries: &mut VecDeque<Entry>,
+    numbers: &mut IndexMap<OutPoint, u32>,
+    place: &OutPoint,
+) -> usize
     requires indexed { AreIndexed (get same_outpoint numbers.old) entries.old.items }
     ensures removed { entries.new.items ≡ remove_entry (same_outpoint place.now) entries.old.items }
     ensures indexed { AreIndexed (get same_outpoint numbers.new) entries.new.items }
@@ -47,7 +52,39 @@ fn take_out(entries: &mut VecDeque<Entry>, numbers: &mut IndexMap<OutPoint, u32>
     if let Some(number) = numbers.swap_remove(place) {
         let index = place_of_number(entries, number);
         let _ = entries.remove(index);
+        return index.min(entries.len().saturating_sub(index));
     }
+    0
+}
+
+// Forgets the numbers of the outputs that are spent.
+fn forget_numbers(numbers: &mut IndexMap<OutPoint, u32>, inputs: &[TxIn])
+    ensures { LosesPlaces (get same_outpoint numbers.old) (get same_outpoint numbers.new) (map (λ i. i.prev) inputs.now) }
+{
+    for input in inputs {
+        let _ = numbers.swap_remove(&input.prev);
+    }
+}
+
+// Keeps the entries whose places have numbers, in one pass.
+fn keep_numbered(entries: &mut VecDeque<Entry>, numbers: &IndexMap<OutPoint, u32>)
+    ensures { entries.new.items ≡ filter (λ e. is_some (get same_outpoint numbers.now e.0)) entries.old.items }
+{
+    entries.retain(|entry| numbers.contains_key(&entry.0));
+}
+
+// Takes out the entries of the outputs that are spent.
+fn take_out_all(
+    entries: &mut VecDeque<Entry>,
+    numbers: &mut IndexMap<OutPoint, u32>,
+    inputs: &[TxIn],
+)
+    requires indexed { AreIndexed (get same_outpoint numbers.old) entries.old.items }
+    ensures removed { entries.new.items ≡ without entries.old.items (map (λ i. i.prev) inputs.now) }
+    ensures indexed { AreIndexed (get same_outpoint numbers.new) entries.new.items }
+{
+    forget_numbers(numbers, inputs);
+    keep_numbered(entries, numbers);
 }
 
 // Whether one of the outputs at these places was made by a transaction of this txid.
@@ -130,11 +167,18 @@ impl Live {
         Ok(())
     }
 
-    /// Removes the output at a place, if there is one. The others keep their order.
-    pub(crate) fn remove(&mut self, place: &OutPoint)
+    /// Removes the output at a place, if there is one. The others keep their order. It answers how many of them were moved.
+    pub(crate) fn remove(&mut self, place: &OutPoint) -> usize
         ensures { self.new ≡ remove_entry (same_outpoint place.now) self.old }
     {
-        take_out(&mut self.entries, &mut self.numbers, place);
+        take_out(&mut self.entries, &mut self.numbers, place)
+    }
+
+    /// Removes the outputs that are spent, in one pass over all. The others keep their order.
+    pub(crate) fn remove_all(&mut self, inputs: &[TxIn])
+        ensures { self.new ≡ without self.old (map (λ i. i.prev) inputs.now) }
+    {
+        take_out_all(&mut self.entries, &mut self.numbers, inputs);
     }
 
     // Removes the last output.

@@ -3,7 +3,7 @@ use Rattle.std.specs.Prelude.{IfOk}
 use Rattle.theory_script.specs.Keyed.Listed.{are_once}
 use Rattle.bm_compile.specs.Keyed.Numbered.{numbered}
 use Rattle.bm_compile.specs.Numbered.{Numbered, named}
-use Rattle.bm_compile.proofs.Whole.{paths_prepared, paths_named, paths_once, scripts_named, scripts_once}
+use Rattle.bm_compile.proofs.Whole.{keys_whole, paths_prepared, paths_named, paths_once, scripts_named, scripts_once}
 use Rattle.bm_compile.proofs.compiling.gather.Goals as goal
 
 pub of-requires-clause-paths : goal.of-requires-clause-paths
@@ -42,6 +42,7 @@ returns g c =
     let bare = c.in_ok-bare.ensures ∙ ap (map (λ p. (p.0, p.1.prepared))) (c.into_parts-init.ensures.paths ∙ ap (λ m. m.paths) c.requires.made) ∙ paths_prepared hash keys s in
     let init = c.into_prepared.ensures ∙ ap (λ d. d.prepared) (c.into_parts-init.ensures.init ∙ ap (λ m. m.init) c.requires.made) in
     let listed = c.into_parts-init.ensures.scripts ∙ ap (λ m. m.scripts) c.requires.made in
-    let parts : Numbered = record { nodes = c.args.arena; init = c.into_prepared.result; paths = c.in_ok-bare.bare; scripts = c.into_parts-init.result.2 } in
-    let whole : parts ≡ numbered hash keys s = λ j. record { nodes = c.requires.root j; init = init j; paths = bare j; scripts = listed j } in
+    let listed_keys = c.in_ok-keys.ensures ∙ keys_whole hash keys s _ c.args.table c.nodes_give_paths.ensures (c.nodes.ensures ∙ c.requires.root) c.requires.keys in
+    let parts : Numbered = record { nodes = c.args.arena; init = c.into_prepared.result; paths = c.in_ok-bare.bare; scripts = c.into_parts-init.result.2; keys = c.in_ok-keys.keys } in
+    let whole : parts ≡ numbered hash keys s = λ j. record { nodes = c.requires.root j; init = init j; paths = bare j; scripts = listed j; keys = listed_keys j } in
     subst (λ t. IfOk c.of.result (λ x. x ≡ t)) whole c.of.ensures

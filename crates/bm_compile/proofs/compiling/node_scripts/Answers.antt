@@ -1,11 +1,11 @@
-use Rattle.std.proofs.Common.{◌∙◌, map, sym}
+use Rattle.std.proofs.Common.{◌∙◌, map, sym, ap}
 use Rattle.std.specs.List.{flat_map}
 use Rattle.std.proofs.lemmas.Result.{err_from_is_err_and}
 use Rattle.bm_hash.proofs.HashesLemmas.{Stops-first}
 use Rattle.spec_compiler.specs.Keyed.Compilation.{scripts}
 use Rattle.bm_arena.specs.NodeView.{node_view}
-use Rattle.bm_compile.specs.Passes.{has_short_reveals, scripts_of_node}
-use Rattle.bm_compile.proofs.Chains.{hashed_then, stops_then, all_map}
+use Rattle.bm_compile.specs.Passes.{has_short_reveals, keys_of_node, scripts_of_node}
+use Rattle.bm_compile.proofs.Chains.{hashed_then, stops_then, all_map, map-view}
 use Rattle.bm_compile.proofs.Whole.{labels_whole, strings_whole, scripts_whole}
 use Rattle.bm_compile.proofs.compiling.node_scripts.Goals as goal
 
@@ -38,6 +38,13 @@ returns-in_err-scripts-clause-trail g c =
       rw strings at (stops_then digest first _ _ _ _ _ (λ h. flat_map (λ node. scripts_of_node h keys s (map node_view nodes) (node_view node)) nodes) _ c.in_ok-keys.ensures.trail.0
           (rw labels at c.in_ok-keys.ensures.trail.1) c.in_err-scripts.ensures.trail.2),
     )
+
+pub returns-clause-keys : goal.returns-clause-keys
+returns-clause-keys g c =
+    let made = keys_of_node (g.H.Hash32.digest_of c.args.trail.now.hasher) (g.K.KeySource.keys c.args.source.now) c.args.setting.now in
+    c.in_ok-keys.ensures.keys
+    ∙ sym (map-view node_view made c.nodes-nodes.result.now)
+    ∙ ap (map made) (c.nodes-nodes.ensures ∙ c.requires.root)
 
 pub returns-clause-scripts : goal.returns-clause-scripts
 returns-clause-scripts g c =

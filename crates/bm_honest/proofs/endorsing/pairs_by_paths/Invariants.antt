@@ -5,5 +5,5 @@ use Rattle.bm_honest.proofs.endorsing.pairs_by_paths.Given as goal
 -- the pairs so far and those of the rest are all
 abbrev pub invariant-loop-path : goal.invariant-loop-path
 invariant-loop-path g l =
-    l.pairs.items ++ pairs_of_paths (g.H.Hash32.digest_of l.hash) l.contract l.checked l.party (drop l.path-index l.paths)
-    ≡ pairs_of_paths (g.H.Hash32.digest_of l.hash) l.contract l.checked l.party l.paths
+    l.pairs.items ++ pairs_of_paths (g.H.Hash32.digest_of l.hash) l.checked l.party (drop l.path-index l.paths) l.rest
+    ≡ pairs_of_paths (g.H.Hash32.digest_of l.hash) l.checked l.party l.paths l.table

@@ -4,6 +4,6 @@ use Rattle.bm_honest.proofs.endorsing.put_people.Given as goal
 
 -- the pairs so far and those of the rest are all
 abbrev pub invariant-loop-person : goal.invariant-loop-person
-invariant-loop-person g l =
-    l.pairs.items ++ person_pairs (g.H.Hash32.digest_of l.hash) l.contract l.path l.asked l.digest l.party (drop l.person-index l.people)
-    ≡ l.initial.pairs.items ++ person_pairs (g.H.Hash32.digest_of l.hash) l.contract l.path l.asked l.digest l.party l.people
+invariant-loop-person l =
+    l.pairs.items ++ person_pairs l.asked l.digest l.party (drop l.person-index l.people) l.rest
+    ≡ l.initial.pairs.items ++ person_pairs l.asked l.digest l.party l.people l.keys

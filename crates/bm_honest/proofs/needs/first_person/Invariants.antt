@@ -4,6 +4,5 @@ use Rattle.bm_honest.proofs.needs.first_person.Given as goal
 
 -- the first of those who are left is the first of all
 abbrev pub invariant-loop-person : goal.invariant-loop-person
-invariant-loop-person g l =
-    unsigned_person (g.H.Hash32.digest_of l.hash) l.book l.contract l.path l.asked l.digest (drop l.person-index l.people)
-    ≡ unsigned_person (g.H.Hash32.digest_of l.hash) l.book l.contract l.path l.asked l.digest l.people
+invariant-loop-person l =
+    unsigned_person l.book l.asked l.digest (drop l.person-index l.people) l.rest ≡ unsigned_person l.book l.asked l.digest l.people l.keys

@@ -16,5 +16,5 @@ returns-in-Some-clause-removed c =
 pub returns-in-Some-clause-indexed : goal.returns-in-Some-clause-indexed
 returns-in-Some-clause-indexed c = rw (returns-in-Some-clause-removed c) (removed _ _ c.args.entries.now.items c.args.place.now c.requires.indexed c.in-Some.ensures.updates.0)
 
-pub returns-in_default-clause-removed : goal.returns-in_default-clause-removed
-returns-in_default-clause-removed c = untaken _ c.args.entries.now.items c.args.place.now c.requires.indexed (sym c.swap_remove.ensures.value ∙ c.in_default.is)
+pub returns-clause-removed : goal.returns-clause-removed
+returns-clause-removed c = untaken _ c.args.entries.now.items c.args.place.now c.requires.indexed (sym c.swap_remove.ensures.value ∙ c.in_default.is)

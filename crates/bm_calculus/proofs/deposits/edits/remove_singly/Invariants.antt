@@ -2,7 +2,7 @@ use Rattle.std.proofs.Common.{◌≡◌, ◌≤◌, drop, map, true}
 use Rattle.std.specs.VecDeque.{deque_len, deque_capacity}
 use Rattle.spec_calculus.specs.Moves.{kept}
 use Rattle.spec_calculus.specs.InOrder.{are_ascending}
-use Rattle.bm_calculus.proofs.deposits.edits.remove.Given as goal
+use Rattle.bm_calculus.proofs.deposits.edits.remove_singly.Given as goal
 
 abbrev pub invariant-loop-number : goal.invariant-loop-number
 invariant-loop-number l = record {

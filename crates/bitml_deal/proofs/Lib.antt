@@ -1,1 +1,3 @@
-mod Naming
+mod FinishLemmas
+mod NamedLemmas
+mod OpeningLemmas

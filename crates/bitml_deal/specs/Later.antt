@@ -51,4 +51,4 @@ Tells read (Taken strings) = read ≡ shows strings
 -- a transaction isn't finished for this, and so it is replied
 abbrev pub IsUnfinished : FinishError → Printed → Type 0
 IsUnfinished (finishes.Refused refusal) printed = printed ≡ prints 16 (finish_refused_line refusal)
-IsUnfinished finishes.Memory printed = Unit {0}
+IsUnfinished finishes.Memory printed = ⊥

@@ -54,4 +54,4 @@ Leads hash judged messages (Taken c) = IsTaken hash judged messages c
 abbrev pub IsRefused : DealError → Opening → Type 0
 IsRefused (deals.Refused fault) (Refused reply) = printed reply ≡ deal_refused fault
 IsRefused (deals.Refused fault) (Taken c) = ⊥
-IsRefused deals.Memory opening = Unit {0}
+IsRefused deals.Memory opening = ⊥

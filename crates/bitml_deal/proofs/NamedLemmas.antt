@@ -31,11 +31,12 @@ use Rattle.bitml_deal.specs.Named.{is_named, named}
 right_at : {V : Type 0} (f : List PathStep → Option V) (path : List PathStep) (es : List (List PathStep × V)) (v : V) → AreRight f es
     → at_path path es ≡ Some v → f path ≡ Some v
 right_at f path [] v right here = cc
-right_at f path (e ∷ es) v right here = by_test (path_eq e.0 path) refl here
+right_at f path (e ∷ es) v right here = by_test (path_eq e.0 path) refl here (right_at f path es v right.1)
   where
-    by_test : (b : Bool) → path_eq e.0 path ≡ b → (if b then Some (e.1) else at_path path es) ≡ Some v → f path ≡ Some v
-    by_test true same k = sym (ap f ((path_eq-Decides e.0 path).0 same)) ∙ (right.0 ∙ k)
-    by_test false same k = right_at f path es v right.1 k
+    by_test : (b : Bool) → path_eq e.0 path ≡ b → (if b then Some (e.1) else at_path path es) ≡ Some v
+        → (at_path path es ≡ Some v → f path ≡ Some v) → f path ≡ Some v
+    by_test true same k later = sym (ap f ((path_eq-Decides e.0 path).0 same)) ∙ (right.0 ∙ k)
+    by_test false same k later = later k
 
 none_mapped : {A B : Type 0} (f : A → B) (o : Option A) → option_map f o ≡ None → o ≡ None
 none_mapped f None e = refl

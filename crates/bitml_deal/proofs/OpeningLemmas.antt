@@ -13,6 +13,7 @@ use Rattle.spec_deal.specs.Needed.{needed_deposits}
 use Rattle.theory_deal.specs.Files.{DealsGiveAll}
 use Rattle.bm_hash.specs.Messages.{evidence_of}
 use Rattle.bm_hash.specs.Trails.{Hashed, Stops}
+use Rattle.bm_hash.specs.declared.messages.TrailError.{TrailError}
 use Rattle.bm_hash.specs.declared.messages.TrailError.TheVariants.{Collided}
 use Rattle.bm_hash.proofs.Collisions.{hashed_adds, stopped_shows}
 use Rattle.deal_file.specs.declared.error.DealError.{DealError}
@@ -40,11 +41,13 @@ pub unless_none : (hash : List ℕ → List ℕ) (new strings : List (List ℕ))
 unless_none hash new strings p h = ap (λ o. unless_collided o p) (hashed_adds hash [] new strings refl h).1
 
 -- two strings did
-pub collided_is : (hash here : List ℕ → List ℕ) (old new strings : List (List ℕ)) (inner p : Printed) → here ≡ hash → old ≡ []
-    → Stops hash old new strings Collided → Some p ≡ option_map (λ pair. collides (pair.0) (pair.1)) (evidence_of here new)
+pub collided_is : (hash here : List ℕ → List ℕ) (old new strings : List (List ℕ)) (inner p : Printed) (error : TrailError)
+    → here ≡ hash → old ≡ [] → error ≡ Collided → Stops hash old new strings error
+    → Some p ≡ option_map (λ pair. collides (pair.0) (pair.1)) (evidence_of here new)
     → unless_collided (collision hash [] strings) inner ≡ p
-collided_is hash here old new strings inner p same empty stops e =
-    let at : Stops hash [] new strings Collided = subst (λ (ms : List (List ℕ)). Stops hash ms new strings Collided) empty stops in
+collided_is hash here old new strings inner p error same empty clash stops e =
+    let at : Stops hash [] new strings Collided = subst (λ (x : TrailError). Stops hash [] new strings x) clash
+    (subst (λ (ms : List (List ℕ)). Stops hash ms new strings error) empty stops) in
     let shows = stopped_shows hash [] new strings refl at in
     by_pair (collision hash [] strings)
     (e ∙ ap (option_map (λ pair. collides (pair.0) (pair.1))) (ap (λ h. evidence_of h new) same ∙ shows.0))

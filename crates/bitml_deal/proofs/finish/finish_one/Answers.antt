@@ -6,7 +6,8 @@ use Rattle.spec_deal.specs.declared.signed.Signed.{Signed}
 use Rattle.spec_deal.specs.Answers.{finished_answer, with_signatures, with_secrets, secrets_in}
 use Rattle.spec_deal.specs.Setting.{deal_keys, deal_instance}
 use Rattle.bitml_command.specs.Seen.{printed}
-use Rattle.bitml_deal.proofs.FinishLemmas.{given_is}
+use Rattle.bitml_deal.specs.Later.{given_in}
+use Rattle.bitml_deal.proofs.FinishLemmas.{given_is, refused_for}
 use Rattle.bitml_deal.proofs.finish.finish_one.Goals as goal
 
 pub returns-in-Ok : goal.returns-in-Ok
@@ -27,5 +28,5 @@ returns-in-Err-Refused c = λ hash l made one.
     let answer : List Signed → Printed = λ given. finished_answer hash keys s l given [] in
     subst (λ (p : Printed). IfOk c.signatures_refused.result (λ reply. printed reply ≡ p))
     (sym (ap (with_signatures answer)
-    (given_is hash keys s c.as_slice.result.now c.args.signatures.now (c.as_slice.ensures ∙ made.transactions) ∙ c.in-Err-Refused.ensures)))
+    (given_is hash keys s c.as_slice.result.now c.args.signatures.now (c.as_slice.ensures ∙ made.transactions) ∙ refused_for c.in-Err-Refused.field-0 c.in-Err-Refused.fault (given_in c.as_slice.result.now c.args.signatures.now) c.in-Err-Refused.ensures c.in-Err-Refused.field-0-is)))
     c.signatures_refused.ensures

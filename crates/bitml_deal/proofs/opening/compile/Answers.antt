@@ -36,5 +36,6 @@ returns-in-Err-Collided-clause-leads g c = λ answer.
     let keys = deal_keys c.args.deal in
     let s = deal_instance c.args.contract c.args.deal in
     collided_is hash (digest c.compile_deal.new.trail.hasher) c.args.trail.now.messages c.compile_deal.new.trail.messages
-    (deal_strings hash keys s) (unless_circular (circular hash keys s) (answer keys s)) _ (ap digest c.in-Err-Collided.ensures.trail.0)
-    c.requires.new c.in-Err-Collided.ensures.trail.2 c.in_ok-clash_reply-in-Err-Collided.ensures
+    (deal_strings hash keys s) (unless_circular (circular hash keys s) (answer keys s)) _ c.in-Err-Collided.field-0
+    (ap digest c.in-Err-Collided.ensures.trail.0)
+    c.requires.new c.in-Err-Collided.field-0-is c.in-Err-Collided.ensures.trail.2 c.in_ok-clash_reply-in-Err-Collided.ensures

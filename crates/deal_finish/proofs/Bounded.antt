@@ -1,5 +1,5 @@
 -- The predicate of a branch of a checked contract is bounded.
-use Rattle.std.proofs.Common.{◌≡◌, ℕ, List, [], true, Option, Some, None, refl, subst}
+use Rattle.std.proofs.Common.{◌≡◌, List, [], true, Option, Some, None, refl, subst}
 use Rattle.std.specs.Prelude.{IfSome, option_map, option_and_then}
 use Rattle.spec_terms.specs.Term as term
 use Rattle.spec_terms.specs.Advert.{Advert}
@@ -18,7 +18,7 @@ use Rattle.theory_script.proofs.Checked.{core_fact}
 use Rattle.theory_script.proofs.Keyed.Stands.{IfAgrees, agrees_at}
 use Rattle.theory_deal.proofs.Branches.{branch_found}
 
-abbrev IsBoundedBranch : term.Guarded → Type 0
+abbrev pub IsBoundedBranch : term.Guarded → Type 0
 IsBoundedBranch b = is_bounded (test_of (core b)) ≡ true
 
 module _ (a : Advert) (well : IsWellFormed a) (path : List PathStep) where

@@ -1,5 +1,5 @@
 -- Why a transaction isn't finished, one reason after another.
-use Rattle.std.proofs.Common.{◌≡◌, ℕ, List, Bool, true, false, not, ◌&&◌, Option, Some, None, refl, sym, ap, subst, ◌∙◌}
+use Rattle.std.proofs.Common.{◌≡◌, ℕ, List, Bool, true, false, not, ◌&&◌, Option, Some, None, refl, ap}
 use Rattle.std.proofs.Common.{if◌then◌else◌, length}
 use Rattle.std.specs.Prelude.{◌||◌, ◌==◌, option_map}
 use Rattle.spec_data.specs.Lists.{or_else}

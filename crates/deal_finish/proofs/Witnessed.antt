@@ -1,12 +1,12 @@
 -- The witnesses that the code fills in are those of the definition.
-use Rattle.std.proofs.Common.{◌≡◌, ℕ, suc, ◌+◌, List, [], ◌∷◌, ◌++◌, length, map, Option, Some, None}
+use Rattle.std.proofs.Common.{◌≡◌, ℕ, ◌+◌, List, [], ◌∷◌, ◌++◌, length, Option, Some, None}
 use Rattle.std.proofs.Common.{refl, sym, ap, subst, ◌∙◌, arith, append_assoc}
-use Rattle.std.specs.Prelude.{reverse, slice_get}
+use Rattle.std.specs.Prelude.{reverse}
 use Rattle.std.specs.Option.{option_map, option_map_or, option_and_then}
 use Rattle.spec_terms.specs.Term as term
 use Rattle.spec_terms.specs.Term.{Contract, branches}
 use Rattle.spec_terms.specs.Advert.{Advert}
-use Rattle.spec_terms.specs.Core.{core, reveals_of}
+use Rattle.spec_terms.specs.Core.{core, reveals_of, puts_of}
 use Rattle.spec_terms.specs.Paths as paths
 use Rattle.spec_terms.specs.Paths.{Subterm, subterm_from, contract_under}
 use Rattle.spec_terms.specs.declared.path.PathStep.{PathStep}
@@ -14,7 +14,7 @@ use Rattle.spec_terms.specs.declared.path.PathStep.TheVariants.{Branch as To}
 use Rattle.spec_bitcoin.specs.declared.label.Label.{Label}
 use Rattle.spec_compiler.specs.Keyed.Keys.{Keys, key_in}
 use Rattle.spec_compiler.specs.Keyed.Instance.{Instance, branch_path}
-use Rattle.spec_compiler.specs.Keyed.Transactions.{Standing, branch_unsigned, tx_of}
+use Rattle.spec_compiler.specs.Keyed.Transactions.{Standing, put_deposits, branch_unsigned, tx_of}
 use Rattle.spec_compiler.specs.Keyed.ByPath as by_path
 use Rattle.spec_compiler.specs.Keyed.ByPath.{PathEnd, end_at, as_unsigned}
 use Rattle.spec_compiler.specs.Witness.{selectors, witness_of}
@@ -30,7 +30,7 @@ use Rattle.theory_deal.proofs.Branches.{Found, branch_found}
 use Rattle.spec_deal.specs.declared.entry.Shown.{Shown}
 use Rattle.spec_deal.specs.declared.signed.Signed.{Signed}
 use Rattle.spec_deal.specs.declared.transaction.Transaction.{Transaction}
-use Rattle.spec_deal.specs.Finished.{strings_of, input_signatures, deposit_witnesses, choices_at, branch_witness, path_witnesses, witnesses, finished}
+use Rattle.spec_deal.specs.Finished.{strings_of, input_signatures, deposit_witnesses, branch_witness, path_witnesses, witnesses, finished}
 use Rattle.spec_deal.specs.Transactions.{input, inputs, transaction}
 use Rattle.deal_finish.specs.Filled.{signatures_by, signature_at, deposits_by, items_of, choice_items, path_items, path_by, by_which, witnesses_by, finished_by}
 
@@ -109,10 +109,11 @@ module _ (hash : List ℕ → List ℕ) (keys : Keys) (s : Instance) (given : Li
         ≡ path_by s.advert given strings (bytes made) path (inputs hash keys s.advert made made.draft.spends signers)
     by_signers [] e = absurd (omega (arith, e))
     by_signers (labels ∷ others) e =
-        let fewer = omega (arith, e) in
+        let puts = put_deposits hash keys s (puts_of (core b)) in
+        let fewer : length others ≡ length puts = omega (arith, e) in
         λ j. (witness_is (input_signatures hash keys s given made 0 here.output labels)
         ∙ ap (λ sigs. reverse sigs ++ path_items s.advert strings path here.output.script) (signatures_are made 0 here.output labels)) j
-        ∷ deposits_are made 1 _ others fewer j
+        ∷ deposits_are made 1 puts others fewer j
 
     path_are : listed_at hash keys s (names.At path) ≡ Some made
         → witnesses hash keys s given strings made (names.At path) ≡ witnesses_by s.advert given strings (transaction hash keys s.advert made)

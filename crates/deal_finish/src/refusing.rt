@@ -78,11 +78,7 @@ fn shown(branch: Option<&Guarded>, strings: &Strings) -> Result<(), FinishError>
 }
 
 // The predicate of the branch is true of its secrets, if it reveals any.
-fn allowed(
-    alloc: Global,
-    branch: Option<&Guarded>,
-    strings: &Strings,
-) -> Result<(), FinishError>
+fn allowed(alloc: Global, branch: Option<&Guarded>, strings: &Strings) -> Result<(), FinishError>
     requires { IfSome branch (λ b. is_bounded (test_of (core_of (guarded b.now))) ≡ true) }
     ensures { Allows result (spec.predicate_refusal strings.now (option_map (λ b. guarded b.now) branch.entry)) }
 {

@@ -1,6 +1,7 @@
 //! The witnesses of a transaction's inputs.
 
 ghost use Rattle.std.specs.Prelude.{◌≡◌, ◌<◌, ◌+◌, ◌++◌, Some, length, slice_get, option_map, IfOk, IfSome, OnOk};
+ghost use Rattle.std.specs.Option.{option_copied};
 ghost use Rattle.spec_terms.specs.Paths.{contract_under};
 ghost use Rattle.spec_terms.specs.Term.{branches};
 ghost use Rattle.bm_syntax.specs.View.{contract, guarded};
@@ -78,19 +79,26 @@ fn narrow(number: usize) -> Result<u32, OutOfMemory>
     Ok(number as u32)
 }
 
+// The branch of this number among these.
+fn item_at(branches: &[Guarded], number: u32) -> Option<&Guarded>
+    ensures { option_copied result ≡ slice_get branches.now number }
+{
+    branches.get(number as usize)
+}
+
 // The branch of this number.
 fn branch_in(choice: &Contract, number: u32) -> Option<&Guarded>
     ensures branch { option_map (λ b. guarded b.now) result ≡ slice_get (branches (contract choice.now)) number }
     ensures within { IfSome result (λ b. number < length (branches (contract choice.now))) }
 {
-    choice.branches.get(number as usize)
+    item_at(choice.branches.as_slice(), number)
 }
 
 // How many branches a choice has.
 fn count_of(choice: &Contract) -> Result<u32, OutOfMemory>
     ensures { IfOk result (λ n. n ≡ length (branches (contract choice.now))) }
 {
-    narrow(choice.branches.len())
+    narrow(choice.branches.as_slice().len())
 }
 
 // What stands behind the signatures where this branch of a choice is taken.

@@ -2,7 +2,7 @@
 use Rattle.std.proofs.Common.{◌≡◌, ℕ, ◌+◌, List, [], ◌∷◌, ◌++◌, map, Bool, true, false, not, cond, Option, Some, None}
 use Rattle.std.proofs.Common.{refl, sym, ap, ◌∙◌}
 use Rattle.std.specs.Prelude.{filter, ◌&&◌, is_some, option_map}
-use Rattle.std.specs.List.{find, flat_map, list_all, list_any}
+use Rattle.std.specs.List.{find, flat_map, list_all}
 use Rattle.spec_terms.specs.Advert.{Advert}
 use Rattle.spec_bitcoin.specs.declared.label.Label.{Label}
 use Rattle.spec_compiler.specs.Keyed.Instance.{Instance}
@@ -99,62 +99,61 @@ module _ (hash : List ℕ → List ℕ) (keys : Keys) where
         by_test true h = refl
         by_test false h = h
 
-    first_open : (xs : List Slot)
-        → option_map want_of (find (λ slot. not (has hash keys given slot)) (filter (λ (slot : Slot). is_endorsement slot.verb) xs))
-        ≡ find (is_unendorsed given) (map want_of xs)
+    abbrev endorsing : List Slot → List Slot
+    endorsing xs = filter (λ (slot : Slot). is_endorsement slot.verb) xs
+
+    abbrev first_of : List Slot → Option Slot
+    first_of xs = find (λ slot. not (has hash keys given slot)) xs
+
+    open_step : (x : Slot) (xs : List Slot) (a b : Bool)
+        → option_map want_of (first_of (endorsing xs)) ≡ find (is_unendorsed given) (map want_of xs) → not (has hash keys given x) ≡ b
+        → option_map want_of (first_of (cond a (x ∷ endorsing xs) (endorsing xs)))
+        ≡ cond (a && b) (Some (want_of x)) (find (is_unendorsed given) (map want_of xs))
+    open_step x xs true true h e = ap (λ b. option_map want_of (cond b (Some x) (first_of (endorsing xs)))) e
+    open_step x xs true false h e = ap (λ b. option_map want_of (cond b (Some x) (first_of (endorsing xs)))) e ∙ h
+    open_step x xs false b h e = h
+
+    first_open : (xs : List Slot) → option_map want_of (first_of (endorsing xs)) ≡ find (is_unendorsed given) (map want_of xs)
     first_open [] = refl
     first_open (x ∷ xs) =
-        by_test (is_endorsement x.verb) (not (has hash keys given x)) refl (first_open xs)
+        open_step x xs (is_endorsement x.verb) (not (has hash keys given x)) (first_open xs) refl
         ∙ ap (λ b. cond (is_endorsement x.verb && not b) (Some (want_of x)) (find (is_unendorsed given) (map want_of xs))) (has_is x)
-      where
-        abbrev rest : List Slot
-        rest = filter (λ (slot : Slot). is_endorsement slot.verb) xs
-
-        by_test : (a b : Bool) → not (has hash keys given x) ≡ b
-            → option_map want_of (find (λ slot. not (has hash keys given slot)) rest) ≡ find (is_unendorsed given) (map want_of xs)
-            → option_map want_of (find (λ slot. not (has hash keys given slot)) (cond a (x ∷ rest) rest))
-            ≡ cond (a && b) (Some (want_of x)) (find (is_unendorsed given) (map want_of xs))
-        by_test true true e h =
-            ap (λ b. option_map want_of (cond b (Some x) (find (λ slot. not (has hash keys given slot)) rest))) e
-        by_test true false e h =
-            ap (λ b. option_map want_of (cond b (Some x) (find (λ slot. not (has hash keys given slot)) rest))) e ∙ h
-        by_test false b e h = h
 
     -- ---- lines
 
-    missing_told : (xs : List Slot)
-        → flat_map (told_if_missing given) (map want_of xs)
-        ≡ flat_map texts.missing_line (filter (λ slot. not (has hash keys given slot)) xs)
-    missing_told [] = refl
-    missing_told (x ∷ xs) = by_test (has hash keys given x) (sym (has_is x)) (missing_told xs)
-      where
-        abbrev rest : List Slot
-        rest = filter (λ slot. not (has hash keys given slot)) xs
+    abbrev missing_of : List Slot → List Slot
+    missing_of xs = filter (λ slot. not (has hash keys given slot)) xs
 
-        by_test : (b : Bool) → is_there given (want_of x) ≡ b
-            → flat_map (told_if_missing given) (map want_of xs) ≡ flat_map texts.missing_line rest
-            → told_if_missing given (want_of x) ++ flat_map (told_if_missing given) (map want_of xs)
-            ≡ flat_map texts.missing_line (cond (not b) (x ∷ rest) rest)
-        by_test true e h = λ j. line_if_missing (want_of x) (e j) ++ h j
-        by_test false e h = λ j. line_if_missing (want_of x) (e j) ++ h j
+    missing_step : (x : Slot) (xs : List Slot) (b : Bool)
+        → flat_map (told_if_missing given) (map want_of xs) ≡ flat_map texts.missing_line (missing_of xs)
+        → is_there given (want_of x) ≡ b
+        → line_if_missing (want_of x) (is_there given (want_of x)) ++ flat_map (told_if_missing given) (map want_of xs)
+        ≡ flat_map texts.missing_line (cond (not b) (x ∷ missing_of xs) (missing_of xs))
+    missing_step x xs true h e = λ j. line_if_missing (want_of x) (e j) ++ h j
+    missing_step x xs false h e = λ j. line_if_missing (want_of x) (e j) ++ h j
+
+    missing_told : (xs : List Slot)
+        → flat_map (told_if_missing given) (map want_of xs) ≡ flat_map texts.missing_line (missing_of xs)
+    missing_told [] = refl
+    missing_told (x ∷ xs) = missing_step x xs (has hash keys given x) (missing_told xs) (sym (has_is x))
+
+    abbrev held_of : List Slot → List Slot
+    held_of xs = filter (has hash keys given) xs
+
+    held_step : (x : Slot) (xs : List Slot) (o : Option (List ℕ))
+        → flat_map (told_if_held given) (map want_of xs) ≡ flat_map (texts.held_line hash keys given) (held_of xs)
+        → signature_of given (want_of x) ≡ o
+        → line_if_held (want_of x) o ++ flat_map (told_if_held given) (map want_of xs)
+        ≡ flat_map (texts.held_line hash keys given) (cond (is_some o) (x ∷ held_of xs) (held_of xs))
+    held_step x xs None h e = h
+    held_step x xs (Some signature) h e = λ j. held_line (want_of x) (bytes_or_none (sym e j)) ++ h j
 
     held_told : (xs : List Slot)
-        → flat_map (told_if_held given) (map want_of xs)
-        ≡ flat_map (texts.held_line hash keys given) (filter (has hash keys given) xs)
+        → flat_map (told_if_held given) (map want_of xs) ≡ flat_map (texts.held_line hash keys given) (held_of xs)
     held_told [] = refl
     held_told (x ∷ xs) =
-        by_found (signature_of given (want_of x)) refl (held_told xs)
-        ∙ ap (λ b. flat_map (texts.held_line hash keys given) (cond b (x ∷ rest) rest)) (sym (has_is x))
-      where
-        abbrev rest : List Slot
-        rest = filter (has hash keys given) xs
-
-        by_found : (o : Option (List ℕ)) → signature_of given (want_of x) ≡ o
-            → flat_map (told_if_held given) (map want_of xs) ≡ flat_map (texts.held_line hash keys given) rest
-            → line_if_held (want_of x) o ++ flat_map (told_if_held given) (map want_of xs)
-            ≡ flat_map (texts.held_line hash keys given) (cond (is_some o) (x ∷ rest) rest)
-        by_found None e h = h
-        by_found (Some signature) e h = λ j. held_line (want_of x) (bytes_or_none (sym e j)) ++ h j
+        held_step x xs (signature_of given (want_of x)) (held_told xs) refl
+        ∙ ap (λ b. flat_map (texts.held_line hash keys given) (cond b (x ∷ held_of xs) (held_of xs))) (sym (has_is x))
 
     gate_told : (o : Option Slot) → gate_line (option_map want_of o) ≡ texts.gate_line o
     gate_told None = refl

@@ -10,7 +10,6 @@ use Rattle.spec_bitcoin.specs.Keys.{label_text}
 use Rattle.spec_tool.specs.declared.which.Which.{Which}
 use Rattle.spec_tool.specs.Keyed.Listed.{which_text}
 use Rattle.spec_text.specs.RunText.{newline}
-use Rattle.spec_deal.specs.declared.finish.Verb.{Verb}
 use Rattle.spec_deal.specs.declared.signed.Signed.{Signed}
 use Rattle.spec_deal.specs.declared.transaction.Signer.{Signer}
 use Rattle.spec_deal.specs.declared.transaction.Input.{Input}

@@ -48,10 +48,7 @@ fn put_signers<'a>(
 }
 
 // Those of a transaction.
-fn put_wants<'a>(
-    wants: &mut Vec<Want<'a>>,
-    transaction: &'a Transaction,
-) -> Result<(), OutOfMemory>
+fn put_wants<'a>(wants: &mut Vec<Want<'a>>, transaction: &'a Transaction) -> Result<(), OutOfMemory>
     ensures { OnOk result (map spec.want_in wants.new.items
         ≡ map spec.want_in wants.old.items ++ spec.transaction_wanted transaction.now) }
 {

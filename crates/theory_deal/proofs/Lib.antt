@@ -1,4 +1,4 @@
-mod Branches
+pub mod Branches
 mod Causes
 mod FinishedOpens
 mod InOrder

@@ -17,7 +17,7 @@ def hint(answer, file, text):
     if answer.startswith('psbt'):
         if text.startswith(b'psbt\xff'):
             return 'is in the binary form: base64 -w0 %s writes the one that is read' % file
-        if len(text.split()) > 1:
+        if re.search(rb'\s', text.removesuffix(b'\n')):
             return "has line breaks or blanks: tr -d ' \\r\\n' <%s writes it without" % file
     elif answer.startswith('run') and text.lstrip()[:1] == b'{':
         return 'looks like a contract: the run file is the first word'

@@ -15,6 +15,8 @@ NAMES = {
     'PrefixRepeated': '%s stands twice',
     'PredicateSecret': '%s is no secret of this reveal',
 }
+# The verbs whose long words everybody may see, and those that have secrets. Elsewhere a long word with a digit may be one.
+PUBLIC, SECRET = ([b'commit'], [b'sign'], [b'append']), ([b'secret'], [b'post'])
 WIDTH = 100
 
 
@@ -42,9 +44,11 @@ def place_in(text, reason):
 
 
 def shown(text):
-    """Text with each byte in one column. Of a line with a secret the bytes aren't shown."""
-    if text.split()[:1] in ([b'secret'], [b'post']):
-        text = re.sub(rb'[0-9A-Za-z]{16,}', lambda m: b'.' * len(m.group()), text)
+    """Text with each byte in one column. What may be a secret isn't shown: its verb may be misspelt too."""
+    verb = text.split()[:1]
+    if verb not in PUBLIC:
+        long = rb'[0-9A-Za-z]{16,}' if verb in SECRET else rb'(?=[A-Za-z]*\d)[0-9A-Za-z]{16,}'
+        text = re.sub(long, lambda m: b'.' * len(m.group()), text)
     return ''.join(chr(b) if 32 <= b < 127 else ' ' if b == 9 else '?' for b in text)
 
 

@@ -1,0 +1,21 @@
+-- The words name few files.
+use Rattle.std.proofs.Common.{◌≡◌, ◌≤◌, suc, ◌+◌, length, map, Some, refl, arith}
+use Rattle.std.proofs.lemmas.List.{length-map}
+use Rattle.spec_data.specs.Ranges.{most_contracts}
+use Rattle.spec_tool.specs.Commands.{Command, check, play, plan, make, psbt_of, psbt_shown, psbt_joined, weigh, audit, auto, files_of, contract_file}
+use Rattle.bitml_command.specs.Seen.{HasFew}
+
+pub few_files : (c : Command) → HasFew (Some c) → length (files_of c) ≤ most_contracts + 1
+few_files (check contract) h = omega arith
+few_files (play run contracts) h =
+    let e = length-map contracts contract_file in
+    let n : length (files_of (play run contracts)) ≡ suc (length (map contract_file contracts)) = refl in
+    omega (arith, e, n, h)
+few_files (plan run contract) h = omega arith
+few_files (make number size) h = omega arith
+few_files (psbt_of run contract which) h = omega arith
+few_files (psbt_shown file) h = omega arith
+few_files (psbt_joined first second) h = omega arith
+few_files (weigh run contract) h = omega arith
+few_files (audit run contract file) h = omega arith
+few_files (auto run contract strategy) h = omega arith

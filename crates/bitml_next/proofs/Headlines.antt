@@ -1,0 +1,166 @@
+-- An answer has its causes.
+use Rattle.std.proofs.Common.{◌≡◌, ℕ, Bool, true, false, ◌==◌, cond, List, [], ◌∷◌, Option, Some, None, refl, sym, inl, inr, ◌∙◌, length, map, arith}
+use Rattle.std.specs.Prelude.{nat_le}
+use Rattle.std.proofs.lemmas.Bool.{false≢true}
+use Rattle.spec_data.specs.Digits.{onto}
+use Rattle.spec_data.specs.Ranges.{most_contracts}
+use Rattle.spec_text.specs.Words.{given}
+use Rattle.spec_run.specs.Conditions.{HashesBytes}
+use Rattle.spec_tool.specs.Reads.{Asked, Read, Text, text_read, texts_read, are_made}
+use Rattle.spec_tool.specs.Commands.{Command, check, play, plan, make, psbt_of, psbt_shown, psbt_joined, weigh, audit, auto, Printed, contract_file, run_file}
+use Rattle.spec_tool.specs.Answers.{ended, tool_reads}
+use Rattle.spec_next.specs.NextAnswer.{next_words, next_answer, next_texts, read_next}
+use Rattle.theory_tool.proofs.Statuses.{apart}
+use Rattle.bitml_headline.specs.Headline.{Around, GivesUp}
+use Rattle.bitml_next.specs.Told.{Answers, AnswersOrGivesUp, CausedByTexts, Caused, Tells, TellsAll}
+use Rattle.bitml_next.proofs.Causes.{causes, known}
+use Rattle.bitml_next.proofs.Shown.{Theorems, shows}
+
+-- ---- the words are no command, or one that reads files
+
+abbrev ReadsFiles : Option Command → Type 0
+ReadsFiles None = Unit {0}
+ReadsFiles (Some (check contract)) = Unit {0}
+ReadsFiles (Some (play run contracts)) = Unit {0}
+ReadsFiles (Some (plan run contract)) = ⊥
+ReadsFiles (Some (make number size)) = ⊥
+ReadsFiles (Some (psbt_of run contract which)) = ⊥
+ReadsFiles (Some (psbt_shown file)) = ⊥
+ReadsFiles (Some (psbt_joined first second)) = ⊥
+ReadsFiles (Some (weigh run contract)) = ⊥
+ReadsFiles (Some (audit run contract file)) = ⊥
+ReadsFiles (Some (auto run contract strategy)) = ⊥
+
+going_on : (run : List ℕ) (contracts : List (List ℕ)) (few : Bool) → ReadsFiles (given few (play run contracts))
+going_on run contracts true = tt
+going_on run contracts false = tt
+
+reads_files : (words : List (List ℕ)) → ReadsFiles (next_words words)
+reads_files [] = tt
+reads_files (contract ∷ []) = tt
+reads_files (run ∷ contract ∷ contracts) = going_on run (contract ∷ contracts) (nat_le (length (contract ∷ contracts)) most_contracts)
+
+-- what was read is a text or more, unless a read failed
+abbrev IsThere : Option (List Text) → Type 0
+IsThere None = Unit {0}
+IsThere (Some []) = ⊥
+IsThere (Some (first ∷ more)) = Unit {0}
+
+onto_there : (o : Option Text) (later : Option (List Text)) → IsThere (onto o later)
+onto_there None later = tt
+onto_there (Some t) None = tt
+onto_there (Some t) (Some ts) = tt
+
+files_there : (file : Asked) (files : List Asked) (reads : List Read) → are_made (file ∷ files) reads ≡ true → IsThere (texts_read reads)
+files_there file files [] h = absurd (false≢true h)
+files_there file files (read ∷ reads) h = onto_there (text_read read) (texts_read reads)
+
+texts_there : (command : Command) (reads : List Read) → ReadsFiles (Some command) → tool_reads (Some command) reads ≡ true → IsThere (texts_read reads)
+texts_there (check contract) reads r h = files_there (contract_file contract) [] reads h
+texts_there (play run contracts) reads r h = files_there (run_file run) (map contract_file contracts) reads h
+texts_there (plan run contract) reads r h = absurd r
+texts_there (make number size) reads r h = absurd r
+texts_there (psbt_of run contract which) reads r h = absurd r
+texts_there (psbt_shown file) reads r h = absurd r
+texts_there (psbt_joined first second) reads r h = absurd r
+texts_there (weigh run contract) reads r h = absurd r
+texts_there (audit run contract file) reads r h = absurd r
+texts_there (auto run contract strategy) reads r h = absurd r
+
+-- ---- the status of an answer
+
+-- what a status tells
+record Status (command : Option Command) (reads : List Read) (n : ℕ) : Type 0 where
+  usage : n ≡ 2 → command ≡ None
+  unread : n ≡ 3 → texts_read reads ≡ None
+  written : n ≡ 4 → ⊥
+  memory : n ≡ 5 → ⊥
+
+-- those of texts
+abbrev numbers : List ℕ
+numbers = 0 ∷ (1 ∷ (6 ∷ (7 ∷ (8 ∷ []))))
+
+abbrev two : ℕ
+two = 2
+
+abbrev three : ℕ
+three = 3
+
+of_texts : (hash : List ℕ → List ℕ) (command : Command) (reads : List Read) (o : Option (List Text)) → texts_read reads ≡ o → IsThere o
+    → Status (Some command) reads (read_next hash o).status
+of_texts hash command reads None e h =
+    record { usage = λ n. absurd (omega (arith, n)); unread = λ n. e; written = λ n. omega (arith, n); memory = λ n. omega (arith, n) }
+of_texts hash command reads (Some []) e h = absurd h
+of_texts hash command reads (Some (first ∷ more)) e h =
+    let n = (next_texts hash (first ∷ more)).status in
+    let k = known hash first more in
+    record {
+      usage = λ q. absurd (apart 2 numbers refl n k q);
+      unread = λ q. absurd (apart 3 numbers refl n k q);
+      written = apart 4 numbers refl n k;
+      memory = apart 5 numbers refl n k;
+    }
+
+of_reads : (hash : List ℕ → List ℕ) (command : Option Command) (reads : List Read) → ReadsFiles command → tool_reads command reads ≡ true
+    → Status command reads (next_answer hash command reads).status
+of_reads hash None reads r made =
+    record { usage = λ n. refl; unread = λ n. absurd (omega (arith, n)); written = λ n. omega (arith, n); memory = λ n. omega (arith, n) }
+of_reads hash (Some command) reads r made =
+    of_texts hash command reads (texts_read reads) refl (texts_there command reads r made)
+
+caused_by : (hash : List ℕ → List ℕ) (o : Option (List Text)) → CausedByTexts hash o (read_next hash o)
+caused_by hash None = (refl, refl)
+caused_by hash (Some texts) = causes hash texts
+
+caused : (hash : List ℕ → List ℕ) (command : Option Command) (reads : List Read) → Caused hash command reads (next_answer hash command reads)
+caused hash None reads = refl
+caused hash (Some command) reads = caused_by hash (texts_read reads)
+
+ended_without : (empty : Bool) (status n : ℕ) → (n ≡ 4 → ⊥) → n ≡ cond empty status 4 → status ≡ n
+ended_without true status n other e = sym e
+ended_without false status n other e = absurd (other e)
+
+-- where a call ends with another status than 4, it is that of the answer
+ended_with : (printed : Printed) (went : Bool) (n : ℕ) → (n ≡ 4 → ⊥) → n ≡ ended printed went → printed.status ≡ n
+ended_with printed true n other e = sym e
+ended_with printed false n other e = ended_without (length printed.text == 0) printed.status n other e
+
+-- where a call ends with 4, and the answer's status isn't 4, the write failed
+write_failed : (printed : Printed) (went : Bool) → (printed.status ≡ 4 → ⊥) → 4 ≡ ended printed went → went ≡ false
+write_failed printed true other e = absurd (other (sym e))
+write_failed printed false other e = refl
+
+-- ---- the call
+
+module _ (t : Theorems) (hash : List ℕ → List ℕ) (bytes : HashesBytes hash) (words : List (List ℕ)) (before now : Around) (status : ℕ) where
+  of_answer : Answers hash (next_words words) before now status → Tells hash words before now status
+  of_answer a =
+      let printed = next_answer hash (next_words words) a.reads in
+      let s : Status (next_words words) a.reads printed.status = of_reads hash (next_words words) a.reads (reads_files words) a.made in
+      record {
+        serves = inl (record {
+          answers = a;
+          caused = caused hash (next_words words) a.reads;
+          shows = shows t hash bytes (next_words words) a.reads;
+        });
+        usage = λ e. s.usage (ended_with printed a.ends.went 2 (λ f. absurd (cc)) (sym e ∙ a.ends.status_is));
+        unread = λ e. a.unread (s.unread (ended_with printed a.ends.went 3 (λ f. absurd (cc)) (sym e ∙ a.ends.status_is)));
+        unwritten = λ e. a.ends.unwritten (write_failed printed a.ends.went s.written (sym e ∙ a.ends.status_is));
+        memory = λ e. absurd (s.memory (ended_with printed a.ends.went 5 (λ f. absurd (cc)) (sym e ∙ a.ends.status_is)));
+      }
+
+  of_none : GivesUp (next_words words) before now status → Tells hash words before now status
+  of_none g = record {
+    serves = inr g;
+    usage = λ e. absurd (let f = g.status_is in cc);
+    unread = λ e. absurd (let f = g.status_is in cc);
+    unwritten = λ e. absurd (let f = g.status_is in cc);
+    memory = λ e. g.some;
+  }
+
+  tells : AnswersOrGivesUp hash (next_words words) before now status → Tells hash words before now status
+  tells (inl a) = of_answer a
+  tells (inr g) = of_none g
+
+pub tells_all : Theorems → TellsAll
+tells_all t hash bytes words before now status answers = tells t hash bytes words before now status answers

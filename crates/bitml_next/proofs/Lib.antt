@@ -1,0 +1,5 @@
+mod Causes
+mod Few
+mod Headlines
+mod Replied
+mod Shown

@@ -1,0 +1,16 @@
+use Rattle.bitml_next.proofs.Headlines.{tells_all}
+use Rattle.bitml_next.proofs.theorem.by_theorems.Goals as goal
+
+pub returns : goal.returns
+returns c = tells_all (record {
+  valid = c.requires.valid;
+  meant = c.requires.meant;
+  said = c.requires.said;
+  once = c.requires.once;
+  wanting = c.requires.wanting;
+  ready = c.requires.ready;
+  alone = c.requires.alone;
+  lines = c.requires.lines;
+  run = c.requires.run;
+  go = c.requires.go;
+})

@@ -1,0 +1,13 @@
+use Rattle.std.proofs.Common.{refl, ◌∙◌}
+use Rattle.spec_next.specs.NextAnswer.{read_next}
+use Rattle.bitml_headline.proofs.Texts.{unread_reply, read_reply}
+use Rattle.bitml_next.proofs.tool.reply_to.Goals as goal
+
+pub returns-then-reading : goal.returns-then-reading
+returns-then-reading g c =
+    unread_reply (read_next (g.H.Hash32.digest_of c.args.hash)) c.args.reading.now c.of.result refl c.if-reading.true (c.of.ensures ∙ c.new.ensures.items)
+
+pub returns : goal.returns
+returns g c =
+    read_reply (read_next (g.H.Hash32.digest_of c.args.hash)) c.args.reading.now c.as_slice.result.now c.next_texts.result
+    c.if-reading.false c.as_slice.ensures c.next_texts.ensures

@@ -1,0 +1,87 @@
+-- What is known of that which the program says of a run, and of the first lines of one.
+use Rattle.std.specs.Prelude.{◌≡◌, ◌↔◌, ℕ, ◌≤◌, List, [], ◌∷◌, length, map, Option, Some, None, Ok}
+use Rattle.std.specs.List.{Contains}
+use Rattle.spec_data.specs.Digits.{hex_text}
+use Rattle.spec_data.specs.Ranges.{most_contracts}
+use Rattle.spec_terms.specs.Advert.{Advert}
+use Rattle.spec_run.specs.declared.event.Event.{Event}
+use Rattle.spec_run.specs.declared.event.Run.{Run}
+use Rattle.spec_run.specs.Event.{opening_collision}
+use Rattle.spec_run.specs.Offers.{Offer, offers}
+use Rattle.spec_run.specs.Setup.{Setup}
+use Rattle.spec_run.specs.Statements.{IsRun}
+use Rattle.spec_run.specs.Translation.{last_configuration, last_world}
+use Rattle.spec_text.specs.Refusals.{contract_of, run_of}
+use Rattle.spec_text.specs.RunText.{run_text}
+use Rattle.spec_tool.specs.Reads.{Read, Text, texts_read}
+use Rattle.spec_tool.specs.Commands.{Command, Printed, contracts_from, setup_of}
+use Rattle.spec_next.specs.declared.outlook.Ruling.TheVariants as rulings
+use Rattle.spec_next.specs.Candidates.{all_candidates}
+use Rattle.spec_next.specs.FirstLines.{begin_text, first_lines, first_run, first_events}
+use Rattle.spec_next.specs.OutlookText.{next_text}
+use Rattle.spec_next.specs.Prospects.{ruling}
+use Rattle.theory_next.specs.Candidates.{GoesThrough, IsSaid}
+use Rattle.theory_next.specs.FirstEvents.{AreLong, GoesThroughOrHalts}
+use Rattle.theory_next.specs.FirstRun.{first_setup, HasRoom, AreSecrets}
+use Rattle.theory_next.specs.MetAlone.{MetAlone}
+use Rattle.theory_next.specs.Once.{EachOnce}
+use Rattle.theory_next.specs.Ready.{ReadyComes}
+use Rattle.theory_next.specs.Wants.{WantsAreExact}
+
+-- ---- after a run
+
+-- what is said of these events after they are played
+pub record SaysOfRun (s : Setup) (es : List Event) (text : List ℕ) : Type 0 where
+  -- it is the text of what may come next
+  pub told : text ≡ next_text s es
+  -- an event can come exactly where it is done or accepted, and halts nothing
+  pub meant : (e : Event) → ruling s (last_world s es) e ≡ rulings.Can ↔ GoesThrough s (last_world s es) e
+  -- everything that the calculus offers is said to come, unless it halts the run
+  pub offered : (offer : Offer) → Contains (offers (last_configuration s es)) offer
+      → IsSaid s (last_configuration s es) (last_world s es) offer.event
+  -- no event is asked twice
+  pub once : EachOnce (all_candidates s (last_configuration s es) (last_world s es))
+  -- what is wanting is exactly what fails
+  pub wanting : (e : Event) → WantsAreExact s (last_configuration s es) (last_world s es) e
+  -- where nothing is wanting, a contract begins and a branch is taken
+  pub ready : ReadyComes s es
+  -- where an authorisation or a height alone is wanting for a branch and is met, the branch can come
+  pub alone : MetAlone s es
+
+-- ---- the first lines
+
+pub record BeginsARun (hash : List ℕ → List ℕ) (advert : Advert) (text : List ℕ) : Type 0 where
+  pub told : text ≡ begin_text advert
+  -- with the bytes of the secrets filled in, the lines are the text of the run that begins the contract
+  pub filled : (strings : List (List ℕ)) → first_lines advert (map hex_text strings) ≡ run_text (first_run advert strings)
+  -- which is a run of which the theorems on runs speak, whatever the secrets are, if they differ
+  pub runs : (strings : List (List ℕ)) → HasRoom advert → AreSecrets advert strings → opening_collision (first_setup hash advert strings) ≡ None
+      → IsRun (first_setup hash advert strings) (first_events advert)
+  -- and if the secrets have the size of secrets, each of its events is done or accepted, unless it halts as such a run may
+  pub goes : (strings : List (List ℕ)) → HasRoom advert → AreSecrets advert strings → AreLong strings
+      → opening_collision (first_setup hash advert strings) ≡ None
+      → GoesThroughOrHalts (first_setup hash advert strings) (first_events advert)
+
+-- ---- files
+
+-- a run and contracts are taken, and nothing halts
+abbrev pub ShowsRun : (List ℕ → List ℕ) → List Text → Printed → Type 0
+ShowsRun hash texts printed =
+    (run_file contract_file : List ℕ) (contract_files : List (List ℕ)) (run : Run) (contracts : List Advert)
+    → texts ≡ Some run_file ∷ Some contract_file ∷ map Some contract_files → length (contract_file ∷ contract_files) ≤ most_contracts
+    → run_of run_file ≡ Ok run → contracts_from 0 (contract_file ∷ contract_files) ≡ Ok contracts → printed.status ≡ 0
+    → SaysOfRun (setup_of hash run contracts) run.events printed.text
+
+-- a contract is taken
+abbrev pub ShowsContract : (List ℕ → List ℕ) → List Text → Printed → Type 0
+ShowsContract hash texts printed =
+    (contract_file : List ℕ) (advert : Advert) → texts ≡ Some contract_file ∷ [] → contract_of contract_file ≡ Ok advert
+    → BeginsARun hash advert printed.text
+
+abbrev pub ShowsTexts : (List ℕ → List ℕ) → Option (List Text) → Printed → Type 0
+ShowsTexts hash None printed = Unit {0}
+ShowsTexts hash (Some texts) printed = ShowsRun hash texts printed × ShowsContract hash texts printed
+
+abbrev pub Shows : (List ℕ → List ℕ) → Option Command → List Read → Printed → Type 0
+Shows hash None reads printed = Unit {0}
+Shows hash (Some command) reads printed = ShowsTexts hash (texts_read reads) printed

@@ -1,0 +1,51 @@
+//! What is known of answers.
+
+ghost use Rattle.spec_tool.specs.Statements.{ValidRunTheorem};
+ghost use Rattle.theory_next.specs.Candidates.{CanIsMeant, OffersAreSaid};
+ghost use Rattle.theory_next.specs.FirstEvents.{FirstEventsGoThrough};
+ghost use Rattle.theory_next.specs.FirstLines.{FirstLinesAreARun};
+ghost use Rattle.theory_next.specs.FirstRun.{FirstRunIsARun};
+ghost use Rattle.theory_next.specs.MetAlone.{MetAloneTheorem};
+ghost use Rattle.theory_next.specs.Once.{CandidatesStandOnce};
+ghost use Rattle.theory_next.specs.Ready.{ReadyComesTheorem};
+ghost use Rattle.theory_next.specs.Wants.{WantsAreExactTheorem};
+ghost use Rattle.bitml_next.specs.Told.{TellsAll};
+
+use theory_next::{
+    can_is_meant, candidates_stand_once, first_events_go_through, first_lines_are_a_run,
+    first_run_is_a_run, met_alone, offers_are_said, ready_comes, wants_are_exact,
+};
+use theory_tool::valid_runs;
+
+// A call that gives the defined answer or gives up tells all that is known of it, where the theorems hold.
+fn by_theorems()
+    requires valid { ValidRunTheorem }
+    requires meant { CanIsMeant }
+    requires said { OffersAreSaid }
+    requires once { CandidatesStandOnce }
+    requires wanting { WantsAreExactTheorem }
+    requires ready { ReadyComesTheorem }
+    requires alone { MetAloneTheorem }
+    requires lines { FirstLinesAreARun }
+    requires run { FirstRunIsARun }
+    requires go { FirstEventsGoThrough }
+    ensures { TellsAll }
+{}
+
+/// A call that gives the defined answer, or gives up for want of memory, tells all that is known of it: each status comes exactly by its
+/// cause, and what is said of a run, or written of the first lines of one, is what the theorems say.
+pub(crate) fn answers_tell_all()
+    ensures { TellsAll }
+{
+    valid_runs();
+    can_is_meant();
+    offers_are_said();
+    candidates_stand_once();
+    wants_are_exact();
+    ready_comes();
+    met_alone();
+    first_lines_are_a_run();
+    first_run_is_a_run();
+    first_events_go_through();
+    by_theorems();
+}

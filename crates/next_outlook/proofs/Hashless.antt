@@ -1,0 +1,177 @@
+-- What is told of events reads nothing of the messages that were hashed.
+use Rattle.std.proofs.Common.{◌≡◌, ℕ, ◌+◌, List, [], ◌∷◌, ◌++◌, map, not, Option, Some, None, refl, ap, ◌∙◌, append-nil}
+use Rattle.std.specs.Prelude.{filter, flat_map, if◌then◌else◌}
+use Rattle.spec_terms.specs.Advert.{Advert}
+use Rattle.spec_terms.specs.Parties.{participants}
+use Rattle.spec_terms.specs.Precondition.{persistent, secrets}
+use Rattle.spec_calculus.specs.Configuration.{Configuration}
+use Rattle.spec_calculus.specs.Beginning.{contract_at, participants_of}
+use Rattle.spec_compiler.specs.Instance.{Instance}
+use Rattle.spec_run.specs.declared.event.Event.{Event}
+use Rattle.spec_run.specs.declared.event.Event.TheVariants as events
+use Rattle.spec_run.specs.declared.header.HeldSecret.{HeldSecret}
+use Rattle.spec_run.specs.Setup.{Setup}
+use Rattle.spec_run.specs.World.{World}
+use Rattle.spec_run.specs.Compiled.{compiled_instance}
+use Rattle.spec_run.specs.Draft.{Draft, guess, settle}
+use Rattle.spec_run.specs.Event.{draft}
+use Rattle.spec_next.specs.declared.outlook.Ruling.{Ruling}
+use Rattle.spec_next.specs.declared.outlook.Ruling.TheVariants as rulings
+use Rattle.spec_next.specs.declared.outlook.Prospect.{Prospect}
+use Rattle.spec_next.specs.Candidates.{people, advertising, committing, has_endorsed, endorsing, starting, revealing, taking_active, actives_of}
+use Rattle.spec_next.specs.Candidates.{candidates, candidates_from}
+use Rattle.spec_next.specs.Wants.{Condition, agreed, endorsed_for, conditions, unmet, wants_of}
+use Rattle.spec_next.specs.Prospects.{is_ahead, is_shown, ruling_of, wants_by, outlook_by}
+use Rattle.spec_next.specs.Foreseen.{foreseen_strings}
+use Rattle.theory_world.proofs.Bookless.{compiled_same}
+use Rattle.theory_run.proofs.Events.Hashless.{carried, draft_same}
+use Rattle.bm_world.specs.Playing.{Played, setup_in}
+use Rattle.next_outlook.specs.Heard.{Hears}
+use Rattle.next_outlook.specs.Foretold.{calm_ruling, told, foretold, all_foretold, foretold_outlook}
+use Rattle.next_outlook.proofs.Hearing.{setup_same}
+
+-- nothing more is told
+pub nothing_told : (ps : List Prospect) → ps ++ [] ≡ ps
+nothing_told ps = append-nil ps
+
+module _ (s : Setup) (g : Configuration) (w : World) (hs : List (List ℕ)) where
+  abbrev more : World
+  more = record w { hashed = hs }
+
+  instance_same : (k : ℕ) → compiled_instance s more k ≡ compiled_instance s w k
+  instance_same k = compiled_same s w w.book hs k
+
+  -- ---- candidates
+
+  endorsed_same : (o : Option Instance) (party : List ℕ) → has_endorsed s more o party ≡ has_endorsed s w o party
+  endorsed_same None party = refl
+  endorsed_same (Some instance) party = refl
+
+  endorsing_same : (k : ℕ) (ps : List (List ℕ)) → endorsing s more k ps ≡ endorsing s w k ps
+  endorsing_same k ps =
+      (λ i. map (λ party. events.Endorse k party) (filter (λ party. not (endorsed_same (compiled_instance s more k) party i)) ps))
+      ∙ (λ i. map (λ party. events.Endorse k party) (filter (λ party. not (has_endorsed s w (instance_same k i) party)) ps))
+
+  candidates_same : (k : ℕ) (c : Advert) → candidates s g more k c ≡ candidates s g w k c
+  candidates_same k c =
+      let ps = people s c in
+      ap (λ (es : List Event). advertising g k c
+      ∷ (map (committing k) ps
+      ++ (es
+      ++ (starting g k (persistent c.pre) ps
+      ++ (events.FireInit k
+      ∷ (revealing s k (secrets c.pre)
+      ++ flat_map (taking_active g ps) (actives_of g k))))))) (endorsing_same k ps)
+
+  from_same : (k : ℕ) (cs : List Advert) → candidates_from s g more k cs ≡ candidates_from s g w k cs
+  from_same k [] = refl
+  from_same k (c ∷ cs) = λ i. candidates_same k c i ++ from_same (k + 1) cs i
+
+  -- ---- what is wanting
+
+  for_same : (k : ℕ) (party : List ℕ) (o : Option Instance) (ps : List (List ℕ)) → endorsed_for s more k party o ps ≡ endorsed_for s w k party o ps
+  for_same k party None ps = refl
+  for_same k party (Some instance) ps = refl
+
+  conditions_same : (e : Event) → conditions s g more e ≡ conditions s g w e
+  conditions_same (events.Advertise k bindings) = refl
+  conditions_same (events.Commit k party digests) = refl
+  conditions_same (events.Endorse k party) = refl
+  conditions_same (events.Init k party) =
+      let ps = participants_of (contract_at g.contracts k) in
+      ap (λ (cs : List Condition). agreed g k ++ cs)
+      (for_same k party (compiled_instance s more k) ps ∙ ap (λ o. endorsed_for s w k party o ps) (instance_same k))
+  conditions_same (events.FireInit k) = refl
+  conditions_same (events.Reveal k party secret) = refl
+  conditions_same (events.Authorise party n i) = refl
+  conditions_same (events.Fire n i) = refl
+  conditions_same (events.Post bytes) = refl
+  conditions_same (events.Sign party label digest) = refl
+  conditions_same (events.Give party inputs outputs) = refl
+  conditions_same (events.Append bytes) = refl
+  conditions_same (events.Mine blocks) = refl
+
+  wants_same : (e : Event) → wants_of s g more e ≡ wants_of s g w e
+  wants_same e = ap unmet (conditions_same e)
+
+  -- ---- what is shown
+
+  ahead_same : (e : Event) → is_ahead s more e ≡ is_ahead s w e
+  ahead_same (events.Advertise k bindings) = refl
+  ahead_same (events.Commit k party digests) = refl
+  ahead_same (events.Endorse k party) = refl
+  ahead_same (events.Init k party) = refl
+  ahead_same (events.FireInit k) = refl
+  ahead_same (events.Reveal k party secret) = refl
+  ahead_same (events.Authorise party n i) = refl
+  ahead_same (events.Fire n i) = refl
+  ahead_same (events.Post bytes) = refl
+  ahead_same (events.Sign party label digest) = refl
+  ahead_same (events.Give party inputs outputs) = refl
+  ahead_same (events.Append bytes) = refl
+  ahead_same (events.Mine blocks) = refl
+
+  shown_same : (e : Event) (r : Ruling) → is_shown s more e r ≡ is_shown s w e r
+  shown_same e rulings.Can = refl
+  shown_same e (rulings.Cannot reason) = ahead_same e
+  shown_same e rulings.Halts = refl
+
+  -- ---- rulings
+
+  ruling_carried : (d : Draft) (o : Option HeldSecret) → ruling_of (settle more (carried hs d) None o) ≡ ruling_of (settle w d None o)
+  ruling_carried d None = refl
+  ruling_carried d (Some held) = refl
+
+  ruling_same : (e : Event) → calm_ruling s more e ≡ calm_ruling s w e
+  ruling_same e =
+      ap (λ (d : Draft). ruling_of (settle more d None (guess s w.posted d.posts d.allowed))) (draft_same s w hs e)
+      ∙ ruling_carried (draft s w e) (guess s w.posted (draft s w e).posts (draft s w e).allowed)
+
+  told_same : (e : Event) (r : Ruling) → told s g more e r ≡ told s g w e r
+  told_same e r =
+      λ i. if shown_same e r i then record { event = e; ruling = r; wants = wants_by (wants_same e i) r } ∷ [] else []
+
+  foretold_same : (e : Event) → foretold s g more e ≡ foretold s g w e
+  foretold_same e = told_same e (calm_ruling s more e) ∙ ap (told s g w e) (ruling_same e)
+
+  all_same : (es : List Event) → all_foretold s g more es ≡ all_foretold s g w es
+  all_same es = λ i. flat_map (λ e. foretold_same e i) es
+
+  outlook_same : (k : ℕ) (c : Advert) → foretold_outlook s g more k c ≡ foretold_outlook s g w k c
+  outlook_same k c =
+      ap (outlook_by (participants c)) (all_same (candidates s g more k c) ∙ ap (all_foretold s g w) (candidates_same k c))
+
+  -- ---- strings
+
+  hashes_same : (e : Event) → (draft s more e).hashes ≡ (draft s w e).hashes
+  hashes_same e = ap (λ (d : Draft). d.hashes) (draft_same s w hs e)
+
+  strings_same : (es : List Event) → foreseen_strings s more es ≡ foreseen_strings s w es
+  strings_same es = λ i. flat_map (λ e. hashes_same e i) es
+
+-- ---- in a world where only more was hashed
+
+module _ {H : Type 0} (digest : H → List ℕ → List ℕ) (g : Configuration) (old mid : Played H) (hashed : List (List ℕ)) (h : Hears old mid hashed) where
+  same : setup_in digest mid ≡ setup_in digest old
+  same = setup_same digest old mid h.setup
+
+  pub hashes_later : (e : Event) → (draft (setup_in digest mid) mid.world e).hashes ≡ (draft (setup_in digest old) old.world e).hashes
+  hashes_later e = (λ i. (draft (same i) (h.world i) e).hashes) ∙ hashes_same (setup_in digest old) g old.world hashed e
+
+  pub foretold_later : (e : Event) → foretold (setup_in digest mid) g mid.world e ≡ foretold (setup_in digest old) g old.world e
+  foretold_later e = (λ i. foretold (same i) g (h.world i) e) ∙ foretold_same (setup_in digest old) g old.world hashed e
+
+  pub candidates_later : (k : ℕ) (c : Advert)
+      → candidates (setup_in digest mid) g mid.world k c ≡ candidates (setup_in digest old) g old.world k c
+  candidates_later k c = (λ i. candidates (same i) g (h.world i) k c) ∙ candidates_same (setup_in digest old) g old.world hashed k c
+
+  pub strings_later : (es : List Event)
+      → foreseen_strings (setup_in digest mid) mid.world es ≡ foreseen_strings (setup_in digest old) old.world es
+  strings_later es = (λ i. foreseen_strings (same i) (h.world i) es) ∙ strings_same (setup_in digest old) g old.world hashed es
+
+  pub outlook_later : (k : ℕ) (c : Advert)
+      → foretold_outlook (setup_in digest mid) g mid.world k c ≡ foretold_outlook (setup_in digest old) g old.world k c
+  outlook_later k c = (λ i. foretold_outlook (same i) g (h.world i) k c) ∙ outlook_same (setup_in digest old) g old.world hashed k c
+
+  pub told_later : (e : Event) (r : Ruling) → told (setup_in digest mid) g mid.world e r ≡ told (setup_in digest old) g old.world e r
+  told_later e r = (λ i. told (same i) g (h.world i) e r) ∙ told_same (setup_in digest old) g old.world hashed e r

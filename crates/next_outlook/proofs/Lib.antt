@@ -1,0 +1,8 @@
+mod Composed
+mod Endorsing
+mod Events
+pub mod Hashless
+mod Hearing
+mod Listed
+mod Looked
+mod Told

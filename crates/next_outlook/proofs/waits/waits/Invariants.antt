@@ -1,0 +1,7 @@
+use Rattle.std.proofs.Common.{◌≡◌, ◌++◌, drop}
+use Rattle.spec_next.specs.Prospects.{waits}
+use Rattle.next_outlook.proofs.waits.waits.Given as goal
+
+abbrev pub invariant-loop-party : goal.invariant-loop-party
+invariant-loop-party l =
+    l.list ++ waits (drop l.party-index l.people) l.prospects ≡ waits l.people l.prospects

@@ -1,0 +1,4 @@
+pub mod Endorsed
+pub mod Foretold
+pub mod Heard
+pub mod Seen

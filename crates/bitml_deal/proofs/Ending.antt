@@ -2,9 +2,9 @@
 use Rattle.std.proofs.Common.{◌≡◌, ℕ, true, List, [], Option, Some, None, Result, Ok, Err, refl, sym, ap, subst, ◌∙◌}
 use Rattle.std.proofs.Common.{append-nil, inl, inr}
 use Rattle.std.specs.Prelude.{IfOk, is_some}
-use Rattle.spec_tool.specs.Reads.{Asked, Read, texts_read, are_made}
+use Rattle.spec_tool.specs.Reads.{Asked, texts_read, are_made}
 use Rattle.spec_tool.specs.Commands.{Printed, usage}
-use Rattle.spec_deal.specs.Answers.{deal_read_answer, deal_answer}
+use Rattle.spec_deal.specs.Answers.{deal_read_answer}
 use Rattle.spec_deal.specs.Commands.{DealCommand, deal_files}
 use Rattle.bm_io.specs.Files.{Told}
 use Rattle.bm_io.specs.Logs.{Reply as Entry}

@@ -1,5 +1,5 @@
 -- What a call promises, by the theorems on deals.
-use Rattle.std.proofs.Common.{◌≡◌, ℕ, Bool, true, false, ◌==◌, cond, List, [], ◌∷◌, length, Option, Some, None, refl, sym, subst, ◌∙◌}
+use Rattle.std.proofs.Common.{◌≡◌, ℕ, Bool, true, false, ◌==◌, cond, List, ◌∷◌, length, Option, Some, None, refl, sym, subst, ◌∙◌}
 use Rattle.std.proofs.Common.{inl, inr, arith}
 use Rattle.std.specs.Prelude.{Ok}
 use Rattle.std.proofs.lemmas.Bool.{false≢true}
@@ -21,7 +21,7 @@ use Rattle.theory_deal.specs.Plan.{PlanOfRuns}
 use Rattle.theory_deal.specs.Signatures.{MissingAndHeld, MayStart}
 use Rattle.theory_deal.specs.Whole.{FinishesExactly, FinishTheorem}
 use Rattle.bitml_headline.specs.Headline.{Around}
-use Rattle.bitml_deal.specs.Dealt.{Answers, GivesUp, AnswersOrGivesUp, HasCauses, CausedByTexts, Caused, Finishes, Keeps, KeepsTaken}
+use Rattle.bitml_deal.specs.Dealt.{Answers, GivesUp, AnswersOrGivesUp, CausedByTexts, Caused, Keeps, KeepsTaken}
 use Rattle.bitml_deal.specs.Dealt.{KeepsTexts, Headline}
 use Rattle.bitml_deal.proofs.WellFormed.{well_formed}
 

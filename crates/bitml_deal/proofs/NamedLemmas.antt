@@ -1,9 +1,8 @@
 -- The transaction of a name is the one that is defined.
-use Rattle.std.proofs.Common.{◌≡◌, ℕ, List, [], ◌∷◌, map, Bool, true, false, Option, Some, None, refl, sym, ap, ◌∙◌, subst, cond}
+use Rattle.std.proofs.Common.{◌≡◌, ℕ, List, [], ◌∷◌, map, Bool, true, false, Option, Some, None, refl, sym, ap, ◌∙◌, cond}
 use Rattle.std.specs.Prelude.{if◌then◌else◌}
 use Rattle.std.specs.List.{find}
 use Rattle.std.specs.Option.{option_map}
-use Rattle.spec_terms.specs.Advert.{Advert}
 use Rattle.spec_terms.specs.Paths.{path_eq}
 use Rattle.spec_terms.specs.PathSameness.{path_eq-Decides}
 use Rattle.spec_terms.specs.declared.path.PathStep.{PathStep}
@@ -12,7 +11,7 @@ use Rattle.spec_compiler.specs.Keyed.Instance.{Instance}
 use Rattle.spec_compiler.specs.declared.prepared.Prepared.{Prepared}
 use Rattle.spec_compiler.specs.declared.unsigned.Unsigned.{Unsigned}
 use Rattle.spec_compiler.specs.Keyed.Transactions.{prepared}
-use Rattle.spec_compiler.specs.Keyed.Compilation.{path_transactions, compilation}
+use Rattle.spec_compiler.specs.Keyed.Compilation.{path_transactions}
 use Rattle.spec_compiler.specs.Keyed.ByPath.{unsigned_at}
 use Rattle.spec_tool.specs.declared.which.Which.{Which}
 use Rattle.spec_tool.specs.declared.which.Which.TheVariants as names

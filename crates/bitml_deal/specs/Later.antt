@@ -1,5 +1,5 @@
 -- What is answered of the further files of a command, once its deal is compiled.
-use Rattle.std.specs.Prelude.{◌≡◌, ℕ, List, Option, Some, None, Result, Ok, Err}
+use Rattle.std.specs.Prelude.{◌≡◌, ℕ, List, Some, None, Result, Err}
 use Rattle.spec_tool.specs.Answers.{unread}
 use Rattle.spec_tool.specs.Commands.{Printed, prints}
 use Rattle.spec_tool.specs.PsbtText.{psbt_line}

@@ -1,5 +1,5 @@
 -- What is known of the contract and the deal of a command, once they are compiled.
-use Rattle.std.specs.Prelude.{◌≡◌, ℕ, List, [], Some, true}
+use Rattle.std.specs.Prelude.{◌≡◌, ℕ, List, [], true}
 use Rattle.std.specs.List.{list_all}
 use Rattle.spec_terms.specs.Precondition.{names_of}
 use Rattle.spec_compiler.specs.Keyed.Keys.{Keys}

@@ -3,7 +3,7 @@ use Rattle.std.specs.Prelude.{IfOk}
 use Rattle.spec_tool.specs.Commands.{Printed}
 use Rattle.spec_deal.specs.declared.entry.Shown.{Shown}
 use Rattle.spec_deal.specs.declared.signed.Signed.{Signed}
-use Rattle.spec_deal.specs.Answers.{finished_answer, with_signatures, with_secrets, secrets_in}
+use Rattle.spec_deal.specs.Answers.{finished_answer, with_signatures}
 use Rattle.spec_deal.specs.Setting.{deal_keys, deal_instance}
 use Rattle.bitml_command.specs.Seen.{printed}
 use Rattle.bitml_deal.specs.Later.{given_in}

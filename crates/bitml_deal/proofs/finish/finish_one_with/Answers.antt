@@ -1,7 +1,6 @@
-use Rattle.std.proofs.Common.{◌≡◌, List, [], sym, ap, subst, ◌∙◌}
+use Rattle.std.proofs.Common.{◌≡◌, List, sym, ap, subst, ◌∙◌}
 use Rattle.std.specs.Prelude.{IfOk}
 use Rattle.spec_tool.specs.Commands.{Printed}
-use Rattle.spec_deal.specs.declared.entry.Shown.{Shown}
 use Rattle.spec_deal.specs.declared.signed.Signed.{Signed}
 use Rattle.spec_deal.specs.Answers.{finished_answer, with_signatures, with_secrets, secrets_in}
 use Rattle.spec_deal.specs.Setting.{deal_keys, deal_instance}

@@ -1,11 +1,11 @@
-use Rattle.std.proofs.Common.{◌≡◌, ℕ, List, [], ap, subst}
+use Rattle.std.proofs.Common.{ℕ, List, [], ap, subst}
 use Rattle.std.specs.Prelude.{Ok}
 use Rattle.spec_deal.specs.Answers.{circular, unless_circular, with_deal}
 use Rattle.spec_deal.specs.Hashed.{deal_strings}
 use Rattle.spec_deal.specs.Setting.{deal_keys, deal_instance}
 use Rattle.bm_hash.specs.Trails.{Hashed}
 use Rattle.bitml_deal.specs.declared.opening.Compiled.{Compiled}
-use Rattle.bitml_deal.specs.Opens.{answered, IsMade, HashedAll}
+use Rattle.bitml_deal.specs.Opens.{answered, IsMade}
 use Rattle.bitml_deal.proofs.OpeningLemmas.{leads_same, unless_none, collided_is}
 use Rattle.bitml_deal.proofs.opening.compile.Goals as goal
 

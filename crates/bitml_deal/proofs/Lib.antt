@@ -1,1 +1,6 @@
-mod Naming
+mod Ending
+mod FinishLemmas
+mod Headlines
+mod NamedLemmas
+mod OpeningLemmas
+mod WellFormed

@@ -1,6 +1,5 @@
 -- What the program for deals promises, from its words to its status.
 use Rattle.std.specs.Prelude.{◌≡◌, ℕ, List, [], Bool, true, ◌⊎◌, ◌↔◌, ◌&&◌, Option, Some, None, is_some, is_err, Ok}
-use Rattle.spec_data.specs.Lists.{has_number}
 use Rattle.spec_terms.specs.Advert.{Advert}
 use Rattle.spec_text.specs.Refusals.{contract_of}
 use Rattle.spec_tool.specs.Answers.{contract_in}
@@ -18,7 +17,7 @@ use Rattle.spec_deal.specs.Finished.{finish_refusal}
 use Rattle.spec_deal.specs.Setting.{deal_keys, deal_instance}
 use Rattle.spec_deal.specs.SignatureFile.{read_signatures}
 use Rattle.spec_deal.specs.Slots.{Slot}
-use Rattle.theory_deal.specs.Causes.{deal_statuses, reads_deal, is_deal_refused}
+use Rattle.theory_deal.specs.Causes.{reads_deal, is_deal_refused, causes, first_status}
 use Rattle.theory_deal.specs.Files.{GivesAll, IsSized}
 use Rattle.theory_deal.specs.Finished.{NoOtherWay}
 use Rattle.theory_deal.specs.Plan.{IsPlanOfRuns}
@@ -70,7 +69,8 @@ pub record HasCauses (hash : List ℕ → List ℕ) (command : DealCommand) (tex
   -- the deal file is refused, or it gives a deposit that the deal itself makes
   pub deal_refused : (status ≡ 13)
       ↔ ((reads_deal command && is_deal_refused hash (contract_in (text_at texts 0)) (text_at texts 1)) ≡ true)
-  pub others : has_number status deal_statuses ≡ true
+  -- the status is that of the first cause in their order, and 0 where there is none
+  pub in_order : status ≡ first_status (causes hash command texts)
 
 -- of what was read; a read that failed is answered by 3 and nothing
 abbrev pub CausedByTexts : (List ℕ → List ℕ) → DealCommand → Option (List Text) → Printed → Type 0

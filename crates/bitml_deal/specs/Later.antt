@@ -1,5 +1,5 @@
 -- What is answered of the further files of a command, once its deal is compiled.
-use Rattle.std.specs.Prelude.{◌≡◌, ℕ, List, Option, Some, None, Result, Ok, Err}
+use Rattle.std.specs.Prelude.{◌≡◌, ℕ, List, Some, None, Result, Err}
 use Rattle.spec_tool.specs.Answers.{unread}
 use Rattle.spec_tool.specs.Commands.{Printed, prints}
 use Rattle.spec_tool.specs.PsbtText.{psbt_line}
@@ -51,4 +51,4 @@ Tells read (Taken strings) = read ≡ shows strings
 -- a transaction isn't finished for this, and so it is replied
 abbrev pub IsUnfinished : FinishError → Printed → Type 0
 IsUnfinished (finishes.Refused refusal) printed = printed ≡ prints 16 (finish_refused_line refusal)
-IsUnfinished finishes.Memory printed = Unit {0}
+IsUnfinished finishes.Memory printed = ⊥

@@ -1,5 +1,5 @@
 -- What is known of the contract and the deal of a command, once they are compiled.
-use Rattle.std.specs.Prelude.{◌≡◌, ℕ, List, [], Some, true}
+use Rattle.std.specs.Prelude.{◌≡◌, ℕ, List, [], true}
 use Rattle.std.specs.List.{list_all}
 use Rattle.spec_terms.specs.Precondition.{names_of}
 use Rattle.spec_compiler.specs.Keyed.Keys.{Keys}
@@ -54,4 +54,4 @@ Leads hash judged messages (Taken c) = IsTaken hash judged messages c
 abbrev pub IsRefused : DealError → Opening → Type 0
 IsRefused (deals.Refused fault) (Refused reply) = printed reply ≡ deal_refused fault
 IsRefused (deals.Refused fault) (Taken c) = ⊥
-IsRefused deals.Memory opening = Unit {0}
+IsRefused deals.Memory opening = ⊥

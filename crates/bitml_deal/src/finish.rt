@@ -87,6 +87,23 @@ fn finish_by(
     }
 }
 
+// What is replied of this transaction to a file of signatures.
+fn finish_one(
+    alloc: Global,
+    compiled: &Compiled,
+    transaction: &Transaction,
+    signatures: &Option<Bytes>,
+) -> Result<Reply, OutOfMemory>
+    ensures { (hash : List ℕ → List ℕ) (l : Listed) → IsMade hash compiled.now → IsOne hash compiled.now transaction.now l
+        → IfOk result (λ reply. printed reply ≡ answered (λ keys s. answers.finish_answer hash signatures.now keys s l) compiled.now) }
+{
+    match signatures_in(alloc, compiled.made.transactions.as_slice(), signatures) {
+        Ok(given) => finish_by(alloc, compiled, transaction, &given, &Strings::new(alloc)),
+        Err(SignatureError::Refused(fault)) => signatures_refused(alloc, fault),
+        Err(SignatureError::Memory) => Err(AllocError),
+    }
+}
+
 /// What `finish` replies to a file of signatures; there are no secrets.
 pub(crate) fn finish_reply(
     alloc: Global,
@@ -98,14 +115,9 @@ pub(crate) fn finish_reply(
         → IfOk result (λ reply. printed reply
         ≡ answered (answers.of_transaction hash which.now (answers.finish_answer hash signatures.now)) compiled.now) }
 {
-    let transactions = compiled.made.transactions.as_slice();
-    let Some(transaction) = named(transactions, which) else {
-        return no_path(alloc, which);
-    };
-    match signatures_in(alloc, transactions, signatures) {
-        Ok(given) => finish_by(alloc, compiled, transaction, &given, &Strings::new(alloc)),
-        Err(SignatureError::Refused(fault)) => signatures_refused(alloc, fault),
-        Err(SignatureError::Memory) => Err(AllocError),
+    match named(compiled.made.transactions.as_slice(), which) {
+        None => no_path(alloc, which),
+        Some(transaction) => finish_one(alloc, compiled, transaction, signatures),
     }
 }
 
@@ -130,6 +142,28 @@ fn finish_by_file<H: Hash32 + Drop>(
     }
 }
 
+// What is replied of this transaction to a file of signatures and one of secrets.
+fn finish_one_with<H: Hash32 + Drop>(
+    alloc: Global,
+    trail: &mut Trail<H>,
+    compiled: &Compiled,
+    transaction: &Transaction,
+    signatures: &Option<Bytes>,
+    secrets: &Option<Bytes>,
+) -> Result<Reply, OutOfMemory>
+    requires made { IsMade (H.digest_of trail.old.hasher) compiled.now }
+    requires hashed { HashedAll (H.digest_of trail.old.hasher) trail.old.messages compiled.now }
+    ensures { let hash = H.digest_of trail.old.hasher in (l : Listed) → IsOne hash compiled.now transaction.now l
+        → IfOk result (λ reply. printed reply
+        ≡ answered (λ keys s. answers.finish_with_answer hash signatures.now secrets.now keys s l) compiled.now) }
+{
+    match signatures_in(alloc, compiled.made.transactions.as_slice(), signatures) {
+        Ok(given) => finish_by_file(alloc, trail, compiled, transaction, &given, secrets),
+        Err(SignatureError::Refused(fault)) => signatures_refused(alloc, fault),
+        Err(SignatureError::Memory) => Err(AllocError),
+    }
+}
+
 /// What `finish` replies to a file of signatures and one of secrets.
 pub(crate) fn finish_with_reply<H: Hash32 + Drop>(
     alloc: Global,
@@ -144,13 +178,10 @@ pub(crate) fn finish_with_reply<H: Hash32 + Drop>(
     ensures { let hash = H.digest_of trail.old.hasher in IfOk result (λ reply. printed reply
         ≡ answered (answers.of_transaction hash which.now (answers.finish_with_answer hash signatures.now secrets.now)) compiled.now) }
 {
-    let transactions = compiled.made.transactions.as_slice();
-    let Some(transaction) = named(transactions, which) else {
-        return no_path(alloc, which);
-    };
-    match signatures_in(alloc, transactions, signatures) {
-        Ok(given) => finish_by_file(alloc, trail, compiled, transaction, &given, secrets),
-        Err(SignatureError::Refused(fault)) => signatures_refused(alloc, fault),
-        Err(SignatureError::Memory) => Err(AllocError),
+    match named(compiled.made.transactions.as_slice(), which) {
+        None => no_path(alloc, which),
+        Some(transaction) => {
+            finish_one_with(alloc, trail, compiled, transaction, signatures, secrets)
+        }
     }
 }

@@ -24,12 +24,18 @@ fn same_which(which: &Which, other: &Which) -> bool
     }
 }
 
+fn is_named(transaction: &Transaction, which: &Which) -> bool
+    ensures { result ≡ spec.is_named which.now transaction.now }
+{
+    same_which(&transaction.which, which)
+}
+
 /// The transaction of this name.
 pub(crate) fn named<'a>(transactions: &'a [Transaction], which: &Which) -> Option<&'a Transaction>
     ensures { option_map (λ t. t.now) result ≡ spec.named which.now transactions.now }
 {
     for transaction in transactions {
-        if same_which(&transaction.which, which) {
+        if is_named(transaction, which) {
             return Some(transaction);
         }
     }

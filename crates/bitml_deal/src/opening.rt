@@ -89,10 +89,7 @@ fn unless_circular(alloc: Global, compiled: Compiled) -> Result<Opening, OutOfMe
     let deposits = compiled.deal.deposits.as_slice();
     match circular(deposits, compiled.made.transactions.as_slice()) {
         None => Ok(Opening::Taken(compiled)),
-        Some(name) => Ok(Opening::Refused(deal_refused(
-            alloc,
-            &DealFault::Circular(*name),
-        )?)),
+        Some(name) => Ok(Opening::Refused(deal_refused(alloc, &DealFault::Circular(*name))?)),
     }
 }
 

@@ -70,10 +70,7 @@ pub(crate) fn secrets_in<H: Hash32 + Drop>(
         (deal_instance compiled.now.contract compiled.now.deal) text.now)) }
 {
     match text {
-        None => Ok(Shown::Refused(secrets_refused(
-            alloc,
-            SecretFault::Size,
-        )?)),
+        None => Ok(Shown::Refused(secrets_refused(alloc, SecretFault::Size)?)),
         Some(bytes) => secrets_of(alloc, trail, compiled, bytes.as_slice()),
     }
 }

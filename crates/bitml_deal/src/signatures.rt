@@ -34,10 +34,7 @@ pub(crate) fn signatures_in(
 }
 
 /// The file of signatures is refused.
-pub(crate) fn signatures_refused(
-    alloc: Global,
-    fault: SignatureFault,
-) -> Result<Reply, OutOfMemory>
+pub(crate) fn signatures_refused(alloc: Global, fault: SignatureFault) -> Result<Reply, OutOfMemory>
     ensures { IfOk result (λ reply. printed reply ≡ prints 14 (signatures_refused_line fault)) }
 {
     let mut text = Vec::new(alloc);

@@ -21,6 +21,10 @@ use bm_io::{Files, Sink};
 use deal_command::{DealCommand, command_of, files_of};
 use spec_data::{Bytes, OutOfMemory};
 use std::alloc::Global;
+use theory_deal::{
+    deal_statuses_have_causes, deals_are_sized, deals_give_all, false_without_one, finish_theorem,
+    finishes_exactly, may_start, missing_and_held, plan_of_runs,
+};
 
 /// The reply to what the reads of a command's files gave.
 fn reply_to<H: Hash32 + Drop>(
@@ -97,7 +101,8 @@ fn answer_words<H: Hash32 + Drop, F: Files, S: Sink>(
     }
 }
 
-/// Runs the command that words are: reads its files, writes its text, and answers its status.
+/// Runs the command that words are: reads its files, writes its text, and answers its status. Each status comes by its cause, and what is
+/// written of a deal that is taken is as the theorems on deals say.
 pub fn deal_tool<H: Hash32 + Drop, F: Files, S: Sink>(
     alloc: Global,
     words: &[String],
@@ -109,5 +114,14 @@ pub fn deal_tool<H: Hash32 + Drop, F: Files, S: Sink>(
         (around (F.told files.old) (F.log files.old) (F.taken files.old) (F.faults files.old) (S.pieces out.old) (S.faults out.old))
         (around (F.told files.new) (F.log files.new) (F.taken files.new) (F.faults files.new) (S.pieces out.new) (S.faults out.new)) result }
 {
+    deal_statuses_have_causes();
+    deals_give_all();
+    deals_are_sized();
+    plan_of_runs();
+    missing_and_held();
+    may_start();
+    finishes_exactly();
+    finish_theorem();
+    false_without_one();
     answer_words(alloc, words, hash, files, out)
 }

@@ -1,6 +1,4 @@
 -- Commands of the code, as the definitions have them.
-use Rattle.std.specs.Prelude.{List, ℕ}
-use Rattle.std.specs.Borrow.{Bor}
 use Rattle.spec_deal.specs.Commands as spec
 use Rattle.deal_command.specs.declared.command.DealCommand.{DealCommand}
 use Rattle.deal_command.specs.declared.command.DealCommand.TheVariants as commands

@@ -1,9 +1,8 @@
 -- The transaction of a name is the one that is defined.
-use Rattle.std.proofs.Common.{◌≡◌, ℕ, List, [], ◌∷◌, map, Bool, true, false, Option, Some, None, refl, sym, ap, ◌∙◌, subst, cond}
+use Rattle.std.proofs.Common.{◌≡◌, ℕ, List, [], ◌∷◌, map, Bool, true, false, Option, Some, None, refl, sym, ap, ◌∙◌, cond}
 use Rattle.std.specs.Prelude.{if◌then◌else◌}
 use Rattle.std.specs.List.{find}
 use Rattle.std.specs.Option.{option_map}
-use Rattle.spec_terms.specs.Advert.{Advert}
 use Rattle.spec_terms.specs.Paths.{path_eq}
 use Rattle.spec_terms.specs.PathSameness.{path_eq-Decides}
 use Rattle.spec_terms.specs.declared.path.PathStep.{PathStep}
@@ -12,7 +11,7 @@ use Rattle.spec_compiler.specs.Keyed.Instance.{Instance}
 use Rattle.spec_compiler.specs.declared.prepared.Prepared.{Prepared}
 use Rattle.spec_compiler.specs.declared.unsigned.Unsigned.{Unsigned}
 use Rattle.spec_compiler.specs.Keyed.Transactions.{prepared}
-use Rattle.spec_compiler.specs.Keyed.Compilation.{path_transactions, compilation}
+use Rattle.spec_compiler.specs.Keyed.Compilation.{path_transactions}
 use Rattle.spec_compiler.specs.Keyed.ByPath.{unsigned_at}
 use Rattle.spec_tool.specs.declared.which.Which.{Which}
 use Rattle.spec_tool.specs.declared.which.Which.TheVariants as names
@@ -31,11 +30,12 @@ use Rattle.bitml_deal.specs.Named.{is_named, named}
 right_at : {V : Type 0} (f : List PathStep → Option V) (path : List PathStep) (es : List (List PathStep × V)) (v : V) → AreRight f es
     → at_path path es ≡ Some v → f path ≡ Some v
 right_at f path [] v right here = cc
-right_at f path (e ∷ es) v right here = by_test (path_eq e.0 path) refl here
+right_at f path (e ∷ es) v right here = by_test (path_eq e.0 path) refl here (right_at f path es v right.1)
   where
-    by_test : (b : Bool) → path_eq e.0 path ≡ b → (if b then Some (e.1) else at_path path es) ≡ Some v → f path ≡ Some v
-    by_test true same k = sym (ap f ((path_eq-Decides e.0 path).0 same)) ∙ (right.0 ∙ k)
-    by_test false same k = right_at f path es v right.1 k
+    by_test : (b : Bool) → path_eq e.0 path ≡ b → (if b then Some (e.1) else at_path path es) ≡ Some v
+        → (at_path path es ≡ Some v → f path ≡ Some v) → f path ≡ Some v
+    by_test true same k later = sym (ap f ((path_eq-Decides e.0 path).0 same)) ∙ (right.0 ∙ k)
+    by_test false same k later = later k
 
 none_mapped : {A B : Type 0} (f : A → B) (o : Option A) → option_map f o ≡ None → o ≡ None
 none_mapped f None e = refl

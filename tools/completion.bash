@@ -5,7 +5,7 @@ _bitml() {
     [ "${COMP_WORDS[1]}" != --unproved ] || first=2
     COMPREPLY=()
     if [ "$at" -eq "$first" ] && [ "$(basename "${COMP_WORDS[0]}")" = bitml ]; then
-        mapfile -t COMPREPLY < <(compgen -W 'check play plan psbt weigh audit auto make draw next help --unproved --version' -- "$word")
+        mapfile -t COMPREPLY < <(compgen -W 'check play plan psbt weigh audit auto make draw next deal help --unproved --version' -- "$word")
     elif [ "${COMP_WORDS[first]}" = psbt ] && [ "$at" -eq $((first + 3)) ]; then
         mapfile -t COMPREPLY < <(compgen -W 'init r.0' -- "$word")
     elif [ "${COMP_WORDS[first]}" != make ]; then

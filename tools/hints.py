@@ -36,6 +36,25 @@ def say_beside(answer, command, files):
         print("bitml: the keys are a model's: pay nothing to these scripts (docs/limits.md)")
 
 
+# Which word of a line of a deal file, or of secrets, is at fault; the others are the name's.
+AT_WORD = {'form': 0, 'value': 2, 'shared': 2, 'length': 2, 'hash': 2}
+
+
+def say_of_deal(answer, command, *files):
+    """Shows the line at which a file of a deal was refused, with a mark under the word."""
+    refused = re.match(r'(deal|signatures|secrets) refused line (\d+) (\w+)', answer)
+    if not refused:
+        return
+    kind, line, reason = refused.groups()
+    number = {'deal': 1, 'signatures': 3 if command == 'finish' else 2, 'secrets': 4}[kind]
+    with open(files[number], 'rb') as file:
+        text = file.read()
+    words = [m.start() for m in re.finditer(rb'[^ \t\r]+', text.split(b'\n')[int(line) - 1])]
+    at = 0 if kind == 'signatures' else AT_WORD.get(reason, 1)
+    before = sum(len(x) + 1 for x in text.split(b'\n')[:int(line) - 1])
+    show(files[number], text, before + words[min(at, len(words) - 1)])
+
+
 def main():
     answer, command, *files = sys.argv[1:]
     if command in ('plan', 'psbt', 'weigh') and not re.match(r'\w+ refused|contract \d+ (refused|no path)', answer):
@@ -46,6 +65,8 @@ def main():
         number = int(contract.group(1)) + (command != 'check')
     elif other:
         number = 0 if other.group(1) == 'run' else 2
+    elif command == 'deal':
+        return say_of_deal(answer, *files)
     elif re.match(r'psbt refused (\d)', answer):
         number = int(re.match(r'psbt refused (\d)', answer).group(1))
     else:

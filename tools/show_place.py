@@ -16,7 +16,7 @@ NAMES = {
     'PredicateSecret': '%s is no secret of this reveal',
 }
 # The verbs whose long words everybody may see, and those that have secrets. Elsewhere a long word with a digit may be one.
-PUBLIC, SECRET = ([b'commit'], [b'sign'], [b'append']), ([b'secret'], [b'post'])
+PUBLIC, SECRET = ([b'commit'], [b'sign'], [b'append'], [b'key'], [b'deposit'], [b'hash']), ([b'secret'], [b'post'])
 WIDTH = 100
 
 

@@ -29,6 +29,7 @@ use Rattle.spec_next.specs.OutlookText.{next_text}
 use Rattle.spec_next.specs.NextAnswer.{begins_judged, next_answer, next_texts, read_next}
 use Rattle.theory_next.specs.Candidates.{CanIsMeant, OffersAreSaid}
 use Rattle.theory_next.specs.FirstLines.{FirstLinesAreARun}
+use Rattle.theory_next.specs.FirstEvents.{FirstEventsGoThrough}
 use Rattle.theory_next.specs.FirstRun.{FirstRunIsARun}
 use Rattle.theory_next.specs.MetAlone.{MetAloneTheorem}
 use Rattle.theory_next.specs.Once.{CandidatesStandOnce}
@@ -49,6 +50,7 @@ pub record Theorems : Type 0 where
   pub alone : MetAloneTheorem
   pub lines : FirstLinesAreARun
   pub run : FirstRunIsARun
+  pub go : FirstEventsGoThrough
 
 -- ---- a contract that is taken is well-formed
 
@@ -151,6 +153,8 @@ module _ (t : Theorems) (hash : List ℕ → List ℕ) (bytes : HashesBytes hash
     told = ap (λ (p : Printed). p.text) (ap (next_texts hash) e ∙ ap begins_judged taken);
     filled = t.lines.filled advert;
     runs = λ strings room differ opens. t.run hash advert strings bytes (well_formed contract_file advert taken) room differ opens;
+    goes = λ strings room differ long opens.
+        t.go hash advert strings bytes (well_formed contract_file advert taken) room differ long opens;
   }
 
 shows_texts : Theorems → (hash : List ℕ → List ℕ) → HashesBytes hash → (o : Option (List Text)) → ShowsTexts hash o (read_next hash o)

@@ -21,6 +21,7 @@ use Rattle.spec_next.specs.FirstLines.{begin_text, first_lines, first_run, first
 use Rattle.spec_next.specs.OutlookText.{next_text}
 use Rattle.spec_next.specs.Prospects.{ruling}
 use Rattle.theory_next.specs.Candidates.{GoesThrough, IsSaid}
+use Rattle.theory_next.specs.FirstEvents.{AreLong, GoesThroughOrHalts}
 use Rattle.theory_next.specs.FirstRun.{first_setup, HasRoom, AreSecrets}
 use Rattle.theory_next.specs.MetAlone.{MetAlone}
 use Rattle.theory_next.specs.Once.{EachOnce}
@@ -56,6 +57,10 @@ pub record BeginsARun (hash : List ℕ → List ℕ) (advert : Advert) (text : L
   -- which is a run of which the theorems on runs speak, whatever the secrets are, if they differ
   pub runs : (strings : List (List ℕ)) → HasRoom advert → AreSecrets advert strings → opening_collision (first_setup hash advert strings) ≡ None
       → IsRun (first_setup hash advert strings) (first_events advert)
+  -- and if the secrets have the size of secrets, each of its events is done or accepted, unless it halts as such a run may
+  pub goes : (strings : List (List ℕ)) → HasRoom advert → AreSecrets advert strings → AreLong strings
+      → opening_collision (first_setup hash advert strings) ≡ None
+      → GoesThroughOrHalts (first_setup hash advert strings) (first_events advert)
 
 -- ---- files
 

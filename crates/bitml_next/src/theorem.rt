@@ -2,6 +2,7 @@
 
 ghost use Rattle.spec_tool.specs.Statements.{ValidRunTheorem};
 ghost use Rattle.theory_next.specs.Candidates.{CanIsMeant, OffersAreSaid};
+ghost use Rattle.theory_next.specs.FirstEvents.{FirstEventsGoThrough};
 ghost use Rattle.theory_next.specs.FirstLines.{FirstLinesAreARun};
 ghost use Rattle.theory_next.specs.FirstRun.{FirstRunIsARun};
 ghost use Rattle.theory_next.specs.MetAlone.{MetAloneTheorem};
@@ -11,8 +12,8 @@ ghost use Rattle.theory_next.specs.Wants.{WantsAreExactTheorem};
 ghost use Rattle.bitml_next.specs.Told.{TellsAll};
 
 use theory_next::{
-    can_is_meant, candidates_stand_once, first_lines_are_a_run, first_run_is_a_run, met_alone,
-    offers_are_said, ready_comes, wants_are_exact,
+    can_is_meant, candidates_stand_once, first_events_go_through, first_lines_are_a_run,
+    first_run_is_a_run, met_alone, offers_are_said, ready_comes, wants_are_exact,
 };
 use theory_tool::valid_runs;
 
@@ -27,6 +28,7 @@ fn by_theorems()
     requires alone { MetAloneTheorem }
     requires lines { FirstLinesAreARun }
     requires run { FirstRunIsARun }
+    requires go { FirstEventsGoThrough }
     ensures { TellsAll }
 {}
 
@@ -44,5 +46,6 @@ pub(crate) fn answers_tell_all()
     met_alone();
     first_lines_are_a_run();
     first_run_is_a_run();
+    first_events_go_through();
     by_theorems();
 }

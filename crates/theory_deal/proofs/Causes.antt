@@ -35,6 +35,7 @@ use Rattle.spec_deal.specs.Hashed.{deal_strings}
 use Rattle.spec_deal.specs.declared.entry.Shown.{Shown}
 use Rattle.spec_deal.specs.SecretFile.{SecretsRead, shows, refused, collided}
 use Rattle.spec_deal.specs.Setting.{deal_keys, deal_instance}
+use Rattle.theory_deal.proofs.InOrder.{in_order}
 use Rattle.theory_deal.specs.Causes.{deal_statuses, reads_deal, is_refused, is_deal_refused, DealCausesTheorem}
 
 -- what is answered of a deal that is taken: no status but these
@@ -217,5 +218,6 @@ deal_causes = record {
   unread = λ hash command reads. unread_by hash command (texts_read reads);
   contract_refused = λ hash command texts. (text_begins hash command texts).one;
   deal_refused = λ hash command texts. (text_begins hash command texts).thirteen;
+  in_order = in_order;
   others = λ hash command texts. (text_begins hash command texts).any;
 }

@@ -1,6 +1,7 @@
-mod Branches
+pub mod Branches
 mod Causes
 mod FinishedOpens
+mod InOrder
 mod Listed
 mod PlanOfRuns
 mod Planned
@@ -10,3 +11,4 @@ mod ReadSignatures
 mod Shapes
 mod Unsigned
 mod Whole
+mod WholeDeals

@@ -5,8 +5,6 @@ use Rattle.std.specs.Prelude.{Result, Ok, Err, nat_lt, ◌&&◌}
 use Rattle.std.specs.List.{list_all, list_any, find}
 use Rattle.std.specs.Str.{bytes_eq}
 use Rattle.spec_bitcoin.specs.Spelling.{stripped}
-use Rattle.spec_compiler.specs.Keyed.Keys.{Keys}
-use Rattle.spec_compiler.specs.Keyed.Instance.{Instance}
 use Rattle.spec_compiler.specs.Keyed.Statements.{is_short}
 use Rattle.spec_text.specs.Lines.{lines_of, words_of}
 use Rattle.spec_tool.specs.declared.psbt.PsbtInput.{PsbtInput}

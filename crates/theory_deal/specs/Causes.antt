@@ -1,18 +1,27 @@
 -- What is claimed of the statuses of the program for deals.
-use Rattle.std.specs.Prelude.{◌≡◌, ℕ, List, [], ◌∷◌, Bool, true, false, ◌&&◌, Option, Some, None, Result, Ok, Err, ◌↔◌, is_err, is_some}
+use Rattle.std.specs.Prelude.{◌≡◌, ℕ, List, [], ◌∷◌, Bool, true, false, if◌then◌else◌, ◌&&◌, Option, Some, None, Result, Ok, Err, ◌↔◌, is_err, is_some}
 use Rattle.std.specs.Option.{is_none}
 use Rattle.spec_data.specs.Lists.{has_number}
 use Rattle.spec_data.specs.Messages.{collision}
 use Rattle.spec_terms.specs.Advert.{Advert}
+use Rattle.spec_compiler.specs.Keyed.Keys.{Keys}
+use Rattle.spec_compiler.specs.Keyed.Instance.{Instance}
 use Rattle.spec_text.specs.Refusals.{Judged}
+use Rattle.spec_tool.specs.declared.which.Which.{Which}
+use Rattle.spec_tool.specs.Keyed.Listed.{Listed, listed_at}
 use Rattle.spec_tool.specs.Answers.{contract_in}
 use Rattle.spec_tool.specs.Reads.{Read, Text, text_at, texts_read}
 use Rattle.spec_deal.specs.declared.deal.Deal.{Deal}
+use Rattle.spec_deal.specs.declared.entry.Shown.{Shown}
 use Rattle.spec_deal.specs.declared.fault.DealFault.{DealFault}
-use Rattle.spec_deal.specs.Answers.{circular, deal_in, deal_text_answer, deal_answer}
+use Rattle.spec_deal.specs.declared.fault.SignatureFault.{SignatureFault}
+use Rattle.spec_deal.specs.declared.signed.Signed.{Signed}
+use Rattle.spec_deal.specs.Answers.{circular, deal_in, signatures_in, secrets_in, deal_text_answer, deal_answer}
 use Rattle.spec_deal.specs.Commands as commands
 use Rattle.spec_deal.specs.Commands.{DealCommand}
+use Rattle.spec_deal.specs.Finished.{finish_refusal}
 use Rattle.spec_deal.specs.Hashed.{deal_strings}
+use Rattle.spec_deal.specs.SecretFile.{SecretsRead, shows, refused, collided}
 use Rattle.spec_deal.specs.Setting.{deal_keys, deal_instance}
 
 -- the statuses that the texts of files are answered with, those of a refused contract and a refused deal before the others
@@ -42,6 +51,141 @@ abbrev pub is_deal_refused : (List ℕ → List ℕ) → Judged Advert → Text 
 is_deal_refused hash (Err why) text = false
 is_deal_refused hash (Ok advert) text = is_refused hash advert (deal_in advert text)
 
+-- ---- all causes in their order
+
+-- whether this is so of a deal that is taken as far as it is read
+abbrev pub if_read : (Keys → Instance → Bool) → Advert → Result Deal DealFault → Bool
+if_read test advert (Err fault) = false
+if_read test advert (Ok deal) = test (deal_keys deal) (deal_instance advert deal)
+
+-- and the contract, too
+abbrev pub if_taken : (Keys → Instance → Bool) → Judged Advert → Text → Bool
+if_taken test (Err why) text = false
+if_taken test (Ok advert) text = if_read test advert (deal_in advert text)
+
+abbrev pub is_unread : Judged Advert → Text → Bool
+is_unread (Err why) text = false
+is_unread (Ok advert) text = is_err (deal_in advert text)
+
+-- whether two strings of the compiled deal collide
+abbrev pub do_collide : (List ℕ → List ℕ) → Keys → Instance → Bool
+do_collide hash keys s = is_some (collision hash [] (deal_strings hash keys s))
+
+-- whether the deal makes one of its own deposits
+abbrev pub is_circular : (List ℕ → List ℕ) → Keys → Instance → Bool
+is_circular hash keys s = is_some (circular hash keys s)
+
+-- the transaction that a command names
+abbrev pub named_by : DealCommand → Option Which
+named_by (commands.keys contract) = None
+named_by (commands.plan contract deal) = None
+named_by (commands.psbts contract deal) = None
+named_by (commands.psbt contract deal which) = Some which
+named_by (commands.missing contract deal signatures) = None
+named_by (commands.held contract deal signatures) = None
+named_by (commands.finish contract deal which signatures) = Some which
+named_by (commands.finish_with contract deal which signatures secrets) = Some which
+
+-- whether the contract hasn't that transaction
+abbrev pub is_absent : (List ℕ → List ℕ) → Option Which → Keys → Instance → Bool
+is_absent hash None keys s = false
+is_absent hash (Some which) keys s = is_none (listed_at hash keys s which)
+
+-- whether a command reads a file of signatures, and whether one of secrets
+abbrev pub reads_signatures : DealCommand → Bool
+reads_signatures (commands.keys contract) = false
+reads_signatures (commands.plan contract deal) = false
+reads_signatures (commands.psbts contract deal) = false
+reads_signatures (commands.psbt contract deal which) = false
+reads_signatures (commands.missing contract deal signatures) = true
+reads_signatures (commands.held contract deal signatures) = true
+reads_signatures (commands.finish contract deal which signatures) = true
+reads_signatures (commands.finish_with contract deal which signatures secrets) = true
+
+abbrev pub reads_secrets : DealCommand → Bool
+reads_secrets (commands.keys contract) = false
+reads_secrets (commands.plan contract deal) = false
+reads_secrets (commands.psbts contract deal) = false
+reads_secrets (commands.psbt contract deal which) = false
+reads_secrets (commands.missing contract deal signatures) = false
+reads_secrets (commands.held contract deal signatures) = false
+reads_secrets (commands.finish contract deal which signatures) = false
+reads_secrets (commands.finish_with contract deal which signatures secrets) = true
+
+abbrev pub are_bad : SecretsRead → Bool
+are_bad (shows strings) = false
+are_bad (refused fault) = true
+are_bad (collided earlier later) = false
+
+abbrev pub are_clashing : SecretsRead → Bool
+are_clashing (shows strings) = false
+are_clashing (refused fault) = false
+are_clashing (collided earlier later) = true
+
+-- the signatures and the strings that there are
+abbrev pub given_of : Result (List Signed) SignatureFault → List Signed
+given_of (Ok given) = given
+given_of (Err fault) = []
+
+abbrev pub strings_of : SecretsRead → List Shown
+strings_of (shows strings) = strings
+strings_of (refused fault) = []
+strings_of (collided earlier later) = []
+
+abbrev pub strings_by : (List ℕ → List ℕ) → DealCommand → Text → Keys → Instance → List Shown
+strings_by hash command text keys s = if reads_secrets command then strings_of (secrets_in hash keys s text) else []
+
+-- whether something is missing for the transaction that is to be finished
+abbrev pub is_unfinished : (List ℕ → List ℕ) → Keys → Instance → List Signed → List Shown → Option Listed → Bool
+is_unfinished hash keys s given strings None = false
+is_unfinished hash keys s given strings (Some l) = is_some (finish_refusal hash keys s given strings l)
+
+abbrev pub to_finish : (List ℕ → List ℕ) → DealCommand → Keys → Instance → Option Listed
+to_finish hash (commands.keys contract) keys s = None
+to_finish hash (commands.plan contract deal) keys s = None
+to_finish hash (commands.psbts contract deal) keys s = None
+to_finish hash (commands.psbt contract deal which) keys s = None
+to_finish hash (commands.missing contract deal signatures) keys s = None
+to_finish hash (commands.held contract deal signatures) keys s = None
+to_finish hash (commands.finish contract deal which signatures) keys s = listed_at hash keys s which
+to_finish hash (commands.finish_with contract deal which signatures secrets) keys s = listed_at hash keys s which
+
+-- whether it is so, and the status that is answered for it
+abbrev pub Cause : Type 0
+Cause = Bool × ℕ
+
+-- those of a deal that is taken: no such path, a bad file of signatures, a bad file of secrets, whose strings collide, something missing
+abbrev pub later_causes : (List ℕ → List ℕ) → DealCommand → List Text → ((Keys → Instance → Bool) → Bool) → List Cause
+later_causes hash command texts so =
+    (so (is_absent hash (named_by command)), 16)
+    ∷ (so (λ keys s. reads_signatures command && is_err (signatures_in hash keys s (text_at texts 2))), 14)
+    ∷ (so (λ keys s. reads_secrets command && are_bad (secrets_in hash keys s (text_at texts 3))), 15)
+    ∷ (so (λ keys s. reads_secrets command && are_clashing (secrets_in hash keys s (text_at texts 3))), 8)
+    ∷ (
+      so (λ keys s.
+          is_unfinished hash keys s (given_of (signatures_in hash keys s (text_at texts 2))) (strings_by hash command (text_at texts 3) keys s)
+          (to_finish hash command keys s)),
+      16,
+    )
+    ∷ []
+
+-- of a deal: strings that collide, and a deposit that the deal itself makes
+abbrev pub deal_causes : (List ℕ → List ℕ) → DealCommand → List Text → ((Keys → Instance → Bool) → Bool) → List Cause
+deal_causes hash command texts so = (so (do_collide hash), 8) ∷ (so (is_circular hash), 13) ∷ later_causes hash command texts so
+
+-- all of them: a refused contract, a refused deal file, and those of the deal
+abbrev pub causes : (List ℕ → List ℕ) → DealCommand → List Text → List Cause
+causes hash command texts =
+    (is_err (contract_in (text_at texts 0)), 1)
+    ∷ (reads_deal command && is_unread (contract_in (text_at texts 0)) (text_at texts 1), 13)
+    ∷ deal_causes hash command texts
+    (λ test. reads_deal command && if_taken test (contract_in (text_at texts 0)) (text_at texts 1))
+
+-- the status of the first that is so; 0 where none is
+abbrev pub first_status : List Cause → ℕ
+first_status [] = 0
+first_status (c ∷ cs) = if c.0 then c.1 else first_status cs
+
 pub record DealCausesTheorem : Type 0 where
   -- 2 is answered exactly where the words are no command
   pub usage : (hash : List ℕ → List ℕ) (command : Option DealCommand) (reads : List Read)
@@ -56,6 +200,9 @@ pub record DealCausesTheorem : Type 0 where
   pub deal_refused : (hash : List ℕ → List ℕ) (command : DealCommand) (texts : List Text)
       → ((deal_text_answer hash command texts).status ≡ 13)
       ↔ ((reads_deal command && is_deal_refused hash (contract_in (text_at texts 0)) (text_at texts 1)) ≡ true)
-  -- the others by the texts
+  -- the status is that of the first cause in their order
+  pub in_order : (hash : List ℕ → List ℕ) (command : DealCommand) (texts : List Text)
+      → (deal_text_answer hash command texts).status ≡ first_status (causes hash command texts)
+  -- no other is answered to the texts
   pub others : (hash : List ℕ → List ℕ) (command : DealCommand) (texts : List Text)
       → has_number (deal_text_answer hash command texts).status deal_statuses ≡ true

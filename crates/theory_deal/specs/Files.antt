@@ -1,9 +1,10 @@
--- What is claimed of the files of a deal that are taken: keys and hashes have their sizes, signatures their shape, and secrets their
--- hashes.
-use Rattle.std.specs.Prelude.{◌≡◌, ℕ, List, true, Ok}
+-- What is claimed of the files of a deal that are taken: it gives all that is needed, keys and hashes have their sizes, signatures their
+-- shape, and secrets their hashes.
+use Rattle.std.specs.Prelude.{◌≡◌, ℕ, List, map, true, Ok}
 use Rattle.std.specs.List.{list_all}
 use Rattle.spec_terms.specs.Advert.{Advert}
 use Rattle.spec_terms.specs.Faults.{IsWellFormed}
+use Rattle.spec_terms.specs.Precondition.{names_of}
 use Rattle.spec_compiler.specs.Keyed.Keys.{Keys}
 use Rattle.spec_compiler.specs.Keyed.Instance.{Instance}
 use Rattle.spec_compiler.specs.Keyed.Statements.{AreKeys}
@@ -12,10 +13,20 @@ use Rattle.spec_deal.specs.declared.signed.Signed.{Signed}
 use Rattle.spec_deal.specs.DealFile.{read_deal}
 use Rattle.spec_deal.specs.declared.entry.Shown.{Shown}
 use Rattle.spec_deal.specs.SecretFile.{shows, read_secrets}
+use Rattle.spec_deal.specs.Needed.{needed_labels, needed_deposits, needed_secrets}
 use Rattle.spec_deal.specs.Setting.{deal_keys, deal_instance}
 use Rattle.spec_deal.specs.Shape.{is_strict}
 use Rattle.spec_deal.specs.SignatureFile.{read_signatures}
 use Rattle.theory_deal.specs.Finished.{IsSettled, are_short, do_fit}
+
+-- a deal has a key for each label, a place for each deposit and a hash for each secret that the contract needs, in order
+pub record GivesAll (advert : Advert) (deal : Deal) : Type 0 where
+  pub labels : map (λ p. p.0) deal.keys ≡ needed_labels advert
+  pub deposits : names_of deal.deposits ≡ needed_deposits advert
+  pub secrets : names_of deal.hashes ≡ needed_secrets advert
+
+abbrev pub DealsGiveAll : Type 0
+DealsGiveAll = (advert : Advert) (text : List ℕ) (deal : Deal) → read_deal advert text ≡ Ok deal → GivesAll advert deal
 
 -- the keys of a deal have 33 bytes, and its hashes 32
 pub record IsSized (hash : List ℕ → List ℕ) (advert : Advert) (deal : Deal) : Type 0 where

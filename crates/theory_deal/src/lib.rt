@@ -2,7 +2,7 @@
 #![tactic(auto)]
 
 ghost use Rattle.theory_deal.specs.Causes.{DealCausesTheorem};
-ghost use Rattle.theory_deal.specs.Files.{DealsAreSized, SecretsFit, SignaturesAreShaped};
+ghost use Rattle.theory_deal.specs.Files.{DealsAreSized, DealsGiveAll, SecretsFit, SignaturesAreShaped};
 ghost use Rattle.theory_deal.specs.Finished.{FinishedOpens, FinishedIsPlanned, FalseWithoutOne};
 ghost use Rattle.theory_deal.specs.Plan.{PlanOfRuns};
 ghost use Rattle.theory_deal.specs.Shapes.{ShapeExactly, ShapeIsShort};
@@ -59,6 +59,11 @@ pub fn secrets_fit()
     ensures { SecretsFit }
 {}
 
+/// A deal that is taken gives all that its contract needs, in order.
+pub fn deals_give_all()
+    ensures { DealsGiveAll }
+{}
+
 /// The keys and hashes of a deal that is taken have their sizes.
 pub fn deals_are_sized()
     ensures { DealsAreSized }
@@ -74,7 +79,7 @@ pub fn finish_theorem()
     ensures { FinishTheorem }
 {}
 
-/// Each status of the program for deals comes by its cause.
+/// Each status of the program for deals comes by its cause, the first of them in their order.
 pub fn deal_statuses_have_causes()
     ensures { DealCausesTheorem }
 {}

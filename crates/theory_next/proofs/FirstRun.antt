@@ -24,7 +24,7 @@ use Rattle.theory_next.proofs.Apart.{Apart, among_in, apart_added}
 
 -- ---- names
 
-from_among : (p : List ℕ) (ps : List (List ℕ)) → is_among p ps ≡ true → Is_in p ps
+pub from_among : (p : List ℕ) (ps : List (List ℕ)) → is_among p ps ≡ true → Is_in p ps
 from_among p [] h = cc
 from_among p (q ∷ ps) h = elim (or_cases (bytes_eq q p) (is_among p ps) h) [
   | inl a ↦ inl (sym (bytes-true q p a))

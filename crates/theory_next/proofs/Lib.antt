@@ -8,3 +8,14 @@ pub mod Apart
 pub mod Once
 pub mod FirstLines
 pub mod FirstRun
+pub mod Onward
+pub mod FirstStage
+pub mod FirstFire
+pub mod FirstNeeds
+pub mod FirstQuiet
+pub mod FirstSigned
+pub mod FirstSecrets
+pub mod FirstCommits
+pub mod FirstAdvert
+pub mod FirstHeld
+pub mod FirstEvents

@@ -23,7 +23,7 @@ abbrev with_one : List Passed → Passed → Progress
 with_one ps p = record { passed = ps ++ p ∷ []; halt = None }
 
 -- nothing is guessed where nothing is posted
-none_guessed : (posted : List (List ℕ)) (allowed : Option (List ℕ × List ℕ)) (xs : List HeldSecret)
+pub none_guessed : (posted : List (List ℕ)) (allowed : Option (List ℕ × List ℕ)) (xs : List HeldSecret)
     → find (is_guessed posted [] allowed) xs ≡ None
 none_guessed posted allowed [] = refl
 none_guessed posted allowed (x ∷ xs) = none_guessed posted allowed xs

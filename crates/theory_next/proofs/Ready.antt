@@ -51,14 +51,14 @@ met_parts (x ∷ xs) ys h =
     (and_from (x.0) (met xs) p.0 q.0, q.1)
 
 -- where all premises are true, none fails
-no_premise : (n : ℕ) (bs : List Bool) → AllTrue bs → first_false n bs ≡ 0
+pub no_premise : (n : ℕ) (bs : List Bool) → AllTrue bs → first_false n bs ≡ 0
 no_premise n [] h = refl
 no_premise n (b ∷ bs) h = ap (λ c. if c then first_false (n + 1) bs else n) h.0 ∙ no_premise (n + 1) bs h.1
 
 -- ---- offers
 
 -- an enabled contract step is offered, with its event
-offered : (g : Configuration) (step : Step) (o : Offer) → is_contract_step step ≡ true → fails g step ≡ 0 → offers_of step ≡ o ∷ []
+pub offered : (g : Configuration) (step : Step) (o : Offer) → is_contract_step step ≡ true → fails g step ≡ 0 → offers_of step ≡ o ∷ []
     → Contains (offers g) o
 offered g step o kind e one =
     contains_from_in (offers g) o

@@ -5,3 +5,4 @@ pub mod MetAlone
 pub mod Once
 pub mod FirstLines
 pub mod FirstRun
+pub mod FirstEvents

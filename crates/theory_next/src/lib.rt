@@ -2,6 +2,7 @@
 #![tactic(auto)]
 
 ghost use Rattle.theory_next.specs.Candidates.{CanIsMeant, OffersAreCandidates, OffersAreSaid};
+ghost use Rattle.theory_next.specs.FirstEvents.{FirstEventsGoThrough};
 ghost use Rattle.theory_next.specs.FirstLines.{FirstLinesAreARun};
 ghost use Rattle.theory_next.specs.FirstRun.{FirstRunIsARun};
 ghost use Rattle.theory_next.specs.MetAlone.{MetAloneTheorem};
@@ -56,4 +57,10 @@ pub fn first_lines_are_a_run()
 /// run file has room for the parties, secrets and deposits of the contract.
 pub fn first_run_is_a_run()
     ensures { FirstRunIsARun }
+{}
+
+/// And each of its events is done or accepted, if the secrets have the size of secrets, unless the run halts: where a
+/// commitment or the beginning collides, or where the beginning shows a secret that is what a deposit is spent with.
+pub fn first_events_go_through()
+    ensures { FirstEventsGoThrough }
 {}

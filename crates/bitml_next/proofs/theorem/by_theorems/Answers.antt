@@ -12,4 +12,5 @@ returns c = tells_all (record {
   alone = c.requires.alone;
   lines = c.requires.lines;
   run = c.requires.run;
+  go = c.requires.go;
 })

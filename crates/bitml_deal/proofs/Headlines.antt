@@ -1,0 +1,151 @@
+-- What a call promises, by the theorems on deals.
+use Rattle.std.proofs.Common.{◌≡◌, ℕ, Bool, true, false, ◌==◌, cond, List, ◌∷◌, length, Option, Some, None, refl, sym, subst, ◌∙◌}
+use Rattle.std.proofs.Common.{inl, inr, arith}
+use Rattle.std.specs.Prelude.{Ok}
+use Rattle.std.proofs.lemmas.Bool.{false≢true}
+use Rattle.spec_data.specs.Lists.{has_number}
+use Rattle.spec_terms.specs.Advert.{Advert}
+use Rattle.spec_text.specs.Refusals.{contract_of}
+use Rattle.spec_tool.specs.Answers.{ended}
+use Rattle.spec_tool.specs.Commands.{Printed}
+use Rattle.spec_tool.specs.Reads.{Read, Text, texts_read}
+use Rattle.spec_deal.specs.declared.deal.Deal.{Deal}
+use Rattle.spec_deal.specs.Answers.{deal_text_answer, deal_read_answer, deal_answer}
+use Rattle.spec_deal.specs.Commands.{DealCommand}
+use Rattle.spec_deal.specs.DealFile.{read_deal}
+use Rattle.spec_deal.specs.Setting.{deal_keys, deal_instance}
+use Rattle.theory_deal.specs.Causes.{deal_statuses, DealCausesTheorem}
+use Rattle.theory_deal.specs.Files.{DealsGiveAll, DealsAreSized}
+use Rattle.theory_deal.specs.Finished.{FalseWithoutOne}
+use Rattle.theory_deal.specs.Plan.{PlanOfRuns}
+use Rattle.theory_deal.specs.Signatures.{MissingAndHeld, MayStart}
+use Rattle.theory_deal.specs.Whole.{FinishesExactly, FinishTheorem}
+use Rattle.bitml_headline.specs.Headline.{Around}
+use Rattle.bitml_deal.specs.Dealt.{Answers, GivesUp, AnswersOrGivesUp, CausedByTexts, Caused, Keeps, KeepsTaken}
+use Rattle.bitml_deal.specs.Dealt.{KeepsTexts, Headline}
+use Rattle.bitml_deal.proofs.WellFormed.{well_formed}
+
+-- the theorems that are cited
+pub record Theorems : Type 0 where
+  pub causes : DealCausesTheorem
+  pub gives_all : DealsGiveAll
+  pub sized : DealsAreSized
+  pub planned : PlanOfRuns
+  pub lists : MissingAndHeld
+  pub starts : MayStart
+  pub exactly : FinishesExactly
+  pub finished : FinishTheorem
+  pub no_other_way : FalseWithoutOne
+
+-- ---- the status of an answer
+
+-- the statuses of answers
+abbrev known : List ℕ
+known = 2 ∷ 3 ∷ deal_statuses
+
+ended_without : (empty : Bool) (status n : ℕ) → (n ≡ 4 → ⊥) → n ≡ cond empty status 4 → status ≡ n
+ended_without true status n other e = sym e
+ended_without false status n other e = absurd (other e)
+
+-- where a call ends with another status than 4, it is that of the answer
+ended_with : (printed : Printed) (went : Bool) (n : ℕ) → (n ≡ 4 → ⊥) → n ≡ ended printed went → printed.status ≡ n
+ended_with printed true n other e = sym e
+ended_with printed false n other e = ended_without (length printed.text == 0) printed.status n other e
+
+-- a status that is none of these isn't answered
+never : (status n : ℕ) → has_number n known ≡ false → has_number status known ≡ true → status ≡ n → ⊥
+never status n none there e = false≢true (sym none ∙ subst (λ (m : ℕ). has_number m known ≡ true) e there)
+
+unwritten_by : (printed : Printed) (went : Bool) → has_number printed.status known ≡ true → 4 ≡ ended printed went → went ≡ false
+unwritten_by printed true there e = absurd (never printed.status 4 refl there (sym e))
+unwritten_by printed false there e = refl
+
+five_by : (printed : Printed) (went : Bool) → has_number printed.status known ≡ true → 5 ≡ ended printed went → ⊥
+five_by printed went there e = never printed.status 5 refl there (ended_with printed went 5 (λ f. absurd (cc)) e)
+
+or_known : (n : ℕ) → has_number n deal_statuses ≡ true → has_number n known ≡ true
+or_known n h = grind (arith, h)
+
+module _ (t : Theorems) (hash : List ℕ → List ℕ) where
+  read_known : (command : DealCommand) (o : Option (List Text)) → has_number (deal_read_answer hash command o).status known ≡ true
+  read_known command None = refl
+  read_known command (Some texts) = or_known (deal_text_answer hash command texts).status (t.causes.others hash command texts)
+
+  answer_known : (command : Option DealCommand) (reads : List Read) → has_number (deal_answer hash command reads).status known ≡ true
+  answer_known None reads = refl
+  answer_known (Some command) reads = read_known command (texts_read reads)
+
+  -- ---- causes
+
+  caused_by : (command : DealCommand) (o : Option (List Text)) → CausedByTexts hash command o (deal_read_answer hash command o)
+  caused_by command None = (refl, refl)
+  caused_by command (Some texts) = record {
+    contract_refused = t.causes.contract_refused hash command texts;
+    deal_refused = t.causes.deal_refused hash command texts;
+    in_order = t.causes.in_order hash command texts;
+  }
+
+  caused : (command : Option DealCommand) (reads : List Read) → Caused hash command reads (deal_answer hash command reads)
+  caused None reads = refl
+  caused (Some command) reads = caused_by command (texts_read reads)
+
+  -- ---- a deal that is taken
+
+  keeps : (contract_text deal_text : List ℕ) (advert : Advert) (deal : Deal) → contract_of contract_text ≡ Ok advert
+      → read_deal advert deal_text ≡ Ok deal → Keeps hash advert deal
+  keeps contract_text deal_text advert deal c d =
+      let keys = deal_keys deal in
+      let s = deal_instance advert deal in
+      record {
+        gives_all = t.gives_all advert deal_text deal d;
+        sized = t.sized hash advert deal_text deal d;
+        planned = t.planned hash keys s;
+        lists = λ given slot. t.lists hash keys s given slot;
+        starts = λ given. t.starts hash keys s given;
+        finishes = λ file given strings which l read shown there. record {
+          exactly = t.exactly hash keys s given strings l;
+          finished = λ none.
+              t.finished hash advert deal_text deal file given strings which l (well_formed contract_text advert c) d read shown there none;
+        };
+        no_other_way = λ valid. t.no_other_way hash keys valid;
+      }
+
+  keeps_taken : (texts : List Text) → KeepsTaken hash texts
+  keeps_taken texts contract_text deal_text advert deal first second c d = keeps contract_text deal_text advert deal c d
+
+  keeps_texts : (o : Option (List Text)) → KeepsTexts hash o
+  keeps_texts None = tt
+  keeps_texts (Some texts) = keeps_taken texts
+
+  -- ---- the whole
+
+  unread_is : (command : Option DealCommand) (reads : List Read) → (deal_answer hash command reads).status ≡ 3 → texts_read reads ≡ None
+  unread_is None reads e = absurd (cc)
+  unread_is (Some c) reads e = (t.causes.unread hash c reads).0 e
+
+  module _ (command : Option DealCommand) (before now : Around) where
+    of_answer : (status : ℕ) → Answers hash command before now status → Headline hash command before now status
+    of_answer status a =
+        let printed = deal_answer hash command a.reads in
+        record {
+          serves = inl (record { answers = a; caused = caused command a.reads; keeps = keeps_texts (texts_read a.reads) });
+          usage = λ e. (t.causes.usage hash command a.reads).0 (ended_with printed a.ends.went 2 (λ f. absurd (cc)) (sym e ∙ a.ends.status_is));
+          unread = λ e.
+              a.unread (unread_is command a.reads (ended_with printed a.ends.went 3 (λ f. absurd (cc)) (sym e ∙ a.ends.status_is)));
+          unwritten = λ e.
+              a.ends.unwritten (unwritten_by printed a.ends.went (answer_known command a.reads) (sym e ∙ a.ends.status_is));
+          memory = λ e. absurd (five_by printed a.ends.went (answer_known command a.reads) (sym e ∙ a.ends.status_is));
+        }
+
+    of_none : (status : ℕ) → GivesUp command before now status → Headline hash command before now status
+    of_none status g = record {
+      serves = inr g;
+      usage = λ e. absurd (let f = g.status_is in cc);
+      unread = λ e. absurd (let f = g.status_is in cc);
+      unwritten = λ e. absurd (let f = g.status_is in cc);
+      memory = λ e. g.some;
+    }
+
+    pub headline_of : (status : ℕ) → AnswersOrGivesUp hash command before now status → Headline hash command before now status
+    headline_of status (inl a) = of_answer status a
+    headline_of status (inr g) = of_none status g

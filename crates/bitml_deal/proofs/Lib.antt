@@ -1,0 +1,6 @@
+mod Ending
+mod FinishLemmas
+mod Headlines
+mod NamedLemmas
+mod OpeningLemmas
+mod WellFormed

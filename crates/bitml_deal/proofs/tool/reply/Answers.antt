@@ -1,0 +1,31 @@
+use Rattle.std.proofs.Common.{map, ap, ◌∙◌}
+use Rattle.bitml_command.specs.Seen.{asked}
+use Rattle.bitml_headline.proofs.Ending.{wanted_after}
+use Rattle.deal_command.specs.Seen.{command}
+use Rattle.bitml_deal.proofs.Ending.{replied}
+use Rattle.bitml_deal.proofs.tool.reply.Goals as goal
+
+pub returns-clause-reply : goal.returns-clause-reply
+returns-clause-reply g c =
+    replied (g.H.Hash32.digest_of c.args.hash) (command c.args.call.now)
+    (record {
+      told = g.F.Files.told c.args.files.now;
+      log = g.F.Files.log c.args.files.now;
+      taken = g.F.Files.taken c.args.files.now;
+      faults = g.F.Files.faults c.args.files.now;
+    })
+    (record {
+      told = g.F.Files.told c.read_all.new.files;
+      log = g.F.Files.log c.read_all.new.files;
+      taken = g.F.Files.taken c.read_all.new.files;
+      faults = g.F.Files.faults c.read_all.new.files;
+    })
+    (map asked c.as_slice.result.now) c.in_ok-reading.reading c.reply_to.result
+    (ap (map asked) c.as_slice.ensures.value ∙ c.in_ok-list.ensures) c.in_ok-reading.ensures.reads c.in_ok-reading.ensures.logged
+    c.in_ok-reading.ensures.rose c.reply_to.ensures
+
+pub returns-clause-wanted : goal.returns-clause-wanted
+returns-clause-wanted g c =
+    wanted_after c.reply_to.result (g.F.Files.log c.args.files.now) (g.F.Files.log c.read_all.new.files)
+    (g.F.Files.taken c.args.files.now) (g.F.Files.taken c.read_all.new.files) (map asked c.as_slice.result.now) _ _
+    (ap (map asked) c.as_slice.ensures.value ∙ c.in_ok-list.ensures) c.in_ok-reading.ensures.logged

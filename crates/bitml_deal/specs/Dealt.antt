@@ -1,0 +1,146 @@
+-- What the program for deals promises, from its words to its status.
+use Rattle.std.specs.Prelude.{◌≡◌, ℕ, List, [], Bool, true, ◌⊎◌, ◌↔◌, ◌&&◌, Option, Some, None, is_some, is_err, Ok}
+use Rattle.spec_terms.specs.Advert.{Advert}
+use Rattle.spec_text.specs.Refusals.{contract_of}
+use Rattle.spec_tool.specs.Answers.{contract_in}
+use Rattle.spec_tool.specs.Commands.{Printed}
+use Rattle.spec_tool.specs.declared.which.Which.{Which}
+use Rattle.spec_tool.specs.Keyed.Listed.{Listed, listed_at}
+use Rattle.spec_tool.specs.Reads.{Asked, Read, Text, text_at, texts_read}
+use Rattle.spec_deal.specs.declared.deal.Deal.{Deal}
+use Rattle.spec_deal.specs.declared.entry.Shown.{Shown}
+use Rattle.spec_deal.specs.declared.signed.Signed.{Signed}
+use Rattle.spec_deal.specs.Answers.{deal_answer, deal_reads}
+use Rattle.spec_deal.specs.Commands.{DealCommand, deal_files}
+use Rattle.spec_deal.specs.DealFile.{read_deal}
+use Rattle.spec_deal.specs.Finished.{finish_refusal}
+use Rattle.spec_deal.specs.Setting.{deal_keys, deal_instance}
+use Rattle.spec_deal.specs.SignatureFile.{read_signatures}
+use Rattle.spec_deal.specs.Slots.{Slot}
+use Rattle.theory_deal.specs.Causes.{reads_deal, is_deal_refused, causes, first_status}
+use Rattle.theory_deal.specs.Files.{GivesAll, IsSized}
+use Rattle.theory_deal.specs.Finished.{NoOtherWay}
+use Rattle.theory_deal.specs.Plan.{IsPlanOfRuns}
+use Rattle.theory_deal.specs.Signatures.{ListsExactly, StartsExactly}
+use Rattle.theory_deal.specs.Whole.{AreRead, IsComplete, IsFinished}
+use Rattle.bm_io.specs.Counts.{RoseBy}
+use Rattle.bitml_command.specs.Files.{Tells, AsksFront}
+use Rattle.bitml_command.specs.Logs.{Logs, LogsFront}
+use Rattle.bitml_headline.specs.Headline.{Around, Ends}
+
+-- the files that a command asks for; words that are none ask for no file
+abbrev pub asked_by : Option DealCommand → List Asked
+asked_by None = []
+asked_by (Some command) = deal_files command
+
+-- ---- answers
+
+-- The files that the words name are read in order, up to the first read that fails, and no other: these reads are the new entries of
+-- the log. What is written is the defined answer to the reads.
+pub record Answers (hash : List ℕ → List ℕ) (command : Option DealCommand) (before now : Around) (status : ℕ) : Type 0 where
+  pub reads : List Read
+  pub made : deal_reads command reads ≡ true
+  pub logged : Logs before.log now.log before.taken now.taken (asked_by command) reads
+  -- where files tell their content, it fixes the reads, and which names were asked for
+  pub told : Tells before.told now.told (asked_by command) reads
+  -- a read fails only where the count of faults rose
+  pub unread : texts_read reads ≡ None → RoseBy 1 before.read_faults now.read_faults
+  pub ends : Ends (deal_answer hash command reads) before.written now.written before.write_faults now.write_faults status
+
+-- Memory was wanting: nothing is written, the status is 5, and at most a front of the files was asked for. Of words that are no
+-- command no memory is asked.
+pub record GivesUp (command : Option DealCommand) (before now : Around) (status : ℕ) : Type 0 where
+  pub some : is_some command ≡ true
+  pub status_is : status ≡ 5
+  pub written : now.written ≡ before.written
+  pub logged : LogsFront before.log now.log (asked_by command)
+  pub told : AsksFront before.told now.told (asked_by command)
+
+-- the same, or want of memory
+abbrev pub AnswersOrGivesUp : (List ℕ → List ℕ) → Option DealCommand → Around → Around → ℕ → Type 0
+AnswersOrGivesUp hash command before now status = Answers hash command before now status ⊎ GivesUp command before now status
+
+-- ---- causes
+
+-- each status of a command's answer to the texts of its files comes exactly by its cause
+pub record HasCauses (hash : List ℕ → List ℕ) (command : DealCommand) (texts : List Text) (status : ℕ) : Type 0 where
+  -- the contract is refused
+  pub contract_refused : (status ≡ 1) ↔ (is_err (contract_in (text_at texts 0)) ≡ true)
+  -- the deal file is refused, or it gives a deposit that the deal itself makes
+  pub deal_refused : (status ≡ 13)
+      ↔ ((reads_deal command && is_deal_refused hash (contract_in (text_at texts 0)) (text_at texts 1)) ≡ true)
+  -- the status is that of the first cause in their order, and 0 where there is none
+  pub in_order : status ≡ first_status (causes hash command texts)
+
+-- of what was read; a read that failed is answered by 3 and nothing
+abbrev pub CausedByTexts : (List ℕ → List ℕ) → DealCommand → Option (List Text) → Printed → Type 0
+CausedByTexts hash command None printed = (printed.status ≡ 3) × (printed.text ≡ [])
+CausedByTexts hash command (Some texts) printed = HasCauses hash command texts printed.status
+
+-- of reads; words that are no command are answered by 2
+abbrev pub Caused : (List ℕ → List ℕ) → Option DealCommand → List Read → Printed → Type 0
+Caused hash None reads printed = printed.status ≡ 2
+Caused hash (Some command) reads printed = CausedByTexts hash command (texts_read reads) printed
+
+-- ---- what is known of a deal that is taken
+
+-- what `finish` prints of these signatures and secrets: it refuses exactly where something is missing, and its transaction has witnesses
+-- that make all its scripts true
+pub record Finishes (hash : List ℕ → List ℕ) (advert : Advert) (deal : Deal) (given : List Signed) (strings : List Shown) (l : Listed)
+    : Type 0 where
+  pub exactly : (finish_refusal hash (deal_keys deal) (deal_instance advert deal) given strings l ≡ None)
+      ↔ IsComplete hash (deal_keys deal) (deal_instance advert deal) given strings l
+  pub finished : finish_refusal hash (deal_keys deal) (deal_instance advert deal) given strings l ≡ None
+      → IsFinished hash (deal_keys deal) (deal_instance advert deal) given strings l
+
+-- of files that are taken and a transaction that there is
+abbrev pub FinishesTaken : (List ℕ → List ℕ) → Advert → Deal → Type 0
+FinishesTaken hash advert deal =
+    (file : List ℕ) (given : List Signed) (strings : List Shown) (which : Which) (l : Listed)
+    → read_signatures hash (deal_keys deal) (deal_instance advert deal) file ≡ Ok given
+    → AreRead hash (deal_keys deal) (deal_instance advert deal) strings
+    → listed_at hash (deal_keys deal) (deal_instance advert deal) which ≡ Some l
+    → Finishes hash advert deal given strings l
+
+-- the theorems on deals, for this one
+pub record Keeps (hash : List ℕ → List ℕ) (advert : Advert) (deal : Deal) : Type 0 where
+  pub gives_all : GivesAll advert deal
+  pub sized : IsSized hash advert deal
+  pub planned : IsPlanOfRuns hash (deal_keys deal) (deal_instance advert deal)
+  pub lists : (given : List Signed) (slot : Slot) → ListsExactly hash (deal_keys deal) (deal_instance advert deal) given slot
+  pub starts : (given : List Signed) → StartsExactly hash (deal_keys deal) (deal_instance advert deal) given
+  pub finishes : FinishesTaken hash advert deal
+  pub no_other_way : (valid : List ℕ → List ℕ → Bool) → NoOtherWay hash (deal_keys deal) valid
+
+-- where a contract and its deal are taken
+abbrev pub KeepsTaken : (List ℕ → List ℕ) → List Text → Type 0
+KeepsTaken hash texts =
+    (contract_text deal_text : List ℕ) (advert : Advert) (deal : Deal)
+    → text_at texts 0 ≡ Some contract_text → text_at texts 1 ≡ Some deal_text
+    → contract_of contract_text ≡ Ok advert → read_deal advert deal_text ≡ Ok deal → Keeps hash advert deal
+
+abbrev pub KeepsTexts : (List ℕ → List ℕ) → Option (List Text) → Type 0
+KeepsTexts hash None = Unit {0}
+KeepsTexts hash (Some texts) = KeepsTaken hash texts
+
+-- ---- the headline
+
+-- an answer with what is known of it
+pub record Serves (hash : List ℕ → List ℕ) (command : Option DealCommand) (before now : Around) (status : ℕ) : Type 0 where
+  pub answers : Answers hash command before now status
+  -- the answer's status comes exactly by its cause
+  pub caused : Caused hash command answers.reads (deal_answer hash command answers.reads)
+  -- what it shows of a deal that is taken is as the theorems say
+  pub keeps : KeepsTexts hash (texts_read answers.reads)
+
+-- what a call with this command does to what stands around it, and its status
+pub record Headline (hash : List ℕ → List ℕ) (command : Option DealCommand) (before now : Around) (status : ℕ) : Type 0 where
+  pub serves : Serves hash command before now status ⊎ GivesUp command before now status
+  -- the usage answers nothing but words that are no command
+  pub usage : status ≡ 2 → command ≡ None
+  -- a fault of the files is answered only where their count rose
+  pub unread : status ≡ 3 → RoseBy 1 before.read_faults now.read_faults
+  -- a fault of the sink is answered only where its count rose
+  pub unwritten : status ≡ 4 → RoseBy 1 before.write_faults now.write_faults
+  -- memory is never wanting where the words are no command
+  pub memory : status ≡ 5 → is_some command ≡ true

@@ -1,0 +1,54 @@
+-- What is answered of the further files of a command, once its deal is compiled.
+use Rattle.std.specs.Prelude.{◌≡◌, ℕ, List, Some, None, Result, Err}
+use Rattle.spec_tool.specs.Answers.{unread}
+use Rattle.spec_tool.specs.Commands.{Printed, prints}
+use Rattle.spec_tool.specs.PsbtText.{psbt_line}
+use Rattle.spec_tool.specs.Reads.{Text, text_at}
+use Rattle.spec_deal.specs.declared.entry.Shown.{Shown as Told}
+use Rattle.spec_deal.specs.declared.fault.SignatureFault.{SignatureFault}
+use Rattle.spec_deal.specs.declared.fault.SignatureFault.TheVariants as signature_faults
+use Rattle.spec_deal.specs.declared.signed.Signed.{Signed}
+use Rattle.spec_deal.specs.declared.transaction.Transaction.{Transaction}
+use Rattle.spec_deal.specs.Answers.{of_transaction, of_signatures, with_secrets, finish_answer, finish_with_answer}
+use Rattle.spec_deal.specs.Commands as commands
+use Rattle.spec_deal.specs.Commands.{DealCommand}
+use Rattle.spec_deal.specs.DealText.{plan_text, psbts_text, unsigned_psbt, missing_text, held_text}
+use Rattle.spec_deal.specs.RefusedText.{finish_refused_line}
+use Rattle.spec_deal.specs.SecretFile.{SecretsRead, shows}
+use Rattle.spec_deal.specs.SignatureFile.{read_given}
+use Rattle.bitml_command.specs.Seen.{printed}
+use Rattle.deal_finish.specs.declared.error.FinishError.{FinishError}
+use Rattle.deal_finish.specs.declared.error.FinishError.TheVariants as finishes
+use Rattle.bitml_deal.specs.Opens.{Answer}
+use Rattle.bitml_deal.specs.declared.secrets.Shown.{Shown}
+use Rattle.bitml_deal.specs.declared.secrets.Shown.TheVariants.{Refused, Taken}
+
+-- what a command answers of a deal; one that reads none answers nothing here
+abbrev pub later_answer : (List ℕ → List ℕ) → DealCommand → List Text → Answer
+later_answer hash (commands.keys contract) texts = λ keys s. unread
+later_answer hash (commands.plan contract deal) texts = λ keys s. prints 0 (plan_text hash keys s)
+later_answer hash (commands.psbts contract deal) texts = λ keys s. prints 0 (psbts_text hash keys s)
+later_answer hash (commands.psbt contract deal which) texts =
+    of_transaction hash which (λ keys s l. prints 0 (psbt_line (unsigned_psbt hash l)))
+later_answer hash (commands.missing contract deal signatures) texts =
+    of_signatures hash (λ keys s given. prints 0 (missing_text hash keys s given)) (text_at texts 2)
+later_answer hash (commands.held contract deal signatures) texts =
+    of_signatures hash (λ keys s given. prints 0 (held_text hash keys s given)) (text_at texts 2)
+later_answer hash (commands.finish contract deal which signatures) texts = of_transaction hash which (finish_answer hash (text_at texts 2))
+later_answer hash (commands.finish_with contract deal which signatures secrets) texts =
+    of_transaction hash which (finish_with_answer hash (text_at texts 2) (text_at texts 3))
+
+-- the signatures that a file gives to these transactions
+abbrev pub given_in : List Transaction → Text → Result (List Signed) SignatureFault
+given_in ts None = Err signature_faults.Size
+given_in ts (Some text) = read_given ts text
+
+-- a file of secrets gives these strings, or whatever is answered of them, this is replied
+abbrev pub Tells : SecretsRead → Shown → Type 0
+Tells read (Refused reply) = (answer : List Told → Printed) → with_secrets answer read ≡ printed reply
+Tells read (Taken strings) = read ≡ shows strings
+
+-- a transaction isn't finished for this, and so it is replied
+abbrev pub IsUnfinished : FinishError → Printed → Type 0
+IsUnfinished (finishes.Refused refusal) printed = printed ≡ prints 16 (finish_refused_line refusal)
+IsUnfinished finishes.Memory printed = ⊥

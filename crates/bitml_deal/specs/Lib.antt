@@ -1,0 +1,5 @@
+pub mod Opens
+pub mod Named
+pub mod Later
+pub mod Replied
+pub mod Dealt

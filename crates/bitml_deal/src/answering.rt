@@ -1,0 +1,103 @@
+//! What each command replies to the texts of its files.
+
+ghost use Rattle.std.specs.Prelude.{◌≡◌, ◌≤◌, true, length, IfOk};
+ghost use Rattle.spec_tool.specs.Reads.{text_at};
+ghost use Rattle.spec_deal.specs.Answers.{deal_text_answer};
+ghost use Rattle.spec_deal.specs.Commands.{deal_files};
+ghost use Rattle.bitml_command.specs.Seen.{printed};
+ghost use Rattle.deal_command.specs.Seen.{command};
+ghost use Rattle.theory_deal.specs.Causes.{reads_deal};
+ghost use Rattle.bitml_deal.specs.Later.{later_answer};
+ghost use Rattle.bitml_deal.specs.Opens.{answered, IsMade, HashedAll};
+
+use crate::finish::{finish_reply, finish_with_reply};
+use crate::keys::keys_texts;
+use crate::opening::{Compiled, Opening, open};
+use crate::plan::plan_reply;
+use crate::psbt::{psbt_reply, psbts_reply};
+use crate::signatures::{held_reply, missing_reply};
+use bitml_command::Reply;
+use bm_hash::{Hash32, Trail};
+use deal_command::DealCommand;
+use spec_data::{Bytes, OutOfMemory};
+use std::alloc::Global;
+
+// The file of signatures of a command.
+fn third(texts: &[Option<Bytes>]) -> &Option<Bytes>
+    requires { 3 ≤ length texts.now }
+    ensures { result.now ≡ text_at texts.now 2 }
+{
+    &texts[2]
+}
+
+// The file of secrets of a command.
+fn fourth(texts: &[Option<Bytes>]) -> &Option<Bytes>
+    requires { 4 ≤ length texts.now }
+    ensures { result.now ≡ text_at texts.now 3 }
+{
+    &texts[3]
+}
+
+// What a command replies to a deal that is taken, and to the texts of its further files.
+fn compiled_reply<H: Hash32 + Drop>(
+    alloc: Global,
+    trail: &mut Trail<H>,
+    call: &DealCommand,
+    compiled: &Compiled,
+    texts: &[Option<Bytes>],
+) -> Result<Reply, OutOfMemory>
+    requires count { length texts.now ≡ length (deal_files (command call.now)) }
+    requires deal { reads_deal (command call.now) ≡ true }
+    requires made { IsMade (H.digest_of trail.old.hasher) compiled.now }
+    requires hashed { HashedAll (H.digest_of trail.old.hasher) trail.old.messages compiled.now }
+    ensures { let hash = H.digest_of trail.old.hasher in
+        IfOk result (λ reply. printed reply ≡ answered (later_answer hash (command call.now) texts.now) compiled.now) }
+{
+    let transactions = compiled.made.transactions.as_slice();
+    match call {
+        DealCommand::Keys(_) => unreachable!(),
+        DealCommand::Plan(_, _) => plan_reply(alloc, trail.hasher(), compiled),
+        DealCommand::Psbts(_, _) => psbts_reply(alloc, transactions),
+        DealCommand::Psbt(_, _, which) => psbt_reply(alloc, transactions, which),
+        DealCommand::Missing(_, _, _) => missing_reply(alloc, transactions, third(texts)),
+        DealCommand::Held(_, _, _) => held_reply(alloc, transactions, third(texts)),
+        DealCommand::Finish(_, _, which, _) => finish_reply(alloc, compiled, which, third(texts)),
+        DealCommand::FinishWith(_, _, which, _, _) => {
+            finish_with_reply(alloc, trail, compiled, which, third(texts), fourth(texts))
+        }
+    }
+}
+
+// What a command that reads a deal replies to the texts of its files.
+fn deal_reply<H: Hash32 + Drop>(
+    alloc: Global,
+    hash: H,
+    call: &DealCommand,
+    texts: &[Option<Bytes>],
+) -> Result<Reply, OutOfMemory>
+    requires count { length texts.now ≡ length (deal_files (command call.now)) }
+    requires deal { reads_deal (command call.now) ≡ true }
+    ensures { IfOk result (λ reply. printed reply ≡ deal_text_answer (H.digest_of hash) (command call.now) texts.now) }
+{
+    let mut trail = Trail::new(alloc, hash);
+    match open(alloc, &mut trail, texts)? {
+        Opening::Refused(reply) => Ok(reply),
+        Opening::Taken(compiled) => compiled_reply(alloc, &mut trail, call, &compiled, texts),
+    }
+}
+
+/// What a command replies to the texts of its files.
+pub(crate) fn text_reply<H: Hash32 + Drop>(
+    alloc: Global,
+    hash: H,
+    call: &DealCommand,
+    texts: &[Option<Bytes>],
+) -> Result<Reply, OutOfMemory>
+    requires { length texts.now ≡ length (deal_files (command call.now)) }
+    ensures { IfOk result (λ reply. printed reply ≡ deal_text_answer (H.digest_of hash) (command call.now) texts.now) }
+{
+    match call {
+        DealCommand::Keys(_) => keys_texts(alloc, texts),
+        _ => deal_reply(alloc, hash, call, texts),
+    }
+}

@@ -1,0 +1,37 @@
+//! What `plan` replies.
+
+ghost use Rattle.std.specs.Prelude.{◌≡◌, IfOk};
+ghost use Rattle.spec_tool.specs.Commands.{prints};
+ghost use Rattle.spec_deal.specs.DealText as shown;
+ghost use Rattle.bitml_command.specs.Seen.{printed};
+ghost use Rattle.bitml_deal.specs.Opens.{answered, IsMade};
+
+use crate::opening::Compiled;
+use bitml_command::Reply;
+use bm_hash::Hash32;
+use deal_plan::plan_text;
+use spec_data::{Bytes, OutOfMemory};
+use std::alloc::Global;
+
+/// Scripts, deposits, transactions and digests, and who signs.
+pub(crate) fn plan_reply<H: Hash32>(
+    alloc: Global,
+    hasher: &H,
+    compiled: &Compiled,
+) -> Result<Reply, OutOfMemory>
+    requires { IsMade (H.digest_of hasher.now) compiled.now }
+    ensures { let hash = H.digest_of hasher.now in
+        IfOk result (λ reply. printed reply ≡ answered (λ keys s. prints 0 (shown.plan_text hash keys s)) compiled.now) }
+{
+    let text = plan_text(
+        alloc,
+        hasher,
+        &compiled.contract,
+        &compiled.deal,
+        &compiled.made,
+    )?;
+    Ok(Reply {
+        status: 0,
+        text: Bytes::of(text),
+    })
+}

@@ -1,0 +1,76 @@
+//! The strings of a file of secrets.
+
+ghost use Rattle.std.specs.Prelude.{◌≡◌, Some, IfOk};
+ghost use Rattle.spec_tool.specs.Commands.{prints};
+ghost use Rattle.spec_deal.specs.Answers as answers;
+ghost use Rattle.spec_deal.specs.RefusedText.{secrets_refused_line};
+ghost use Rattle.spec_deal.specs.Setting.{deal_keys, deal_instance};
+ghost use Rattle.bitml_command.specs.Seen.{printed};
+ghost use Rattle.bitml_deal.specs.Later.{Tells};
+ghost use Rattle.bitml_deal.specs.Opens.{HashedAll};
+
+use crate::opening::{Compiled, clash_reply};
+use bitml_command::Reply;
+use bm_hash::{Hash32, Trail};
+use deal_secrets::{SecretsError, Strings, put_secrets_refused, read_secrets};
+use spec_data::{Bytes, OutOfMemory};
+use spec_deal::SecretFault;
+use std::alloc::{AllocError, Global};
+
+/// What a file of secrets comes to.
+#[derive(Drop)]
+pub(crate) enum Shown {
+    /// It is refused, or strings collide, and this is replied.
+    Refused(Reply),
+    /// It gives these strings.
+    Taken(Strings),
+}
+
+// The file of secrets is refused.
+fn secrets_refused(alloc: Global, fault: SecretFault) -> Result<Reply, OutOfMemory>
+    ensures { IfOk result (λ reply. printed reply ≡ prints 15 (secrets_refused_line fault)) }
+{
+    let mut text = Vec::new(alloc);
+    put_secrets_refused(alloc, &mut text, fault)?;
+    Ok(Reply {
+        status: 15,
+        text: Bytes::of(text),
+    })
+}
+
+// The strings of a text.
+fn secrets_of<H: Hash32 + Drop>(
+    alloc: Global,
+    trail: &mut Trail<H>,
+    compiled: &Compiled,
+    text: &[u8],
+) -> Result<Shown, OutOfMemory>
+    requires { HashedAll (H.digest_of trail.old.hasher) trail.old.messages compiled.now }
+    ensures { let hash = H.digest_of trail.old.hasher in IfOk result (Tells (answers.secrets_in hash (deal_keys compiled.now.deal)
+        (deal_instance compiled.now.contract compiled.now.deal) (Some text.now))) }
+{
+    let hashes = compiled.deal.hashes.as_slice();
+    match read_secrets(alloc, trail, &compiled.contract, hashes, text) {
+        Ok(strings) => Ok(Shown::Taken(strings)),
+        Err(SecretsError::Refused(fault)) => Ok(Shown::Refused(secrets_refused(alloc, fault)?)),
+        Err(SecretsError::Collided) => Ok(Shown::Refused(clash_reply(alloc, trail)?)),
+        Err(SecretsError::Memory) => Err(AllocError),
+    }
+}
+
+/// The strings of a file, none of whose bytes are given where it is too long.
+pub(crate) fn secrets_in<H: Hash32 + Drop>(
+    alloc: Global,
+    trail: &mut Trail<H>,
+    compiled: &Compiled,
+    text: &Option<Bytes>,
+) -> Result<Shown, OutOfMemory>
+    requires { HashedAll (H.digest_of trail.old.hasher) trail.old.messages compiled.now }
+    ensures { let hash = H.digest_of trail.old.hasher in IfOk result (Tells (answers.secrets_in hash (deal_keys compiled.now.deal)
+        (deal_instance compiled.now.contract compiled.now.deal) text.now)) }
+{
+    match text {
+        None => Ok(Shown::Refused(secrets_refused(alloc, SecretFault::Size)?)),
+        Some(bytes) => secrets_of(alloc, trail, compiled, bytes.as_slice()),
+    }
+}

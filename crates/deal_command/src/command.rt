@@ -1,0 +1,24 @@
+//! The commands of the program for deals.
+
+use spec_tool::Which;
+
+/// What a call is asked for. Files go by the words that name them: a contract, its deal file, a file of signatures, one of secrets.
+#[derive(Drop)]
+pub enum DealCommand<'a> {
+    /// Prints which lines a deal file needs.
+    Keys(&'a str),
+    /// Prints scripts, deposits, transactions and digests, and who signs.
+    Plan(&'a str, &'a str),
+    /// Prints the transactions for signers.
+    Psbts(&'a str, &'a str),
+    /// Prints one of them.
+    Psbt(&'a str, &'a str, Which),
+    /// Prints the signatures that aren't there, and whether the initial transaction may be signed.
+    Missing(&'a str, &'a str, &'a str),
+    /// Prints the signatures that are there.
+    Held(&'a str, &'a str, &'a str),
+    /// Prints a transaction for the network.
+    Finish(&'a str, &'a str, Which, &'a str),
+    /// Prints one that may reveal secrets.
+    FinishWith(&'a str, &'a str, Which, &'a str, &'a str),
+}

@@ -1,0 +1,72 @@
+//! The files that a command reads.
+
+ghost use Rattle.std.specs.Prelude.{◌≡◌, map, IfOk};
+ghost use Rattle.spec_deal.specs.Commands as spec;
+ghost use Rattle.bitml_command.specs.Seen.{asked};
+ghost use Rattle.deal_command.specs.Seen.{command};
+
+use crate::command::DealCommand;
+use spec_data::{MOST_TEXT_BYTES, OutOfMemory};
+use std::alloc::Global;
+
+/// The most bytes of a deal file.
+const MOST_DEAL_BYTES: usize = 8_388_608;
+
+/// The most bytes of a file of signatures.
+const MOST_SIGNATURE_BYTES: usize = 8_388_608;
+
+/// The most bytes of a file of secrets.
+const MOST_SECRETS_BYTES: usize = 1_048_576;
+
+/// These files.
+fn list_of<'a>(
+    alloc: Global,
+    files: &[(&'a str, usize)],
+) -> Result<Vec<(&'a str, usize)>, OutOfMemory>
+    ensures { IfOk result (λ v. v.items ≡ files.now) }
+{
+    Vec::from_slice(alloc, files)
+}
+
+/// The files that a command reads, each with the most bytes that it may have, in the order of the words.
+pub fn files_of<'a>(
+    alloc: Global,
+    call: &DealCommand<'a>,
+) -> Result<Vec<(&'a str, usize)>, OutOfMemory>
+    ensures { IfOk result (λ v. map asked v.items ≡ spec.deal_files (command call.now)) }
+{
+    match call {
+        DealCommand::Keys(contract) => list_of(alloc, &[(contract, MOST_TEXT_BYTES)]),
+        DealCommand::Plan(contract, deal)
+        | DealCommand::Psbts(contract, deal)
+        | DealCommand::Psbt(contract, deal, _) => {
+            list_of(
+                alloc,
+                &[(contract, MOST_TEXT_BYTES), (deal, MOST_DEAL_BYTES)],
+            )
+        }
+        DealCommand::Missing(contract, deal, signatures)
+        | DealCommand::Held(contract, deal, signatures)
+        | DealCommand::Finish(contract, deal, _, signatures) => {
+            list_of(
+                alloc,
+                &[
+                    (contract, MOST_TEXT_BYTES),
+                    (deal, MOST_DEAL_BYTES),
+                    (signatures, MOST_SIGNATURE_BYTES),
+                ],
+            )
+        }
+        DealCommand::FinishWith(contract, deal, _, signatures, secrets) => {
+            list_of(
+                alloc,
+                &[
+                    (contract, MOST_TEXT_BYTES),
+                    (deal, MOST_DEAL_BYTES),
+                    (signatures, MOST_SIGNATURE_BYTES),
+                    (secrets, MOST_SECRETS_BYTES),
+                ],
+            )
+        }
+    }
+}

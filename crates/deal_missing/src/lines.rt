@@ -1,0 +1,125 @@
+//! The lines of signatures.
+
+ghost use Rattle.std.specs.Prelude.{◌≡◌, ◌++◌, codes, option_map, OnOk};
+ghost use Rattle.std.specs.Fmt.{decimal};
+ghost use Rattle.spec_data.specs.Digits.{hex_text};
+ghost use Rattle.spec_bitcoin.specs.Keys.{label_text as text_of_label};
+ghost use Rattle.spec_tool.specs.Keyed.Listed.{which_text};
+ghost use Rattle.spec_deal.specs.DealText.{verb_text};
+ghost use Rattle.deal_missing.specs.Wanted as spec;
+
+use crate::looking::party_of;
+use crate::wants::Want;
+use bm_keys::{label_text, put_path};
+use bm_text::{put, put_decimal, put_hex};
+use spec_bitcoin::Label;
+use spec_data::{Bytes, OutOfMemory};
+use spec_deal::Verb;
+use spec_tool::Which;
+use std::alloc::Global;
+
+// `init` or the path.
+fn put_which(alloc: Global, out: &mut Vec<u8>, which: &Which) -> Result<(), OutOfMemory>
+    ensures { OnOk result (out.new.items ≡ out.old.items ++ which_text which.now) }
+{
+    match which {
+        Which::Init => put(out, b"init"),
+        Which::At(path) => put_path(alloc, out, path.steps()),
+    }
+}
+
+fn put_verb(out: &mut Vec<u8>, verb: Verb) -> Result<(), OutOfMemory>
+    ensures { OnOk result (out.new.items ≡ out.old.items ++ verb_text verb) }
+{
+    match verb {
+        Verb::Init => put(out, b"init"),
+        Verb::Authorise => put(out, b"authorise"),
+        Verb::Endorse => put(out, b"endorse"),
+    }
+}
+
+fn put_label(alloc: Global, out: &mut Vec<u8>, label: &Label) -> Result<(), OutOfMemory>
+    ensures { OnOk result (out.new.items ≡ out.old.items ++ text_of_label label.now) }
+{
+    let text = label_text(alloc, label)?;
+    put(out, &text)
+}
+
+// `WHICH k LABEL VERB`
+#[tactic(auto, using(std::proofs::Common::append_assoc))]
+fn put_want(alloc: Global, out: &mut Vec<u8>, want: &Want) -> Result<(), OutOfMemory>
+    ensures { OnOk result (out.new.items ≡ out.old.items ++ spec.wanted_text (spec.want_in want.now)) }
+{
+    put_which(alloc, out, &want.transaction.which)?;
+    put(out, b" ")?;
+    put_decimal(alloc, out, want.number as u64)?;
+    put(out, b" ")?;
+    put_label(alloc, out, &want.signer.label)?;
+    put(out, b" ")?;
+    put_verb(out, want.signer.verb)
+}
+
+/// `missing WHICH k LABEL VERB`
+#[tactic(auto, using(std::proofs::Common::append_assoc))]
+pub(crate) fn put_missing(alloc: Global, out: &mut Vec<u8>, want: &Want) -> Result<(), OutOfMemory>
+    ensures { OnOk result (out.new.items ≡ out.old.items ++ spec.missing_line (spec.want_in want.now)) }
+{
+    put(out, b"missing ")?;
+    put_want(alloc, out, want)?;
+    put(out, b"\n")
+}
+
+// `KEY DIGEST SIGNATURE`
+#[tactic(auto, using(std::proofs::Common::append_assoc))]
+fn put_proof(
+    alloc: Global,
+    out: &mut Vec<u8>,
+    want: &Want,
+    signature: &Bytes,
+) -> Result<(), OutOfMemory>
+    ensures { OnOk result (out.new.items ≡ out.old.items ++ spec.proof_text (spec.want_in want.now) signature.now) }
+{
+    put_hex(alloc, out, &want.signer.key)?;
+    put(out, b" ")?;
+    put_hex(alloc, out, &want.input.digest)?;
+    put(out, b" ")?;
+    put_hex(alloc, out, signature.as_slice())
+}
+
+/// `held WHICH k LABEL VERB KEY DIGEST SIGNATURE`
+#[tactic(auto, using(std::proofs::Common::append_assoc))]
+pub(crate) fn put_held(
+    alloc: Global,
+    out: &mut Vec<u8>,
+    want: &Want,
+    signature: &Bytes,
+) -> Result<(), OutOfMemory>
+    ensures { OnOk result (out.new.items ≡ out.old.items ++ spec.held_line (spec.want_in want.now) signature.now) }
+{
+    put(out, b"held ")?;
+    put_want(alloc, out, want)?;
+    put(out, b" ")?;
+    put_proof(alloc, out, want, signature)?;
+    put(out, b"\n")
+}
+
+/// Whether the initial transaction may be signed, or whose endorsement is missing.
+#[tactic(auto, using(std::proofs::Common::append_assoc))]
+pub(crate) fn put_gate(
+    alloc: Global,
+    out: &mut Vec<u8>,
+    want: Option<&Want>,
+) -> Result<(), OutOfMemory>
+    ensures { OnOk result (out.new.items ≡ out.old.items ++ spec.gate_line (option_map (λ w. spec.want_in w.now) want.entry)) }
+{
+    match want {
+        Some(want) => {
+            put(out, b"init not endorsed ")?;
+            put_which(alloc, out, &want.transaction.which)?;
+            put(out, b" ")?;
+            put(out, party_of(&want.signer.label).bytes())?;
+            put(out, b"\n")
+        }
+        None => put(out, b"init may be signed\n"),
+    }
+}

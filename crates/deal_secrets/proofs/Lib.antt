@@ -1,0 +1,4 @@
+pub mod FoundStrings
+pub mod LinesSay
+pub mod Hashing
+pub mod RefusedTold

@@ -1,0 +1,47 @@
+-- The transaction that has some bytes, by its number.
+use Rattle.std.proofs.Common.{◌≡◌, ℕ, ◌+◌, List, [], ◌∷◌, map, Bool, true, false, cond, Option, Some, None}
+use Rattle.std.proofs.Common.{refl, sym, ap, ◌∙◌}
+use Rattle.std.specs.Prelude.{option_map, slice_get}
+use Rattle.std.specs.List.{find}
+use Rattle.std.specs.Option.{option_and_then}
+use Rattle.std.specs.Str.{bytes_eq}
+use Rattle.spec_deal.specs.declared.transaction.Transaction.{Transaction}
+use Rattle.spec_deal.specs.SignatureFile.{has_bytes}
+use Rattle.deal_index.specs.Places.{place_from}
+use Rattle.deal_index.proofs.Finding.{find_map}
+use Rattle.deal_index.proofs.Placing.{found_place}
+use Rattle.deal_signatures.specs.declared.known.Known.{Known}
+use Rattle.deal_signatures.specs.Seen.{known_in, numbered}
+
+abbrev bytes_of : Transaction → List ℕ
+bytes_of t = t.bytes
+
+numbers : (q : List ℕ) (k : ℕ) (ts : List Transaction)
+    → option_map (λ (p : List ℕ × ℕ). p.1) (find (λ (p : List ℕ × ℕ). bytes_eq p.0 q) (numbered k ts))
+    ≡ place_from k q (map bytes_of ts)
+numbers q k [] = refl
+numbers q k (t ∷ ts) = by_test (bytes_eq t.bytes q) (numbers q (k + 1) ts)
+  where
+    by_test : (b : Bool)
+        → option_map (λ (p : List ℕ × ℕ). p.1) (find (λ (p : List ℕ × ℕ). bytes_eq p.0 q) (numbered (k + 1) ts))
+        ≡ place_from (k + 1) q (map bytes_of ts)
+        → option_map (λ (p : List ℕ × ℕ). p.1)
+        (cond b (Some (t.bytes, k)) (find (λ (p : List ℕ × ℕ). bytes_eq p.0 q) (numbered (k + 1) ts)))
+        ≡ cond b (Some k) (place_from (k + 1) q (map bytes_of ts))
+    by_test true h = refl
+    by_test false h = h
+
+number_in : (o : Option Known) → option_map (λ (n : Known). n.number) o ≡ option_map (λ (p : List ℕ × ℕ). p.1) (option_map known_in o)
+number_in None = refl
+number_in (Some n) = refl
+
+pub transaction_found : (ts : List Transaction) (ns : List Known) (q : List ℕ) (o : Option Known) → map known_in ns ≡ numbered 0 ts
+    → o ≡ find (λ (n : Known). bytes_eq n.bytes q) ns
+    → option_and_then (slice_get ts) (option_map (λ (n : Known). n.number) o) ≡ find (has_bytes q) ts
+transaction_found ts ns q o all here =
+    ap (option_and_then (slice_get ts))
+    (number_in o ∙ ap (option_map (λ (p : List ℕ × ℕ). p.1))
+    (ap (option_map known_in) here ∙ sym (find_map known_in (λ (p : List ℕ × ℕ). bytes_eq p.0 q) ns)
+    ∙ ap (find (λ (p : List ℕ × ℕ). bytes_eq p.0 q)) all)
+    ∙ numbers q 0 ts)
+    ∙ found_place bytes_of q ts

@@ -1,0 +1,4 @@
+pub mod InputLemmas
+pub mod KnownLemmas
+pub mod PlaceLemmas
+pub mod RefusalLemmas

@@ -1,0 +1,4 @@
+pub mod Keying
+pub mod Seen
+pub mod Gives
+pub mod Refusals

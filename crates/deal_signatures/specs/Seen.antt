@@ -1,0 +1,22 @@
+-- Signatures, places and transactions as they are kept.
+use Rattle.std.specs.Prelude.{ℕ, ◌+◌, List, [], ◌∷◌}
+use Rattle.spec_deal.specs.declared.signed.Signed.{Signed}
+use Rattle.spec_deal.specs.declared.transaction.Transaction.{Transaction}
+use Rattle.spec_deal.specs.Transactions.{Spot}
+use Rattle.deal_signatures.specs.declared.given.Entry.{Entry}
+use Rattle.deal_signatures.specs.declared.known.Place.{Place}
+use Rattle.deal_signatures.specs.declared.known.Known.{Known}
+
+abbrev pub signed_in : Entry → Signed
+signed_in entry = entry.signed
+
+abbrev pub spot_in : Place → Spot
+spot_in place = record { tx = place.tx; input = place.input; key = place.key }
+
+abbrev pub known_in : Known → List ℕ × ℕ
+known_in known = (known.bytes, known.number)
+
+-- the bytes of each transaction with its number, where the first has number k
+abbrev pub numbered : ℕ → List Transaction → List (List ℕ × ℕ)
+numbered k [] = []
+numbered k (t ∷ ts) = (t.bytes, k) ∷ numbered (k + 1) ts

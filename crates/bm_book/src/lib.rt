@@ -4,35 +4,38 @@
 ghost use Rattle.std.specs.Prelude.{◌≡◌, ◌≤◌, ◌++◌, ◌∷◌, [], OnOk, OnErr, if◌then◌else◌, length, take, true};
 ghost use Rattle.spec_bitcoin.specs.Keys.{has_signed};
 
+mod signed;
+
+use crate::signed::Signed;
 use indexmap::IndexSet;
 use spec_data::OutOfMemory;
 use std::alloc::Global;
 use std::marker::Model;
 
-/// A key and a digest that it has signed.
-type Pair = ([u8; 33], [u8; 32]);
-
 // A key has its size by its type.
-fn pair_of(key: &[u8; 33], digest: &[u8; 32]) -> Pair
-    ensures pair { result ≡ (key.now, digest.now) }
+fn signed_by(key: &[u8; 33], digest: &[u8; 32]) -> Signed
+    ensures signed { result ≡ record { key = key.now; digest = digest.now } }
     ensures sized { length key.now ≡ 33 }
 {
-    (*key, *digest)
+    Signed {
+        key: *key,
+        digest: *digest,
+    }
 }
 
 /// The different pairs of key and digest, in order of signing.
 pub struct Book {
-    pairs: IndexSet<Pair>,
+    pairs: IndexSet<Signed>,
 }
 
 impl Model for Book {
     ghost use Rattle.std.specs.Prelude.{◌≡◌, List, true};
     ghost use Rattle.spec_bitcoin.specs.Keys.{Pair};
-    ghost use Rattle.bm_book.specs.Sizes.{are_keys};
+    ghost use Rattle.bm_book.specs.Entries.{pairs_of, are_keys};
 
     ghost Value = { List Pair };
 
-    ghost view = { λ b. b.pairs.keys };
+    ghost view = { λ b. pairs_of b.pairs.keys };
 
     ghost invariant = { λ b. are_keys b.pairs.keys ≡ true };
 }
@@ -64,7 +67,7 @@ impl Book {
     pub fn has(&self, key: &[u8; 33], digest: &[u8; 32]) -> bool
         ensures { result ≡ has_signed self.now key.now digest.now }
     {
-        self.pairs.contains(&(*key, *digest))
+        self.pairs.contains(&signed_by(key, digest))
     }
 
     /// Whether these bytes are a key that has signed the digest. Bytes of another length are no key.
@@ -73,7 +76,7 @@ impl Book {
         ensures sized { result ≡ true → length key.now ≡ 33 }
     {
         match <[u8; 33]>::try_from(key) {
-            Ok(key) => self.pairs.contains(&(key, *digest)),
+            Ok(key) => self.pairs.contains(&signed_by(&key, digest)),
             Err(_) => false,
         }
     }
@@ -83,7 +86,7 @@ impl Book {
         ensures ok { OnOk result (self.new ≡ (if has_signed self.old key digest then self.old else self.old ++ (key, digest) ∷ [])) }
         ensures err { OnErr result (self.new ≡ self.old) }
     {
-        self.pairs.insert(pair_of(&key, &digest))?;
+        self.pairs.insert(signed_by(&key, &digest))?;
         Ok(())
     }
 

@@ -5,12 +5,11 @@ ghost use Rattle.std.specs.List.{list_all};
 ghost use Rattle.spec_data.specs.Lists.{is_among};
 ghost use Rattle.spec_terms.specs.Precondition.{names_of, volatile};
 ghost use Rattle.spec_compiler.specs.Instance.{Instance};
-ghost use Rattle.spec_compiler.specs.Endorsements.{needs, needed};
+ghost use Rattle.spec_compiler.specs.Endorsements.{needed};
 ghost use Rattle.spec_nodes.specs.Nodes.{nodes_of};
 ghost use Rattle.spec_run.specs.Signing.{pairs_of_party};
 ghost use Rattle.bm_compile.specs.Numbered.{numbered};
 ghost use Rattle.bm_honest.specs.Pairs.{person_pairs, owner_pairs, pairs_for, pairs_at, pairs_of_paths};
-ghost use Rattle.bm_honest.specs.Unsigned.{plan_keys};
 
 use crate::branches::seen_at;
 use crate::keys::deposit_key;
@@ -245,9 +244,6 @@ pub fn endorsing_pairs<H: Hash32>(
     requires { compiled.now.nodes ≡ nodes_of checked.now.root }
     ensures listed { IfOk result (λ pairs. pairs.items
         ≡ pairs_of_paths (H.digest_of hash.now) checked.now party.now compiled.now.paths compiled.now.keys) }
-    ensures pairs { compiled.now.keys ≡ plan_keys (H.digest_of hash.now) contract checked.now compiled.now.paths
-        → IfOk result (λ pairs. pairs.items
-        ≡ pairs_of_party party.now (needs (H.digest_of hash.now) contract checked.now compiled.now.paths)) }
     ensures defined { (s : Instance) → compiled.now ≡ numbered (H.digest_of hash.now) s → s.contract ≡ contract → s.advert ≡ checked.now
         → IfOk result (λ pairs. pairs.items ≡ pairs_of_party party.now (needed (H.digest_of hash.now) s)) }
 {

@@ -2,11 +2,9 @@
 
 ghost use Rattle.std.specs.Prelude.{◌≡◌, IfOk};
 ghost use Rattle.spec_compiler.specs.Instance.{Instance};
-ghost use Rattle.spec_compiler.specs.Endorsements.{needs, first_unmet};
 ghost use Rattle.spec_nodes.specs.Nodes.{nodes_of};
 ghost use Rattle.bm_compile.specs.Numbered.{numbered};
-ghost use Rattle.bm_honest.specs.Gates.{gate_of, gate_of_paths, Tells};
-ghost use Rattle.bm_honest.specs.Unsigned.{plan_keys};
+ghost use Rattle.bm_honest.specs.Gates.{gate_of_paths, Tells};
 
 use crate::branches::first_at;
 use bm_arena::Arena;
@@ -74,9 +72,6 @@ pub fn may<H: Hash32>(
     requires { compiled.now.nodes ≡ nodes_of checked.now.root }
     ensures listed { IfOk result (λ gate. gate
         ≡ gate_of_paths (H.digest_of hash.now) book.now checked.now compiled.now.paths compiled.now.keys) }
-    ensures gate { compiled.now.keys ≡ plan_keys (H.digest_of hash.now) contract checked.now compiled.now.paths
-        → IfOk result (λ gate. gate
-        ≡ gate_of (first_unmet book.now (needs (H.digest_of hash.now) contract checked.now compiled.now.paths))) }
     ensures tells { (s : Instance) → compiled.now ≡ numbered (H.digest_of hash.now) s → s.contract ≡ contract → s.advert ≡ checked.now
         → IfOk result (λ gate. Tells (H.digest_of hash.now) s book.now gate) }
 {

@@ -60,6 +60,10 @@ fn take_event(
 ) -> Result<(), LineError>
     ensures { Takes events.old.items events.new.items result (spec.event_of_line parties.now (length events.old.items) line.now) }
 {
+    // Files with many empty lines are read as fast as their bytes.
+    if line.is_empty() {
+        return Ok(());
+    }
     if let Some(event) = event_of_line(alloc, parties, events.len(), line)? {
         events.push(event)?;
     }

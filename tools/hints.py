@@ -3,11 +3,18 @@
 
 ANSWER is the program's text, WORD.. are the words that it was given. Where a file was refused, its
 line is shown with a mark under the place, and what is wrong there as far as the answer tells it.
+The variable COPIED has lines of a copy, a tab and what the file is called.
 """
+import os
 import re
 import sys
 
 from show_place import place_in, show, show_line
+
+
+def called(file):
+    """What a file was called, of which this may be a copy."""
+    return dict(line.split('\t', 1) for line in os.environ.get('COPIED', '').splitlines()).get(file, file)
 
 
 def hint(answer, file, text):
@@ -52,7 +59,7 @@ def say_of_deal(answer, command, *files):
     words = [m.start() for m in re.finditer(rb'[^ \t\r]+', text.split(b'\n')[int(line) - 1])]
     at = 0 if kind == 'signatures' else AT_WORD.get(reason, 1)
     before = sum(len(x) + 1 for x in text.split(b'\n')[:int(line) - 1])
-    show(files[number], text, before + words[min(at, len(words) - 1)])
+    show(called(files[number]), text, before + words[min(at, len(words) - 1)])
 
 
 def main():
@@ -73,20 +80,21 @@ def main():
         return
     with open(files[number], 'rb') as file:
         text = file.read()
-    why = hint(answer, files[number], text)
+    name = called(files[number])
+    why = hint(answer, name, text)
     if why:
-        print('%s: %s' % (files[number], why))
+        print('%s: %s' % (name, why))
     if not contract and not other:
         return
     said = None
     if contract:
         place, said = place_in(text, contract.group(2))
         if place is not None:
-            show(files[number], text, place)
+            show(name, text, place)
     elif int(other.group(2)) > 0:
-        said = show_line(files[number], text, int(other.group(2)))
+        said = show_line(name, text, int(other.group(2)))
     if said:
-        print('%s: %s' % (files[number], said))
+        print('%s: %s' % (name, said))
 
 
 if __name__ == '__main__':

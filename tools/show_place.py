@@ -2,7 +2,7 @@
 import re
 
 from contract_places import Places
-from run_words import declared, fault
+from run_words import fault
 
 # The limits whose place is a byte; those of whole positions; the others tell a number.
 AT_A_BYTE = {'Name', 'Number', 'Depth', 'Branches', 'Choice', 'Split', 'Deposits', 'Secrets'}
@@ -76,6 +76,6 @@ def show_line(file, text, number):
     line = lines[number - 1]
     before = sum(len(x) + 1 for x in lines[:number - 1])
     words = [(m.group(), m.start()) for m in re.finditer(rb'[^ \t\r]+', line)]
-    at, said = fault([word for word, _ in words], declared(lines[:number - 1])) if words else (0, None)
+    at, said = fault([word for word, _ in words], lines[:number - 1]) if words else (0, None)
     show(file, text, before + (words[at][1] if at < len(words) else len(line.rstrip())))
     return said

@@ -10,4 +10,4 @@ returns-clause-tells g c =
     λ s. tells (g.H.Hash32.digest_of c.args.hash.now) s c.args.book.now c.args.contract c.args.checked.now c.args.compiled.now c.in_ok-gate.gate
     c.missing_is_first.ensures
     (λ planned. returns-clause-listed g c
-        ∙ all_paths (g.H.Hash32.digest_of c.args.hash.now) c.args.book.now c.args.contract c.args.checked.now c.args.compiled.now.paths _ planned)
+    ∙ all_paths (g.H.Hash32.digest_of c.args.hash.now) c.args.book.now c.args.contract c.args.checked.now c.args.compiled.now.paths _ planned)

@@ -56,10 +56,13 @@ def say_of_deal(answer, command, *files):
     number = {'deal': 1, 'signatures': 3 if command == 'finish' else 2, 'secrets': 4}[kind]
     with open(files[number], 'rb') as file:
         text = file.read()
-    words = [m.start() for m in re.finditer(rb'[^ \t\r]+', text.split(b'\n')[int(line) - 1])]
+    words = list(re.finditer(rb'[^ \t\r]+', text.split(b'\n')[int(line) - 1]))
     at = 0 if kind == 'signatures' else AT_WORD.get(reason, 1)
+    if reason == 'value' and len(words) == 4 and re.fullmatch(rb'[0-9A-Fa-f]{64}', words[2].group()):
+        # The txid of this deposit is one, so the number of its output is none.
+        at = 3
     before = sum(len(x) + 1 for x in text.split(b'\n')[:int(line) - 1])
-    show(called(files[number]), text, before + words[min(at, len(words) - 1)])
+    show(called(files[number]), text, before + words[min(at, len(words) - 1)].start())
 
 
 def main():

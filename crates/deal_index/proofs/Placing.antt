@@ -1,9 +1,9 @@
 -- The index of a list of byte strings, with one more; what it leads to.
 use Rattle.std.proofs.Common.{◌≡◌, ℕ, ◌+◌, List, [], ◌∷◌, ◌++◌, length, map, Bool, true, false, cond, Option, Some, None}
-use Rattle.std.proofs.Common.{refl, sym, ap, subst, ◌∙◌, arith, zero, suc}
-use Rattle.std.specs.Prelude.{if◌then◌else◌, slice_get, is_some}
+use Rattle.std.proofs.Common.{refl, sym, ap, subst, ◌∙◌, arith, suc}
+use Rattle.std.specs.Prelude.{if◌then◌else◌, slice_get}
 use Rattle.std.specs.List.{find, list_all}
-use Rattle.std.specs.Option.{option_map, option_and_then}
+use Rattle.std.specs.Option.{option_map, option_and_then, unwrap_or}
 use Rattle.std.specs.Ordering.{nat_cmp, is_eq}
 use Rattle.std.specs.Cmp.{eq_by_cmp_equiv}
 use Rattle.std.specs.Cmp.Lexicographic.{slice_cmp, nat_list_cmp_total}
@@ -30,33 +30,19 @@ none_or : (o : Option ℕ) → place_or o None ≡ o
 none_or None = refl
 none_or (Some place) = refl
 
-there_or : (o p : Option ℕ) → is_some o ≡ true → place_or o p ≡ o
-there_or None p h = cc
-there_or (Some place) p h = refl
+some_or : (o : Option ℕ) (place : ℕ) → Some (unwrap_or o place) ≡ place_or o (Some place)
+some_or None place = refl
+some_or (Some earlier) place = refl
 
--- nothing changes where the key is there
-pub adds_nothing : (index : Index) (bytes : List ℕ) (place : ℕ) → is_some (placed_at index bytes) ≡ true → Adds index index bytes place
-adds_nothing index bytes place there q =
-    elim (bytes_eq bytes q) as (λ b. bytes_eq bytes q ≡ b
-    → placed_at index q ≡ place_or (placed_at index q) (if b then Some place else None)) [
-      | true ↦ λ t.
-          sym (there_or (placed_at index q) (Some place)
-          (subst (λ l. is_some (placed_at index l) ≡ true) ((bytes_eq-Decides bytes q).0 t) there))
-      | false ↦ λ t. sym (none_or (placed_at index q))
-    ] refl
-
-absent : (o : Option ℕ) → is_some o ≡ false → o ≡ None
-absent None h = refl
-absent (Some place) h = cc
-
-pub adds_place : (old new : Index) (bytes : List ℕ) (place : ℕ) → is_some (placed_at old bytes) ≡ false
-    → Changes old new bytes (Some place) → Adds old new bytes place
-adds_place old new bytes place free h q =
+-- the key has the place that it had, or else this one
+pub adds_place : (old new : Index) (bytes : List ℕ) (place at : ℕ) → at ≡ unwrap_or (placed_at old bytes) place
+    → Changes old new bytes (Some at) → Adds old new bytes place
+adds_place old new bytes place at is h q =
     elim (bytes_eq bytes q) as (λ b. bytes_eq bytes q ≡ b
     → placed_at new q ≡ place_or (placed_at old q) (if b then Some place else None)) [
       | true ↦ λ t.
           subst (λ l. placed_at new l ≡ place_or (placed_at old l) (Some place)) ((bytes_eq-Decides bytes q).0 t)
-          (h.1 ∙ sym (ap (λ o. place_or o (Some place)) (absent (placed_at old bytes) free)))
+          (h.1 ∙ ap Some is ∙ some_or (placed_at old bytes) place)
       | false ↦ λ t.
           other_entries _ _ _ _ h.3 _ (λ x y. (eq_by_cmp_equiv nat_list_cmp_total).congr q x.items y.items)
           (λ k. apart_in_order bytes q k.items t)

@@ -56,10 +56,7 @@ fn add_place(
     ensures ok { OnOk result (Adds places.old places.new key.items place) }
     ensures err { OnErr result ((q : List ℕ) → placed_at places.new q ≡ placed_at places.old q) }
 {
-    if places.contains_key(key.as_slice()) {
-        return Ok(());
-    }
-    places.insert(key, place)?;
+    places.entry(key)?.or_insert(place);
     Ok(())
 }
 

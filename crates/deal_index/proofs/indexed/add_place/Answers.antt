@@ -1,12 +1,12 @@
-use Rattle.std.proofs.Common.{◌≡◌, true, false, sym, ap, subst, ◌∙◌, arith}
-use Rattle.std.specs.Prelude.{is_some}
-use Rattle.deal_index.specs.Places.{placed_at}
-use Rattle.deal_index.proofs.Placing.{adds_nothing, adds_place}
+use Rattle.std.proofs.Common.{ap, ◌∙◌, arith, unwrap_or}
+use Rattle.std.specs.BTreeMap.Entry.{map_with_value}
+use Rattle.std.proofs.lemmas.Grind.{common_steps}
+use Rattle.deal_index.proofs.Placing.{adds_place}
 use Rattle.deal_index.proofs.indexed.add_place.Goals as goal
 
 pub returns-clause-ok : goal.returns-clause-ok
 returns-clause-ok c =
-    let free : is_some (placed_at c.args.places.now c.args.key.items) ≡ false =
-    subst (λ k. is_some (placed_at c.args.places.now k) ≡ false) c.as_slice.ensures.value
-    (sym c.contains_key.ensures ∙ c.if-contains_key.false) in
-    adds_place c.args.places.now c.insert.new.self c.args.key.items c.args.place free c.in_ok-insert.ensures.updates
+    let at = c.or_insert.result.now in
+    let had = c.or_insert.ensures.value ∙ ap (λ o. unwrap_or o c.args.place) c.in_ok-places.ensures.value in
+    let adds = adds_place c.args.places.now (map_with_value c.in_ok-places.field-0 at) c.args.key.items c.args.place at had (c.in_ok-places.ensures.update.0 at) in
+    λ q. grind (arith, common_steps, adds q)

@@ -1,5 +1,4 @@
 use Rattle.std.proofs.Common.{◌≡◌, sym, ap, subst, ◌∙◌, Some, None}
-use Rattle.std.specs.Option.{option_and_then}
 use Rattle.std.specs.Prelude.{slice_get, find}
 use Rattle.std.specs.Str.{bytes_eq}
 use Rattle.deal_index.proofs.Placing.{found_item}

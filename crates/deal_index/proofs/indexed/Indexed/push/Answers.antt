@@ -1,4 +1,3 @@
-use Rattle.std.proofs.Common.{◌≡◌, sym, ap, subst, ◌∙◌, arith}
 use Rattle.deal_index.proofs.Placing.{pushed, all_pushed}
 use Rattle.deal_index.proofs.indexed.Indexed.push.Goals as goal
 

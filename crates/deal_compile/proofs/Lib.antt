@@ -1,4 +1,5 @@
 pub mod Bound
+pub mod Hashing
 pub mod Own
 pub mod Puts
 pub mod Signable

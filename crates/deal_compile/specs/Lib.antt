@@ -1,3 +1,4 @@
 pub mod Keyed
 pub mod Parts
+pub mod Programs
 pub mod Signable

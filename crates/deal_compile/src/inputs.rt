@@ -1,14 +1,16 @@
 //! The inputs of a transaction, each with what it spends and who signs it.
 
-ghost use Rattle.std.specs.Prelude.{◌≡◌, map, option_map, IfOk};
+ghost use Rattle.std.specs.Prelude.{◌≡◌, map, option_map, true, IfOk};
 ghost use Rattle.bm_syntax.specs.View.{guarded};
 ghost use Rattle.spec_deal.specs.Slots.{branch_verb};
 ghost use Rattle.deal_compile.specs.Parts as spec;
+ghost use Rattle.deal_compile.specs.Programs.{are_hashed};
 
 use crate::keys::DealKeys;
-use bm_compile::pays;
+use crate::programs::{Program, pays};
 use bm_hash::Hash32;
 use bm_syntax::{Guarded, Name, asks};
+use deal_index::Indexed;
 use spec_bitcoin::Label;
 use spec_compiler::Spent;
 use spec_data::{OutOfMemory, Seq};
@@ -83,6 +85,7 @@ fn signers_for(
 fn input_for<H: Hash32>(
     alloc: Global,
     hasher: &H,
+    programs: &Indexed<Program>,
     keys: &DealKeys,
     which: &Which,
     branch: Option<&Guarded>,
@@ -90,13 +93,20 @@ fn input_for<H: Hash32>(
     digest: &[u8; 32],
     labels: &[Label],
 ) -> Result<Input, OutOfMemory>
+    requires { are_hashed (H.digest_of hasher.now) programs.now ≡ true }
     ensures { let branch = option_map (λ b. guarded b.now) branch.entry in
         IfOk result (λ input. input
         ≡ spec.input_by (H.digest_of hasher.now) keys.now which.now branch spent.now digest.now labels.now) }
 {
     Ok(Input {
         spent: spent.copy(alloc)?,
-        output: pays(alloc, hasher, spent.script.as_slice(), spent.value)?,
+        output: pays(
+            alloc,
+            hasher,
+            programs,
+            spent.script.as_slice(),
+            spent.value,
+        )?,
         digest: *digest,
         signers: signers_for(alloc, keys, which, branch, labels)?,
     })
@@ -126,6 +136,7 @@ fn other_labels(labels: &[Seq<Label>]) -> &[Seq<Label>]
 pub(crate) fn inputs_for<H: Hash32>(
     alloc: Global,
     hasher: &H,
+    programs: &Indexed<Program>,
     keys: &DealKeys,
     which: &Which,
     branch: Option<&Guarded>,
@@ -133,6 +144,7 @@ pub(crate) fn inputs_for<H: Hash32>(
     digests: &[[u8; 32]],
     labels: &[Seq<Label>],
 ) -> Result<Seq<Input>, OutOfMemory>
+    requires { are_hashed (H.digest_of hasher.now) programs.now ≡ true }
     ensures { let branch = option_map (λ b. guarded b.now) branch.entry in
         IfOk result (λ inputs. inputs
         ≡ spec.inputs_by (H.digest_of hasher.now) keys.now which.now branch spends.now digests.now labels.now) }
@@ -145,7 +157,9 @@ pub(crate) fn inputs_for<H: Hash32>(
             return Ok(inputs);
         };
         let first = first_labels(labels);
-        inputs.push(input_for(alloc, hasher, keys, which, branch, spent, digest, first)?)?;
+        inputs.push(input_for(
+            alloc, hasher, programs, keys, which, branch, spent, digest, first,
+        )?)?;
         digests = others;
         labels = other_labels(labels);
     }

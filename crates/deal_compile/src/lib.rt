@@ -7,6 +7,7 @@ mod depositing;
 mod inputs;
 mod keys;
 mod labels;
+mod programs;
 mod seen;
 mod transactions;
 

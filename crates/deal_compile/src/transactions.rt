@@ -4,16 +4,19 @@ ghost use Rattle.std.specs.Prelude.{◌≡◌, ◌++◌, ◌∷◌, [], map, tru
 ghost use Rattle.spec_terms.specs.Paths.{at as branch_of};
 ghost use Rattle.bm_syntax.specs.View.{guarded};
 ghost use Rattle.deal_compile.specs.Parts as spec;
+ghost use Rattle.deal_compile.specs.Programs.{are_hashed};
 
 use crate::inputs::inputs_for;
 use crate::keys::DealKeys;
 use crate::labels::{initial_labels, path_labels};
+use crate::programs::{Program, programs_of};
 use crate::seen::is_well_formed;
 use bm_compile::{Detailed, Details};
 use bm_hash::Hash32;
 use bm_syntax::{Guarded, Path, at};
 use bm_tx::encode_stripped;
 use bm_wellformed::Checked;
+use deal_index::Indexed;
 use spec_bitcoin::Label;
 use spec_data::{Bytes, OutOfMemory, Seq};
 use spec_deal::Transaction;
@@ -24,19 +27,23 @@ use std::alloc::Global;
 fn transaction_for<H: Hash32>(
     alloc: Global,
     hasher: &H,
+    programs: &Indexed<Program>,
     keys: &DealKeys,
     which: Which,
     branch: Option<&Guarded>,
     labels: &[Seq<Label>],
     detailed: &Detailed,
 ) -> Result<Transaction, OutOfMemory>
+    requires { are_hashed (H.digest_of hasher.now) programs.now ≡ true }
     ensures { IfOk result (λ t. t ≡ spec.transaction_by (H.digest_of hasher.now) keys.now which (option_map (λ b. guarded b.now) branch.entry)
         labels.now detailed.now) }
 {
     let prepared = &detailed.prepared;
     let spends = detailed.draft.spends.as_slice();
     let digests = prepared.digests.as_slice();
-    let inputs = inputs_for(alloc, hasher, keys, &which, branch, spends, digests, labels)?;
+    let inputs = inputs_for(
+        alloc, hasher, programs, keys, &which, branch, spends, digests, labels,
+    )?;
     Ok(Transaction {
         which,
         tx: prepared.tx.copy(alloc)?,
@@ -49,16 +56,19 @@ fn transaction_for<H: Hash32>(
 fn initial_for<H: Hash32>(
     alloc: Global,
     hasher: &H,
+    programs: &Indexed<Program>,
     keys: &DealKeys,
     checked: &Checked,
     init: &Detailed,
 ) -> Result<Transaction, OutOfMemory>
+    requires { are_hashed (H.digest_of hasher.now) programs.now ≡ true }
     ensures { IfOk result (λ t. t ≡ spec.initial_transaction (H.digest_of hasher.now) keys.now checked.now init.now) }
 {
     let labels = initial_labels(alloc, &checked.advert().pre)?;
     transaction_for(
         alloc,
         hasher,
+        programs,
         keys,
         Which::Init,
         None,
@@ -85,11 +95,13 @@ fn branch_at<'a>(checked: &'a Checked, path: &Path) -> Option<&'a Guarded>
 fn path_for<H: Hash32>(
     alloc: Global,
     hasher: &H,
+    programs: &Indexed<Program>,
     keys: &DealKeys,
     checked: &Checked,
     path: &Path,
     detailed: &Detailed,
 ) -> Result<Transaction, OutOfMemory>
+    requires { are_hashed (H.digest_of hasher.now) programs.now ≡ true }
     ensures { IfOk result (λ t. t ≡ spec.path_transaction (H.digest_of hasher.now) keys.now checked.now (path.now, detailed.now)) }
 {
     let branch = branch_at(checked, path);
@@ -98,6 +110,7 @@ fn path_for<H: Hash32>(
     transaction_for(
         alloc,
         hasher,
+        programs,
         keys,
         which,
         branch,
@@ -110,15 +123,17 @@ fn path_for<H: Hash32>(
 fn put_paths<H: Hash32>(
     alloc: Global,
     hasher: &H,
+    programs: &Indexed<Program>,
     keys: &DealKeys,
     checked: &Checked,
     paths: &[(Path, Detailed)],
     all: &mut Seq<Transaction>,
 ) -> Result<(), OutOfMemory>
+    requires { are_hashed (H.digest_of hasher.now) programs.now ≡ true }
     ensures { OnOk result (all.new ≡ all.old ++ map (spec.path_transaction (H.digest_of hasher.now) keys.now checked.now) paths.now) }
 {
     for (path, detailed) in paths {
-        all.push(path_for(alloc, hasher, keys, checked, path, detailed)?)?;
+        all.push(path_for(alloc, hasher, programs, keys, checked, path, detailed)?)?;
     }
     Ok(())
 }
@@ -133,11 +148,13 @@ pub(crate) fn transactions<H: Hash32>(
 ) -> Result<Seq<Transaction>, OutOfMemory>
     ensures { IfOk result (λ all. all ≡ spec.transactions_by (H.digest_of hasher.now) keys.now checked.now details.now) }
 {
+    let programs = programs_of(alloc, hasher, details.scripts.as_slice())?;
     let mut all = Seq::new(alloc);
-    all.push(initial_for(alloc, hasher, keys, checked, &details.init)?)?;
+    all.push(initial_for(alloc, hasher, &programs, keys, checked, &details.init)?)?;
     put_paths(
         alloc,
         hasher,
+        &programs,
         keys,
         checked,
         details.paths.as_slice(),

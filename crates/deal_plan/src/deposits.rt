@@ -4,6 +4,9 @@ ghost use Rattle.std.specs.Prelude.{◌≡◌, ◌++◌, true, is_some, option_m
 ghost use Rattle.std.specs.List.{list_all};
 ghost use Rattle.spec_data.specs.Lists.{look_up};
 ghost use Rattle.spec_terms.specs.Precondition.{deposits as deposits_of, holding};
+ghost use Rattle.spec_bitcoin.specs.declared.label.Label.TheVariants.{Deposit};
+ghost use Rattle.spec_deal.specs.Needed.{same_label};
+ghost use Rattle.spec_deal.specs.Setting.{key_at};
 ghost use Rattle.deal_plan.specs.Parts as spec;
 
 use crate::transactions::put_txid;
@@ -11,8 +14,7 @@ use bm_hash::Hash32;
 use bm_keys::{deposit_script, pay_to};
 use bm_text::{put, put_decimal, put_hex};
 use bm_wellformed::Checked;
-use deal_compile::DealKeys;
-use spec_bitcoin::OutPoint;
+use spec_bitcoin::{Label, OutPoint};
 use spec_data::{Name, OutOfMemory};
 use spec_deal::Deal;
 use spec_terms::Pre;
@@ -28,6 +30,29 @@ fn place_of<'a>(bound: &'a [(Name, OutPoint)], name: &Name) -> Option<&'a OutPoi
         }
     }
     None
+}
+
+// Whether a label is that of a party's deposits.
+#[tactic(auto, unfolding(spec_bitcoin::specs::Keys::label_text))]
+fn is_deposit_of(label: &Label, party: &Name) -> bool
+    ensures { result ≡ same_label label.now (Deposit party.now) }
+{
+    match label {
+        Label::Deposit { party: owner } => *owner == *party,
+        Label::Branch { .. } => false,
+    }
+}
+
+// A party's key of its deposits; one of zeros, which no wallet has, without one. The labels of deposits stand first.
+fn party_key(keys: &[(Label, [u8; 33])], party: &Name) -> [u8; 33]
+    ensures { result ≡ key_at keys.now (Deposit party.now) }
+{
+    for (label, key) in keys {
+        if is_deposit_of(label, party) {
+            return *key;
+        }
+    }
+    [0; 33]
 }
 
 // `deposit NAME TXID VOUT`, with a space behind.
@@ -89,7 +114,7 @@ fn put_deposit<H: Hash32>(
     alloc: Global,
     hasher: &H,
     out: &mut Vec<u8>,
-    keys: &DealKeys,
+    keys: &[(Label, [u8; 33])],
     bound: &[(Name, OutPoint)],
     name: &Name,
     owner: &Name,
@@ -102,7 +127,7 @@ fn put_deposit<H: Hash32>(
     let Some(place) = place_of(bound, name) else {
         unreachable!()
     };
-    let script = deposit_script(&keys.party_key(alloc, owner.bytes())?);
+    let script = deposit_script(&party_key(keys, owner));
     put_placed(alloc, hasher, out, name, place, value, &script)
 }
 
@@ -111,7 +136,7 @@ fn put_deposits<H: Hash32>(
     alloc: Global,
     hasher: &H,
     out: &mut Vec<u8>,
-    keys: &DealKeys,
+    keys: &[(Label, [u8; 33])],
     bound: &[(Name, OutPoint)],
     pre: &[Pre],
 ) -> Result<(), OutOfMemory>
@@ -152,7 +177,7 @@ pub(crate) fn put_all<H: Hash32>(
     alloc: Global,
     hasher: &H,
     out: &mut Vec<u8>,
-    keys: &DealKeys,
+    keys: &[(Label, [u8; 33])],
     checked: &Checked,
     deal: &Deal,
 ) -> Result<(), OutOfMemory>

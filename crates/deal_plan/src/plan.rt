@@ -18,7 +18,8 @@ use crate::transactions::{put_scripts, put_transactions};
 use bm_hash::Hash32;
 use bm_text::put;
 use bm_wellformed::Checked;
-use deal_compile::{CompiledDeal, DealKeys};
+use deal_compile::CompiledDeal;
+use spec_bitcoin::Label;
 use spec_data::OutOfMemory;
 use spec_deal::Deal;
 use std::alloc::Global;
@@ -31,7 +32,7 @@ fn put_plan<H: Hash32>(
     out: &mut Vec<u8>,
     checked: &Checked,
     deal: &Deal,
-    keys: &DealKeys,
+    keys: &[(Label, [u8; 33])],
     compiled: &CompiledDeal,
 ) -> Result<(), OutOfMemory>
     requires { list_all (λ d. is_some (look_up d.0 deal.now.deposits)) (deposits_of checked.now.pre) ≡ true }
@@ -56,9 +57,9 @@ fn plan<H: Hash32>(
     ensures { IfOk result (λ text. text.items ≡ spec.plan_by (H.digest_of hasher.now) deal.now.keys deal.now.deposits
         checked.now.pre compiled.now.scripts compiled.now.transactions) }
 {
-    let keys = DealKeys::of(alloc, deal.keys.as_slice())?;
     let mut out = Vec::new(alloc);
-    put_plan(alloc, hasher, &mut out, checked, deal, &keys, compiled)?;
+    let keys = deal.keys.as_slice();
+    put_plan(alloc, hasher, &mut out, checked, deal, keys, compiled)?;
     Ok(out)
 }
 

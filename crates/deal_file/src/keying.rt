@@ -3,10 +3,9 @@
 ghost use Rattle.std.specs.Prelude.{◌≡◌, ◌∷◌, true, IfOk};
 ghost use Rattle.deal_file.specs.Keying as spec;
 
-use bm_keys::label_text;
 use bm_text::put;
 use bm_tx::put_word;
-use deal_index::Keyed;
+use deal_index::{Keyed, label_behind};
 use spec_data::OutOfMemory;
 use spec_deal::{Entry, Needed, Value};
 use std::alloc::Global;
@@ -75,7 +74,7 @@ impl Keyed for Worth {
 pub(crate) fn kind_and(alloc: Global, kind: u8, bytes: &[u8]) -> Result<Vec<u8>, OutOfMemory>
     ensures { IfOk result (λ key. key.items ≡ kind ∷ bytes.now) }
 {
-    let mut key = Vec::new(alloc);
+    let mut key = Vec::with_capacity(alloc, bytes.len() + 1)?;
     key.push(kind)?;
     put(&mut key, bytes)?;
     Ok(key)
@@ -86,10 +85,7 @@ pub(crate) fn need_key(alloc: Global, needed: &Needed) -> Result<Vec<u8>, OutOfM
     ensures { IfOk result (λ key. key.items ≡ spec.need_key needed.now) }
 {
     match needed {
-        Needed::Key(label) => {
-            let text = label_text(alloc, label)?;
-            kind_and(alloc, b'K', &text)
-        }
+        Needed::Key(label) => label_behind(alloc, b'K', label),
         Needed::Deposit(name) => kind_and(alloc, b'D', name.bytes()),
         Needed::Hash(name) => kind_and(alloc, b'H', name.bytes()),
     }

@@ -7,9 +7,9 @@ ghost use Rattle.spec_deal.specs.DealText as spec;
 ghost use Rattle.deal_file.specs.Texts as texts;
 
 use crate::needs::needed;
-use bm_keys::label_text;
 use bm_text::put;
 use bm_wellformed::Checked;
+use deal_index::put_label;
 use spec_data::OutOfMemory;
 use spec_deal::Needed;
 use std::alloc::Global;
@@ -22,7 +22,7 @@ pub fn put_needed(alloc: Global, out: &mut Vec<u8>, needed: &Needed) -> Result<(
     match needed {
         Needed::Key(label) => {
             put(out, b"key ")?;
-            put(out, &label_text(alloc, label)?)
+            put_label(alloc, out, label)
         }
         Needed::Deposit(name) => {
             put(out, b"deposit ")?;

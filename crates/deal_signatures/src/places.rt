@@ -19,7 +19,7 @@ pub(crate) fn place_key(
     ensures key { IfOk result (λ place. place.items ≡ place_key tx.now input key.now) }
     ensures sized { is_place input key.now ≡ true }
 {
-    let mut place = Vec::new(alloc);
+    let mut place = Vec::with_capacity(alloc, tx.len() + 37)?;
     put_word(&mut place, input)?;
     put(&mut place, key)?;
     put(&mut place, tx)?;

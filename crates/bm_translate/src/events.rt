@@ -1,6 +1,6 @@
 //! The steps of an event.
 
-ghost use Rattle.std.specs.Prelude.{◌≡◌, ◌<◌, ◌^◌, ◌∷◌, [], ℕ, List, length, Some, IfOk};
+ghost use Rattle.std.specs.Prelude.{◌≡◌, ◌<◌, ◌^◌, ◌++◌, ◌∷◌, [], ℕ, List, length, Some, IfOk};
 ghost use Rattle.spec_calculus.specs.declared.step.Step.TheVariants as steps;
 ghost use Rattle.spec_run.specs.World.{World, bindings_at};
 ghost use Rattle.spec_run.specs.declared.outcome.Outcome.TheVariants as outcomes;
@@ -28,7 +28,7 @@ use std::alloc::Global;
 fn one_step(alloc: Global, step: Step) -> Result<Vec<Step>, OutOfMemory>
     ensures { IfOk result (λ made. made.items ≡ step ∷ []) }
 {
-    let mut made = Vec::new(alloc);
+    let mut made = Vec::with_capacity(alloc, 1)?;
     made.push(step)?;
     Ok(made)
 }
@@ -157,6 +157,19 @@ fn done_steps<H: Hash32 + Drop>(
     }
 }
 
+// Steps behind others, where they are if there are no others: most transactions reveal nothing.
+fn behind(first: Vec<Step>, rest: Vec<Step>) -> Result<Vec<Step>, OutOfMemory>
+    ensures { IfOk result (λ all. all.items ≡ first.items ++ rest.items) }
+{
+    if first.is_empty() {
+        return Ok(rest);
+    }
+    let mut all = first;
+    let mut rest = rest;
+    all.append(&mut rest)?;
+    Ok(all)
+}
+
 // The steps of an accepted transaction that spends the outputs of these numbers.
 fn accepted_steps<H: Hash32 + Drop>(
     alloc: Global,
@@ -175,10 +188,10 @@ fn accepted_steps<H: Hash32 + Drop>(
         → IfOk result (λ made. made.items
         ≡ spec.accepted_steps (setup_of (H.digest_of trail.now.hasher) board.now) running.now.config w next spent.now (Some tx.now)) }
 {
-    let mut made = running.secrets.revealed(alloc, &running.config, shown)?;
-    let mut more = kind_steps(alloc, board, running, tx, spent)?;
-    made.append(&mut more)?;
-    Ok(made)
+    let made = running.secrets.revealed(alloc, &running.config, shown)?;
+    let more = kind_steps(alloc, board, running, tx, spent)?;
+    let all = behind(made, more)?;
+    Ok(all)
 }
 
 /// The steps of the event of this record, in a run that ends with this board and trail. Before the event this is known, and these are

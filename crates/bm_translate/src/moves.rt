@@ -26,7 +26,7 @@ fn moved_outputs(
 ) -> Result<Vec<(Owner, u64)>, OutOfMemory>
     ensures { IfOk result (λ moved. moved.items ≡ map (λ o. (owner_in accounts.now o.script, o.value)) outputs.now) }
 {
-    let mut moved = Vec::new(alloc);
+    let mut moved = Vec::with_capacity(alloc, outputs.len())?;
     for output in outputs {
         moved.push((
             owner_of_script(accounts, output.script.as_slice()),
@@ -95,11 +95,11 @@ fn owners_once(alloc: Global, config: &Config, numbers: &[u32]) -> Result<Vec<Na
     Ok(names)
 }
 
-// Each of these parties agrees to the move.
+// Each of these parties agrees to the move. There is room for one step more.
 fn agreements(alloc: Global, action: &Move, parties: &[Name]) -> Result<Vec<Step>, OutOfMemory>
     ensures { IfOk result (λ agreed. agreed.items ≡ map (spec.auth_move action.now) parties.now) }
 {
-    let mut agreed = Vec::new(alloc);
+    let mut agreed = Vec::with_capacity(alloc, parties.len().saturating_add(1))?;
     for party in parties {
         let action = action.copy(alloc)?;
         agreed.push(Step::AuthMove {

@@ -127,30 +127,30 @@ impl Tx {
 pub fn copy_items(alloc: Global, items: &[Bytes]) -> Result<Seq<Bytes>, OutOfMemory>
     ensures { IfOk result (λ new. new ≡ items.now) }
 {
-    let mut copies = Seq::new(alloc);
+    let mut copies = Vec::with_capacity(alloc, items.len())?;
     for item in items {
         copies.push(item.copy(alloc)?)?;
     }
-    Ok(copies)
+    Ok(Seq::of(copies))
 }
 
 fn copy_inputs(alloc: Global, inputs: &[TxIn]) -> Result<Seq<TxIn>, OutOfMemory>
     ensures { IfOk result (λ new. new ≡ inputs.now) }
 {
-    let mut copies = Seq::new(alloc);
+    let mut copies = Vec::with_capacity(alloc, inputs.len())?;
     for input in inputs {
         copies.push(input.copy(alloc)?)?;
     }
-    Ok(copies)
+    Ok(Seq::of(copies))
 }
 
 /// Equal outputs, in the same order.
 pub fn copy_outputs(alloc: Global, outputs: &[TxOut]) -> Result<Seq<TxOut>, OutOfMemory>
     ensures { IfOk result (λ new. new ≡ outputs.now) }
 {
-    let mut copies = Seq::new(alloc);
+    let mut copies = Vec::with_capacity(alloc, outputs.len())?;
     for output in outputs {
         copies.push(output.copy(alloc)?)?;
     }
-    Ok(copies)
+    Ok(Seq::of(copies))
 }

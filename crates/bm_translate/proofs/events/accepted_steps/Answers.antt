@@ -9,4 +9,4 @@ returns g c = λ f w next turn.
     let shown = rw c.requires.shown at c.in_ok-made.ensures
     ∙ accepted_reveals s c.args.board.now c.args.trail.now.messages f w next c.args.running.now c.args.recorded.now turn c.requires.accepted in
     let kind = c.in_ok-more.ensures s f w c.args.trail.now.messages turn.before in
-    c.in_ok-append.ensures.items ∙ (λ i. shown i ++ kind i)
+    c.in_ok-all.ensures ∙ (λ i. shown i ++ kind i)

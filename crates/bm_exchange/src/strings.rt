@@ -66,7 +66,7 @@ impl Strings {
     pub fn has(&self, string: &[u8]) -> bool
         ensures { result ≡ is_among string.now self.now }
     {
-        is_there(&self.strings, &self.places, string)
+        has_string(&self.strings, &self.places, string)
     }
 
     /// Adds a string at the end.
@@ -95,6 +95,17 @@ fn is_there(strings: &Pieces, places: &Places, string: &[u8]) -> bool
         Some(first) => strings.get(*first) == string || places.others.contains_key(string),
         None => false,
     }
+}
+
+// Whether the string is there. One string alone, as most events post, is compared without the index.
+fn has_string(strings: &Pieces, places: &Places, string: &[u8]) -> bool
+    requires placed { IsPlaced strings.now places.now }
+    ensures { result ≡ is_among string.now strings.now }
+{
+    if strings.len() == 1 {
+        return strings.get(0) == string;
+    }
+    is_there(strings, places, string)
 }
 
 // Adds a string of a mark that none has.

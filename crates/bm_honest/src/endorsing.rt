@@ -38,10 +38,7 @@ fn put_person(
     ensures { OnOk result (pairs.new.items ≡ pairs.old.items
         ++ person_pairs asked.now digest.now party.now (person.now ∷ []) (key.now ∷ [])) }
 {
-    if asked.contains(person) {
-        return Ok(());
-    }
-    if *person == *party {
+    if *person == *party && !asked.contains(person) {
         pairs.push((*key, *digest))?;
     }
     Ok(())

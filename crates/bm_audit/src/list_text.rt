@@ -2,11 +2,10 @@
 
 ghost use Rattle.std.specs.Prelude.{◌≡◌, ◌++◌, OnOk};
 ghost use Rattle.std.specs.List.{flat_map};
-ghost use Rattle.spec_bitcoin.specs.Keys.{label_text};
 ghost use Rattle.spec_tool.specs.AuditText as spec;
 
 use crate::name_text::put_which;
-use bm_keys::label_text;
+use bm_keys::put_label;
 use bm_text::{put, put_decimal};
 use spec_bitcoin::Label;
 use spec_data::OutOfMemory;
@@ -35,13 +34,6 @@ pub(crate) fn put_all_absent(
         put_absent(alloc, out, which)?;
     }
     Ok(())
-}
-
-fn put_label(alloc: Global, out: &mut Vec<u8>, label: &Label) -> Result<(), OutOfMemory>
-    ensures { OnOk result (out.new.items ≡ out.old.items ++ label_text label.now) }
-{
-    let text = label_text(alloc, label)?;
-    put(out, &text)
 }
 
 #[tactic(auto, using(std::proofs::Common::append_assoc))]

@@ -1,6 +1,6 @@
-//! The text of a label.
+//! The text of a label, in memory that is taken at once.
 
-ghost use Rattle.std.specs.Prelude.{◌≡◌, ◌++◌, IfOk, OnOk};
+ghost use Rattle.std.specs.Prelude.{◌≡◌, ◌++◌, ◌∷◌, IfOk, OnOk};
 ghost use Rattle.spec_bitcoin.specs.Keys as spec;
 ghost use Rattle.spec_bitcoin.specs.declared.label.Label.TheVariants.{Deposit, Branch};
 
@@ -10,8 +10,11 @@ use spec_data::{Name, OutOfMemory};
 use spec_terms::PathStep;
 use std::alloc::Global;
 
-/// Writes a step of a path.
-pub fn put_step(alloc: Global, out: &mut Vec<u8>, step: &PathStep) -> Result<(), OutOfMemory>
+// Room for the label of a branch that isn't deep; a longer text takes more.
+const ROOM: usize = 32;
+
+// Writes a step of a path.
+fn put_step(alloc: Global, out: &mut Vec<u8>, step: &PathStep) -> Result<(), OutOfMemory>
     ensures { OnOk result (out.new.items ≡ out.old.items ++ spec.step_text step.now) }
 {
     match step {
@@ -45,15 +48,6 @@ fn put_deposit(out: &mut Vec<u8>, party: &[u8]) -> Result<(), OutOfMemory>
     out.extend_from_slice(party)
 }
 
-/// `D:` and the party: the text of the label of a party's deposits.
-pub(crate) fn deposit_text(alloc: Global, party: &[u8]) -> Result<Vec<u8>, OutOfMemory>
-    ensures { IfOk result (λ text. text.items ≡ spec.label_text (Deposit party.now)) }
-{
-    let mut out = Vec::new(alloc);
-    put_deposit(&mut out, party)?;
-    Ok(out)
-}
-
 #[tactic(auto, unfolding(spec_bitcoin::specs::Keys::label_text))]
 fn put_branch(
     alloc: Global,
@@ -72,18 +66,44 @@ fn put_branch(
     out.extend_from_slice(party.bytes())
 }
 
-/// `D:` and the party; or `B:`, the contract's number, `:`, the path, `:` and the party.
-pub fn label_text(alloc: Global, label: &Label) -> Result<Vec<u8>, OutOfMemory>
-    ensures { IfOk result (λ text. text.items ≡ spec.label_text label.now) }
+/// Writes the text of a label: `D:` and the party; or `B:`, the contract's number, `:`, the path, `:` and the party.
+pub fn put_label(alloc: Global, out: &mut Vec<u8>, label: &Label) -> Result<(), OutOfMemory>
+    ensures { OnOk result (out.new.items ≡ out.old.items ++ spec.label_text label.now) }
 {
-    let mut out = Vec::new(alloc);
     match label {
-        Label::Deposit { party } => put_deposit(&mut out, party.bytes())?,
+        Label::Deposit { party } => put_deposit(out, party.bytes()),
         Label::Branch {
             contract,
             path,
             party,
-        } => put_branch(alloc, &mut out, *contract, path.steps(), party)?,
+        } => put_branch(alloc, out, *contract, path.steps(), party),
     }
+}
+
+/// The text of the label of a party's deposits.
+pub(crate) fn deposit_text(alloc: Global, party: &[u8]) -> Result<Vec<u8>, OutOfMemory>
+    ensures { IfOk result (λ text. text.items ≡ spec.label_text (Deposit party.now)) }
+{
+    let mut out = Vec::with_capacity(alloc, ROOM)?;
+    put_deposit(&mut out, party)?;
+    Ok(out)
+}
+
+/// The text of a label.
+pub fn label_text(alloc: Global, label: &Label) -> Result<Vec<u8>, OutOfMemory>
+    ensures { IfOk result (λ text. text.items ≡ spec.label_text label.now) }
+{
+    let mut out = Vec::with_capacity(alloc, ROOM)?;
+    put_label(alloc, &mut out, label)?;
+    Ok(out)
+}
+
+/// The text of a label behind this byte.
+pub fn label_behind(alloc: Global, first: u8, label: &Label) -> Result<Vec<u8>, OutOfMemory>
+    ensures { IfOk result (λ text. text.items ≡ first ∷ spec.label_text label.now) }
+{
+    let mut out = Vec::with_capacity(alloc, ROOM)?;
+    out.push(first)?;
+    put_label(alloc, &mut out, label)?;
     Ok(out)
 }

@@ -57,10 +57,15 @@ fn value_of(digits: &[u8]) -> Option<u64>
 }
 
 /// Writes a number as a plain decimal.
+#[tactic(auto, using(std::proofs::lemmas::Fmt::decimal_digit))]
 pub fn put_decimal(alloc: Global, out: &mut Vec<u8>, number: u64) -> Result<(), OutOfMemory>
     ensures ok { OnOk result (out.new.items ≡ out.old.items ++ decimal number) }
     ensures err { OnErr result (out.new.items ≡ out.old.items) }
 {
+    if number < 10 {
+        out.push(b'0' + number as u8)?;
+        return Ok(());
+    }
     let digits = number.to_string(alloc)?;
     out.extend_from_slice(digits.as_bytes())?;
     Ok(())

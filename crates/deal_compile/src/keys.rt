@@ -9,8 +9,8 @@ ghost use Rattle.deal_compile.specs.Keyed as spec;
 
 use bm_compile::KeySource;
 use bm_hash::{Hash32, Trail, TrailError};
-use bm_keys::Label;
-use deal_index::{Indexed, Keyed, label_text};
+use bm_keys::{Label, label_text};
+use deal_index::{Indexed, Keyed};
 use spec_data::OutOfMemory;
 use std::alloc::Global;
 use std::marker::Model;

@@ -3,9 +3,10 @@
 ghost use Rattle.std.specs.Prelude.{◌≡◌, ◌∷◌, true, IfOk};
 ghost use Rattle.deal_file.specs.Keying as spec;
 
+use bm_keys::label_behind;
 use bm_text::put;
 use bm_tx::put_word;
-use deal_index::{Keyed, label_behind};
+use deal_index::Keyed;
 use spec_data::OutOfMemory;
 use spec_deal::{Entry, Needed, Value};
 use std::alloc::Global;

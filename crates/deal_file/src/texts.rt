@@ -7,9 +7,9 @@ ghost use Rattle.spec_deal.specs.DealText as spec;
 ghost use Rattle.deal_file.specs.Texts as texts;
 
 use crate::needs::needed;
+use bm_keys::put_label;
 use bm_text::put;
 use bm_wellformed::Checked;
-use deal_index::put_label;
 use spec_data::OutOfMemory;
 use spec_deal::Needed;
 use std::alloc::Global;

@@ -1,8 +1,9 @@
 -- The index of a list of byte strings, with one more; what it leads to.
-use Rattle.std.proofs.Common.{◌≡◌, ℕ, ◌+◌, List, [], ◌∷◌, ◌++◌, length, map, Bool, true, false, cond, Option, Some, None}
+use Rattle.std.proofs.Common.{◌≡◌, ℕ, ◌+◌, ◌<◌, List, [], ◌∷◌, ◌++◌, length, map, Bool, true, false, cond, Option, Some, None}
 use Rattle.std.proofs.Common.{refl, sym, ap, subst, ◌∙◌, arith, suc}
-use Rattle.std.specs.Prelude.{if◌then◌else◌, slice_get}
-use Rattle.std.specs.List.{find, list_all}
+use Rattle.std.specs.Prelude.{if◌then◌else◌, slice_get, ◌==◌, nat_lt}
+use Rattle.std.specs.declared.cmp.Ordering.TheVariants.{Less, Equal, Greater}
+use Rattle.std.specs.List.{find}
 use Rattle.std.specs.Option.{option_map, option_and_then, unwrap_or}
 use Rattle.std.specs.Ordering.{nat_cmp, is_eq}
 use Rattle.std.specs.Cmp.{eq_by_cmp_equiv}
@@ -13,18 +14,45 @@ use Rattle.std.specs.BTreeMap as tree
 use Rattle.std.specs.BTreeMap.{BTreeMap}
 use Rattle.std.specs.Global.{Vec}
 use Rattle.std.proofs.lemmas.Slice.Eq.{bytes_eq-Decides}
-use Rattle.std.proofs.lemmas.Bool.{and_from}
-use Rattle.std.proofs.lemmas.List.Folds.{list_all-append}
+use Rattle.std.proofs.lemmas.List.{get_or_append_left, length-append}
+use Rattle.std.proofs.lemmas.Option.{slice_get-get_or, slice_get_within}
+use Rattle.std.proofs.Math.Seq.{get_or-append_seam}
 use Rattle.spec_data.proofs.MapLemmas.{other_entries, apart_in_order}
-use Rattle.deal_index.specs.Places.{placed_at, place_from, place_or, IsIndex, Adds}
+use Rattle.deal_index.specs.Marks.{mark_of}
+use Rattle.deal_index.specs.declared.places.Places.{Places}
+use Rattle.deal_index.specs.Places.{place_from, is_string, stands_at, marked_at, other_at, place_by, placed_at, place_or, IsIndex, TakesMark, Adds}
 
-abbrev pub Index : Type 0
-Index = BTreeMap (Vec ℕ) ℕ
+abbrev pub Marks : Type 0
+Marks = BTreeMap ℕ ℕ
 
-abbrev pub Changes : Index → Index → List ℕ → Option ℕ → Type 0
+abbrev pub Others : Type 0
+Others = BTreeMap (Vec ℕ) ℕ
+
+abbrev pub Changes : Others → Others → List ℕ → Option ℕ → Type 0
 Changes m n bs w = tree.UpdatesBy (λ x y. slice_cmp nat_cmp x.items y.items) (λ k. slice_cmp nat_cmp bs k.items) m n w
 
--- ---- the index after a change
+-- ---- the two trees after a change
+
+order_equal : (less same : Bool) → is_eq (cond less Less (cond same Equal Greater)) ≡ true → same ≡ true
+order_equal true same h = cc
+order_equal false true h = refl
+order_equal false false h = cc
+
+same_mark : (m q : ℕ) → is_eq (nat_cmp m q) ≡ true → m ≡ q
+same_mark m q h = let same : m == q ≡ true = order_equal (nat_lt m q) (m == q) h in grind arith
+
+-- the mark has the place that it had, or else this one
+pub takes_mark : (old new : Marks) (mark place first : ℕ) → first ≡ unwrap_or (marked_at old mark) place
+    → tree.UpdatesBy nat_cmp (λ k. nat_cmp mark k) old new (Some first) → TakesMark old new mark place first
+takes_mark old new mark place first is updates = (is, λ m. by m (mark == m) refl)
+  where
+    elsewhere : (m : ℕ) → mark == m ≡ false → (b : Bool) → is_eq (nat_cmp mark m) ≡ b → marked_at new m ≡ marked_at old m
+    elsewhere m apart false h = updates.2 m h
+    elsewhere m apart true h = let same = same_mark mark m h in absurd (grind arith)
+
+    by : (m : ℕ) (b : Bool) → mark == m ≡ b → marked_at new m ≡ (if b then Some first else marked_at old m)
+    by m true h = let same : mark ≡ m = grind arith in subst (λ k. marked_at new k ≡ Some first) same updates.1
+    by m false h = elsewhere m h (is_eq (nat_cmp mark m)) refl
 
 none_or : (o : Option ℕ) → place_or o None ≡ o
 none_or None = refl
@@ -35,18 +63,18 @@ some_or None place = refl
 some_or (Some earlier) place = refl
 
 -- the key has the place that it had, or else this one
-pub adds_place : (old new : Index) (bytes : List ℕ) (place at : ℕ) → at ≡ unwrap_or (placed_at old bytes) place
+pub adds_place : (old new : Others) (bytes : List ℕ) (place at : ℕ) → at ≡ unwrap_or (other_at old bytes) place
     → Changes old new bytes (Some at) → Adds old new bytes place
 adds_place old new bytes place at is h q =
     elim (bytes_eq bytes q) as (λ b. bytes_eq bytes q ≡ b
-    → placed_at new q ≡ place_or (placed_at old q) (if b then Some place else None)) [
+    → other_at new q ≡ place_or (other_at old q) (if b then Some place else None)) [
       | true ↦ λ t.
-          subst (λ l. placed_at new l ≡ place_or (placed_at old l) (Some place)) ((bytes_eq-Decides bytes q).0 t)
-          (h.1 ∙ ap Some is ∙ some_or (placed_at old bytes) place)
+          subst (λ l. other_at new l ≡ place_or (other_at old l) (Some place)) ((bytes_eq-Decides bytes q).0 t)
+          (h.1 ∙ ap Some is ∙ some_or (other_at old bytes) place)
       | false ↦ λ t.
           other_entries _ _ _ _ h.3 _ (λ x y. (eq_by_cmp_equiv nat_list_cmp_total).congr q x.items y.items)
           (λ k. apart_in_order bytes q k.items t)
-          ∙ sym (none_or (placed_at old q))
+          ∙ sym (none_or (other_at old q))
     ] refl
 
 -- ---- one string more
@@ -71,25 +99,206 @@ place_push k q (x ∷ keys) key =
     by_test false later = later
 
 -- the index of no string
-pub index_none : (index : Index) → index.entries ≡ [] → IsIndex [] index
-index_none index e = record { at = λ q. ap (λ es. lookup (λ k. is_eq (slice_cmp nat_cmp q k.items)) es) e }
-
-pub index_more : (keys : List (List ℕ)) (key : List ℕ) (old new : Index) (place : ℕ) → place ≡ length keys → IsIndex keys old
-    → Adds old new key place → IsIndex (keys ++ key ∷ []) new
-index_more keys key old new place here is adds =
-    let e : place ≡ 0 + length keys = omega (arith, here) in
+pub index_none : (places : Places) → places.marked.entries ≡ [] → places.others.entries ≡ [] → IsIndex [] places
+index_none places no_mark no_other =
+    let unmarked : (m : ℕ) → marked_at places.marked m ≡ None = λ m. ap (λ es. lookup (λ k. is_eq (nat_cmp m k)) es) no_mark in
     record {
-      at = λ q.
-          adds q
-          ∙ ap (λ o. place_or o (if bytes_eq key q then Some place else None)) (is.at q)
-          ∙ ap (λ (n : ℕ). place_or (place_from 0 q keys) (if bytes_eq key q then Some n else None)) e
-          ∙ sym (place_push 0 q keys key);
+      at = λ q. ap (λ o. place_by [] q o (other_at places.others q)) (unmarked (mark_of q));
+      within = λ m p h. let none = unmarked m in absurd cc;
+      behind = λ q h. ap (λ es. lookup (λ k. is_eq (slice_cmp nat_cmp q k.items)) es) no_other;
+      apart = λ e p q h. absurd cc;
     }
 
--- the same index has the same strings
-pub index_stays : (keys : List (List ℕ)) (old new : Index) → IsIndex keys old → ((q : List ℕ) → placed_at new q ≡ placed_at old q)
-    → IsIndex keys new
-index_stays keys old new is same = record { at = λ q. same q ∙ is.at q }
+module _ (keys : List (List ℕ)) (places : Places) (is : IsIndex keys places) (key : List ℕ) where
+  longer : length (keys ++ key ∷ []) ≡ length keys + 1
+  longer = length-append keys (key ∷ [])
+
+  get_left : (p : ℕ) → p < length keys → slice_get (keys ++ key ∷ []) p ≡ slice_get keys p
+  get_left p lt =
+      slice_get-get_or (keys ++ key ∷ []) p [] (omega (arith, lt, longer))
+      ∙ ap Some (get_or_append_left keys (key ∷ []) [] p lt) ∙ sym (slice_get-get_or keys p [] lt)
+
+  get_seam : slice_get (keys ++ key ∷ []) (length keys) ≡ Some key
+  get_seam = slice_get-get_or (keys ++ key ∷ []) (length keys) [] (omega (arith, longer)) ∙ ap Some (get_or-append_seam keys key [] [])
+
+  within_more : (m p : ℕ) → marked_at places.marked m ≡ Some p → p < length (keys ++ key ∷ [])
+  within_more m p h = let lt = is.within m p h in omega (arith, lt, longer)
+
+  -- what the index told is told of more keys
+  same_place : (q : List ℕ) → placed_at (keys ++ key ∷ []) places q ≡ place_from 0 q keys
+  same_place q = by (marked_at places.marked (mark_of q)) refl ∙ is.at q
+    where
+      by : (o : Option ℕ) → marked_at places.marked (mark_of q) ≡ o
+          → place_by (keys ++ key ∷ []) q o (other_at places.others q) ≡ place_by keys q o (other_at places.others q)
+      by None h = refl
+      by (Some p) h =
+          ap (λ o. if is_string o q then Some p else other_at places.others q) (get_left p (is.within (mark_of q) p h))
+
+  -- another string stands where it stood
+  push_apart : (q : List ℕ) → bytes_eq key q ≡ false → place_from 0 q (keys ++ key ∷ []) ≡ place_from 0 q keys
+  push_apart q h =
+      place_push 0 q keys key
+      ∙ ap (λ b. place_or (place_from 0 q keys) (if b then Some (0 + length keys) else None)) h ∙ none_or (place_from 0 q keys)
+
+  -- the string itself stands at the end, if it stood nowhere
+  push_first : (q : List ℕ) → place_from 0 q keys ≡ None
+      → place_from 0 q (keys ++ key ∷ []) ≡ (if bytes_eq key q then Some (length keys) else None)
+  push_first q h =
+      let e : 0 + length keys ≡ length keys = omega arith in
+      place_push 0 q keys key
+      ∙ ap (λ o. place_or o (if bytes_eq key q then Some (0 + length keys) else None)) h
+      ∙ ap (λ (n : ℕ). if bytes_eq key q then Some n else None) e
+
+  -- strings of two marks are two
+  marks_apart : (q : List ℕ) → mark_of key == mark_of q ≡ false → bytes_eq key q ≡ false
+  marks_apart q h = by (bytes_eq key q) refl
+    where
+      by : (b : Bool) → bytes_eq key q ≡ b → b ≡ false
+      by false t = refl
+      by true t =
+          let same : mark_of key ≡ mark_of q = ap mark_of ((bytes_eq-Decides key q).0 t) in
+          absurd (grind arith)
+
+  -- ---- a string of a mark that none has
+
+  apart_more : place_from 0 key keys ≡ None → places.are_apart ≡ true → (p : ℕ) (q : List ℕ) → slice_get (keys ++ key ∷ []) p ≡ Some q
+      → place_from 0 q (keys ++ key ∷ []) ≡ Some p
+  apart_more new are p q h = by (nat_lt p (length keys)) refl
+    where
+      by : (b : Bool) → nat_lt p (length keys) ≡ b → place_from 0 q (keys ++ key ∷ []) ≡ Some p
+      by true t =
+          let lt : p < length keys = grind arith in
+          place_push 0 q keys key
+          ∙ ap (λ o. place_or o (if bytes_eq key q then Some (0 + length keys) else None)) (is.apart are p q (sym (get_left p lt) ∙ h))
+      by false t =
+          let in_all = slice_get_within (keys ++ key ∷ []) p q h in
+          let here : length keys ≡ p = grind (arith, longer, in_all) in
+          let at : slice_get (keys ++ key ∷ []) p ≡ Some key = ap (slice_get (keys ++ key ∷ [])) (sym here) ∙ get_seam in
+          let same : key ≡ q = cc in
+          subst (λ l. place_from 0 l (keys ++ key ∷ []) ≡ Some p) same
+          (push_first key new ∙ ap (λ b. if b then Some (length keys) else None) ((bytes_eq-Decides key key).1 refl) ∙ ap Some here)
+
+  pub index_marked : (marked : Marks) (first : ℕ) → TakesMark places.marked marked (mark_of key) (length keys) first → first ≡ length keys
+      → IsIndex (keys ++ key ∷ []) (record { marked = marked; others = places.others; are_apart = places.are_apart })
+  index_marked marked first takes here = record {
+    at = λ q. by q (mark_of key == mark_of q) refl;
+    within = λ m p h. within_all m p (mark_of key == m) refl h;
+    behind = λ q h. unmarked q (mark_of key == mark_of q) refl h;
+    apart = λ are. apart_more (sym (is.at key) ∙ ap (λ o. place_by keys key o (other_at places.others key)) none) are;
+  }
+    where
+      none : marked_at places.marked (mark_of key) ≡ None
+      none = by_first (marked_at places.marked (mark_of key)) refl
+        where
+          by_first : (o : Option ℕ) → marked_at places.marked (mark_of key) ≡ o → o ≡ None
+          by_first None h = refl
+          by_first (Some p) h =
+              let lt = is.within (mark_of key) p h in
+              let same : first ≡ p = takes.0 ∙ ap (λ o. unwrap_or o (length keys)) h in
+              absurd (omega (arith, lt, same, here))
+
+      no_mark : (q : List ℕ) → mark_of key == mark_of q ≡ true → marked_at places.marked (mark_of q) ≡ None
+      no_mark q h = let same : mark_of key ≡ mark_of q = grind arith in subst (λ m. marked_at places.marked m ≡ None) same none
+
+      marked_now : (m : ℕ) (b : Bool) → mark_of key == m ≡ b → marked_at marked m ≡ (if b then Some first else marked_at places.marked m)
+      marked_now m b h = takes.1 m ∙ ap (λ b. if b then Some first else marked_at places.marked m) h
+
+      by : (q : List ℕ) (b : Bool) → mark_of key == mark_of q ≡ b
+          → place_by (keys ++ key ∷ []) q (marked_at marked (mark_of q)) (other_at places.others q) ≡ place_from 0 q (keys ++ key ∷ [])
+      by q true h =
+          let at_end : slice_get (keys ++ key ∷ []) first ≡ Some key = ap (slice_get (keys ++ key ∷ [])) here ∙ get_seam in
+          let absent = no_mark q h in
+          ap (λ o. place_by (keys ++ key ∷ []) q o (other_at places.others q)) (marked_now (mark_of q) true h)
+          ∙ ap (λ o. if is_string o q then Some first else other_at places.others q) at_end
+          ∙ ap (λ o. if bytes_eq key q then Some first else o) (is.behind q absent)
+          ∙ ap (λ (n : ℕ). if bytes_eq key q then Some n else None) here
+          ∙ sym (push_first q (sym (is.at q) ∙ ap (λ o. place_by keys q o (other_at places.others q)) absent))
+      by q false h =
+          ap (λ o. place_by (keys ++ key ∷ []) q o (other_at places.others q)) (marked_now (mark_of q) false h)
+          ∙ same_place q ∙ sym (push_apart q (marks_apart q h))
+
+      within_all : (m p : ℕ) (b : Bool) → mark_of key == m ≡ b → marked_at marked m ≡ Some p → p < length (keys ++ key ∷ [])
+      within_all m p true h found =
+          let now = marked_now m true h in
+          let same : first ≡ p = cc in
+          omega (arith, longer, same, here)
+      within_all m p false h found = within_more m p (sym (marked_now m false h) ∙ found)
+
+      unmarked : (q : List ℕ) (b : Bool) → mark_of key == mark_of q ≡ b → marked_at marked (mark_of q) ≡ None → other_at places.others q ≡ None
+      unmarked q true h found = let now = marked_now (mark_of q) true h in absurd cc
+      unmarked q false h found = is.behind q (sym (marked_now (mark_of q) false h) ∙ found)
+
+  -- ---- a string of a mark that another has
+
+  module _ (first : ℕ) (taken : marked_at places.marked (mark_of key) ≡ Some first) where
+    -- a string whose mark none has is another one
+    unmarked_apart : (q : List ℕ) → marked_at places.marked (mark_of q) ≡ None → bytes_eq key q ≡ false
+    unmarked_apart q none = marks_apart q (by (mark_of key == mark_of q) refl)
+      where
+        by : (b : Bool) → mark_of key == mark_of q ≡ b → b ≡ false
+        by false h = refl
+        by true h =
+            let same : mark_of key ≡ mark_of q = grind arith in
+            let has : marked_at places.marked (mark_of q) ≡ Some first = subst (λ m. marked_at places.marked m ≡ Some first) same taken in
+            absurd cc
+
+    -- the string stands at the first place of its mark
+    pub index_again : stands_at keys first key ≡ true
+        → IsIndex (keys ++ key ∷ []) (record { marked = places.marked; others = places.others; are_apart = false })
+    index_again there = record {
+      at = λ q. same_place q ∙ sym (by q (bytes_eq key q) refl);
+      within = within_more;
+      behind = is.behind;
+      apart = λ e. absurd cc;
+    }
+      where
+        stood : place_from 0 key keys ≡ Some first
+        stood =
+            sym (is.at key) ∙ ap (λ o. place_by keys key o (other_at places.others key)) taken
+            ∙ ap (λ b. if b then Some first else other_at places.others key) there
+
+        by : (q : List ℕ) (b : Bool) → bytes_eq key q ≡ b → place_from 0 q (keys ++ key ∷ []) ≡ place_from 0 q keys
+        by q false h = push_apart q h
+        by q true h =
+            subst (λ l. place_from 0 l (keys ++ key ∷ []) ≡ place_from 0 l keys) ((bytes_eq-Decides key q).0 h)
+            (place_push 0 key keys key ∙ ap (λ o. place_or o (if bytes_eq key key then Some (0 + length keys) else None)) stood ∙ sym stood)
+
+    -- another one stands there
+    pub index_other : (others : Others) → stands_at keys first key ≡ false → Adds places.others others key (length keys)
+        → IsIndex (keys ++ key ∷ []) (record { marked = places.marked; others = others; are_apart = false })
+    index_other others another adds = record {
+      at = λ q. by q (marked_at places.marked (mark_of q)) refl;
+      within = within_more;
+      behind = λ q none.
+          adds q
+          ∙ ap (λ o. place_or o (if bytes_eq key q then Some (length keys) else None)) (is.behind q none)
+          ∙ ap (λ b. if b then Some (length keys) else None) (unmarked_apart q none);
+      apart = λ e. absurd cc;
+    }
+      where
+        or_there : (b : Bool) (p : ℕ) (o more : Option ℕ)
+            → (if b then Some p else place_or o more) ≡ place_or (if b then Some p else o) more
+        or_there true p o more = refl
+        or_there false p o more = refl
+
+        pushed_at : (q : List ℕ) → place_from 0 q (keys ++ key ∷ [])
+            ≡ place_or (place_from 0 q keys) (if bytes_eq key q then Some (length keys) else None)
+        pushed_at q =
+            let e : 0 + length keys ≡ length keys = omega arith in
+            place_push 0 q keys key ∙ ap (λ (n : ℕ). place_or (place_from 0 q keys) (if bytes_eq key q then Some n else None)) e
+
+        by : (q : List ℕ) (o : Option ℕ) → marked_at places.marked (mark_of q) ≡ o
+            → place_by (keys ++ key ∷ []) q o (other_at others q) ≡ place_from 0 q (keys ++ key ∷ [])
+        by q None h =
+            sym (push_apart q (unmarked_apart q h)
+            ∙ sym (is.at q) ∙ ap (λ o. place_by keys q o (other_at places.others q)) h)
+        by q (Some p) h =
+            ap (λ o. if is_string o q then Some p else other_at others q) (get_left p (is.within (mark_of q) p h))
+            ∙ ap (λ o. if stands_at keys p q then Some p else o) (adds q)
+            ∙ or_there (stands_at keys p q) p (other_at places.others q) (if bytes_eq key q then Some (length keys) else None)
+            ∙ ap (λ o. place_or o (if bytes_eq key q then Some (length keys) else None))
+            (sym (sym (is.at q) ∙ ap (λ o. place_by keys q o (other_at places.others q)) h))
+            ∙ sym (pushed_at q)
 
 -- ---- items
 
@@ -122,32 +331,7 @@ module _ {T : Type 0} (key : T → List ℕ) (q : List ℕ) where
       by_test true later = refl
       by_test false later = later
 
-  -- the item at the place that the index has
-  pub found_item : (xs : List T) (index : Index) → IsIndex (map key xs) index → (o : Option ℕ) → o ≡ placed_at index q
+  -- the item at the place of its key
+  pub found_item : (xs : List T) (keys : List (List ℕ)) → keys ≡ map key xs → (o : Option ℕ) → o ≡ place_from 0 q keys
       → option_and_then (slice_get xs) o ≡ find (λ x. bytes_eq (key x) q) xs
-  found_item xs index is o here = ap (option_and_then (slice_get xs)) (here ∙ is.at q) ∙ found_place xs
-
--- ---- one item more
-
-module _ {T : Type 0} (key : T → List ℕ) where
-  length_keys : (xs : List T) → length (map key xs) ≡ length xs
-  length_keys [] = refl
-  length_keys (x ∷ xs) = ap suc (length_keys xs)
-
-  keys_push : (xs : List T) (x : T) → map key (xs ++ x ∷ []) ≡ map key xs ++ key x ∷ []
-  keys_push [] x = refl
-  keys_push (y ∷ xs) x = ap (λ (rest : List (List ℕ)). key y ∷ rest) (keys_push xs x)
-
-  pub pushed : (xs more : List T) (x : T) (bytes : List ℕ) (old new : Index) (place : ℕ) → place ≡ length xs
-      → IsIndex (map key xs) old → more ≡ xs ++ x ∷ [] → bytes ≡ key x → Adds old new bytes place → IsIndex (map key more) new
-  pushed xs more x bytes old new place here is grown same adds =
-      subst (λ ys. IsIndex (map key ys) new) (sym grown)
-      (subst (λ keys. IsIndex keys new) (sym (keys_push xs x))
-      (index_more (map key xs) (key x) old new place (here ∙ sym (length_keys xs)) is
-      (subst (λ k. Adds old new k place) same adds)))
-
-pub all_pushed : {T : Type 0} (ok : T → Bool) (xs more : List T) (x : T) → list_all ok xs ≡ true → more ≡ xs ++ x ∷ [] → ok x ≡ true
-    → list_all ok more ≡ true
-all_pushed ok xs more x all grown one =
-    ap (list_all ok) grown ∙ list_all-append ok xs (x ∷ [])
-    ∙ and_from (list_all ok xs) (list_all ok (x ∷ [])) all (and_from (ok x) true one refl)
+  found_item xs keys of o here = ap (option_and_then (slice_get xs)) (here ∙ ap (place_from 0 q) of) ∙ found_place xs

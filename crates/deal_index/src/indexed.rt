@@ -1,13 +1,15 @@
 //! Items in order, each found by a byte string.
 
-ghost use Rattle.std.specs.Prelude.{List, ℕ, Bool, true, ◌≡◌, ◌≤◌, ◌<◌, ◌++◌, ◌∷◌, [], length, map, slice_get, Option, Some, None, IfSome, OnOk, OnErr};
+ghost use Rattle.std.specs.Prelude.{List, ℕ, Bool, true, ◌≡◌, ◌++◌, ◌∷◌, [], length, map, slice_get, Option, OnOk, OnErr};
 ghost use Rattle.std.specs.List.{find, list_all};
-ghost use Rattle.std.specs.Option.{option_map, option_copied};
+ghost use Rattle.std.specs.Option.{option_map};
 ghost use Rattle.std.specs.Str.{bytes_eq};
-ghost use Rattle.deal_index.specs.Places.{placed_at, IsIndex, Adds};
+ghost use Rattle.deal_index.specs.Places.{place_from, placed_at, IsIndex};
 
-use spec_data::{OutOfMemory, Seq};
+use crate::places::{Places, add_last, place_of, stands_at};
+use spec_data::{Bytes, OutOfMemory, Seq};
 use std::alloc::Global;
+use std::cell::Cell;
 use std::collections::BTreeMap;
 use std::marker::Model;
 
@@ -20,10 +22,15 @@ pub trait Keyed {
     ghost is_sized: { Self → Bool };
 }
 
-/// Items in order. The first of each key is found in the time of a few comparisons, however the keys are chosen.
+/// Items in order. The first of each key is found in the time of a few comparisons, however the keys are chosen; in the time of one, where
+/// keys that all differ are looked up in their order.
 pub struct Indexed<T: Keyed> {
+    alloc: Global,
     items: Seq<T>,
-    places: BTreeMap<Vec<u8>, usize>,
+    keys: Seq<Bytes>,
+    places: Places,
+    // the place behind the one found last, where the next key is looked for first
+    next: Cell<usize>,
 }
 
 impl<T: Keyed> Model for Indexed<T> {
@@ -35,36 +42,59 @@ impl<T: Keyed> Model for Indexed<T> {
 
     ghost view = { λ x. x.items };
 
-    ghost invariant = { λ x. IsIndex (map T.key_of x.items) x.places × (list_all T.is_sized x.items ≡ true) };
+    ghost invariant = { λ x. IsIndex x.keys x.places × (x.keys ≡ map T.key_of x.items) × (list_all T.is_sized x.items ≡ true) };
 }
 
 impl<T: Keyed + Drop> Drop for Indexed<T> {
     fn drop(self) {
         let Indexed {
+            alloc: _,
             items: _,
+            keys: _,
             places: _,
+            next: _,
         } = self;
     }
 }
 
-// Puts the place of a key in the index, unless an earlier one of the same key has it.
-fn add_place(
-    places: &mut BTreeMap<Vec<u8>, usize>,
+// Adds a key at the end, and its place to the index.
+fn add_key(
+    alloc: Global,
+    keys: &mut Seq<Bytes>,
+    places: &mut Places,
     key: Vec<u8>,
-    place: usize,
 ) -> Result<(), OutOfMemory>
-    ensures ok { OnOk result (Adds places.old places.new key.items place) }
-    ensures err { OnErr result ((q : List ℕ) → placed_at places.new q ≡ placed_at places.old q) }
+    requires index { IsIndex keys.old places.old }
+    ensures ok { OnOk result (keys.new ≡ keys.old ++ key.items ∷ []) }
+    ensures err { OnErr result (keys.new ≡ keys.old) }
+    ensures index { IsIndex keys.new places.new }
 {
-    places.entry(key)?.or_insert(place);
-    Ok(())
+    let place = keys.len();
+    keys.push(Bytes::of(key))?;
+    match add_last(alloc, keys.as_slice(), places) {
+        Ok(()) => Ok(()),
+        Err(error) => {
+            keys.truncate(place);
+            Err(error)
+        }
+    }
 }
 
-// The place of the first item of a key.
-fn place_of(places: &BTreeMap<Vec<u8>, usize>, key: &[u8]) -> Option<usize>
-    ensures { result ≡ placed_at places.now key.now }
+// The place of the first key that is this one. It is first looked for where the next key is.
+fn find_place(keys: &[Bytes], places: &Places, next: &Cell<usize>, key: &[u8]) -> Option<usize>
+    requires index { IsIndex keys.now places.now }
+    ensures { result ≡ place_from 0 key.now keys.now }
 {
-    places.get(key).copied()
+    let place = next.get();
+    if places.are_apart && stands_at(keys, place, key) {
+        next.set(place.wrapping_add(1));
+        return Some(place);
+    }
+    let found = place_of(keys, places, key);
+    if let Some(place) = found {
+        next.set(place.wrapping_add(1));
+    }
+    found
 }
 
 // The item at a place.
@@ -79,9 +109,17 @@ impl<T: Keyed + Drop> Indexed<T> {
     pub fn new(alloc: Global) -> Indexed<T>
         ensures { result ≡ [] }
     {
+        let places = Places {
+            marked: BTreeMap::new(alloc),
+            others: BTreeMap::new(alloc),
+            are_apart: true,
+        };
         Indexed {
+            alloc,
             items: Seq::new(alloc),
-            places: BTreeMap::new(alloc),
+            keys: Seq::new(alloc),
+            places,
+            next: Cell::new(0),
         }
     }
 
@@ -108,7 +146,7 @@ impl<T: Keyed + Drop> Indexed<T> {
     {
         let place = self.items.len();
         self.items.push(item)?;
-        match add_place(&mut self.places, key, place) {
+        match add_key(self.alloc, &mut self.keys, &mut self.places, key) {
             Ok(()) => Ok(()),
             Err(error) => {
                 self.items.truncate(place);
@@ -122,7 +160,7 @@ impl<T: Keyed + Drop> Indexed<T> {
         ensures found { option_map (λ x. x.now) result ≡ find (λ x. bytes_eq (T.key_of x) key.now) self.now }
         ensures sized { list_all T.is_sized self.now ≡ true }
     {
-        match place_of(&self.places, key) {
+        match find_place(self.keys.as_slice(), &self.places, &self.next, key) {
             Some(place) => item_at(self.items.as_slice(), place),
             None => None,
         }

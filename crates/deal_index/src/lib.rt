@@ -1,8 +1,8 @@
-//! Lists whose items are found by byte strings, and the texts of labels, by which keys are found.
+//! Lists whose items are found by byte strings.
 #![tactic(auto)]
 
 mod indexed;
-mod labels;
+mod marks;
+mod places;
 
 pub use indexed::{Indexed, Keyed};
-pub use labels::{label_behind, label_text, put_label, put_path};

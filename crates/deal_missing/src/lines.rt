@@ -3,16 +3,14 @@
 ghost use Rattle.std.specs.Prelude.{◌≡◌, ◌++◌, codes, option_map, OnOk};
 ghost use Rattle.std.specs.Fmt.{decimal};
 ghost use Rattle.spec_data.specs.Digits.{hex_text};
-ghost use Rattle.spec_bitcoin.specs.Keys.{label_text as text_of_label};
 ghost use Rattle.spec_tool.specs.Keyed.Listed.{which_text};
 ghost use Rattle.spec_deal.specs.DealText.{verb_text};
 ghost use Rattle.deal_missing.specs.Wanted as spec;
 
 use crate::looking::party_of;
 use crate::wants::Want;
-use bm_keys::{label_text, put_path};
+use bm_keys::{put_label, put_path};
 use bm_text::{put, put_decimal, put_hex};
-use spec_bitcoin::Label;
 use spec_data::{Bytes, OutOfMemory};
 use spec_deal::Verb;
 use spec_tool::Which;
@@ -36,13 +34,6 @@ fn put_verb(out: &mut Vec<u8>, verb: Verb) -> Result<(), OutOfMemory>
         Verb::Authorise => put(out, b"authorise"),
         Verb::Endorse => put(out, b"endorse"),
     }
-}
-
-fn put_label(alloc: Global, out: &mut Vec<u8>, label: &Label) -> Result<(), OutOfMemory>
-    ensures { OnOk result (out.new.items ≡ out.old.items ++ text_of_label label.now) }
-{
-    let text = label_text(alloc, label)?;
-    put(out, &text)
 }
 
 // `WHICH k LABEL VERB`

@@ -8,8 +8,8 @@ ghost use Rattle.spec_tool.specs.Keyed.Listed.{which_text};
 ghost use Rattle.spec_deal.specs.DealText.{line_of, verb_text};
 ghost use Rattle.deal_plan.specs.Parts as spec;
 
+use bm_keys::{put_label, put_path};
 use bm_text::{put, put_decimal, put_hex};
-use deal_index::{put_label, put_path};
 use spec_data::{Bytes, OutOfMemory};
 use spec_deal::{Input, Signer, Transaction, Verb};
 use spec_terms::Path;

@@ -1,0 +1,36 @@
+use Rattle.std.proofs.Common.{◌≡◌, ℕ, List, [], ◌∷◌, Some, None, sym, subst, ◌∙◌}
+use Rattle.spec_text.specs.Lines.{lines_of, words_of}
+use Rattle.spec_compiler.specs.Keyed.Instance.{Instance}
+use Rattle.spec_deal.specs.declared.entry.Shown.{Shown}
+use Rattle.spec_deal.specs.SecretFile.{bad, collides, line_says, read_lines, SecretsRead}
+use Rattle.bm_hash.specs.Messages.{evidence_of}
+use Rattle.deal_secrets.specs.declared.error.LineError.{LineError}
+use Rattle.deal_secrets.specs.declared.error.LineError.TheVariants.{Bad, Collided, Memory}
+use Rattle.deal_secrets.specs.Gives.{Evidence, Stops, Refuses, at_line}
+use Rattle.deal_secrets.proofs.LinesSay.{at_line_says}
+use Rattle.deal_secrets.proofs.reading.read_lines.Goals as goal
+
+-- a line that stops the reading is why the text is refused
+stopped : (hash : List ℕ → List ℕ) (s : Instance) (messages : List (List ℕ)) (taken : List Shown) (n : ℕ) (all rest : List (List ℕ))
+    (line : List ℕ) → all ≡ line ∷ rest → (evidence : Evidence) (e : LineError) (read : SecretsRead)
+    → Stops evidence e (line_says hash s messages taken n (words_of line)) → read_lines hash s messages taken n all ≡ read
+    → Refuses evidence (at_line e n) read
+stopped hash s messages taken n all rest line here evidence (Bad reason) read stops is =
+    sym is ∙ at_line_says hash s messages taken n all rest line here (bad reason) stops
+stopped hash s messages taken n all rest line here None Collided read stops is = stops
+stopped hash s messages taken n all rest line here (Some pair) Collided read stops is =
+    sym is ∙ at_line_says hash s messages taken n all rest line here (collides (pair.0) (pair.1)) stops
+stopped hash s messages taken n all rest line here evidence Memory read stops is = tt
+
+pub returns-in-Err-clause-gives : goal.returns-in-Err-clause-gives
+returns-in-Err-clause-gives g c = λ s advert hashes.
+    let hash = g.H.Hash32.digest_of c.args.trail.now.hasher in
+    let read = read_lines hash s c.args.trail.now.messages [] 1 (lines_of c.args.text.now) in
+    let evidence = evidence_of hash c.take_line.new.trail.messages in
+    let stops = subst (λ h. Stops (evidence_of (g.H.Hash32.digest_of h) c.take_line.new.trail.messages) c.in-Err.error
+    (line_says (g.H.Hash32.digest_of h) s c.loop-rest.trail.messages c.loop-rest.strings c.loop-rest.line (words_of c.first_line.result.0.now)))
+    c.loop-rest.invariant.hasher (c.in-Err.ensures.takes s advert hashes) in
+    subst (λ e. Refuses evidence e read) (sym c.at_line.ensures)
+    (stopped hash s c.loop-rest.trail.messages c.loop-rest.strings c.loop-rest.line (lines_of c.loop-rest.rest.now)
+    (lines_of c.first_line.result.1.now) c.first_line.result.0.now c.first_line.ensures.line evidence c.in-Err.error read stops
+    (c.loop-rest.invariant.told s advert hashes))

@@ -10,7 +10,7 @@ use std::marker::Model;
 /// A name of 1 to 32 bytes.
 #[derive(Clone, Copy)]
 pub struct Name {
-    len: usize,
+    len: u8,
     room: [u8; 32],
 }
 
@@ -59,7 +59,10 @@ impl Name {
         let mut room = [0u8; 32];
         let len = bytes.len();
         room[..len].copy_from_slice(bytes);
-        Some(Name { len, room })
+        Some(Name {
+            len: len as u8,
+            room,
+        })
     }
 
     /// The 1 to 32 bytes of the name.
@@ -68,7 +71,7 @@ impl Name {
         ensures some { 0 < length self.now }
         ensures few { length self.now ≤ 32 }
     {
-        &self.room[..self.len]
+        &self.room[..self.len as usize]
     }
 
     /// The two names have the same bytes.

@@ -14,4 +14,4 @@ pub use reading::{LabelError, read_label};
 pub use spec_bitcoin::Label;
 pub use spec_data::Name;
 pub use spec_terms::{Path, PathStep};
-pub use texts::{label_behind, label_text, put_label, put_path};
+pub use texts::{deposit_text, label_behind, label_text, put_label, put_path};

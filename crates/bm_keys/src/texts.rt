@@ -81,7 +81,7 @@ pub fn put_label(alloc: Global, out: &mut Vec<u8>, label: &Label) -> Result<(), 
 }
 
 /// The text of the label of a party's deposits.
-pub(crate) fn deposit_text(alloc: Global, party: &[u8]) -> Result<Vec<u8>, OutOfMemory>
+pub fn deposit_text(alloc: Global, party: &[u8]) -> Result<Vec<u8>, OutOfMemory>
     ensures { IfOk result (λ text. text.items ≡ spec.label_text (Deposit party.now)) }
 {
     let mut out = Vec::with_capacity(alloc, ROOM)?;

@@ -1,37 +1,14 @@
 //! Deposits that are spent: their owners, and their witnesses.
 
 ghost use Rattle.std.specs.Prelude.{◌≡◌, ◌++◌, map, option_map, slice_get, IfOk, OnOk};
-ghost use Rattle.spec_bitcoin.specs.declared.label.Label.TheVariants.{Deposit};
-ghost use Rattle.spec_bitcoin.specs.Keys.{label_text};
-ghost use Rattle.spec_compiler.specs.Instance as instance;
 ghost use Rattle.bm_world_fire.specs.Filled as spec;
 ghost use Rattle.bm_world_fire.specs.Filled.{deposit_items, deposits_items, owners_in};
 
 use bm_hash::Hash32;
-use bm_keys::{deposit_script, signature};
+use bm_keys::{deposit_key, deposit_script, signature};
 use spec_data::{Bytes, Name, OutOfMemory, Seq};
 use spec_terms::Pre;
 use std::alloc::Global;
-
-// The text of the label of a party's deposits.
-#[tactic(auto, unfolding(spec_bitcoin::specs::Keys::label_text))]
-fn deposit_text(alloc: Global, party: &[u8]) -> Result<Vec<u8>, OutOfMemory>
-    ensures { IfOk result (λ text. text.items ≡ label_text (Deposit party.now)) }
-{
-    let mut text = Vec::from_slice(alloc, b"D:")?;
-    text.extend_from_slice(party)?;
-    Ok(text)
-}
-
-// The key of a party's deposits. Its label was hashed when the run opened, so that it isn't hashed along the trail.
-fn deposit_key<H: Hash32>(alloc: Global, hasher: &H, party: &[u8]) -> Result<[u8; 33], OutOfMemory>
-    ensures { IfOk result (λ key. key ≡ instance.deposit_key (H.digest_of hasher.now) party.now) }
-{
-    let text = deposit_text(alloc, party)?;
-    let mut key = [2; 33];
-    key[1..].copy_from_slice(&hasher.hash32(&text));
-    Ok(key)
-}
 
 // The witness of a deposit of this owner, whose input has this digest.
 fn deposit_witness<H: Hash32>(

@@ -9,7 +9,7 @@ ghost use Rattle.deal_compile.specs.Keyed as spec;
 
 use bm_compile::KeySource;
 use bm_hash::{Hash32, Trail, TrailError};
-use bm_keys::{Label, label_text};
+use bm_keys::{Label, deposit_text, label_text};
 use deal_index::{Indexed, Keyed};
 use spec_data::OutOfMemory;
 use std::alloc::Global;
@@ -89,16 +89,6 @@ fn indexed(alloc: Global, keys: &[(Label, [u8; 33])]) -> Result<Indexed<LabelKey
         put(alloc, &mut index, label, key)?;
     }
     Ok(index)
-}
-
-// The text of the label of a party's deposits.
-#[tactic(auto, unfolding(spec_bitcoin::specs::Keys::label_text))]
-fn deposit_text(alloc: Global, party: &[u8]) -> Result<Vec<u8>, OutOfMemory>
-    ensures { IfOk result (λ text. text.items ≡ label_text (Deposit party.now)) }
-{
-    let mut text = Vec::from_slice(alloc, b"D:")?;
-    text.extend_from_slice(party)?;
-    Ok(text)
 }
 
 impl DealKeys {

@@ -1,6 +1,6 @@
 -- Strings one after another: one of them, one more, and the first of them.
-use Rattle.std.proofs.Common.{◌≡◌, ℕ, zero, suc, ◌+◌, ◌-◌, ◌<◌, ◌≤◌, List, [], ◌∷◌, ◌++◌, length, take, drop, get_or, Option, Some, None, refl, sym, ap, ◌∙◌, subst, arith, length-append}
-use Rattle.std.specs.Prelude.{IfSome, slice_range}
+use Rattle.std.proofs.Common.{◌≡◌, ℕ, zero, suc, ◌+◌, ◌-◌, ◌<◌, ◌≤◌, List, [], ◌∷◌, ◌++◌, length, take, drop, get_or, refl, sym, ap, ◌∙◌, arith, length-append}
+use Rattle.std.specs.Prelude.{slice_range}
 use Rattle.std.proofs.lemmas.List.{get_or_default, take-append-le, drop-append-le, take-take, take_all, length-drop, length-take-le, drop-take}
 use Rattle.std.proofs.Math.Seq.{drop-append_seam}
 use Rattle.bm_hash.specs.Pieces.{pieces_from, start_at, AreEnds}
@@ -35,19 +35,6 @@ start_before ends number before after lt =
 pub ends_last : (start : ℕ) (ends : List ℕ) (len : ℕ) → AreEnds start ends len → len ≡ start_at start ends (length ends)
 ends_last start [] len is = sym is
 ends_last start (end ∷ ends) len is = ends_last end ends len is.1
-
--- the string before this number begins before its end, which lies within the bytes
-pub lies_before : (ends : List ℕ) (len number s e : ℕ) → AreEnds 0 ends len → 0 < number → number ≤ length ends
-    → s ≡ start_at 0 ends (number - 1) → e ≡ start_at 0 ends number
-    → (s ≤ e) × (e ≤ len) × (e ≡ get_or ends (number - 1) 0)
-lies_before ends len number s e is some most begin end =
-    let next : number ≡ suc (number - 1) = omega arith in
-    let lt : number - 1 < length ends = omega arith in
-    let there : e ≡ get_or ends (number - 1) 0 = end ∙ ap (start_at 0 ends) next ∙ start_after 0 ends (number - 1) lt in
-    let w = lies_within 0 ends len (number - 1) is lt in
-    let low = w.0 in
-    let high = w.1 in
-    (omega (arith, low, begin, there), omega (arith, high, there), there)
 
 -- ---- what stands there
 
@@ -141,21 +128,6 @@ piece_between bytes ends k s e is lt begin end =
       omega (arith, high, ends_there),
       ap (λ a. slice_range bytes a e) begin ∙ ap (slice_range bytes (start_at 0 ends k)) ends_there ∙ sym (piece_at 0 bytes ends k lt),
     )
-
--- the string that was found from where it begins to its end
-pub found_at : (bytes ends read_bytes read_ends : List ℕ) (ps : List (List ℕ)) (string : List ℕ) (found : Option ℕ)
-    → pieces_from 0 bytes ends ≡ ps → read_bytes ≡ bytes → read_ends ≡ ends
-    → IfSome found (λ k. k < length read_ends)
-    → IfSome found (λ k. slice_range read_bytes (start_at 0 read_ends k) (get_or read_ends k 0) ≡ string)
-    → IfSome found (λ k. k < length ps) × IfSome found (λ k. get_or ps k [] ≡ string)
-found_at bytes ends read_bytes read_ends ps string None view same_bytes same_ends within same = (tt, tt)
-found_at bytes ends read_bytes read_ends ps string (Some k) view same_bytes same_ends within same =
-    let many = as_many bytes ends ps view in
-    let lt : k < length ends = subst (λ l. k < length l) same_ends within in
-    let there : slice_range bytes (start_at 0 ends k) (get_or ends k 0) ≡ string =
-    sym (ap (λ l. slice_range l (start_at 0 ends k) (get_or ends k 0)) same_bytes)
-    ∙ sym (ap (λ l. slice_range read_bytes (start_at 0 l k) (get_or l k 0)) same_ends) ∙ same in
-    (omega (arith, lt, many), ap (λ l. get_or l k []) (sym view) ∙ piece_at 0 bytes ends k lt ∙ there)
 
 pub pushed : (bytes ends more bytes_new ends_new : List ℕ) (n : ℕ) → AreEnds 0 ends (length bytes) → bytes_new ≡ bytes ++ more → ends_new ≡ ends ++ n ∷ [] → n ≡ length bytes_new
     → AreEnds 0 ends_new (length bytes_new) × (pieces_from 0 bytes_new ends_new ≡ pieces_from 0 bytes ends ++ more ∷ [])

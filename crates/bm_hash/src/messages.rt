@@ -9,18 +9,15 @@ ghost use Rattle.bm_hash.specs.declared.messages.TrailError.TheVariants.{Collide
 ghost use Rattle.bm_hash.specs.Messages.{evidence_of, message_of, IsAt};
 ghost use Rattle.bm_hash.specs.Trails.{Hashed, Hashes, IsClash, HaveApartDigests};
 
-use crate::again::Again;
 use crate::hashing::Hash32;
+use crate::hints::Hints;
 use crate::key::Key;
+use crate::marks::mark_of;
 use crate::pieces::Pieces;
 use indexmap::IndexMap;
 use spec_data::OutOfMemory;
 use std::alloc::{AllocError, AllocFailed, Global};
 use std::marker::Model;
-
-// How many of the last messages a message is compared with before it is hashed. A transaction has some eight strings, which come
-// when it is signed and again when the ledger judges it.
-const RECENT: usize = 32;
 
 /// Why a message was not hashed.
 #[derive(Clone, Copy, Debug, PartialEq, Eq)]
@@ -53,7 +50,7 @@ pub struct Trail<H: Hash32> {
     messages: Pieces,
     index: IndexMap<Key, usize>,
     collision: Option<usize>,
-    again: Again,
+    hints: Hints,
 }
 
 impl<H: Hash32> Model for Trail<H> {
@@ -74,7 +71,7 @@ impl<H: Hash32 + Drop> Drop for Trail<H> {
             messages: _,
             index: _,
             collision: _,
-            again: _,
+            hints: _,
         } = self;
     }
 }
@@ -112,48 +109,17 @@ fn digest_at(index: &IndexMap<Key, usize>, place: usize) -> Option<[u8; 32]>
     }
 }
 
-// Whether the message stands at a place.
-fn stands_at(messages: &Pieces, place: usize, message: &[u8]) -> bool
-    ensures { result ≡ true → slice_index_or messages.now place [] ≡ message.now }
-{
-    if place >= messages.len() {
-        return false;
-    }
-    messages.get(place) == message
-}
-
-// Which of these places the message stands at.
-fn place_among(messages: &Pieces, places: &[usize], message: &[u8]) -> Option<usize>
-    ensures { IfSome result (λ place. slice_index_or messages.now place [] ≡ message.now) }
-{
-    for place in places {
-        if stands_at(messages, *place, message) {
-            return Some(*place);
-        }
-    }
-    None
-}
-
-// The place of a message, if it is one of the last ones or stands at one of these places.
-fn known_place(messages: &Pieces, places: &[usize], message: &[u8]) -> Option<usize>
-    ensures { IfSome result (λ place. slice_index_or messages.now place [] ≡ message.now) }
-{
-    match messages.find_last(message, RECENT) {
-        Some(place) => Some(place),
-        None => place_among(messages, places, message),
-    }
-}
-
-// The digest of a message, if it is one of the last ones or stands at one of these places.
+// The digest of a message, if a hint leads to the place where it stands.
 fn known_digest(
     messages: &Pieces,
     index: &IndexMap<Key, usize>,
-    places: &[usize],
+    hints: &Hints,
+    mark: u64,
     message: &[u8],
 ) -> Option<[u8; 32]>
     ensures { IfSome result (λ d. IsAt messages.now (place_in index.now d) message.now) }
 {
-    let place = known_place(messages, places, message)?;
+    let place = hints.find(messages, mark, message)?;
     digest_at(index, place)
 }
 
@@ -167,7 +133,7 @@ impl<H: Hash32 + Drop> Trail<H> {
             messages: Pieces::new(alloc),
             index: IndexMap::new(alloc),
             collision: None,
-            again: Again::new(),
+            hints: Hints::new(alloc),
         }
     }
 
@@ -178,20 +144,19 @@ impl<H: Hash32 + Drop> Trail<H> {
         &self.hasher
     }
 
-    // The digest of a message that is among the last ones of a trail on which nothing clashed, or comes again and again. To hash it
-    // once more would change nothing.
-    fn recall(&self, message: &[u8]) -> Option<[u8; 32]>
+    // The digest of a message of this mark that stands on a trail on which nothing clashed. To hash it once more would change nothing.
+    fn recall(&self, mark: u64, message: &[u8]) -> Option<[u8; 32]>
         ensures digest { IfSome result (λ d. d ≡ H.digest_of self.now.hasher message.now) }
         ensures trail { IfSome result (λ d. Hashed (H.digest_of self.now.hasher) self.now.messages self.now.messages (message.now ∷ [])) }
     {
         if self.collision.is_some() {
             return None;
         }
-        known_digest(&self.messages, &self.index, self.again.places(), message)
+        known_digest(&self.messages, &self.index, &self.hints, mark, message)
     }
 
-    // The digest of a message as the hash function gives it; the message is then on the trail.
-    fn hash_anew(&mut self, message: &[u8]) -> Result<[u8; 32], TrailError>
+    // The digest of a message of this mark as the hash function gives it; the message is then on the trail.
+    fn hash_anew(&mut self, mark: u64, message: &[u8]) -> Result<[u8; 32], TrailError>
         ensures digest { IfOk result (λ d. d ≡ H.digest_of self.old.hasher message.now) }
         ensures trail { Hashes H.digest_of self.old self.new (message.now ∷ []) result }
     {
@@ -202,7 +167,6 @@ impl<H: Hash32 + Drop> Trail<H> {
         match self.index.get(&Key { digest }).copied() {
             Some(place) => {
                 if self.messages.get(place) == message {
-                    self.again.note(place);
                     return Ok(digest);
                 }
                 self.messages.push(message)?;
@@ -211,20 +175,21 @@ impl<H: Hash32 + Drop> Trail<H> {
             }
             None => {
                 add_message(&mut self.messages, &mut self.index, digest, message)?;
+                self.hints.note_last(&self.messages, mark);
                 Ok(digest)
             }
         }
     }
 
-    /// The digest of a message, which is then on the trail. The hash function is spared where the message is among the last
-    /// ones, or among those that come again and again.
+    /// The digest of a message, which is then on the trail. The hash function is spared where the message was found there already.
     pub fn hash(&mut self, message: &[u8]) -> Result<[u8; 32], TrailError>
         ensures digest { IfOk result (λ d. d ≡ H.digest_of self.old.hasher message.now) }
         ensures trail { Hashes H.digest_of self.old self.new (message.now ∷ []) result }
     {
-        match self.recall(message) {
+        let mark = mark_of(message);
+        match self.recall(mark, message) {
             Some(digest) => Ok(digest),
-            None => self.hash_anew(message),
+            None => self.hash_anew(mark, message),
         }
     }
 

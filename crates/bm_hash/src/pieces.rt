@@ -1,7 +1,7 @@
 //! Byte strings one after another in one buffer.
 
-ghost use Rattle.std.specs.Prelude.{◌≡◌, ◌<◌, ◌≤◌, ◌++◌, ◌∷◌, [], IfSome, OnOk, OnErr, length, slice_index_or, slice_range, take};
-ghost use Rattle.bm_hash.specs.Pieces.{start_at, AreEnds};
+ghost use Rattle.std.specs.Prelude.{◌≡◌, ◌<◌, ◌≤◌, ◌++◌, ◌∷◌, [], OnOk, OnErr, length, slice_index_or, slice_range, take};
+ghost use Rattle.bm_hash.specs.Pieces.{start_at};
 
 use spec_data::OutOfMemory;
 use std::alloc::Global;
@@ -50,23 +50,6 @@ fn part_of(bytes: &[u8], start: usize, end: usize) -> &[u8]
     &bytes[start..end]
 }
 
-// Of the last strings in some bytes, this many, the last one that is this string, by its number. Only a string of its length is compared.
-fn last_equal(bytes: &[u8], ends: &[usize], string: &[u8], count: usize) -> Option<usize>
-    requires { AreEnds 0 ends.now (length bytes.now) }
-    ensures within { IfSome result (λ number. number < length ends.now) }
-    ensures same { IfSome result (λ number. slice_range bytes.now (start_at 0 ends.now number) (slice_index_or ends.now number 0) ≡ string.now) }
-{
-    let mut end = bytes.len();
-    for number in (ends.len().saturating_sub(count)..ends.len()).rev() {
-        let start = start_of(ends, number);
-        if end - start == string.len() && part_of(bytes, start, end) == string {
-            return Some(number);
-        }
-        end = start;
-    }
-    None
-}
-
 impl Pieces {
     /// No string; it takes no memory.
     pub fn new(alloc: Global) -> Pieces
@@ -92,14 +75,6 @@ impl Pieces {
     {
         let start = start_of(&self.ends, number);
         part_of(&self.bytes, start, self.ends[number])
-    }
-
-    /// The number of the last of the strings that is this one, if it is among the last ones, this many.
-    pub fn find_last(&self, string: &[u8], count: usize) -> Option<usize>
-        ensures within { IfSome result (λ number. number < length self.now) }
-        ensures same { IfSome result (λ number. slice_index_or self.now number [] ≡ string.now) }
-    {
-        last_equal(&self.bytes, &self.ends, string, count)
     }
 
     /// Adds a string at the end.

@@ -18,7 +18,7 @@ use Rattle.std.proofs.lemmas.List.{get_or_append_left, length-append}
 use Rattle.std.proofs.lemmas.Option.{slice_get-get_or, slice_get_within}
 use Rattle.std.proofs.Math.Seq.{get_or-append_seam}
 use Rattle.spec_data.proofs.MapLemmas.{other_entries, apart_in_order}
-use Rattle.deal_index.specs.Marks.{mark_of}
+use Rattle.bm_hash.specs.Marks.{mark_of}
 use Rattle.deal_index.specs.declared.places.Places.{Places}
 use Rattle.deal_index.specs.Places.{place_from, is_string, stands_at, marked_at, other_at, place_by, placed_at, place_or, IsIndex, TakesMark, Adds}
 

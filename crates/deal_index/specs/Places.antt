@@ -7,7 +7,7 @@ use Rattle.std.specs.Str.{bytes_eq}
 use Rattle.std.specs.BTreeMap as tree
 use Rattle.std.specs.BTreeMap.{BTreeMap}
 use Rattle.std.specs.Global.{Vec}
-use Rattle.deal_index.specs.Marks.{mark_of}
+use Rattle.bm_hash.specs.Marks.{mark_of}
 use Rattle.deal_index.specs.declared.places.Places.{Places}
 
 -- the place of the first of these strings that is this one, where the first has place k

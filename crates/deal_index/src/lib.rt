@@ -2,7 +2,6 @@
 #![tactic(auto)]
 
 mod indexed;
-mod marks;
 mod places;
 
 pub use indexed::{Indexed, Keyed};

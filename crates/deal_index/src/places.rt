@@ -2,10 +2,10 @@
 
 ghost use Rattle.std.specs.Prelude.{◌≡◌, ℕ, List, ◌-◌, ◌++◌, ◌∷◌, [], length, take, false, IfOk, OnOk, OnErr};
 ghost use Rattle.std.specs.Option.{option_copied};
-ghost use Rattle.deal_index.specs.Marks.{mark_of};
+ghost use Rattle.bm_hash.specs.Marks.{mark_of};
 ghost use Rattle.deal_index.specs.Places.{marked_at, other_at, stands_at, placed_at, IsIndex, TakesMark, Adds};
 
-use crate::marks::mark_of;
+use bm_hash::mark_of;
 use spec_data::{Bytes, OutOfMemory, Seq};
 use std::alloc::Global;
 use std::collections::BTreeMap;

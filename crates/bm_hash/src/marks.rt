@@ -1,7 +1,7 @@
 //! The marks of byte strings: numbers that nearly always tell them apart.
 
 ghost use Rattle.std.specs.Prelude.{◌≡◌};
-ghost use Rattle.deal_index.specs.Marks as spec;
+ghost use Rattle.bm_hash.specs.Marks as spec;
 
 // A number mixed into a mark, as XXH64 does it: a product spreads bits upwards alone, so the turn between the two brings the highest down.
 #[tactic(auto, unfolding(crate::specs::Marks::mixed))]
@@ -15,7 +15,7 @@ fn mixed(mark: u64, number: u64) -> u64
 
 /// The mark of a byte string: its length, its words of eight bytes and the bytes behind them, mixed in turn.
 #[tactic(auto, unfolding(crate::specs::Marks::mark_of))]
-pub(crate) fn mark_of(bytes: &[u8]) -> u64
+pub fn mark_of(bytes: &[u8]) -> u64
     ensures { result ≡ spec.mark_of bytes.now }
 {
     let (words, rest) = bytes.as_chunks::<8>();

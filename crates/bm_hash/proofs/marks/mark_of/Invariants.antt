@@ -1,7 +1,7 @@
 use Rattle.std.proofs.Common.{◌≡◌, length, drop}
 use Rattle.std.specs.List.{fold}
-use Rattle.deal_index.specs.Marks.{mixed, mixed_word, mark_of}
-use Rattle.deal_index.proofs.marks.mark_of.Given as goal
+use Rattle.bm_hash.specs.Marks.{mixed, mixed_word, mark_of}
+use Rattle.bm_hash.proofs.marks.mark_of.Given as goal
 
 -- what is mixed in and what is left to mix in are the whole
 abbrev pub invariant-loop-word : goal.invariant-loop-word

@@ -1,0 +1,114 @@
+//! Where messages stand, found without their digests.
+
+ghost use Rattle.std.specs.Prelude.{◌≡◌, [], IfSome, slice_index_or, true};
+
+use crate::marks::mark_of;
+use crate::pieces::Pieces;
+use spec_data::OutOfMemory;
+use std::alloc::Global;
+
+// In how many slots in a row a place may be kept.
+const ROW: usize = 8;
+
+// What a slot has in which no place is kept.
+const FREE: u32 = u32::MAX;
+
+/// The places of messages, each in a slot that the message's mark tells. They are hints: a place may be missing, or another message may
+/// stand there, so whoever asks is told a place only where the message was seen to stand. No clause says what is kept.
+#[derive(Drop)]
+pub(crate) struct Hints {
+    alloc: Global,
+    slots: Vec<u32>,
+}
+
+// The first slot of the row of a mark.
+fn row_of(slots: &[u32], mark: u64) -> usize {
+    let rows = slots.len().saturating_sub(ROW) as u64;
+    if rows == 0 { 0 } else { (mark % rows) as usize }
+}
+
+// The slots in which the place of a message of this mark may be kept.
+fn row(slots: &[u32], mark: u64) -> &[u32] {
+    let first = row_of(slots, mark);
+    match slots.get(first..first.saturating_add(ROW)) {
+        Some(row) => row,
+        None => &[],
+    }
+}
+
+// The first free slot of the row of a mark, or the row's first one where none is free.
+fn slot_for(slots: &[u32], mark: u64) -> usize {
+    let first = row_of(slots, mark);
+    for (k, place) in row(slots, mark).iter().enumerate() {
+        if *place == FREE {
+            return first.saturating_add(k);
+        }
+    }
+    first
+}
+
+// Keeps a place for a mark. One beyond 32 bits isn't kept.
+fn keep(slots: &mut [u32], mark: u64, place: usize) {
+    let slot = slot_for(slots, mark);
+    if let Some(kept) = slots.get_mut(slot) {
+        *kept = place.min(FREE as usize) as u32;
+    }
+}
+
+// Whether the message stands at a place.
+fn stands_at(messages: &Pieces, place: usize, message: &[u8]) -> bool
+    ensures { result ≡ true → slice_index_or messages.now place [] ≡ message.now }
+{
+    if place >= messages.len() {
+        return false;
+    }
+    messages.get(place) == message
+}
+
+// All of these messages' places, in slots for twice as many.
+fn placed(alloc: Global, messages: &Pieces) -> Result<Vec<u32>, OutOfMemory> {
+    let count = messages.len().saturating_mul(2).saturating_add(64);
+    let mut slots = vec![in alloc; FREE; count]?;
+    for place in 0..messages.len() {
+        keep(&mut slots, mark_of(messages.get(place)), place);
+    }
+    Ok(slots)
+}
+
+impl Hints {
+    /// No place; it takes no memory.
+    pub(crate) fn new(alloc: Global) -> Hints {
+        Hints {
+            alloc,
+            slots: Vec::new(alloc),
+        }
+    }
+
+    /// The place of a message of this mark, where one is kept at which it stands.
+    pub(crate) fn find(&self, messages: &Pieces, mark: u64, message: &[u8]) -> Option<usize>
+        ensures { IfSome result (λ place. slice_index_or messages.now place [] ≡ message.now) }
+    {
+        for place in row(&self.slots, mark) {
+            if *place == FREE {
+                return None;
+            }
+            if stands_at(messages, *place as usize, message) {
+                return Some(*place as usize);
+            }
+        }
+        None
+    }
+
+    /// Keeps the place of the last of these messages, whose mark this is. A quarter of the slots stays free; where there is no memory for
+    /// more of them, those that are there are shared.
+    pub(crate) fn note_last(&mut self, messages: &Pieces, mark: u64) {
+        let count = messages.len();
+        if count / 3 >= self.slots.len() / 4 {
+            if let Ok(slots) = placed(self.alloc, messages) {
+                self.slots = slots;
+                return;
+            }
+        }
+        keep(&mut self.slots, mark, count.saturating_sub(1));
+    }
+}

@@ -1,6 +1,6 @@
 //! Live deposits, which are found by number.
 
-ghost use Rattle.std.specs.Prelude.{◌≡◌, ◌≤◌, ◌++◌, ◌∷◌, [], ◌+◌, nat_lt, map, true, option_map};
+ghost use Rattle.std.specs.Prelude.{◌≡◌, ◌≤◌, ◌<◌, ◌^◌, ◌++◌, ◌∷◌, [], ◌+◌, nat_lt, length, map, true, option_map};
 ghost use Rattle.std.specs.Prelude.{IfOk, OnOk, OnErr};
 ghost use Rattle.std.specs.List.{list_all};
 ghost use Rattle.spec_data.specs.Lists as lists;
@@ -46,6 +46,15 @@ impl Drop for Deposits {
 }
 
 impl Deposits {
+    /// No deposit; it takes no memory.
+    pub fn none(alloc: Global) -> Deposits
+        ensures { result ≡ [] }
+    {
+        Deposits {
+            items: VecDeque::new(alloc),
+        }
+    }
+
     /// These deposits.
     pub fn of(items: Vec<Deposit>) -> Deposits
         requires ascending { are_ascending (map (λ d. d.number) items.items) ≡ true }
@@ -146,18 +155,20 @@ impl Deposits {
         remove(alloc, &mut self.items, numbers);
     }
 
-    /// Puts deposits with later numbers in the place of those of these numbers.
+    /// Puts a deposit for each output, named in order by later numbers, in the place of those of these numbers.
     pub fn replace(
         &mut self,
         alloc: Global,
         numbers: &[u32],
-        others: Vec<Deposit>,
+        next: u32,
+        outputs: &[(Owner, u64)],
     ) -> Result<(), OutOfMemory>
-        requires ascending { are_ascending (map (λ d. d.number) (spec.kept self.old numbers.now ++ others.items)) ≡ true }
-        ensures ok { OnOk result (self.new ≡ spec.kept self.old numbers.now ++ others.items) }
+        requires ascending { are_ascending (map (λ d. d.number) (spec.kept self.old numbers.now ++ spec.made next outputs.now)) ≡ true }
+        requires few { next + length outputs.now < 2 ^ 32 }
+        ensures ok { OnOk result (self.new ≡ spec.kept self.old numbers.now ++ spec.made next outputs.now) }
         ensures err { OnErr result (self.new ≡ self.old) }
     {
-        replace(alloc, &mut self.items, numbers, others)
+        replace(alloc, &mut self.items, numbers, next, outputs)
     }
 
     /// Adds a deposit of the party, which is named by a later number than all others.

@@ -7,7 +7,7 @@ ghost use Rattle.theory_calculus.specs.Money.{IsWithinAllMoney};
 
 use crate::beginning::{bindings_of, is_init_authorised, persistent_numbers};
 use crate::branches::{has_branch_authorised, left};
-use crate::moves::{agree, forget, push_made};
+use crate::moves::{agree, forget};
 use crate::state::{State, contract_at};
 use spec_calculus::{
     Advertised, BranchAuthorisation, Committed, InitAuthorisation, Move, Revealed, Step,
@@ -33,10 +33,9 @@ impl State {
         ensures err { OnErr result (self.new ≡ self.old) }
     {
         let outputs = action.outputs.as_slice();
-        let mut made = Vec::new(self.alloc);
-        push_made(&mut made, self.next, outputs)?;
+        let inputs = action.inputs.as_slice();
         self.deposits
-            .replace(self.alloc, action.inputs.as_slice(), made)?;
+            .replace(self.alloc, inputs, self.next, outputs)?;
         self.next += outputs.len() as u32;
         forget(&mut self.move_authorised, action);
         Ok(())

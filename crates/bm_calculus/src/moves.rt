@@ -1,6 +1,6 @@
 //! What a move asks of the deposits, and what it makes of them.
 
-ghost use Rattle.std.specs.Prelude.{◌≡◌, ◌+◌, ◌<◌, ◌^◌, ◌++◌, IfOk, OnOk, OnErr, length};
+ghost use Rattle.std.specs.Prelude.{◌≡◌, IfOk, OnOk, OnErr};
 ghost use Rattle.std.specs.List.{list_all};
 ghost use Rattle.spec_data.specs.Lists as lists;
 ghost use Rattle.spec_calculus.specs.Moves as spec;
@@ -10,7 +10,7 @@ ghost use Rattle.bm_calculus.specs.Agreed.{agreed, is_agreed};
 use crate::deposits::Deposits;
 use crate::same::move_eq;
 use bm_repeats::are_distinct;
-use spec_calculus::{Deposit, Move, MoveAuthorisation, Owner};
+use spec_calculus::{Move, MoveAuthorisation, Owner};
 use spec_data::{Name, OutOfMemory};
 use std::alloc::Global;
 
@@ -167,27 +167,6 @@ pub fn move_fails(
         return 3;
     }
     0
-}
-
-/// Pushes a deposit for each output, named in order.
-pub fn push_made(
-    out: &mut Vec<Deposit>,
-    next: u32,
-    outputs: &[(Owner, u64)],
-) -> Result<(), OutOfMemory>
-    requires { next + length outputs.now < 2 ^ 32 }
-    ensures { IfOk result (λ _. out.new.items ≡ out.old.items ++ spec.made next outputs.now) }
-{
-    let mut number = next;
-    for (owner, value) in outputs {
-        out.push(Deposit {
-            number,
-            owner: *owner,
-            value: *value,
-        })?;
-        number += 1;
-    }
-    Ok(())
 }
 
 /// Adds the party's authorisation of the move, if it isn't there.

@@ -11,7 +11,7 @@ ghost use Rattle.bm_calculus.specs.Reached.{IsReached};
 
 use crate::contracts::ActiveContracts;
 use crate::deposits::Deposits;
-use crate::moves::{auth_move_fails, move_fails, push_made};
+use crate::moves::{auth_move_fails, move_fails};
 use crate::premises::delay_fails;
 use bm_wellformed::Checked;
 use spec_calculus::{
@@ -102,13 +102,13 @@ impl State {
         ensures checked { IfOk result (λ _. AllByRecursion IsWellFormed contracts.now) }
     {
         let outputs = owned(alloc, deposits)?;
-        let mut held = Vec::new(alloc);
-        push_made(&mut held, 0, outputs.as_slice())?;
+        let mut held = Deposits::none(alloc);
+        held.replace(alloc, &[], 0, outputs.as_slice())?;
         Ok(State {
             alloc,
             time: 0,
             next: deposits.len() as u32,
-            deposits: Deposits::of(held),
+            deposits: held,
             active: ActiveContracts::none(alloc),
             advertised: Vec::new(alloc),
             committed: Vec::new(alloc),

@@ -1,6 +1,6 @@
 //! What is found and changed in a list of deposits by ascending numbers. Only where many go are all of them walked, once.
 
-ghost use Rattle.std.specs.Prelude.{◌≡◌, ◌≤◌, ◌<◌, ◌++◌, ◌∷◌, [], map, filter, not, true, length, slice_get, IfOk, IfErr, OnOk, OnErr, None, ℕ};
+ghost use Rattle.std.specs.Prelude.{◌≡◌, ◌≤◌, ◌<◌, ◌+◌, ◌^◌, ◌++◌, ◌∷◌, [], map, filter, not, true, length, slice_get, IfOk, IfErr, OnOk, OnErr, None, ℕ};
 ghost use Rattle.std.specs.VecDeque.{deque_len, deque_capacity};
 ghost use Rattle.std.specs.BTreeSet.{contains};
 ghost use Rattle.std.specs.Ordering.{nat_cmp};
@@ -9,7 +9,7 @@ ghost use Rattle.spec_data.specs.Lists.{has_number};
 ghost use Rattle.spec_calculus.specs.Moves as spec;
 ghost use Rattle.spec_calculus.specs.InOrder.{are_ascending};
 
-use spec_calculus::Deposit;
+use spec_calculus::{Deposit, Owner};
 use spec_data::OutOfMemory;
 use std::alloc::Global;
 use std::collections::{BTreeSet, VecDeque};
@@ -88,22 +88,41 @@ pub fn remove(alloc: Global, deposits: &mut VecDeque<Deposit>, numbers: &[u32])
     }
 }
 
-/// Puts others in the place of the deposits of these numbers. The memory is taken before anything goes.
+// Adds a deposit for each output, named in order, where there is room for them.
+fn push_made(deposits: &mut VecDeque<Deposit>, next: u32, outputs: &[(Owner, u64)])
+    requires few { next + length outputs.now < 2 ^ 32 }
+    requires room { deque_len deposits.old + length outputs.now ≤ deque_capacity deposits.old }
+    ensures { deposits.new.items ≡ deposits.old.items ++ spec.made next outputs.now }
+{
+    let mut number = next;
+    for (owner, value) in outputs {
+        match deposits.push_back(Deposit {
+            number,
+            owner: *owner,
+            value: *value,
+        }) {
+            Ok(()) => number += 1,
+            Err(_) => unreachable!(),
+        }
+    }
+}
+
+/// Puts a deposit for each output, named in order, in the place of the deposits of these numbers. The memory is taken before anything
+/// goes.
 pub fn replace(
     alloc: Global,
     deposits: &mut VecDeque<Deposit>,
     numbers: &[u32],
-    others: Vec<Deposit>,
+    next: u32,
+    outputs: &[(Owner, u64)],
 ) -> Result<(), OutOfMemory>
     requires ascending { are_ascending (map (λ d. d.number) deposits.old.items) ≡ true }
-    ensures ok { OnOk result (deposits.new.items ≡ spec.kept deposits.old.items numbers.now ++ others.items) }
+    requires few { next + length outputs.now < 2 ^ 32 }
+    ensures ok { OnOk result (deposits.new.items ≡ spec.kept deposits.old.items numbers.now ++ spec.made next outputs.now) }
     ensures err { OnErr result (deposits.new.items ≡ deposits.old.items) }
 {
-    let mut others = VecDeque::from_vec(others);
-    deposits.reserve(others.len())?;
+    deposits.reserve(outputs.len())?;
     remove(alloc, deposits, numbers);
-    match deposits.append(&mut others) {
-        Ok(()) => Ok(()),
-        Err(_) => unreachable!(),
-    }
+    push_made(deposits, next, outputs);
+    Ok(())
 }

@@ -5,6 +5,7 @@ ghost use Rattle.std.specs.List.{list_all};
 ghost use Rattle.std.specs.Fmt.{decimal};
 ghost use Rattle.spec_data.specs.Digits.{is_digit, is_plain, decimal_value, below, read_decimal};
 
+use itoa::Buffer;
 use spec_data::OutOfMemory;
 use std::alloc::Global;
 
@@ -56,19 +57,13 @@ fn value_of(digits: &[u8]) -> Option<u64>
     Some(value)
 }
 
-/// Writes a number as a plain decimal.
-#[tactic(auto, using(std::proofs::lemmas::Fmt::decimal_digit))]
-pub fn put_decimal(alloc: Global, out: &mut Vec<u8>, number: u64) -> Result<(), OutOfMemory>
+/// Writes a number as a plain decimal. It takes an allocator as all that writes does, and no memory but the room of the text.
+pub fn put_decimal(_alloc: Global, out: &mut Vec<u8>, number: u64) -> Result<(), OutOfMemory>
     ensures ok { OnOk result (out.new.items ≡ out.old.items ++ decimal number) }
     ensures err { OnErr result (out.new.items ≡ out.old.items) }
 {
-    if number < 10 {
-        out.push(b'0' + number as u8)?;
-        return Ok(());
-    }
-    let digits = number.to_string(alloc)?;
-    out.extend_from_slice(digits.as_bytes())?;
-    Ok(())
+    let mut digits = Buffer::new();
+    out.extend_from_slice(digits.format(number).as_bytes())
 }
 
 /// What is written of a number reads as that number.

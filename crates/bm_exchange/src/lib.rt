@@ -10,3 +10,4 @@ mod strings;
 
 pub use exchange::Exchange;
 pub use secrets::{held_secret, is_secret_long};
+pub use strings::Strings;

@@ -72,6 +72,7 @@ module _ {H : Type 0} (digest : H → List ℕ → List ℕ) (hash here : H) (he
       let base : IsWorld s b messages [] None = record {
         setup = setup;
         accounts = opened.accounts;
+        known = opened.known;
         compiled = opened.compiled ∙ ap (all_compiled s) (sym world);
         few = few_at_start fine;
         found = λ t h. absurd (nothing_posted t (subst (λ ts. is_among t ts ≡ true) (ap (λ (w : World). w.posted) world) h));

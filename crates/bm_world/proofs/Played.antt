@@ -266,6 +266,7 @@ world_after s t old new messages later before trace e outcome halt was is goes s
     subst (λ x. IsWorld x new later trace halt) (sym at) (record {
       setup = was.setup;
       accounts = same.accounts ∙ was.accounts;
+      known = same.known ∙ was.known;
       compiled = goes.compiled;
       few = few_after s was.setup (world_of old messages) (world_of new later) before trace e is calm goes.goes.trace was.few;
       reached = reached_there;
@@ -280,6 +281,7 @@ pub world_halted : (s t : Setup) (b : Board) (old later xs : List (List ℕ)) (t
 world_halted s t b old later xs trace halt was front at = subst (λ x. IsWorld x b later trace (Some halt)) (sym at) (record {
   setup = was.setup;
   accounts = was.accounts;
+  known = was.known;
   compiled = was.compiled;
   few = was.few;
   reached = reached_later s (world_of b old) later trace (front_within s.hash old later xs front) was.reached;
@@ -297,6 +299,7 @@ playable_of s b messages trace halt is none few =
     record {
       setup = is.setup;
       accounts = is.accounts;
+      known = is.known;
       compiled = is.compiled;
       kept = is.kept none;
       clear = is.clear none;
@@ -312,6 +315,7 @@ pub world_hears : (s t : Setup) (b : Board) (old later xs : List (List ℕ)) (tr
 world_hears s t b old later xs trace halt was at hashed clear calm = subst (λ x. IsWorld x b later trace halt) (sym at) (record {
   setup = was.setup;
   accounts = was.accounts;
+  known = was.known;
   compiled = was.compiled;
   few = was.few;
   reached = reached_later s (world_of b old) later trace (λ m i. subst (λ l. is_among m l ≡ true) (sym hashed) (all_more old xs m i))

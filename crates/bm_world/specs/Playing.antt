@@ -34,6 +34,7 @@ use Rattle.bm_world_board.specs.Drafts.{world_of, Drafts}
 use Rattle.bm_world.specs.Reached.{IsReached, AreFound}
 use Rattle.bm_world_fire.specs.Shown.{ArePostsHashed}
 use Rattle.bm_world_board.specs.Accounts.{account_of}
+use Rattle.bm_world_board.specs.Secrets.{secret_strings}
 
 -- what a world stands for
 pub record Played (H : Type 0) : Type 0 where
@@ -85,6 +86,7 @@ pub record Kept (s : Setup) (w : World) : Type 0 where
 pub record IsPlayable (s : Setup) (b : Board) (messages : List (List ℕ)) : Type 0 where
   pub setup : IsSetup s
   pub accounts : b.accounts ≡ map (account_of s.hash) s.header.parties
+  pub known : b.known ≡ secret_strings s.header.secrets
   pub compiled : b.compiled ≡ all_compiled s (world_of b messages)
   pub kept : Kept s (world_of b messages)
   pub clear : evidence_of s.hash messages ≡ None
@@ -96,6 +98,7 @@ pub record IsPlayable (s : Setup) (b : Board) (messages : List (List ℕ)) : Typ
 pub record IsWorld (s : Setup) (b : Board) (messages : List (List ℕ)) (trace : List Record) (halt : Option Halt) : Type 0 where
   pub setup : IsSetup s
   pub accounts : b.accounts ≡ map (account_of s.hash) s.header.parties
+  pub known : b.known ≡ secret_strings s.header.secrets
   pub compiled : b.compiled ≡ all_compiled s (world_of b messages)
   pub reached : IsReached s (world_of b messages) trace
   -- each string that was posted is the message of its digest, also after a collision
@@ -129,6 +132,7 @@ pub record SameBoard (old new : Board) : Type 0 where
   pub header : new.header ≡ old.header
   pub contracts : new.contracts ≡ old.contracts
   pub accounts : new.accounts ≡ old.accounts
+  pub known : new.known ≡ old.known
 
 -- the event went on, and left this board with these messages
 pub record GoesOn (s : Setup) (w : World) (b : Board) (messages : List (List ℕ)) (before later : List Record) (e : Event)

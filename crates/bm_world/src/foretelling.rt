@@ -35,6 +35,7 @@ fn try_outcome<H: Hash32 + Drop>(
     let guessed = first_guessed(
         alloc,
         board.header.secrets.as_slice(),
+        &board.known,
         &board.exchange,
         answer.0.posts.as_slice(),
         &answer.0.allowed,

@@ -1,4 +1,5 @@
 pub mod Drafts
 pub mod Reaching
 pub mod Accounts
+pub mod Secrets
 pub mod Compiling

@@ -8,7 +8,7 @@ ghost use Rattle.bm_world_board.specs.Compiling.{compiled_at};
 use crate::accounts::Account;
 use bm_book::Book;
 use bm_compile::Compiled;
-use bm_exchange::Exchange;
+use bm_exchange::{Exchange, Strings};
 use bm_wellformed::Checked;
 use bm_world_coins::Coins;
 use spec_data::{Name, Seq};
@@ -24,6 +24,8 @@ pub struct Board {
     pub exchange: Exchange,
     /// Those of the declared parties, in order.
     pub accounts: Seq<Account>,
+    /// The bytes of the header's secrets, in order, with an index.
+    pub known: Strings,
     /// The contracts whose initial transaction was accepted.
     pub begun: Seq<u32>,
     /// What the contracts are compiled to by their number, `None` where not all participants have committed.
@@ -39,6 +41,7 @@ impl Drop for Board {
             book: _,
             exchange: _,
             accounts: _,
+            known: _,
             begun: _,
             compiled: _,
         } = self;

@@ -15,6 +15,7 @@ use Rattle.bm_world_coins.specs.Coined.{Coined}
 use Rattle.bm_world_board.specs.declared.board.Board.{Board}
 use Rattle.bm_world_board.specs.declared.accounts.Account.{Account}
 use Rattle.bm_world_board.specs.Accounts.{account_of}
+use Rattle.bm_world_board.specs.Secrets.{secret_strings}
 use Rattle.bm_world_board.specs.Drafts.{setup_of, world_of}
 
 -- a run's setup
@@ -44,5 +45,6 @@ pub record IsOpened (s : Setup) (b : Board) : Type 0 where
   pub setup : setup_of s.hash b ≡ s
   pub world : world_of b (opening_world s).hashed ≡ opening_world s
   pub accounts : b.accounts ≡ map (account_of s.hash) s.header.parties
+  pub known : b.known ≡ secret_strings s.header.secrets
   pub compiled : b.compiled ≡ all_compiled s (opening_world s)
   pub well_formed : AllByRecursion IsWellFormed b.contracts

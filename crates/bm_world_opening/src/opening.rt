@@ -9,18 +9,19 @@ ghost use Rattle.bm_hash.specs.Trails.{Hashes};
 ghost use Rattle.spec_bitcoin.specs.Digests as digests;
 ghost use Rattle.spec_run.specs.Event as run;
 ghost use Rattle.bm_world_board.specs.Accounts.{account_of};
+ghost use Rattle.bm_world_board.specs.Secrets.{secret_strings};
 ghost use Rattle.bm_world_opening.specs.Opening.{setup_with, opening_output, opening_coins, none_compiled, IsOpenedWith, IsOpened};
 
 use bm_book::Book;
 use bm_compile::Compiled;
-use bm_exchange::Exchange;
+use bm_exchange::{Exchange, Strings};
 use bm_hash::{Hash32, Trail, TrailError};
 use bm_wellformed::Checked;
 use bm_world_board::{Account, Board, account_at, accounts_of};
 use bm_world_coins::Coins;
 use spec_bitcoin::TxOut;
 use spec_data::{Bytes, Name, OutOfMemory, Seq};
-use spec_run::Header;
+use spec_run::{Header, HeldSecret};
 use std::alloc::{AllocError, Global};
 
 // The output of a deposit of the header. Its owner is declared; where it weren't, memory would be said to be short.
@@ -120,6 +121,17 @@ fn not_compiled(alloc: Global, contracts: &[Checked]) -> Result<Seq<Option<Compi
     Ok(compiled)
 }
 
+// The bytes of the secrets, in order, with an index.
+fn known_strings(alloc: Global, secrets: &[HeldSecret]) -> Result<Strings, OutOfMemory>
+    ensures { IfOk result (λ known. known ≡ secret_strings secrets.now) }
+{
+    let mut known = Strings::new(alloc);
+    for held in secrets {
+        known.add(held.bytes.as_slice())?;
+    }
+    Ok(known)
+}
+
 /// The board before any event. It hashes the opening strings of the run.
 #[tactic(auto, using(bm_hash::proofs::HashesLemmas::stops_early, crate::proofs::NotCompiled::none_is))]
 pub fn open_board<H: Hash32 + Drop>(
@@ -137,12 +149,14 @@ pub fn open_board<H: Hash32 + Drop>(
     look_at(&contracts);
     let compiled = not_compiled(alloc, &contracts)?;
     let copied = header.copy(alloc)?;
+    let known = known_strings(alloc, header.secrets.as_slice())?;
     let exchange = Exchange::new(alloc, contracts.len() as u32)?;
     let (accounts, coins) = open_coins(alloc, trail, header)?;
     Ok(Board {
         header: copied,
         contracts: Seq::of(contracts),
         accounts,
+        known,
         coins,
         book: Book::new(alloc),
         exchange,

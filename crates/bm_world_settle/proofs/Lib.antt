@@ -1,1 +1,2 @@
 pub mod Settled
+mod Unguessed

@@ -44,5 +44,6 @@ makes old new exchange x posts world rest = record {
   header = ap (λ (b : Board). b.header) rest;
   contracts = ap (λ (b : Board). b.contracts) rest;
   accounts = ap (λ (b : Board). b.accounts) rest;
+  known = ap (λ (b : Board). b.known) rest;
   compiled = ap (λ (b : Board). b.compiled) rest;
 }

@@ -43,6 +43,7 @@ pub record Makes (old new : Board) (x : Drafted) : Type 0 where
   pub header : new.header ≡ old.header
   pub contracts : new.contracts ≡ old.contracts
   pub accounts : new.accounts ≡ old.accounts
+  pub known : new.known ≡ old.known
   pub compiled : new.compiled ≡ old.compiled
 
 -- the record of an event of which this was drafted

@@ -1,13 +1,15 @@
 //! Secrets that are guessed.
 
 ghost use Rattle.std.specs.Prelude.{◌≡◌, IfOk};
-ghost use Rattle.std.specs.List.{find};
+ghost use Rattle.std.specs.List.{find, list_any};
 ghost use Rattle.std.specs.Option.{option_copied};
 ghost use Rattle.spec_data.specs.Lists.{is_among};
 ghost use Rattle.spec_run.specs.Draft.{is_allowed, is_guessed};
+ghost use Rattle.bm_world_board.specs.Secrets.{secret_strings};
+ghost use Rattle.bm_world_settle.specs.Guessing.{is_untold};
 
 use crate::settling::post_all;
-use bm_exchange::Exchange;
+use bm_exchange::{Exchange, Strings};
 use spec_data::{Bytes, Name, OutOfMemory};
 use spec_run::HeldSecret;
 use std::alloc::Global;
@@ -96,16 +98,40 @@ fn first_among<'a>(
         .find(|held| is_guessed_by(posts, exchange, allowed, held))
 }
 
-/// The first of the secrets that is guessed, with its owner. Where there are many strings, each secret is looked up in an index of them.
+// Whether the string has the bytes of a secret, and isn't posted.
+fn is_untold(known: &Strings, exchange: &Exchange, string: &[u8]) -> bool
+    ensures { result ≡ is_untold known.now exchange.now.posted string.now }
+{
+    known.has(string) && !exchange.posted(string)
+}
+
+// Whether one of the strings has the bytes of a secret, and isn't posted. Each is looked up once.
+fn has_untold(known: &Strings, exchange: &Exchange, posts: &[Bytes]) -> bool
+    ensures { result ≡ list_any (is_untold known.now exchange.now.posted) posts.now }
+{
+    posts
+        .iter()
+        .any(|post| is_untold(known, exchange, post.as_slice()))
+}
+
+/// The first of the secrets that is guessed, with its owner. `known` has the bytes of the secrets: only where one of the strings is
+/// among them and isn't posted are the secrets gone through, and where there are many strings, each secret is then looked up in an
+/// index of them.
+#[tactic(auto, using(crate::proofs::Unguessed::none_guessed))]
 pub fn first_guessed<'a>(
     alloc: Global,
     secrets: &'a [HeldSecret],
+    known: &Strings,
     exchange: &Exchange,
     posts: &[Bytes],
     allowed: &Option<(Name, Name)>,
 ) -> Result<Option<&'a HeldSecret>, OutOfMemory>
+    requires known { known.now ≡ secret_strings secrets.now }
     ensures { IfOk result (λ found. option_copied found ≡ find (is_guessed exchange.now.posted posts.now allowed.now) secrets.now) }
 {
+    if !has_untold(known, exchange, posts) {
+        return Ok(None);
+    }
     if posts.len() <= 16 {
         return Ok(first_among(secrets, exchange, posts, allowed));
     }

@@ -5,9 +5,16 @@ use Rattle.spec_run.specs.Draft.{is_guessed}
 use Rattle.std.proofs.lemmas.Result.{err_from_is_err_and}
 use Rattle.bm_world_board.specs.declared.board.Board.{Board}
 use Rattle.bm_world_board.specs.Drafts.{setup_of, world_of}
+use Rattle.bm_world_board.specs.Secrets.{secret_strings}
 use Rattle.bm_hash.proofs.HashesLemmas.{stops_late}
 use Rattle.bm_world.proofs.Foretold.{foretells_guess, foretells_outcome}
 use Rattle.bm_world.proofs.foretelling.try_outcome.Goals as goal
+
+pub first_guessed-requires : goal.first_guessed-requires
+first_guessed-requires g c = record {
+  known = rw c.as_slice.ensures (ap (λ (b : Board). b.known) c.draft.ensures.board.rest ∙ c.requires.playable.known
+      ∙ sym (ap (λ (b : Board). secret_strings b.header.secrets) c.draft.ensures.board.rest));
+}
 
 pub returns-in_err-guessed-clause-stops : goal.returns-in_err-guessed-clause-stops
 returns-in_err-guessed-clause-stops g c =

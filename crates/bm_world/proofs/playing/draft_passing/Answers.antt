@@ -5,8 +5,15 @@ use Rattle.spec_run.specs.Draft.{is_guessed}
 use Rattle.std.proofs.lemmas.Result.{err_from_is_err_and}
 use Rattle.bm_world_board.specs.declared.board.Board.{Board}
 use Rattle.bm_world_board.specs.Drafts.{setup_of, world_of}
+use Rattle.bm_world_board.specs.Secrets.{secret_strings}
 use Rattle.bm_world.proofs.Played.{memory_halts, guess_halts, passes_by}
 use Rattle.bm_world.proofs.playing.draft_passing.Goals as goal
+
+pub first_guessed-requires : goal.first_guessed-requires
+first_guessed-requires g c = record {
+  known = rw c.as_slice.ensures (ap (λ (b : Board). b.known) c.draft_or_halt.ensures.board.rest ∙ c.requires.playable.known
+      ∙ sym (ap (λ (b : Board). secret_strings b.header.secrets) c.draft_or_halt.ensures.board.rest));
+}
 
 pub returns-in-Some-clause-halts : goal.returns-in-Some-clause-halts
 returns-in-Some-clause-halts g c =

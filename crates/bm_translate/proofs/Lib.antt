@@ -8,3 +8,4 @@ pub mod Telling
 pub mod Kinded
 pub mod Turns
 pub mod Lookups
+pub mod Unknown

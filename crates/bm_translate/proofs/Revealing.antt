@@ -1,5 +1,5 @@
 -- The secrets that come to be shown, by those that are waited for.
-use Rattle.std.proofs.Common.{◌≡◌, ℕ, ◌≤◌, List, [], ◌∷◌, ◌++◌, length, arith, map, Bool, true, false, not, cond, Option, Some, None, refl, sym, ap, ◌∙◌, subst, append_assoc}
+use Rattle.std.proofs.Common.{◌≡◌, ℕ, List, [], ◌∷◌, ◌++◌, map, Bool, true, false, not, cond, Option, Some, None, refl, sym, ap, ◌∙◌, subst, append_assoc}
 use Rattle.std.specs.Prelude.{◌&&◌, ◌||◌, ◌==◌, if◌then◌else◌}
 use Rattle.std.specs.List.{filter, list_any}
 use Rattle.std.specs.Option.{option_map}
@@ -207,20 +207,3 @@ pub noted_all : (hash : List ℕ → List ℕ) (messages : List (List ℕ)) (pro
     (contracts : List Advert) → map (noted posts) (watched_all hash messages promises posted contracts)
     ≡ watched_all hash messages promises (posted ++ posts) contracts
 noted_all hash messages promises posted posts contracts = noted_list hash messages promises posted posts (secrets_from 0 contracts)
-
--- where nothing is posted, nothing changes
-pub noted_none : (posts : List (List ℕ)) → length posts ≤ 0 → (xs : List Watched) → xs ≡ map (noted posts) xs
-noted_none (t ∷ posts) h xs = absurd (omega (arith, h))
-noted_none [] h [] = refl
-noted_none [] h (x ∷ xs) = λ i. one x i ∷ noted_none [] h xs i
-  where
-    one_of_none : (o : Option (List ℕ)) → is_one_of [] o ≡ false
-    one_of_none None = refl
-    one_of_none (Some t) = refl
-
-    still : (b c : Bool) → c ≡ false → b ≡ (b || c)
-    still true c e = refl
-    still false c e = sym e
-
-    one : (y : Watched) → y ≡ noted [] y
-    one y = ap (λ b. record { secret = y.secret; string = y.string; posted = b }) (still y.posted (is_one_of [] y.string) (one_of_none y.string))

@@ -1,7 +1,7 @@
 -- Secrets that are waited for: the one string that fits what was committed, and whether it is posted.
-use Rattle.std.specs.Prelude.{ℕ, List, [], ◌∷◌, map, Bool, false, not, ◌&&◌, ◌||◌, ◌==◌, if◌then◌else◌, Option, Some, None, is_some}
+use Rattle.std.specs.Prelude.{ℕ, List, [], ◌∷◌, map, Bool, false, not, ◌&&◌, ◌||◌, ◌==◌, if◌then◌else◌, Option, Some, None, is_some, option_to_list}
 use Rattle.std.specs.Option.{option_and_then}
-use Rattle.std.specs.List.{filter}
+use Rattle.std.specs.List.{filter, flat_map}
 use Rattle.std.specs.Str.{bytes_eq}
 use Rattle.spec_data.specs.Lists.{is_among}
 use Rattle.spec_terms.specs.Advert.{Advert}
@@ -56,6 +56,10 @@ watched_of hash messages promises posted x = watched_by posted x (string_of hash
 -- all secrets of these contracts
 abbrev pub watched_all : (List ℕ → List ℕ) → List (List ℕ) → List Promise → List (List ℕ) → List Advert → List Watched
 watched_all hash messages promises posted contracts = map (watched_of hash messages promises posted) (secrets_from 0 contracts)
+
+-- the strings of these secrets, where they are known
+abbrev pub strings_of : List Watched → List (List ℕ)
+strings_of watched = flat_map (λ x. option_to_list x.string) watched
 
 -- ---- what an event posts
 

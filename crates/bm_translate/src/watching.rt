@@ -1,6 +1,6 @@
 //! Secrets that are waited for.
 
-ghost use Rattle.std.specs.Prelude.{◌≡◌, ◌<◌, ◌^◌, ◌++◌, ◌∷◌, [], length, option_map, is_some, map, IfOk, OnOk};
+ghost use Rattle.std.specs.Prelude.{◌≡◌, ◌<◌, ◌^◌, ◌++◌, ◌∷◌, [], length, option_map, option_to_list, is_some, map, IfOk, OnOk};
 ghost use Rattle.spec_data.specs.Lists.{look_up};
 ghost use Rattle.spec_terms.specs.Precondition.{secrets};
 ghost use Rattle.spec_calculus.specs.Branches as branches;
@@ -8,7 +8,7 @@ ghost use Rattle.spec_run.specs.Secrets.{digest_at, secrets_from, secrets_of_con
 ghost use Rattle.bm_translate.specs.Shown as spec;
 
 use bm_calculus::Config;
-use bm_exchange::{Exchange, is_secret_long};
+use bm_exchange::{Exchange, Strings, is_secret_long};
 use bm_hash::{Hash32, Trail};
 use bm_wellformed::Checked;
 use spec_calculus::{Revealed, Step};
@@ -35,23 +35,31 @@ impl Drop for Watched {
     }
 }
 
-/// All secrets of a run, by contract and precondition.
+/// All secrets of a run, by contract and precondition. Their strings stand in an index: an event that posts none of them shows no
+/// secret, and is done with before any secret is looked at.
 pub struct Secrets {
     watched: Vec<Watched>,
+    strings: Strings,
 }
 
 impl Model for Secrets {
-    ghost use Rattle.std.specs.Prelude.{List};
+    ghost use Rattle.std.specs.Prelude.{List, ◌≡◌};
     ghost use Rattle.bm_translate.specs.declared.watching.Watched.{Watched as Plain};
+    ghost use Rattle.bm_translate.specs.Shown.{strings_of};
 
     ghost Value = { List Plain };
 
     ghost view = { λ a. a.watched.items };
+
+    ghost invariant = { λ a. a.strings ≡ strings_of a.watched.items };
 }
 
 impl Drop for Secrets {
     fn drop(self) {
-        let Secrets { watched: _ } = self;
+        let Secrets {
+            watched: _,
+            strings: _,
+        } = self;
     }
 }
 
@@ -196,6 +204,30 @@ fn watch_all<H: Hash32 + Drop>(
     Ok(watched)
 }
 
+// Adds the string of the secret, where it is known.
+fn put_string(strings: &mut Strings, watched: &Watched) -> Result<(), OutOfMemory>
+    ensures { OnOk result (strings.new ≡ strings.old ++ option_to_list watched.now.string) }
+{
+    match &watched.string {
+        Some(string) => {
+            strings.add(string.as_slice())?;
+            Ok(())
+        }
+        None => Ok(()),
+    }
+}
+
+// The strings of these secrets.
+fn strings_of(alloc: Global, watched: &[Watched]) -> Result<Strings, OutOfMemory>
+    ensures { IfOk result (λ strings. strings ≡ spec.strings_of watched.now) }
+{
+    let mut strings = Strings::new(alloc);
+    for one in watched {
+        put_string(&mut strings, one)?;
+    }
+    Ok(strings)
+}
+
 // Whether the string is there, and is shown.
 fn is_shown(shown: &Exchange, string: &Option<Bytes>) -> bool
     ensures { result ≡ spec.is_one_of shown.now.posted string.now }
@@ -264,6 +296,24 @@ fn revealed_by(
     Ok(made)
 }
 
+// The secrets that these strings reveal: none, if no secret has one of them.
+fn revealed_if_known(
+    alloc: Global,
+    config: &Config,
+    shown: &Exchange,
+    watched: &[Watched],
+    strings: &Strings,
+) -> Result<Vec<Step>, OutOfMemory>
+    requires strings { strings.now ≡ spec.strings_of watched.now }
+    ensures { IfOk result (λ made. made.items ≡ spec.revealed_by config.now.committed shown.now.posted watched.now) }
+{
+    if shown.tells_one_of(strings) {
+        revealed_by(alloc, config, shown, watched)
+    } else {
+        Ok(Vec::new(alloc))
+    }
+}
+
 // Adds the secrets of the party in the contract that are posted already.
 fn put_revealed(
     steps: &mut Vec<Step>,
@@ -292,6 +342,17 @@ fn note_all(shown: &Exchange, watched: &mut Vec<Watched>)
     }
 }
 
+// Notes that these strings are posted, if some secret has one of them.
+fn note_if_known(shown: &Exchange, watched: &mut Vec<Watched>, strings: &Strings)
+    requires strings { strings.now ≡ spec.strings_of watched.old.items }
+    ensures noted { watched.new.items ≡ map (spec.noted shown.now.posted) watched.old.items }
+    ensures strings { strings.now ≡ spec.strings_of watched.new.items }
+{
+    if shown.tells_one_of(strings) {
+        note_all(shown, watched);
+    }
+}
+
 impl Secrets {
     /// The secrets of these contracts, in a run that ends with what was hashed and told; nothing is posted yet.
     pub fn of_run<H: Hash32 + Drop>(
@@ -305,7 +366,8 @@ impl Secrets {
             ≡ spec.watched_all (H.digest_of trail.now.hasher) trail.now.messages exchange.now.promises [] contracts.now) }
     {
         let watched = watch_all(alloc, trail, exchange, contracts)?;
-        Ok(Secrets { watched })
+        let strings = strings_of(alloc, &watched)?;
+        Ok(Secrets { watched, strings })
     }
 
     /// The steps that reveal what these strings are the first to show.
@@ -317,7 +379,7 @@ impl Secrets {
     ) -> Result<Vec<Step>, OutOfMemory>
         ensures { IfOk result (λ made. made.items ≡ spec.revealed_by config.now.committed shown.now.posted self.now) }
     {
-        revealed_by(alloc, config, shown, &self.watched)
+        revealed_if_known(alloc, config, shown, &self.watched, &self.strings)
     }
 
     /// Adds the steps that reveal the secrets of the party in the contract which are posted already.
@@ -336,8 +398,6 @@ impl Secrets {
     pub fn note(&mut self, shown: &Exchange)
         ensures { self.new ≡ map (spec.noted shown.now.posted) self.old }
     {
-        if shown.posts() > 0 {
-            note_all(shown, &mut self.watched);
-        }
+        note_if_known(shown, &mut self.watched, &self.strings);
     }
 }

@@ -1,10 +1,10 @@
 //! What `make` replies.
 
-ghost use Rattle.std.specs.Prelude.{◌≡◌, ◌≤◌, length, IfOk};
-ghost use Rattle.spec_data.specs.Ranges.{most_contracts};
+ghost use Rattle.std.specs.Prelude.{◌≡◌, ◌≤◌, ◌∷◌, [], Some, IfOk};
 ghost use Rattle.spec_text.specs.PlanText.{make_text};
 ghost use Rattle.spec_tool.specs.Commands.{most_size, run_answer, both_judged, make_answer};
 ghost use Rattle.spec_tool.specs.Answers.{run_in, contracts_in};
+ghost use Rattle.bitml_command.specs.Judges.{JudgesFiles, IsTakenIfAny};
 ghost use Rattle.bitml_command.specs.Seen.{printed};
 
 use bitml_command::{Judgement, Reply, judge_both};
@@ -14,20 +14,27 @@ use bm_make::make;
 use spec_data::{Bytes, OutOfMemory};
 use std::alloc::Global;
 
-// What is replied to the texts of a made run and its contract, which are judged as if they had been read.
+// The texts of a made run and its contract, judged as if they had been read. Nothing needs them after that, so they are let go.
+fn judged(alloc: Global, run: Bytes, contract: Bytes) -> Result<Judgement, OutOfMemory>
+    ensures files { IfOk result (JudgesFiles (run_in (Some run)) (Some contract ∷ [])) }
+    ensures taken { IfOk result IsTakenIfAny }
+{
+    judge_both(alloc, &Some(run), &[Some(contract)])
+}
+
+// What is replied to the texts of a made run and its contract.
 fn made_texts<H: Hash32 + Drop>(
     alloc: Global,
     hash: H,
-    run: &Option<Bytes>,
-    contracts: &[Option<Bytes>],
+    run: Bytes,
+    contract: Bytes,
 ) -> Result<Reply, OutOfMemory>
-    requires { length contracts.now ≤ most_contracts }
     ensures { IfOk result (λ reply. printed reply ≡ both_judged (run_answer make_text) (H.digest_of hash)
-        (run_in run.now) (contracts_in 0 contracts.now)) }
+        (run_in (Some run)) (contracts_in 0 (Some contract ∷ []))) }
 {
-    match judge_both(alloc, run, contracts)? {
+    match judged(alloc, run, contract)? {
         Judgement::Refused(reply) => Ok(reply),
-        Judgement::Taken(run, contracts) => made_reply(alloc, hash, &run, contracts),
+        Judgement::Taken(run, contracts) => made_reply(alloc, hash, run, contracts),
     }
 }
 
@@ -42,7 +49,5 @@ pub(crate) fn make_reply<H: Hash32 + Drop>(
     ensures { IfOk result (λ reply. printed reply ≡ make_answer (H.digest_of hash) number size) }
 {
     let (contract, run) = make(alloc, number, size)?;
-    let run = Some(Bytes::of(run));
-    let contracts = [Some(Bytes::of(contract))];
-    made_texts(alloc, hash, &run, &contracts)
+    made_texts(alloc, hash, Bytes::of(run), Bytes::of(contract))
 }

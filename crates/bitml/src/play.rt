@@ -27,6 +27,6 @@ pub(crate) fn play_texts<H: Hash32 + Drop>(
 {
     match judge_both(alloc, &texts[0], &texts[1..])? {
         Judgement::Refused(reply) => Ok(reply),
-        Judgement::Taken(run, contracts) => play_reply(alloc, hash, &run, contracts),
+        Judgement::Taken(run, contracts) => play_reply(alloc, hash, run, contracts),
     }
 }

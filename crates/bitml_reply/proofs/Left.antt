@@ -2,18 +2,22 @@
 use Rattle.std.proofs.Common.{◌≡◌, ℕ, ◌<◌, ◌^◌, List, length, map, Option, Some, None, refl, sym, ap, subst, ◌∙◌}
 use Rattle.std.specs.Prelude.{slice_get, option_map}
 use Rattle.std.proofs.lemmas.Option.{same_Some}
+use Rattle.std.proofs.lemmas.List.{length-map}
 use Rattle.spec_bitcoin.specs.Live.{Chain}
 use Rattle.spec_calculus.specs.declared.step.Step.{Step}
 use Rattle.spec_calculus.specs.Configuration.{Configuration}
 use Rattle.spec_run.specs.declared.event.Event.{Event}
+use Rattle.spec_run.specs.declared.outcome.Record.{Record}
 use Rattle.spec_run.specs.Setup.{Setup}
+use Rattle.spec_run.specs.Event.{opening_world}
 use Rattle.spec_run.specs.Offers.{Offer, offers}
 use Rattle.spec_run.specs.Ledger.{chain_of}
 use Rattle.spec_run.specs.Translation.{translated, last_world, last_configuration}
 use Rattle.spec_text.specs.declared.entry.Entry.{Entry}
 use Rattle.spec_text.specs.PlanText.{counts_text, step_count}
-use Rattle.spec_text.specs.PlayText.{Ending, whole}
-use Rattle.spec_text.specs.Played.{entries, ending, halted, live_outputs}
+use Rattle.spec_text.specs.PlayText.{Ending, whole, report_text}
+use Rattle.spec_text.specs.Played.{entries, ending, halted, live_outputs, play_text}
+use Rattle.spec_tool.specs.Commands.{prints, ending_status, run_answer}
 use Rattle.bm_world.specs.Playing as world
 use Rattle.bm_world.specs.Playing.{setup_in}
 use Rattle.bm_world.specs.declared.halt.Halt.{Halt}
@@ -25,7 +29,8 @@ use Rattle.bitml_shows.proofs.Shown.{live_of_chain}
 use Rattle.bitml_reply.specs.Counted.{run_counts}
 use Rattle.bitml_reply.proofs.Contracts.{contracts_are_few}
 use Rattle.bitml_reply.proofs.Endings.{stopped_ending, whole_is}
-use Rattle.bitml_reply.proofs.Reports.{recorded, steps_are, configuration_is, one_each, entries_are, whole_end}
+use Rattle.bitml_reply.proofs.Recorded.{recorded, recorded_whole}
+use Rattle.bitml_reply.proofs.Reports.{passed, configuration_is, one_each, entries_are, left_answer, whole_end}
 
 module _ {H : Type 0} (digest : H → List ℕ → List ℕ) (s : Setup) (es : List Event) (left : world.Played H) (stop : Option (ℕ × Halt)) (l : IsLeft digest s es left stop) where
   -- it is left by these events of its own setup
@@ -52,6 +57,13 @@ module _ {H : Type 0} (digest : H → List ℕ → List ℕ) (s : Setup) (es : L
   pub shown_are : (steps : List (List Step)) (shown : List Entry) → steps ≡ translated s (recorded left.trace) → shown ≡ entries_by left.trace steps → shown ≡ entries s es
   shown_are steps shown e h = h ∙ entries_are digest s es left l.trace steps e
 
+  -- what `play` answers, by the steps of its records and its end
+  pub answered : (steps : List (List Step)) (end : Ending) → steps ≡ translated s (recorded left.trace) → end ≡ ending s es
+      → prints (ending_status end) (report_text left.header.deposits (entries_by left.trace steps) end) ≡ run_answer play_text s es
+  answered steps end e h =
+      ap (λ (t : Setup). prints (ending_status end) (report_text t.header.deposits (entries_by left.trace steps) end)) l.setup
+      ∙ left_answer s es (entries_by left.trace steps) end (entries_are digest s es left l.trace steps e) h
+
 -- ---- of a run that was halted
 
 module _ {H : Type 0} (digest : H → List ℕ → List ℕ) (s : Setup) (es : List Event) (left : world.Played H) (n : ℕ) (halt : Halt) (l : IsLeft digest s es left (Some (n, halt))) where
@@ -76,8 +88,20 @@ module _ {H : Type 0} (digest : H → List ℕ → List ℕ) (s : Setup) (es : L
   live_are chain live at e =
       e ∙ ap (λ (c : Chain). map number_and_value c.live) at ∙ live_of_chain left.world ∙ ap live_outputs (l.whole refl)
 
-  pub counts_are : (steps : List (List Step)) (n : ℕ) (g : Configuration) → steps ≡ translated s (recorded left.trace) → n ≡ step_count steps
-      → g ≡ last_configuration s (recorded left.trace) → counts_text (length es) n g (last_world s es) ≡ run_counts s es
-  counts_are steps n g e count last =
-      ap (λ (m : ℕ). counts_text (length es) m g (last_world s es)) (count ∙ ap step_count (e ∙ steps_are digest s es left l.trace))
-      ∙ ap (λ (x : Configuration). counts_text (length es) (step_count (translated s es)) x (last_world s es)) (last ∙ configuration_is digest s es left l.trace)
+  -- its trace has all of its events
+  pub all_recorded : recorded left.trace ≡ es
+  all_recorded = ap recorded (passed digest s es left l.trace) ∙ recorded_whole s (opening_world s) es l.stops
+
+  -- so it is left by the events of its trace
+  pub by_its_trace : IsLeft digest (setup_in digest left) (recorded left.trace) left None
+  by_its_trace =
+      subst (λ (xs : List Event). IsLeft digest (setup_in digest left) xs left None) (sym all_recorded)
+      (of_its_own digest s es left None l)
+
+  pub counts_are : (events steps : ℕ) (g : Configuration) → events ≡ length left.trace → steps ≡ step_count (translated s (recorded left.trace))
+      → g ≡ last_configuration s (recorded left.trace) → counts_text events steps g (last_world s es) ≡ run_counts s es
+  counts_are events steps g many counted last =
+      let events_are : events ≡ length es = many ∙ sym (length-map left.trace (λ (r : Record). r.event)) ∙ ap length all_recorded in
+      let steps_are : steps ≡ step_count (translated s es) = counted ∙ ap (λ (xs : List Event). step_count (translated s xs)) all_recorded in
+      let last_is : g ≡ last_configuration s es = last ∙ ap (last_configuration s) all_recorded in
+      λ i. counts_text (events_are i) (steps_are i) (last_is i) (last_world s es)

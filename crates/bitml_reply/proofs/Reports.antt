@@ -31,6 +31,7 @@ use Rattle.bitml_shows.specs.Live.{number_and_value}
 use Rattle.bitml_shows.proofs.Shown.{entries_of_turns, live_of_chain}
 use Rattle.bitml_reply.specs.Halting.{halt_printed}
 use Rattle.bitml_reply.proofs.Endings.{unopened_is}
+use Rattle.bitml_reply.proofs.Recorded.{recorded}
 
 -- ---- the whole text
 
@@ -58,11 +59,8 @@ left_answer s es shown end e f =
 
 -- ---- its parts
 
-abbrev pub recorded : List Record → List Event
-recorded rs = map (λ r. r.event) rs
-
 module _ {H : Type 0} (digest : H → List ℕ → List ℕ) (s : Setup) (es : List Event) (left : world.Played H) (traced : left.trace ≡ trace s es) where
-  passed : left.trace ≡ map record_passed (played s es).passed
+  pub passed : left.trace ≡ map record_passed (played s es).passed
   passed = traced ∙ trace_is s es
 
   -- the steps and the last configuration are those of all events

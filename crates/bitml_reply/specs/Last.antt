@@ -4,7 +4,7 @@ use Rattle.spec_run.specs.declared.event.Event.{Event}
 use Rattle.spec_run.specs.Setup.{Setup}
 use Rattle.spec_text.specs.PlanText.{unless_halted}
 use Rattle.spec_text.specs.Played.{ending}
-use Rattle.spec_tool.specs.Commands.{Printed, prints, ending_status}
+use Rattle.spec_tool.specs.Commands.{prints, ending_status}
 use Rattle.bitml_command.specs.Seen.{printed}
 use Rattle.bitml_command.specs.declared.reply.Reply.{Reply}
 use Rattle.bm_world.specs.Playing as world

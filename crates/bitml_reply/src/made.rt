@@ -19,91 +19,84 @@ use bitml_command::Reply;
 use bitml_shows::live_outputs;
 use bm_hash::Hash32;
 use bm_plan::counts_text;
-use bm_translate_course::{Translation, translate};
+use bm_translate_course::{Counted, count_steps};
 use bm_wellformed::Checked;
 use bm_world::World;
-use spec_calculus::Step;
-use spec_data::{Bytes, OutOfMemory, Seq};
-use spec_run::{Event, Run};
-use std::alloc::{AllocError, Global};
+use spec_data::{Bytes, OutOfMemory};
+use spec_run::Run;
+use std::alloc::Global;
 
-// How many steps there are. Counts of more than 64 bits, which no run has, are taken for want of memory.
-fn step_count(steps: &[Seq<Step>]) -> Result<u64, OutOfMemory>
-    ensures { IfOk result (λ n. n ≡ spec.step_count steps.now) }
-{
-    let mut count = 0u64;
-    for list in steps {
-        count = count.checked_add(list.len() as u64).ok_or(AllocError)?;
-    }
-    Ok(count)
-}
-
-// The counts of a run of these events that left this world and is this in the calculus.
+// The counts of the run that left this world and is this in the calculus. Its events are those of the trace.
 fn counts<H: Hash32 + Drop>(
     alloc: Global,
     world: &World<H>,
-    events: &[Event],
-    made: &Translation,
+    made: &Counted,
 ) -> Result<Vec<u8>, OutOfMemory>
-    requires left { IsLeft H.digest_of (setup_in H.digest_of world.now) events.now world.now None }
-    requires steps { made.now.steps ≡ run_of.translated (setup_in H.digest_of world.now) (events_of world.now.trace) }
+    requires left { IsLeft H.digest_of (setup_in H.digest_of world.now) (events_of world.now.trace) world.now None }
+    requires steps { made.now.steps
+        ≡ spec.step_count (run_of.translated (setup_in H.digest_of world.now) (events_of world.now.trace)) }
     requires last { made.now.last ≡ run_of.last_configuration (setup_in H.digest_of world.now) (events_of world.now.trace) }
-    ensures { IfOk result (λ text. text.items ≡ run_counts (setup_in H.digest_of world.now) events.now) }
+    ensures { IfOk result (λ text. text.items ≡ run_counts (setup_in H.digest_of world.now) (events_of world.now.trace)) }
 {
-    let steps = step_count(made.steps.as_slice())?;
     let live = live_outputs(alloc, world.ledger())?;
-    counts_text(alloc, events.len() as u64, steps, &made.last, &live)
+    counts_text(
+        alloc,
+        world.trace().len() as u64,
+        made.steps,
+        &made.last,
+        &live,
+    )
 }
 
 // What is printed of them.
 fn told<H: Hash32 + Drop>(
     alloc: Global,
     world: &World<H>,
-    events: &[Event],
-    made: &Translation,
+    made: &Counted,
 ) -> Result<Reply, OutOfMemory>
-    requires left { IsLeft H.digest_of (setup_in H.digest_of world.now) events.now world.now None }
-    requires steps { made.now.steps ≡ run_of.translated (setup_in H.digest_of world.now) (events_of world.now.trace) }
+    requires left { IsLeft H.digest_of (setup_in H.digest_of world.now) (events_of world.now.trace) world.now None }
+    requires steps { made.now.steps
+        ≡ spec.step_count (run_of.translated (setup_in H.digest_of world.now) (events_of world.now.trace)) }
     requires last { made.now.last ≡ run_of.last_configuration (setup_in H.digest_of world.now) (events_of world.now.trace) }
-    ensures { IfOk result (λ reply. printed reply ≡ prints 0 (run_counts (setup_in H.digest_of world.now) events.now)) }
+    ensures { IfOk result (λ reply. printed reply
+        ≡ prints 0 (run_counts (setup_in H.digest_of world.now) (events_of world.now.trace))) }
 {
-    let text = counts(alloc, world, events, made)?;
+    let text = counts(alloc, world, made)?;
     Ok(Reply {
         status: 0,
         text: Bytes::of(text),
     })
 }
 
-// What is printed of a run of these events that left this world.
-fn counted<H: Hash32 + Drop>(
-    alloc: Global,
-    world: &World<H>,
-    events: &[Event],
-) -> Result<Reply, OutOfMemory>
-    requires { IsLeft H.digest_of (setup_in H.digest_of world.now) events.now world.now None }
-    ensures { IfOk result (λ reply. printed reply ≡ prints 0 (run_counts (setup_in H.digest_of world.now) events.now)) }
+// What is printed of the run that left this world.
+fn counted<H: Hash32 + Drop>(alloc: Global, world: &World<H>) -> Result<Reply, OutOfMemory>
+    requires { IsLeft H.digest_of (setup_in H.digest_of world.now) (events_of world.now.trace) world.now None }
+    ensures { IfOk result (λ reply. printed reply
+        ≡ prints 0 (run_counts (setup_in H.digest_of world.now) (events_of world.now.trace))) }
 {
-    let made = translate(alloc, world)?;
-    told(alloc, world, events, &made)
+    let made = count_steps(alloc, world)?;
+    told(alloc, world, &made)
 }
 
-/// What `make` replies to a run and its contracts.
+/// What `make` replies to a run and its contracts. The run is let go once it is played: what is printed is read off the world that it
+/// left.
 pub fn made_reply<H: Hash32 + Drop>(
     alloc: Global,
     hash: H,
-    run: &Run,
+    run: Run,
     contracts: Vec<Checked>,
 ) -> Result<Reply, OutOfMemory>
-    requires run { IsReadRun run.now }
-    requires events { length run.now.events ≤ most_events }
+    requires run { IsReadRun run }
+    requires events { length run.events ≤ most_events }
     requires few { length contracts.items ≤ most_contracts }
     ensures { IfOk result (λ reply. printed reply
-        ≡ run_answer spec.make_text (setup_of (H.digest_of hash) run.now contracts.items) run.now.events) }
+        ≡ run_answer spec.make_text (setup_of (H.digest_of hash) run contracts.items) run.events) }
 {
-    match play_to_end(alloc, hash, run, contracts) {
+    match play_to_end(alloc, hash, &run, contracts) {
         Err(halt) => halt_reply(alloc, &halt),
         Ok(world) => {
-            let reply = counted(alloc, &world, run.events.as_slice());
+            drop(run);
+            let reply = counted(alloc, &world);
             let_go(world);
             reply
         }

@@ -57,3 +57,13 @@ pub same_setup : {H : Type 0} (digest : H → List ℕ → List ℕ) (trail : No
     → trail ≡ record { hasher = p.hasher; messages = p.world.hashed } → b.header ≡ p.header → b.contracts ≡ p.contracts
     → setup_of (digest trail.hasher) b ≡ setup_in digest p
 same_setup digest trail b p t h c = λ i. record { hash = digest ((t i).hasher); header = h i; contracts = c i }
+
+-- the trace of a world was played, and left its board and its trail
+pub played_there : {H : Type 0} (digest : H → List ℕ → List ℕ) (trail : Noted H) (b : Board) (trace : List Record) (p : Played H)
+    → trail ≡ record { hasher = p.hasher; messages = p.world.hashed } → trace ≡ p.trace
+    → IsWorld (setup_of (digest p.hasher) b) b p.world.hashed p.trace p.halt
+    → IsPlayed (setup_of (digest trail.hasher) b) b trail.messages trace
+played_there {H} digest trail b trace p t e is =
+    subst (λ (n : Noted H). IsPlayed (setup_of (digest n.hasher) b) b n.messages trace) (sym t)
+    (subst (λ (rs : List Record). IsPlayed (setup_of (digest p.hasher) b) b p.world.hashed rs) (sym e)
+    (played_of (digest p.hasher) b p.world.hashed p.trace p.halt is))

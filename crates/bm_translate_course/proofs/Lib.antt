@@ -4,3 +4,4 @@ pub mod Later
 pub mod Here
 pub mod Course
 pub mod FromWorld
+pub mod Tally

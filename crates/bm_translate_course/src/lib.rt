@@ -1,9 +1,11 @@
 //! The course of a run in the calculus.
 #![tactic(auto)]
 
+mod counting;
 mod taking;
 mod translating;
 mod walking;
 
+pub use counting::{Counted, count_steps};
 pub use translating::translate;
 pub use walking::{Translation, translate_run};

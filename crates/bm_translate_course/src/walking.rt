@@ -45,8 +45,8 @@ fn opening(alloc: Global, header: &Header, contracts: &[Checked]) -> Result<Conf
     )
 }
 
-// What is known before any event.
-fn start<H: Hash32 + Drop>(
+/// What is known before any event.
+pub(crate) fn start<H: Hash32 + Drop>(
     alloc: Global,
     trail: &Trail<H>,
     board: &Board,
@@ -66,8 +66,8 @@ fn start<H: Hash32 + Drop>(
     })
 }
 
-// The steps of an event, which are taken.
-fn pass<H: Hash32 + Drop>(
+/// The steps of an event, which are taken.
+pub(crate) fn pass<H: Hash32 + Drop>(
     alloc: Global,
     trail: &Trail<H>,
     board: &Board,

@@ -1,12 +1,9 @@
-use Rattle.std.proofs.Common.{◌≡◌, List, sym, ap, subst, ◌∙◌}
+use Rattle.std.proofs.Common.{◌≡◌, ap, subst}
 use Rattle.std.specs.Prelude.{IfOk}
-use Rattle.spec_run.specs.declared.event.Event.{Event}
 use Rattle.spec_run.specs.Setup.{Setup}
 use Rattle.spec_text.specs.Played.{play_text}
 use Rattle.spec_tool.specs.Commands.{Printed, setup_of, run_answer}
 use Rattle.bitml_command.specs.Seen.{printed}
-use Rattle.bm_world.specs.Playing.{setup_in}
-use Rattle.bitml_play.specs.Whole.{IsLeft}
 use Rattle.bitml_reply.proofs.Reports.{unopened_told}
 use Rattle.bitml_reply.proofs.Left.{of_its_own}
 use Rattle.bitml_reply.proofs.play.play_reply.Goals as goal
@@ -14,22 +11,20 @@ use Rattle.bitml_reply.proofs.play.play_reply.Goals as goal
 pub left_reply-reply-requires : goal.left_reply-reply-requires
 left_reply-reply-requires g c =
     let digest = g.H.Hash32.digest_of in
-    let s : Setup = setup_of (digest c.args.hash) c.args.run.now c.args.contracts.items in
+    let s : Setup = setup_of (digest c.args.hash) c.args.run c.args.contracts.items in
     let left = c.in-Ok.world in
-    subst (λ (es : List Event). IsLeft digest (setup_in digest left) es left c.in-Ok.stop) (sym c.as_slice.ensures)
-    (of_its_own digest s c.args.run.now.events left c.in-Ok.stop c.in-Ok.ensures.left)
+    of_its_own digest s c.args.run.events left c.in-Ok.stop c.in-Ok.ensures.left
 
 pub returns-in-Err : goal.returns-in-Err
 returns-in-Err g c =
-    let s : Setup = setup_of (g.H.Hash32.digest_of c.args.hash) c.args.run.now c.args.contracts.items in
-    unopened_told c.halt_reply.result s c.args.run.now.events c.in-Err.halt c.in-Err.ensures.unopened c.halt_reply.ensures
+    let s : Setup = setup_of (g.H.Hash32.digest_of c.args.hash) c.args.run c.args.contracts.items in
+    unopened_told c.halt_reply.result s c.args.run.events c.in-Err.halt c.in-Err.ensures.unopened c.halt_reply.ensures
 
 pub returns-in-Ok : goal.returns-in-Ok
 returns-in-Ok g c =
     let digest = g.H.Hash32.digest_of in
-    let s : Setup = setup_of (digest c.args.hash) c.args.run.now c.args.contracts.items in
+    let s : Setup = setup_of (digest c.args.hash) c.args.run c.args.contracts.items in
     let left = c.in-Ok.world in
     subst (λ (p : Printed). IfOk c.left_reply-reply.result (λ reply. printed reply ≡ p))
-    (ap (run_answer play_text (setup_in digest left)) c.as_slice.ensures
-    ∙ ap (λ (t : Setup). run_answer play_text t c.args.run.now.events) c.in-Ok.ensures.left.setup)
+    (ap (λ (t : Setup). run_answer play_text t c.args.run.events) c.in-Ok.ensures.left.setup)
     c.left_reply-reply.ensures

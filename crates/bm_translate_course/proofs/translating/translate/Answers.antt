@@ -1,25 +1,16 @@
-use Rattle.std.proofs.Common.{sym, ap, ◌∙◌, subst}
+use Rattle.std.proofs.Common.{◌∙◌, subst}
 use Rattle.spec_run.specs.Statements.{Simulates, HoldsThroughout, licensed}
 use Rattle.spec_run.specs.Translation.{translated, last_configuration}
-use Rattle.bm_world_board.specs.Drafts.{setup_of}
 use Rattle.bm_world.specs.Playing.{setup_in}
-use Rattle.bm_translate_course.specs.Courses.{events_of, IsPlayed}
-use Rattle.bm_translate_course.proofs.FromWorld.{played_of, same_setup}
+use Rattle.bm_translate_course.specs.Courses.{events_of}
+use Rattle.bm_translate_course.proofs.FromWorld.{played_there, same_setup}
 use Rattle.bm_translate_course.proofs.translating.translate.Goals as goal
 
 pub translate_run-requires : goal.translate_run-requires
-translate_run-requires g c = record { run = played }
-  where
-    played : IsPlayed (setup_of (g.H.Hash32.digest_of c.trail.result.now.hasher) c.board.result.now) c.board.result.now
-        c.trail.result.now.messages c.trace.result.now
-    played =
-        let digest = g.H.Hash32.digest_of in
-        let w = c.args.world.now in
-        let b = c.board.result.now in
-        subst (λ n. IsPlayed (setup_of (g.H.Hash32.digest_of n.hasher) c.board.result.now) c.board.result.now n.messages c.trace.result.now)
-        (sym c.trail.ensures)
-        (subst (λ t. IsPlayed (setup_of (digest w.hasher) b) b w.world.hashed t) (sym c.trace.ensures.trace)
-        (played_of (digest w.hasher) b w.world.hashed w.trace w.halt c.board.ensures.is))
+translate_run-requires g c = record {
+  run = played_there g.H.Hash32.digest_of c.trail.result.now c.board.result.now c.trace.result.now c.args.world.now c.trail.ensures
+      c.trace.ensures.trace c.board.ensures.is;
+}
 
 pub returns-clause-steps : goal.returns-clause-steps
 returns-clause-steps g c =

@@ -9,7 +9,7 @@ use Rattle.bm_report.specs.Endings.{ending_of}
 use Rattle.bm_world.specs.Playing.{setup_in}
 use Rattle.bitml_play.specs.Whole.{IsLeft}
 use Rattle.bitml_reply.proofs.Left.{last_is_numbered, event_is, whole_ends}
-use Rattle.bitml_reply.proofs.play.ending_by.Goals as goal
+use Rattle.bitml_reply.proofs.ends.ending_by.Goals as goal
 
 pub whole_ending-requires : goal.whole_ending-requires
 whole_ending-requires g c =

@@ -1,0 +1,8 @@
+use Rattle.bm_world_board.specs.Drafts.{setup_of}
+use Rattle.bm_translate_course.proofs.Course.{few_compiled}
+use Rattle.bm_translate_course.proofs.counting.count_run.Goals as goal
+
+pub count_all-requires-clause-few : goal.count_all-requires-clause-few
+count_all-requires-clause-few g c =
+    few_compiled (setup_of (g.H.Hash32.digest_of c.args.trail.now.hasher) c.args.board.now) c.args.board.now c.args.trail.now.messages
+    c.args.trace.now c.requires.run

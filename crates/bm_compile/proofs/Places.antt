@@ -1,5 +1,5 @@
 -- The places of nodes lead to what their paths have in a list.
-use Rattle.std.proofs.Common.{◌≡◌, ℕ, ◌+◌, List, [], ◌∷◌, ◌++◌, length, map, Bool, true, false, Option, Some, None, refl, sym, ap, ◌∙◌, subst, arith, append_assoc}
+use Rattle.std.proofs.Common.{◌≡◌, ℕ, zero, suc, ◌+◌, List, [], ◌∷◌, ◌++◌, length, map, Bool, true, false, Option, Some, None, refl, sym, ap, ◌∙◌, subst, arith, append_assoc}
 use Rattle.std.specs.Prelude.{if◌then◌else◌, slice_get, option_map, not}
 use Rattle.std.specs.List.{list_any}
 use Rattle.std.proofs.lemmas.Bool.{and_parts, or_parts}
@@ -11,7 +11,7 @@ use Rattle.spec_compiler.specs.declared.prepared.Prepared.{Prepared}
 use Rattle.spec_nodes.specs.Nodes.{Node, choice_node, branch_node}
 use Rattle.theory_nodes.specs.Walk.{node_paths, listed_scripts}
 use Rattle.theory_script.specs.Listed.{at_path, are_once, is_path_among}
-use Rattle.bm_compile.specs.Numbered.{is_kind, path_of, named, places_from, value_at, transaction_of, script_of}
+use Rattle.bm_compile.specs.Numbered.{is_kind, path_of, named, places_from, value_at, row_at, transaction_of, script_of, keyed_paths, keys_of}
 
 -- what a list has for the path of a node of the kind
 abbrev found : {V : Type 0} → Bool → List (List PathStep × V) → Node → Option V
@@ -84,6 +84,45 @@ transactions_led paths ns names once = all_led true paths once ns names ∙ tran
 pub scripts_led : (scripts : List (List PathStep × List ℕ)) (ns : List Node) → map (λ x. x.0) scripts ≡ named false ns → are_once (map (λ x. x.0) scripts) ≡ true
     → map (value_at scripts) (places_from false 0 ns) ≡ map (script_of scripts) ns
 scripts_led scripts ns names once = all_led false scripts once ns names ∙ scripts_found scripts ns
+
+-- ---- keys
+
+-- where each transaction has its row of keys, the paths beside the keys are those of the transactions
+keyed_names : (paths : List (List PathStep × Prepared)) (table : List (List (List ℕ))) → length table ≡ length paths
+    → map (λ x. x.0) (keyed_paths paths table) ≡ map (λ x. x.0) paths
+keyed_names [] table size = refl
+keyed_names (p ∷ ps) [] size = cc
+keyed_names (p ∷ ps) (row ∷ rows) size = let fewer : length rows ≡ length ps = omega (arith, size) in ap (λ l. p.0 ∷ l) (keyed_names ps rows fewer)
+
+-- and beside each path stands its row
+row_beside : (paths : List (List PathStep × Prepared)) (table : List (List (List ℕ))) (k : ℕ) → length table ≡ length paths
+    → slice_get table k ≡ option_map (λ x. x.1) (slice_get (keyed_paths paths table) k)
+row_beside [] [] k size = refl
+row_beside [] (row ∷ rows) k size = cc
+row_beside (p ∷ ps) [] k size = cc
+row_beside (p ∷ ps) (row ∷ rows) zero size = refl
+row_beside (p ∷ ps) (row ∷ rows) (suc k) size = let fewer : length rows ≡ length ps = omega (arith, size) in row_beside ps rows k fewer
+
+rows_beside : (paths : List (List PathStep × Prepared)) (table : List (List (List ℕ))) (places : List (Option ℕ)) → length table ≡ length paths
+    → map (row_at table) places ≡ map (value_at (keyed_paths paths table)) places
+rows_beside paths table [] size = refl
+rows_beside paths table (None ∷ places) size = ap (λ l. None ∷ l) (rows_beside paths table places size)
+rows_beside paths table (Some k ∷ places) size = λ j. row_beside paths table k size j ∷ rows_beside paths table places size j
+
+keys_found : (paths : List (List PathStep × Prepared)) (table : List (List (List ℕ))) (ns : List Node)
+    → map (found true (keyed_paths paths table)) ns ≡ map (keys_of paths table) ns
+keys_found paths table [] = refl
+keys_found paths table (choice_node position branches ∷ ns) = ap (λ l. None ∷ l) (keys_found paths table ns)
+keys_found paths table (branch_node path asked height deed ∷ ns) = ap (λ l. at_path path (keyed_paths paths table) ∷ l) (keys_found paths table ns)
+
+pub rows_led : (paths : List (List PathStep × Prepared)) (table : List (List (List ℕ))) (ns : List Node) → length table ≡ length paths
+    → map (λ x. x.0) paths ≡ named true ns → are_once (map (λ x. x.0) paths) ≡ true
+    → map (row_at table) (places_from true 0 ns) ≡ map (keys_of paths table) ns
+rows_led paths table ns size names once =
+    let same = keyed_names paths table size in
+    rows_beside paths table (places_from true 0 ns) size
+    ∙ all_led true (keyed_paths paths table) (ap are_once same ∙ once) ns (same ∙ names)
+    ∙ keys_found paths table ns
 
 -- ---- their paths
 

@@ -1,6 +1,7 @@
 -- A compiled contract with its numbered nodes, and what is found in it by a node's number.
-use Rattle.std.specs.Prelude.{◌≡◌, ℕ, ◌+◌, Bool, true, not, if◌then◌else◌, List, [], ◌∷◌, map, Option, Some, None, option_map, slice_get}
+use Rattle.std.specs.Prelude.{◌≡◌, ℕ, ◌+◌, Bool, true, false, not, if◌then◌else◌, List, [], ◌∷◌, map, Option, Some, None, option_map, slice_get}
 use Rattle.spec_terms.specs.Advert.{Advert}
+use Rattle.spec_terms.specs.Paths.{path_eq}
 use Rattle.spec_terms.specs.declared.path.PathStep.{PathStep}
 use Rattle.spec_bitcoin.specs.declared.tx.OutPoint.{OutPoint}
 use Rattle.spec_compiler.specs.declared.prepared.Prepared.{Prepared}
@@ -59,6 +60,22 @@ abbrev pub compiled_script : (List ℕ → List ℕ) → Instance → Node → O
 compiled_script hash s (choice_node position branches) = script_at hash s position
 compiled_script hash s (branch_node path asked height deed) = None
 
+-- each path beside its keys, of which a list has one row for each transaction
+abbrev pub keyed_paths : List (List PathStep × Prepared) → List (List (List ℕ)) → List (List PathStep × List (List ℕ))
+keyed_paths [] table = []
+keyed_paths (p ∷ ps) [] = []
+keyed_paths (p ∷ ps) (row ∷ rows) = (p.0, row) ∷ keyed_paths ps rows
+
+-- what a list of keys has for the path of a branch's node
+abbrev pub keys_of : List (List PathStep × Prepared) → List (List (List ℕ)) → Node → Option (List (List ℕ))
+keys_of paths table (choice_node position branches) = None
+keys_of paths table (branch_node path asked height deed) = at_path path (keyed_paths paths table)
+
+-- whether a node is the branch at this path
+abbrev pub is_branch_at : List PathStep → Node → Bool
+is_branch_at path (choice_node position branches) = false
+is_branch_at path (branch_node known asked height deed) = path_eq known path
+
 -- ---- the tables by which they are found
 
 -- what stands at this place of a list, nothing without a place
@@ -66,10 +83,16 @@ abbrev pub value_at : {V : Type 0} → List (List PathStep × V) → Option ℕ 
 value_at es None = None
 value_at es (Some k) = option_map (λ e. e.1) (slice_get es k)
 
--- the places lead each branch's node to its transaction, and each choice's node to its script
+-- the row at this place of a list of keys, none without a place
+abbrev pub row_at : List (List (List ℕ)) → Option ℕ → Option (List (List ℕ))
+row_at table None = None
+row_at table (Some k) = slice_get table k
+
+-- the places lead each branch's node to its transaction and its keys, and each choice's node to its script
 pub record IsIndexed (nodes : List Node) (paths : List (List PathStep × Prepared)) (scripts : List (List PathStep × List ℕ))
-    (branches choices : List (Option ℕ)) : Type 0 where
+    (table : List (List (List ℕ))) (branches choices : List (Option ℕ)) : Type 0 where
   pub transactions : map (value_at paths) branches ≡ map (transaction_of paths) nodes
+  pub rows : map (row_at table) branches ≡ map (keys_of paths table) nodes
   pub outputs : map (value_at scripts) choices ≡ map (script_of scripts) nodes
 
 -- whether a node is a branch's, or where `branch` is false, a choice's

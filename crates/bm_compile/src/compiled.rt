@@ -1,12 +1,13 @@
 //! What a contract is compiled to.
 
-ghost use Rattle.std.specs.Prelude.{◌≡◌, ℕ, List, map, true, false, IfOk, option_map, slice_get};
+ghost use Rattle.std.specs.Prelude.{◌≡◌, ℕ, List, length, map, Some, true, false, IfOk, IfSome, option_map, slice_get};
 ghost use Rattle.std.specs.Option.{option_and_then};
-ghost use Rattle.spec_compiler.specs.Instance.{Instance};
+ghost use Rattle.spec_compiler.specs.Instance.{Instance, branch_keys};
 ghost use Rattle.spec_compiler.specs.ByPath.{prepared_at};
 ghost use Rattle.theory_script.specs.Listed.{at_path, are_once};
 ghost use Rattle.bm_compile.specs.Numbered as spec;
 
+use crate::finding::{entry, find_keys, find_path, is_branch_at, row};
 use crate::tables::places;
 use bm_arena::Arena;
 use bm_syntax::Path;
@@ -40,7 +41,7 @@ impl Model for Compiled {
 
     ghost view = { λ c. record { nodes = c.arena; init = c.init; paths = c.paths; scripts = c.scripts; keys = c.keys } };
 
-    ghost invariant = { λ c. IsIndexed c.arena c.paths c.scripts c.branches c.choices };
+    ghost invariant = { λ c. IsIndexed c.arena c.paths c.scripts c.keys c.branches c.choices };
 }
 
 impl Drop for Compiled {
@@ -55,27 +56,6 @@ impl Drop for Compiled {
             choices: _,
         } = self;
     }
-}
-
-// What stands at the place of this number.
-fn entry<'a, V>(entries: &'a [(Path, V)], places: &[Option<u32>], number: u32) -> Option<&'a V>
-    ensures { option_map (λ v. v.now) result ≡ option_and_then (spec.value_at entries.now) (slice_get places.now number) }
-{
-    let place = (*places.get(number as usize)?)?;
-    let (_, value) = entries.get(place as usize)?;
-    Some(value)
-}
-
-// What a list has for a path.
-fn find_path<'a, V>(entries: &'a [(Path, V)], path: &Path) -> Option<&'a V>
-    ensures { option_map (λ v. v.now) result ≡ at_path path.now entries.now }
-{
-    for (known, value) in entries {
-        if *known == *path {
-            return Some(value);
-        }
-    }
-    None
 }
 
 impl Compiled {
@@ -93,6 +73,7 @@ impl Compiled {
         requires paths_once { are_once (map (λ p. p.0) paths) ≡ true }
         requires scripts { map (λ p. p.0) scripts ≡ spec.named false arena }
         requires scripts_once { are_once (map (λ p. p.0) scripts) ≡ true }
+        requires keys { length keys ≡ length paths }
         ensures { IfOk result (λ c. c ≡ record { nodes = arena; init = init; paths = paths; scripts = scripts; keys = keys }) }
     {
         let _ = arena.len();
@@ -155,6 +136,26 @@ impl Compiled {
         entry(self.paths.as_slice(), self.branches.as_slice(), number)
     }
 
+    // Each participant's key of the branch whose node has this number.
+    fn keys_of(&self, number: u32) -> Option<&[[u8; 33]]>
+        ensures { option_map (λ row. row.now) result
+            ≡ option_and_then (spec.keys_of self.now.paths self.now.keys) (slice_get self.now.nodes number) }
+    {
+        row(self.keys.as_slice(), self.branches.as_slice(), number)
+    }
+
+    // The number of the branch at this path, where its steps lead to the node.
+    fn number_at(&self, path: &Path) -> Option<u32>
+        ensures { IfSome result (λ n. option_map (spec.is_branch_at path.now) (slice_get self.now.nodes n) ≡ Some true) }
+    {
+        let number = self.arena.find(path)?;
+        let node = self.arena.node(number)?;
+        if is_branch_at(node, path) {
+            return Some(number);
+        }
+        None
+    }
+
     /// The script of the position whose choice has this number, `None` where the node is a branch or isn't there.
     pub fn script(&self, number: u32) -> Option<&Bytes>
         ensures by_node { option_map (λ b. b.now) result
@@ -166,14 +167,31 @@ impl Compiled {
         entry(self.scripts.as_slice(), self.choices.as_slice(), number)
     }
 
-    /// The transaction of the branch at this path, `None` where there is no branch.
+    /// The transaction of the branch at this path, `None` where there is no branch. It is found in as many steps as the path has.
     pub fn transaction_at(&self, path: &Path) -> Option<&Prepared>
         ensures by_list { option_map (λ p. p.now) result ≡ at_path path.now self.now.paths }
         ensures compiled { (hash : List ℕ → List ℕ) (s : Instance) → self.now ≡ spec.numbered hash s
             → option_map (λ p. p.now) result ≡ prepared_at hash s path.now }
     {
         paths_are_listed();
-        find_path(self.paths.as_slice(), path)
+        match self.number_at(path) {
+            Some(number) => self.transaction(number),
+            None => find_path(self.paths.as_slice(), path),
+        }
+    }
+
+    /// Each participant's key of the branch at this path, in order, `None` where there is no branch. It is found in as many steps
+    /// as the path has.
+    pub fn keys_at(&self, path: &Path) -> Option<&[[u8; 33]]>
+        ensures by_list { option_map (λ row. row.now) result ≡ at_path path.now (spec.keyed_paths self.now.paths self.now.keys) }
+        ensures compiled { (hash : List ℕ → List ℕ) (s : Instance) → self.now ≡ spec.numbered hash s
+            → option_map (λ row. row.now) result ≡ option_map (λ made. branch_keys hash s path.now) (prepared_at hash s path.now) }
+    {
+        paths_are_listed();
+        match self.number_at(path) {
+            Some(number) => self.keys_of(number),
+            None => find_keys(self.paths.as_slice(), self.keys.as_slice(), path),
+        }
     }
 
     /// The script of the output at this position, `None` where there is no position.

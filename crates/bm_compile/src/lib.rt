@@ -6,6 +6,7 @@ mod compiled;
 mod compiling;
 mod depositing;
 mod detailed;
+mod finding;
 mod labelling;
 mod preparing;
 mod scripting;

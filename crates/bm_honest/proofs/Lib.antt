@@ -1,3 +1,5 @@
 pub mod Standing
 pub mod Unmet
 pub mod Endorsed
+pub mod Planned
+pub mod Nodes

@@ -1,6 +1,6 @@
 //! What a party signs to endorse a contract.
 
-ghost use Rattle.std.specs.Prelude.{◌≡◌, ◌++◌, ◌∷◌, [], IfOk, OnOk, true};
+ghost use Rattle.std.specs.Prelude.{◌≡◌, ◌++◌, ◌∷◌, [], map, IfOk, OnOk, true};
 ghost use Rattle.std.specs.List.{list_all};
 ghost use Rattle.spec_data.specs.Lists.{is_among};
 ghost use Rattle.spec_terms.specs.Precondition.{names_of, volatile};
@@ -9,12 +9,14 @@ ghost use Rattle.spec_compiler.specs.Endorsements.{needed};
 ghost use Rattle.spec_nodes.specs.Nodes.{nodes_of};
 ghost use Rattle.spec_run.specs.Signing.{pairs_of_party};
 ghost use Rattle.bm_compile.specs.Numbered.{numbered};
+ghost use Rattle.bm_arena.specs.NodeView.{node_view};
+ghost use Rattle.bm_honest.specs.Seen.{AreSeen};
 ghost use Rattle.bm_honest.specs.Pairs.{person_pairs, owner_pairs, pairs_for, pairs_at, pairs_of_paths};
 
-use crate::branches::seen_at;
+use crate::branches::{first_nodes, next_nodes, seen_at};
 use crate::keys::deposit_key;
 use crate::needs::owner_of;
-use bm_arena::Arena;
+use bm_arena::{Arena, Node};
 use bm_compile::Compiled;
 use bm_hash::Hash32;
 use bm_wellformed::Checked;
@@ -180,16 +182,18 @@ fn put_path<H: Hash32>(
     pairs: &mut Vec<Pair>,
     checked: &Checked,
     arena: &Arena,
+    nodes: &[Node],
     keys: &[[u8; 33]],
     party: &Name,
     path: &Path,
     made: &Prepared,
 ) -> Result<(), OutOfMemory>
-    requires { arena.now ≡ nodes_of checked.now.root }
+    requires arena { arena.now ≡ nodes_of checked.now.root }
+    requires nodes { AreSeen checked.now.root (map node_view nodes.now) }
     ensures { OnOk result (pairs.new.items ≡ pairs.old.items
         ++ pairs_at (H.digest_of hash.now) checked.now keys.now party.now path.now made.now) }
 {
-    let Some((asked, puts)) = seen_at(checked, arena, path) else {
+    let Some((asked, puts)) = seen_at(checked, arena, nodes, path) else {
         return Ok(());
     };
     let digests = made.digests.as_slice();
@@ -198,7 +202,8 @@ fn put_path<H: Hash32>(
     )
 }
 
-// What the party signs of these paths, each with the participants' keys of it.
+// What the party signs of these paths, each with the participants' keys of it. The nodes of branches stand in the order of the paths,
+// so that each is found beside its path.
 fn pairs_by_paths<H: Hash32>(
     alloc: Global,
     hash: &H,
@@ -214,15 +219,17 @@ fn pairs_by_paths<H: Hash32>(
 {
     let mut pairs = Vec::new(alloc);
     let mut rest = table;
+    let mut nodes = first_nodes(checked, arena);
     for (path, made) in paths {
         let Some((keys, others)) = rest.split_first() else {
             return Ok(pairs);
         };
         let keys = keys.as_slice();
         put_path(
-            alloc, hash, &mut pairs, checked, arena, keys, party, path, made,
+            alloc, hash, &mut pairs, checked, arena, nodes, keys, party, path, made,
         )?;
         rest = others;
+        nodes = next_nodes(checked, nodes);
     }
     Ok(pairs)
 }

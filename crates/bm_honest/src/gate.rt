@@ -6,7 +6,7 @@ ghost use Rattle.spec_nodes.specs.Nodes.{nodes_of};
 ghost use Rattle.bm_compile.specs.Numbered.{numbered};
 ghost use Rattle.bm_honest.specs.Gates.{gate_of_paths, Tells};
 
-use crate::branches::first_at;
+use crate::branches::{first_at, first_nodes, next_nodes};
 use bm_arena::Arena;
 use bm_book::Book;
 use bm_compile::Compiled;
@@ -26,7 +26,8 @@ pub enum Gate {
     No { path: Path, party: Name },
 }
 
-// The gate of these transactions by their paths, each with the participants' keys of it.
+// The gate of these transactions by their paths, each with the participants' keys of it. The nodes of branches stand in the order of
+// the paths, so that each is found beside its path.
 fn gate_by_paths<H: Hash32>(
     alloc: Global,
     hash: &H,
@@ -40,12 +41,13 @@ fn gate_by_paths<H: Hash32>(
     ensures { IfOk result (λ gate. gate ≡ gate_of_paths (H.digest_of hash.now) book.now checked.now paths.now table.now) }
 {
     let mut rest = table;
+    let mut nodes = first_nodes(checked, arena);
     for (path, made) in paths {
         let Some((keys, others)) = rest.split_first() else {
             return Ok(Gate::Yes);
         };
         let keys = keys.as_slice();
-        let party = first_at(alloc, hash, book, checked, arena, keys, path, made)?;
+        let party = first_at(alloc, hash, book, checked, arena, nodes, keys, path, made)?;
         if let Some(party) = party {
             return Ok(Gate::No {
                 path: path.copy(alloc)?,
@@ -53,6 +55,7 @@ fn gate_by_paths<H: Hash32>(
             });
         }
         rest = others;
+        nodes = next_nodes(checked, nodes);
     }
     Ok(Gate::Yes)
 }

@@ -6,6 +6,7 @@ mod branches;
 mod endorsing;
 mod gate;
 mod keys;
+mod known;
 mod needs;
 
 pub use bm_book::Book;
@@ -16,6 +17,7 @@ pub use bm_wellformed::Checked;
 pub use endorsing::{Pair, endorsing_pairs};
 pub use gate::{Gate, may};
 pub use keys::deposit_key;
+pub use known::known_key;
 pub use spec_compiler::Prepared;
 pub use spec_data::{Name, OutOfMemory};
 pub use spec_terms::{Path, PathStep};

@@ -73,3 +73,10 @@ shown_nodes hash k (Some st) advert compiled h =
 pub not_shown : (hash : List ℕ → List ℕ) (k : ℕ) (o : Option Instance) → Shows hash k o None → o ≡ None
 not_shown hash k None h = refl
 not_shown hash k (Some st) h = absurd h
+
+-- what is shown is what the contract of this number and text is compiled to
+pub shown_gives : {P : Type 0} (hash : List ℕ → List ℕ) (k : ℕ) (o : Option Instance) (advert : Advert) (compiled : Numbered)
+    → Shows hash k o (Some (advert, compiled))
+    → ((st : Instance) → compiled ≡ numbered hash st → st.contract ≡ k → st.advert ≡ advert → P) → P
+shown_gives hash k None advert compiled h f = absurd h
+shown_gives hash k (Some st) advert compiled h f = f st h.compilation h.number h.text

@@ -1,7 +1,9 @@
 //! Branches of active contracts that ask a party.
 
-ghost use Rattle.std.specs.Prelude.{◌≡◌, ◌++◌, ◌∷◌, [], ℕ, List, None, IfOk, option_map};
+ghost use Rattle.std.specs.Prelude.{◌≡◌, ◌++◌, ◌∷◌, [], ℕ, List, None, IfOk, IfSome, option_map};
 ghost use Rattle.bm_hash.specs.Messages.{evidence_of};
+ghost use Rattle.spec_bitcoin.specs.Keys.{key_of};
+ghost use Rattle.spec_compiler.specs.Instance.{branch_label};
 ghost use Rattle.spec_data.specs.Lists.{first_reason};
 ghost use Rattle.spec_run.specs.World.{live_position_at};
 ghost use Rattle.spec_run.specs.Signing as spec;
@@ -10,8 +12,9 @@ ghost use Rattle.bm_world_sign.specs.Instances.{AllCompiled, instance_on};
 ghost use Rattle.bm_world_sign.specs.Authorising.{first_pair};
 
 use crate::booking::draft_pairs;
+use crate::known::compiled_contract;
 use bm_hash::{Hash32, Trail};
-use bm_honest::{Pair, Prepared, branch_key};
+use bm_honest::{Pair, Prepared, branch_key, known_key};
 use bm_syntax::asks;
 use bm_world_board::{Board, Drafted};
 use spec_data::{Name, OutOfMemory};
@@ -48,6 +51,33 @@ fn transaction_at<'a>(board: &'a Board, contract: u32, path: &Path) -> Option<&'
     }
 }
 
+// The party's key of the branch at a path, where what the contract is compiled to has it.
+fn known_at(board: &Board, party: &Name, contract: u32, path: &Path) -> Option<[u8; 33]>
+    ensures { (hash : List ℕ → List ℕ) (messages : List (List ℕ)) → AllCompiled hash board.now messages
+        → IfSome result (λ key. key ≡ key_of hash (branch_label contract path.now party.now)) }
+{
+    let (checked, compiled) = compiled_contract(board, contract)?;
+    known_key(checked, contract, compiled, party, path)
+}
+
+// The party's key of the branch at a path. It is worked out only where nothing has it.
+fn key_at<H: Hash32 + Drop>(
+    alloc: Global,
+    trail: &Trail<H>,
+    board: &Board,
+    party: &Name,
+    contract: u32,
+    path: &Path,
+) -> Result<[u8; 33], OutOfMemory>
+    requires { AllCompiled (H.digest_of trail.now.hasher) board.now trail.now.messages }
+    ensures { IfOk result (λ key. key ≡ key_of (H.digest_of trail.now.hasher) (branch_label contract path.now party.now)) }
+{
+    if let Some(key) = known_at(board, party, contract, path) {
+        return Ok(key);
+    }
+    branch_key(alloc, trail.hasher(), contract, path, party)
+}
+
 // The pair of a key and the first of these digests, if there is one.
 fn first_pair(alloc: Global, key: [u8; 33], digests: &[[u8; 32]]) -> Result<Vec<Pair>, OutOfMemory>
     ensures { IfOk result (λ pairs. pairs.items ≡ first_pair key digests.now) }
@@ -78,7 +108,7 @@ fn pairs_at<H: Hash32 + Drop>(
     let Some(made) = transaction_at(board, contract, path) else {
         return Ok(Vec::new(alloc));
     };
-    let key = branch_key(alloc, trail.hasher(), contract, path, party)?;
+    let key = key_at(alloc, trail, board, party, contract, path)?;
     let pairs = first_pair(alloc, key, made.digests.as_slice())?;
     Ok(pairs)
 }

@@ -1,5 +1,8 @@
-use Rattle.std.proofs.Common.{◌≡◌, ◌∙◌, map, sym, ap, subst, true, false}
+use Rattle.std.proofs.Common.{◌≡◌, ◌∙◌, length, map, sym, ap, subst, true, false}
+use Rattle.std.proofs.lemmas.List.{length-map}
 use Rattle.std.specs.Prelude.{IfOk}
+use Rattle.spec_compiler.specs.Keyed.Instance.{branch_keys}
+use Rattle.spec_compiler.specs.Keyed.Compilation.{compilation}
 use Rattle.theory_script.specs.Keyed.Listed.{are_once}
 use Rattle.bm_compile.specs.Keyed.Numbered.{numbered}
 use Rattle.bm_compile.specs.Numbered.{Numbered, named}
@@ -33,6 +36,15 @@ of-requires-clause-scripts_once g c =
     let hash = g.H.Hash32.digest_of c.args.trail.now.hasher in
     let keys = g.K.KeySource.keys c.args.source.now in
     ap (λ l. are_once (map (λ p. p.0) l)) (c.into_parts-init.ensures.scripts ∙ ap (λ m. m.scripts) c.requires.made) ∙ scripts_once hash keys c.args.setting.now c.paths_in_order.ensures
+
+pub of-requires-clause-keys : goal.of-requires-clause-keys
+of-requires-clause-keys g c =
+    let hash = g.H.Hash32.digest_of c.args.trail.now.hasher in
+    let keys = g.K.KeySource.keys c.args.source.now in
+    let s = c.args.setting.now in
+    let bare = c.in_ok-bare.ensures ∙ ap (map (λ p. (p.0, p.1.prepared))) (c.into_parts-init.ensures.paths ∙ ap (λ m. m.paths) c.requires.made) ∙ paths_prepared hash keys s in
+    let listed_keys = c.in_ok-keys.ensures ∙ keys_whole hash keys s _ c.args.table c.nodes_give_paths.ensures (c.nodes.ensures ∙ c.requires.root) c.requires.keys in
+    ap length listed_keys ∙ length-map (compilation hash keys s).paths (λ p. branch_keys hash keys s p.0) ∙ sym (ap length bare)
 
 pub returns : goal.returns
 returns g c =

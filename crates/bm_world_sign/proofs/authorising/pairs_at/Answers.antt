@@ -23,5 +23,5 @@ returns g c =
     let made = c.in-Some.ensures hash messages c.requires in
     (rw c.as_slice.ensures at c.in_ok-pairs.ensures)
     ∙ first_there s o c.args.path.now c.in-Some.made.now c.in_ok-key.key made
-    ∙ ap (λ key. (key, first_digest c.in-Some.made.now) ∷ []) (rw c.hasher.ensures at c.in_ok-key.ensures)
+    ∙ ap (λ key. (key, first_digest c.in-Some.made.now) ∷ []) c.in_ok-key.ensures
     ∙ ap (branch_pair s c.args.party.now c.args.contract c.args.path.now) made

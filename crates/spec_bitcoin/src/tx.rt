@@ -1,15 +1,31 @@
 //! Transactions, as BIP 144 has them.
 
-ghost use Rattle.std.specs.Prelude.{◌≡◌, ℕ, List, IfOk};
+ghost use Rattle.std.specs.Prelude.{◌≡◌, ◌∷◌, [], ℕ, List, IfOk};
+ghost use Rattle.std.specs.Cmp.Rules.{hashing};
+ghost use Rattle.std.specs.Int.{to_le_bytes, w32};
+ghost use Rattle.std.proofs.Common.{rules};
 
 use spec_data::{Bytes, OutOfMemory, Seq};
 use std::alloc::Global;
+use std::hash::{Hash, Hasher};
 
-/// The place of an output: the transaction that made it, and which of its outputs it is.
-#[derive(Clone, Copy, Debug, PartialEq, Eq, PartialOrd, Ord, Hash)]
+/// The place of an output: the transaction that made it, and which of its outputs it is. A table's hasher is fed with the txid at once,
+/// and not byte by byte, as with an array.
+#[derive(Clone, Copy, Debug, PartialEq, Eq, PartialOrd, Ord)]
 pub struct OutPoint {
     pub txid: [u8; 32],
     pub vout: u32,
+}
+
+impl Hash for OutPoint {
+    ghost hash_input = { λ p. p.txid ∷ to_le_bytes w32 p.vout ∷ [] };
+
+    ghost respects_eq = { Prim.search (hashing, rules) };
+
+    fn hash<H: Hasher>(&self, state: &mut H) {
+        state.write(&self.txid);
+        state.write(&self.vout.to_le_bytes());
+    }
 }
 
 /// An input: the output that it spends, and what entitles it to.

@@ -1,3 +1,4 @@
+pub mod ByteList
 pub mod Digits
 pub mod Hashes
 pub mod Lists

@@ -1,11 +1,13 @@
 //! The plain data that everything is made of: lists, byte strings and names, as contracts see them, and how far numbers go.
 #![tactic(auto)]
 
+pub mod boxed;
 pub mod byte_list;
 pub mod name;
 pub mod ranges;
 pub mod seq;
 
+pub use boxed::Boxed;
 pub use byte_list::{Bytes, OutOfMemory};
 pub use name::Name;
 pub use ranges::{LAST_HEIGHT, MAX_MONEY, MOST_EVENTS, MOST_RUN_BYTES, MOST_TEXT_BYTES};

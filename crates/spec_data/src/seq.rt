@@ -41,6 +41,15 @@ impl<T> Seq<T> {
         }
     }
 
+    /// A list of nothing, with room for so many elements.
+    pub fn with_capacity(alloc: Global, count: usize) -> Result<Seq<T>, AllocError>
+        ensures { IfOk result (λ list. list ≡ []) }
+    {
+        Ok(Seq {
+            held: Vec::with_capacity(alloc, count)?,
+        })
+    }
+
     /// The elements, taken out of the list.
     pub fn into_vec(self) -> Vec<T>
         ensures { result.items ≡ self }

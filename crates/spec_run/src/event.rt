@@ -4,7 +4,7 @@ ghost use Rattle.std.specs.Prelude.{◌≡◌, IfOk};
 
 use crate::header::Header;
 use spec_bitcoin::Label;
-use spec_data::{Bytes, Name, OutOfMemory, Seq};
+use spec_data::{Boxed, Bytes, Name, OutOfMemory, Seq};
 use std::alloc::Global;
 
 /// One atomic step of a run. Contracts have their number, outputs their birth number, counted
@@ -50,7 +50,7 @@ pub enum Event {
     /// A party that isn't honest signs a digest by a key of its own.
     Sign {
         party: Name,
-        label: Label,
+        label: Boxed<Label>,
         digest: [u8; 32],
     },
     /// A party's deposits go to new owners.
@@ -199,7 +199,7 @@ impl Event {
                 digest,
             } => Event::Sign {
                 party: *party,
-                label: label.copy(alloc)?,
+                label: Boxed::new(alloc, label.value().copy(alloc)?)?,
                 digest: *digest,
             },
             Event::Give {

@@ -154,13 +154,6 @@ impl Exchange {
         self.posted.has(bytes)
     }
 
-    /// Whether one of the posted strings is among these others.
-    pub fn tells_one_of(&self, others: &Strings) -> bool
-        ensures { result ≡ list_any (λ s. is_among s others.now) self.now.posted }
-    {
-        self.posted.has_one_of(others)
-    }
-
     /// The bindings of the contract, where it is advertised.
     pub fn bindings(&self, contract: u32) -> Option<&[(Name, u32)]>
         ensures there { is_some result ≡ list_any (λ a. a.contract == contract) self.now.advertised }

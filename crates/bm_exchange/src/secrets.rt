@@ -1,9 +1,11 @@
 //! Secrets: how long they are, and those of honest parties, which stand in the header.
 
-ghost use Rattle.std.specs.Prelude.{◌≡◌, option_map};
+ghost use Rattle.std.specs.Prelude.{◌≡◌, ◌&&◌, option_map};
+ghost use Rattle.std.specs.Str.{bytes_eq};
 ghost use Rattle.spec_run.specs.Setup.{held_among};
 ghost use Rattle.spec_run.specs.Committing as committing;
 
+use bm_hash::end_apart;
 use spec_data::Name;
 use spec_run::HeldSecret;
 
@@ -19,12 +21,22 @@ pub fn is_secret_long(bytes: &[u8]) -> bool
     LEAST_BYTES <= bytes.len() && bytes.len() <= MOST_BYTES
 }
 
+// Whether it is the party's secret of this name. Of many secrets most names end otherwise.
+fn is_held(held: &HeldSecret, party: &Name, name: &Name) -> bool
+    ensures { result ≡ (bytes_eq held.now.party party.now && bytes_eq held.now.name name.now) }
+{
+    if end_apart(held.name.bytes(), name.bytes()) {
+        return false;
+    }
+    held.party == *party && held.name == *name
+}
+
 /// The party's secret of this name among these.
 pub fn held_secret<'a>(secrets: &'a [HeldSecret], party: &Name, name: &Name) -> Option<&'a [u8]>
     ensures { option_map (λ b. b.now) result ≡ held_among party.now name.now secrets.now }
 {
     for held in secrets {
-        if held.party == *party && held.name == *name {
+        if is_held(held, party, name) {
             return Some(held.bytes.as_slice());
         }
     }

@@ -1,7 +1,6 @@
 //! Strings in order, with an index that tells where each stands first.
 
 ghost use Rattle.std.specs.Prelude.{List, ℕ, ◌≡◌, ◌++◌, ◌∷◌, [], ◌<◌, ◌≤◌, ◌-◌, true, false, length, take, is_some, OnOk, OnErr};
-ghost use Rattle.std.specs.List.{list_any};
 ghost use Rattle.spec_data.specs.Lists.{is_among};
 ghost use Rattle.bm_exchange.specs.Placed.{IsPlaced, mark_of, marked_at};
 
@@ -70,13 +69,6 @@ impl Strings {
         has_string(&self.strings, &self.places, string)
     }
 
-    /// Whether one of the strings is among these others.
-    pub fn has_one_of(&self, others: &Strings) -> bool
-        ensures { result ≡ list_any (λ s. is_among s others.now) self.now }
-    {
-        has_one_of(&self.strings, others)
-    }
-
     /// Adds a string at the end.
     pub fn add(&mut self, string: &[u8]) -> Result<(), OutOfMemory>
         ensures ok { OnOk result (self.new ≡ self.old ++ string.now ∷ []) }
@@ -114,18 +106,6 @@ fn has_string(strings: &Pieces, places: &Places, string: &[u8]) -> bool
         return strings.get(0) == string;
     }
     is_there(strings, places, string)
-}
-
-// Whether one of the strings is among the others. Only the others are asked by their index.
-fn has_one_of(strings: &Pieces, others: &Strings) -> bool
-    ensures { result ≡ list_any (λ s. is_among s others.now) strings.now }
-{
-    for number in 0..strings.len() {
-        if others.has(strings.get(number)) {
-            return true;
-        }
-    }
-    false
 }
 
 // Adds a string of a mark that none has.

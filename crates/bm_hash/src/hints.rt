@@ -19,6 +19,8 @@ const FREE: u32 = u32::MAX;
 pub(crate) struct Hints {
     alloc: Global,
     slots: Vec<u32>,
+    ahead: [usize; 2],
+    last: bool,
 }
 
 // The first slot of the row of a mark.
@@ -65,6 +67,21 @@ fn stands_at(messages: &Pieces, place: usize, message: &[u8]) -> bool
     messages.get(place) == message
 }
 
+// The first of the places in a row at which the message stands.
+fn place_in(row: &[u32], messages: &Pieces, message: &[u8]) -> Option<usize>
+    ensures { IfSome result (λ place. slice_index_or messages.now place [] ≡ message.now) }
+{
+    for place in row {
+        if *place == FREE {
+            return None;
+        }
+        if stands_at(messages, *place as usize, message) {
+            return Some(*place as usize);
+        }
+    }
+    None
+}
+
 // All of these messages' places, in slots for twice as many.
 fn placed(alloc: Global, messages: &Pieces) -> Result<Vec<u32>, OutOfMemory> {
     let count = messages.len().saturating_mul(2).saturating_add(64);
@@ -81,22 +98,47 @@ impl Hints {
         Hints {
             alloc,
             slots: Vec::new(alloc),
+            ahead: [0; 2],
+            last: false,
         }
     }
 
-    /// The place of a message of this mark, where one is kept at which it stands.
-    pub(crate) fn find(&self, messages: &Pieces, mark: u64, message: &[u8]) -> Option<usize>
+    /// The place of a message that stands behind one of the two that were found last.
+    pub(crate) fn find_ahead(&mut self, messages: &Pieces, message: &[u8]) -> Option<usize>
         ensures { IfSome result (λ place. slice_index_or messages.now place [] ≡ message.now) }
     {
-        for place in row(&self.slots, mark) {
-            if *place == FREE {
-                return None;
-            }
-            if stands_at(messages, *place as usize, message) {
-                return Some(*place as usize);
-            }
+        let [first, second] = self.ahead;
+        if stands_at(messages, first, message) {
+            self.ahead = [first.saturating_add(1), second];
+            self.last = false;
+            return Some(first);
+        }
+        if stands_at(messages, second, message) {
+            self.ahead = [first, second.saturating_add(1)];
+            self.last = true;
+            return Some(second);
         }
         None
+    }
+
+    // What was found at a place is followed from there, instead of what was followed less recently.
+    fn follow(&mut self, place: usize) {
+        let [first, second] = self.ahead;
+        if self.last {
+            self.ahead = [place.saturating_add(1), second];
+        } else {
+            self.ahead = [first, place.saturating_add(1)];
+        }
+        self.last = !self.last;
+    }
+
+    /// The place of a message of this mark, where one is kept at which it stands.
+    pub(crate) fn find(&mut self, messages: &Pieces, mark: u64, message: &[u8]) -> Option<usize>
+        ensures { IfSome result (λ place. slice_index_or messages.now place [] ≡ message.now) }
+    {
+        let place = place_in(row(&self.slots, mark), messages, message)?;
+        self.follow(place);
+        Some(place)
     }
 
     /// Keeps the place of the last of these messages, whose mark this is. A quarter of the slots stays free; where there is no memory for

@@ -109,11 +109,24 @@ fn digest_at(index: &IndexMap<Key, usize>, place: usize) -> Option<[u8; 32]>
     }
 }
 
+// The digest of a message, if it stands behind one that was found.
+fn digest_ahead(
+    messages: &Pieces,
+    index: &IndexMap<Key, usize>,
+    hints: &mut Hints,
+    message: &[u8],
+) -> Option<[u8; 32]>
+    ensures { IfSome result (λ d. IsAt messages.now (place_in index.now d) message.now) }
+{
+    let place = hints.find_ahead(messages, message)?;
+    digest_at(index, place)
+}
+
 // The digest of a message, if a hint leads to the place where it stands.
 fn known_digest(
     messages: &Pieces,
     index: &IndexMap<Key, usize>,
-    hints: &Hints,
+    hints: &mut Hints,
     mark: u64,
     message: &[u8],
 ) -> Option<[u8; 32]>
@@ -145,14 +158,27 @@ impl<H: Hash32 + Drop> Trail<H> {
     }
 
     // The digest of a message of this mark that stands on a trail on which nothing clashed. To hash it once more would change nothing.
-    fn recall(&self, mark: u64, message: &[u8]) -> Option<[u8; 32]>
-        ensures digest { IfSome result (λ d. d ≡ H.digest_of self.now.hasher message.now) }
-        ensures trail { IfSome result (λ d. Hashed (H.digest_of self.now.hasher) self.now.messages self.now.messages (message.now ∷ [])) }
+    fn recall(&mut self, mark: u64, message: &[u8]) -> Option<[u8; 32]>
+        ensures same { self.new ≡ self.old }
+        ensures digest { IfSome result (λ d. d ≡ H.digest_of self.old.hasher message.now) }
+        ensures trail { IfSome result (λ d. Hashed (H.digest_of self.old.hasher) self.old.messages self.old.messages (message.now ∷ [])) }
     {
         if self.collision.is_some() {
             return None;
         }
-        known_digest(&self.messages, &self.index, &self.hints, mark, message)
+        known_digest(&self.messages, &self.index, &mut self.hints, mark, message)
+    }
+
+    // The same for a message that stands behind one that was found: what was hashed in turn is often asked for in turn.
+    fn recall_ahead(&mut self, message: &[u8]) -> Option<[u8; 32]>
+        ensures same { self.new ≡ self.old }
+        ensures digest { IfSome result (λ d. d ≡ H.digest_of self.old.hasher message.now) }
+        ensures trail { IfSome result (λ d. Hashed (H.digest_of self.old.hasher) self.old.messages self.old.messages (message.now ∷ [])) }
+    {
+        if self.collision.is_some() {
+            return None;
+        }
+        digest_ahead(&self.messages, &self.index, &mut self.hints, message)
     }
 
     // The digest of a message of this mark as the hash function gives it; the message is then on the trail.
@@ -186,6 +212,9 @@ impl<H: Hash32 + Drop> Trail<H> {
         ensures digest { IfOk result (λ d. d ≡ H.digest_of self.old.hasher message.now) }
         ensures trail { Hashes H.digest_of self.old self.new (message.now ∷ []) result }
     {
+        if let Some(digest) = self.recall_ahead(message) {
+            return Ok(digest);
+        }
         let mark = mark_of(message);
         match self.recall(mark, message) {
             Some(digest) => Ok(digest),

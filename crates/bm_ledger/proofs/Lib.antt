@@ -4,5 +4,6 @@ mod Indexing
 mod Numbering
 mod Rows
 mod Spending
+mod Telling
 mod Thinning
 mod Witnesses

@@ -4,7 +4,7 @@ use Rattle.std.specs.Prelude.{◌≢◌, ◌==◌, nat_lt, slice_index_or, if◌
 use Rattle.std.proofs.lemmas.Bool.Decides.{nat_tests}
 use Rattle.std.proofs.lemmas.List.{length-take-le}
 use Rattle.std.specs.Map.{remove_entry}
-use Rattle.std.specs.Option.{option_and_then}
+use Rattle.std.specs.Option.{option_and_then, option_map}
 use Rattle.std.specs.List.Sorted.{IsPartitionedBy, IsPartitionPoint}
 use Rattle.spec_bitcoin.specs.declared.tx.OutPoint.{OutPoint}
 use Rattle.spec_bitcoin.specs.declared.tx.TxOut.{TxOut}
@@ -116,3 +116,20 @@ numbered-at low high number (e ∷ es) (suc i) h le point =
     let before = below-is e.1.0 number (point.0 0 e (omega arith) (omega arith)) in
     let apart : e.1.0 == number ≡ false = other_number e.1.0 number (λ s. omega arith) in
     rw apart (numbered-at (e.1.0 + 1) high number es i h.2 (omega arith) ((λ k d le' lt. point.0 (suc k) d (omega arith) (omega arith)), (λ k d le' lt. point.1 (suc k) d (omega arith) (omega arith))))
+
+found-least : (low high number : ℕ) (es : List Entry) (i : ℕ) → AreInOrder low high es → option_map (λ e. e.1.0) (slice_get es i) ≡ Some number → low ≤ number
+found-least low high number [] i h at = cc
+found-least low high number (e ∷ es) zero h at = let is : e.1.0 ≡ number = cc in let a = h.0 in omega arith
+found-least low high number (e ∷ es) (suc i) h at = let r = found-least (e.1.0 + 1) high number es i h.2 at in let a = h.0 in omega arith
+
+-- an output of a number, wherever it was found, is the output of that number
+pub numbered-found : (low high number : ℕ) (es : List Entry) (i : ℕ) → AreInOrder low high es → option_map (λ e. e.1.0) (slice_get es i) ≡ Some number → numbered es number ≡ option_and_then (if_numbered number) (slice_get es i)
+numbered-found low high number [] i h at = refl
+numbered-found low high number (e ∷ es) zero h at =
+    let is : e.1.0 ≡ number = cc in
+    let here : e.1.0 == number ≡ true = grind (arith, nat_tests) in
+    rw here refl
+numbered-found low high number (e ∷ es) (suc i) h at =
+    let r = found-least (e.1.0 + 1) high number es i h.2 at in
+    let apart : e.1.0 == number ≡ false = other_number e.1.0 number (λ s. omega arith) in
+    rw apart (numbered-found (e.1.0 + 1) high number es i h.2 at)

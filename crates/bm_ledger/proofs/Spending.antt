@@ -46,11 +46,11 @@ remove_entry-append (e ∷ es) bs p h =
       | false ↦ λ s. ap (λ l. e ∷ l) (remove_entry-append es bs p s)
     ] h
 
-abbrev AllLive : List Entry → List TxIn → Type 0
+abbrev pub AllLive : List Entry → List TxIn → Type 0
 AllLive es [] = Unit {0}
 AllLive es (i ∷ is) = (is_some (at_place es i.prev) ≡ true) × AllLive es is
 
-all_live : (es : List Entry) (k : ℕ) (is : List TxIn) → position_from (λ i. not (is_some (at_place es i.prev))) k is ≡ None → AllLive es is
+pub all_live : (es : List Entry) (k : ℕ) (is : List TxIn) → position_from (λ i. not (is_some (at_place es i.prev))) k is ≡ None → AllLive es is
 all_live es k [] h = tt
 all_live es k (i ∷ is) h =
     elim (is_some (at_place es i.prev)) as (λ b. is_some (at_place es i.prev) ≡ b → cond (not b) (Some k) (position_from (λ i. not (is_some (at_place es i.prev))) (k + 1) is) ≡ None → AllLive es (i ∷ is)) [

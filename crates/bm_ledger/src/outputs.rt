@@ -29,10 +29,7 @@ pub(crate) fn value_of(live: &Live, place: &OutPoint) -> u64
 fn spent_number(live: &Live, input: &TxIn) -> u32
     ensures { result ≡ spec.spent_number live.now input.now }
 {
-    match live.find(&input.prev) {
-        Some(entry) => entry.0,
-        None => 0,
-    }
+    live.number(&input.prev).unwrap_or(0)
 }
 
 /// The birth numbers of the outputs that are spent, in the order of the inputs.
@@ -43,7 +40,7 @@ pub(crate) fn spent_numbers(
 ) -> Result<Seq<u32>, OutOfMemory>
     ensures { IfOk result (λ numbers. numbers ≡ map (spec.spent_number live.now) inputs.now) }
 {
-    let mut numbers = Seq::new(alloc);
+    let mut numbers = Seq::with_capacity(alloc, inputs.len())?;
     for input in inputs {
         numbers.push(spent_number(live, input))?;
     }

@@ -5,7 +5,7 @@ ghost use Rattle.spec_data.specs.Lists.{first_reason};
 ghost use Rattle.spec_data.specs.Ranges.{max_money};
 ghost use Rattle.spec_bitcoin.specs.Verdict as spec;
 
-use crate::outputs::{Live, value_of};
+use crate::outputs::{Live, spent_numbers, value_of};
 use bm_repeats::spend_twice;
 use spec_bitcoin::{Refusal, Tx, TxIn, TxOut};
 use spec_data::{LAST_HEIGHT, MAX_MONEY};
@@ -27,6 +27,22 @@ fn missing(live: &Live, inputs: &[TxIn]) -> Option<u32>
         Some(k) => Some(k as u32),
         None => None,
     }
+}
+
+// From so many inputs on those that are live are told apart by their birth numbers.
+const MANY: usize = 17;
+
+// Whether two inputs spend one output, where this is the first that isn't live.
+fn repeats(alloc: Global, live: &Live, inputs: &[TxIn], missing: &Option<u32>) -> bool
+    requires { missing.now ≡ spec.first_missing live.now inputs.now }
+    ensures { result ≡ spec.has_repeat inputs.now }
+{
+    if missing.is_none() && inputs.len() >= MANY {
+        if let Ok(numbers) = spent_numbers(alloc, live, inputs) {
+            return live.is_spent_twice(alloc, inputs, numbers.as_slice());
+        }
+    }
+    spend_twice(alloc, inputs)
 }
 
 // The sum of the outputs, unless it is more than there can be. One output of more makes it so.
@@ -89,10 +105,11 @@ pub(crate) fn whole_refusal(alloc: Global, tip: u32, live: &Live, tx: &Tx) -> Op
     if tx.outputs.is_empty() {
         return Some(Refusal::NoOutput);
     }
-    if spend_twice(alloc, tx.inputs.as_slice()) {
+    let missing = missing(live, tx.inputs.as_slice());
+    if repeats(alloc, live, tx.inputs.as_slice(), &missing) {
         return Some(Refusal::InputRepeated);
     }
-    if let Some(k) = missing(live, tx.inputs.as_slice()) {
+    if let Some(k) = missing {
         return Some(Refusal::MissingInput(k));
     }
     let Some(total) = sum_of(tx.outputs.as_slice()) else {

@@ -11,9 +11,12 @@ none_met met none (x ∷ xs) = rw (none x) (none_met met none xs)
 none_of : {T : Type 0} (test : T → Bool) (keys : List T) → keys ≡ [] → list_any test keys ≡ false
 none_of test keys h = ap (list_any test) h
 
+pub begun : {T : Type 0} (met : T → Bool) (eq : T → T → Bool) (xs : List T) → ((q : T) → met q ≡ false) → list_any met xs || has_repeat eq xs ≡ has_repeat eq xs
+begun met eq xs none = rw (none_met met none xs) refl
+
 pub begin : {T : Type 0} (test : T → T → Bool) (keys : List T) (eq : T → T → Bool) (xs : List T) → keys ≡ []
     → list_any (λ q. list_any (test q) keys) xs || has_repeat eq xs ≡ has_repeat eq xs
-begin test keys eq xs h = rw (none_met (λ q. list_any (test q) keys) (λ q. none_of (test q) keys h) xs) refl
+begin test keys eq xs h = begun (λ q. list_any (test q) keys) eq xs (λ q. none_of (test q) keys h)
 
 shuffle : (e h a b : Bool) → cond e true h || (a || b) ≡ (h || a) || (e || b)
 shuffle true true a b = refl

@@ -7,9 +7,11 @@ ghost use Rattle.std.specs.Option.{option_copied};
 ghost use Rattle.std.specs.Str.{bytes_eq};
 ghost use Rattle.indexmap.specs.IndexMap.{get};
 ghost use Rattle.spec_bitcoin.specs.Live.{at_place, same_outpoint, without, IsNewTxid};
-ghost use Rattle.bm_ledger.specs.Ordered.{numbered, AreInOrder, AreIndexed, LosesPlaces};
+ghost use Rattle.spec_bitcoin.specs.Verdict.{first_missing, has_repeat, spent_number};
+ghost use Rattle.bm_ledger.specs.Ordered.{numbered, AreInOrder, AreIndexed, LosesPlaces, number_at};
 
 use super::numbers::{Entry, find_number, place_of_number};
+use bm_repeats::are_distinct;
 use indexmap::IndexMap;
 use spec_bitcoin::{OutPoint, TxIn, TxOut};
 use spec_data::OutOfMemory;
@@ -124,6 +126,24 @@ impl Live {
         ensures { result ≡ is_some (at_place self.now place.now) }
     {
         self.numbers.contains_key(place)
+    }
+
+    /// The birth number of the output at a place.
+    pub(crate) fn number(&self, place: &OutPoint) -> Option<u32>
+        ensures { result ≡ number_at self.now place.now }
+    {
+        self.numbers.get(place).copied()
+    }
+
+    /// Whether two of the inputs spend one output, where each spends a live one, of this birth number: no number is born twice.
+    pub(crate) fn is_spent_twice(&self, alloc: Global, inputs: &[TxIn], numbers: &[u32]) -> bool
+        requires live { first_missing self.now inputs.now ≡ None }
+        requires numbers { numbers.now ≡ map (spent_number self.now) inputs.now }
+        ensures { result ≡ has_repeat inputs.now }
+    {
+        // The field is named so that what is known of all is known here: they stand in order of birth.
+        let _ = &self.numbers;
+        !are_distinct(alloc, numbers)
     }
 
     /// The output at a place, with its birth number.

@@ -1,7 +1,10 @@
 use Rattle.std.proofs.Common.{rules, of_calls, ◌≤◌, ℕ, subst}
 use Rattle.std.proofs.lemmas.Fn.{always_returns_same}
-use Rattle.bm_ledger.proofs.Numbering.{is_below, partitioned, numbered-at}
+use Rattle.bm_ledger.proofs.Numbering.{is_below, partitioned, numbered-at, numbered-found}
 use Rattle.bm_ledger.proofs.outputs.numbers.place_of_number.Goals as goal
+
+pub returns-in-Some : goal.returns-in-Some
+returns-in-Some c = numbered-found 0 4294967296 c.args.number c.args.entries.now.items c.in-Some.place c.requires.order c.in-Some.ensures
 
 pub returns : goal.returns
 returns c =

@@ -40,12 +40,6 @@ Stops lines.Bad line = line ≡ bad
 Stops (lines.Over limit) line = line ≡ over limit
 Stops lines.Memory line = Unit {0}
 
--- what the code says of a line of the events is what the line says
-abbrev pub SaysEvent : Result (Option Event) LineError → Line Event → Type 0
-SaysEvent (Ok None) line = line ≡ empty
-SaysEvent (Ok (Some event)) line = line ≡ says event
-SaysEvent (Err e) line = Stops e line
-
 -- a line of the header is taken, and the header grows by it; or why it isn't
 abbrev pub Grows : {U : Type 0} → Header → Header → Result U LineError → Line Header → Type 0
 Grows old new (Ok done) line = line ≡ says new

@@ -2,6 +2,7 @@
 
 ghost use Rattle.std.specs.Prelude.{◌≡◌, ◌∷◌, [], ◌&&◌, not, map, sum_by, Some};
 ghost use Rattle.std.specs.List.{list_any};
+ghost use Rattle.std.specs.Str.{bytes_eq};
 ghost use Rattle.spec_data.specs.Lists.{is_among};
 ghost use Rattle.spec_text.specs.RunFile.{party_line, honest_line, secret_line, deposit_line, rule_line, header_words, header_line};
 ghost use Rattle.spec_text.specs.RunFile.{is_taken, held_secret, secret_of};
@@ -15,6 +16,7 @@ use crate::error::LineError;
 use crate::limits::{MOST_DEPOSITS, MOST_LINE_BYTES, MOST_PARTIES, MOST_SECRETS};
 use crate::lines::words_of;
 use crate::words::{a_name, amount, one_of, read_bytes};
+use bm_hash::end_apart;
 use spec_data::{Bytes, MAX_MONEY, Name};
 use spec_run::{Header, HeldSecret};
 use spec_text::RunLimit;
@@ -109,11 +111,24 @@ fn take_honest(header: &mut Header, words: &[&[u8]]) -> Result<(), LineError>
     }
 }
 
+// Of many secrets most names end otherwise.
+fn is_of(party: &[u8], name: &[u8], secret: &HeldSecret) -> bool
+    ensures { result ≡ (bytes_eq secret.now.party party.now && bytes_eq secret.now.name name.now) }
+{
+    if end_apart(secret.name.bytes(), name) {
+        return false;
+    }
+    secret.party.bytes() == party && secret.name.bytes() == name
+}
+
 fn is_taken(party: &[u8], name: &[u8], bytes: &[u8], secret: &HeldSecret) -> bool
     ensures { result ≡ is_taken party.now name.now bytes.now secret.now }
 {
-    if secret.party.bytes() == party && secret.name.bytes() == name {
+    if is_of(party, name, secret) {
         return true;
+    }
+    if end_apart(secret.bytes.as_slice(), bytes) {
+        return false;
     }
     secret.bytes.as_slice() == bytes
 }

@@ -196,7 +196,7 @@ pub fn put_event(alloc: Global, out: &mut Vec<u8>, event: &Event) -> Result<(), 
             party,
             label,
             digest,
-        } => put_sign(alloc, out, party, label, digest),
+        } => put_sign(alloc, out, party, label.value(), digest),
         Event::Give {
             party,
             inputs,

@@ -4,10 +4,10 @@ ghost use Rattle.std.specs.Prelude.{◌≡◌, ◌<◌, ◌≤◌, ◌+◌, ◌^
 ghost use Rattle.spec_text.specs.Limits.{most_run_bytes};
 ghost use Rattle.spec_text.specs.Lines.{lines_of};
 ghost use Rattle.spec_text.specs.RunFile as spec;
-ghost use Rattle.bm_runfile.specs.Gives.{at_line, Gives, Takes};
+ghost use Rattle.bm_runfile.specs.Gives.{at_line, Gives};
 
 use crate::error::{LineError, RunError};
-use crate::events::event_of_line;
+use crate::events::take_event;
 use crate::header::{Said, take_line};
 use crate::lines::first_line;
 use spec_data::{Name, Seq};
@@ -51,25 +51,6 @@ fn read_header(alloc: Global, text: &[u8]) -> Result<(Header, &[u8], u32), RunEr
     Err(RunError::BadLine(line))
 }
 
-/// Takes one line of the events.
-fn take_event(
-    alloc: Global,
-    parties: &[Name],
-    events: &mut Vec<Event>,
-    line: &[u8],
-) -> Result<(), LineError>
-    ensures { Takes events.old.items events.new.items result (spec.event_of_line parties.now (length events.old.items) line.now) }
-{
-    // Files with many empty lines are read as fast as their bytes.
-    if line.is_empty() {
-        return Ok(());
-    }
-    if let Some(event) = event_of_line(alloc, parties, events.len(), line)? {
-        events.push(event)?;
-    }
-    Ok(())
-}
-
 /// The events of a text.
 fn read_events(
     alloc: Global,
@@ -81,11 +62,12 @@ fn read_events(
     ensures { Gives (λ v. v.items) result (spec.read_events parties.now 0 first (lines_of text.now)) }
 {
     let mut events = Vec::new(alloc);
+    let mut words = Vec::new(alloc);
     let mut rest = text;
     let mut line = first;
     while !rest.is_empty() {
         let (front, more) = first_line(rest);
-        if let Err(error) = take_event(alloc, parties, &mut events, front) {
+        if let Err(error) = take_event(alloc, parties, &mut events, &mut words, front) {
             return Err(at_line(error, line));
         }
         rest = more;

@@ -1,5 +1,5 @@
 -- What an event would come to, by what was drafted of it.
-use Rattle.std.proofs.Common.{◌≡◌, ℕ, List, Option, Some, None, refl, sym, ap, ◌∙◌}
+use Rattle.std.proofs.Common.{◌≡◌, ℕ, List, Option, Some, None, sym, ap, ◌∙◌}
 use Rattle.std.specs.List.{find}
 use Rattle.spec_data.specs.Messages.{collision}
 use Rattle.spec_data.specs.Messages as run_messages

@@ -1,5 +1,5 @@
 -- The world of a run that opened.
-use Rattle.std.proofs.Common.{◌≡◌, true, ℕ, List, [], ◌≤◌, ◌+◌, ◌*◌, length, Some, None, refl, sym, ap, ◌∙◌, subst, arith}
+use Rattle.std.proofs.Common.{◌≡◌, true, ℕ, List, [], ◌≤◌, ◌+◌, ◌*◌, length, None, refl, sym, ap, ◌∙◌, subst, arith}
 use Rattle.std.specs.List.{AllByRecursion}
 use Rattle.spec_data.specs.Hashes.{HashesBytes}
 use Rattle.spec_data.specs.Lists.{is_among}

@@ -3,7 +3,7 @@ use Rattle.std.proofs.Common.{◌≡◌, ℕ, List, Option, Some, None, refl, sy
 use Rattle.std.specs.Prelude.{option_map}
 use Rattle.theory_nodes.specs.Found.{ChoicesAreFound}
 use Rattle.spec_run.specs.declared.outcome.Record.{Record}
-use Rattle.spec_run.specs.Setup.{Setup, contract_at}
+use Rattle.spec_run.specs.Setup.{Setup}
 use Rattle.spec_run.specs.World.{ContractPosition, World, live_position_at}
 use Rattle.spec_run.specs.Conditions.{IsSetup}
 use Rattle.spec_run.specs.Translation.{last_world, last_configuration}
@@ -13,7 +13,7 @@ use Rattle.theory_run.specs.KeptRuns.{KeptRun}
 use Rattle.theory_run.proofs.Simulated.{kept_run, keeps_simulated, opening_run}
 use Rattle.bm_compile.specs.Numbered.{Numbered}
 use Rattle.bm_match.specs.declared.found.Active.{Active}
-use Rattle.bm_match.specs.Matches.{choice_in, all_compiled, IsActive}
+use Rattle.bm_match.specs.Matches.{all_compiled, IsActive}
 use Rattle.bm_world_spend.specs.Placed.{IsPlaced}
 use Rattle.bm_world_spend.specs.Purposes.{active_in}
 use Rattle.bm_world_spend.proofs.Kept.{placed_kept}

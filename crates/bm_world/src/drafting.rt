@@ -9,23 +9,25 @@ ghost use Rattle.bm_world.specs.Kinds.{IsNoCommit};
 ghost use Rattle.bm_world.specs.Playing.{IsPlayable, IsCompiledAfter};
 
 use crate::handing::{draft_appended, draft_given, draft_initial, draft_taken};
+use crate::telling::{
+    draft_advertised, draft_allowed, draft_authorised, draft_committed, draft_endorsed,
+    draft_mined, draft_posted, draft_revealed, draft_signed,
+};
 use bm_compile::Compiled;
 use bm_hash::{Hash32, Trail, TrailError};
 use bm_world_board::{Board, Drafted};
-use bm_world_commit::draft_commit;
-use bm_world_events::{draft_advertise, draft_mine, draft_post, draft_reveal, draft_sign};
-use bm_world_sign::{draft_authorise, draft_endorse, draft_init};
+use spec_data::Boxed;
 use spec_run::Event;
 use std::alloc::Global;
 
-// The draft of an event that commits nothing. The pairs that it signs are then in the book.
+// The draft of an event that commits nothing, in a box, since few drafts fill what the largest of them need. The pairs that it signs are then in the book.
 #[tactic(auto, using(bm_hash::proofs::HashesLemmas::stops_early))]
 fn draft_other<H: Hash32 + Drop>(
     alloc: Global,
     trail: &mut Trail<H>,
     board: &mut Board,
     event: &Event,
-) -> Result<Drafted, TrailError>
+) -> Result<Boxed<Drafted>, TrailError>
     requires playable { IsPlayable (setup_of (H.digest_of trail.old.hasher) board.old) board.old trail.old.messages }
     requires is { IsEvent (setup_of (H.digest_of trail.old.hasher) board.old) event.now }
     requires kind { IsNoCommit event.now }
@@ -40,67 +42,38 @@ fn draft_other<H: Hash32 + Drop>(
     match event {
         Event::Commit { .. } => unreachable!(),
         Event::Advertise { contract, bindings } => {
-            let drafted = draft_advertise(alloc, board, *contract, bindings.as_slice())?;
-            Ok(drafted)
+            draft_advertised(alloc, trail, board, *contract, bindings.as_slice())
         }
-        Event::Endorse { contract, party } => {
-            let drafted = draft_endorse(alloc, trail, board, *contract, party)?;
-            Ok(drafted)
-        }
-        Event::Init { contract, party } => {
-            let drafted = draft_init(alloc, trail, board, *contract, party)?;
-            Ok(drafted)
-        }
+        Event::Endorse { contract, party } => draft_endorsed(alloc, trail, board, *contract, party),
+        Event::Init { contract, party } => draft_allowed(alloc, trail, board, *contract, party),
         Event::Authorise {
             party,
             output,
             branch,
-        } => {
-            let drafted = draft_authorise(alloc, trail, board, party, *output, *branch)?;
-            Ok(drafted)
-        }
+        } => draft_authorised(alloc, trail, board, party, *output, *branch),
         Event::Reveal {
             contract,
             party,
             secret,
-        } => {
-            let drafted = draft_reveal(alloc, trail, board, *contract, party, secret)?;
-            Ok(drafted)
-        }
-        Event::Post { bytes } => {
-            let drafted = draft_post(alloc, trail, bytes.as_slice())?;
-            Ok(drafted)
-        }
+        } => draft_revealed(alloc, trail, board, *contract, party, secret),
+        Event::Post { bytes } => draft_posted(alloc, trail, board, bytes.as_slice()),
         Event::Sign {
             party,
             label,
             digest,
-        } => {
-            let drafted = draft_sign(alloc, trail, board, party, label, digest)?;
-            Ok(drafted)
-        }
+        } => draft_signed(alloc, trail, board, party, label.value(), digest),
         Event::Give {
             party,
             inputs,
             outputs,
         } => {
             let inputs = inputs.as_slice();
-            let drafted = draft_given(alloc, trail, board, party, inputs, outputs.as_slice())?;
-            Ok(drafted)
+            draft_given(alloc, trail, board, party, inputs, outputs.as_slice())
         }
-        Event::Append { bytes } => {
-            let drafted = draft_appended(alloc, trail, board, bytes.as_slice())?;
-            Ok(drafted)
-        }
-        Event::FireInit { contract } => {
-            let drafted = draft_initial(alloc, trail, board, *contract)?;
-            Ok(drafted)
-        }
-        Event::Fire { output, branch } => {
-            let drafted = draft_taken(alloc, trail, board, *output, *branch)?;
-            Ok(drafted)
-        }
-        Event::Mine { blocks } => Ok(draft_mine(alloc, board, *blocks)),
+        Event::Append { bytes } => draft_appended(alloc, trail, board, bytes.as_slice()),
+        Event::FireInit { contract } => draft_initial(alloc, trail, board, *contract),
+        Event::Fire { output, branch } => draft_taken(alloc, trail, board, *output, *branch),
+        Event::Mine { blocks } => draft_mined(alloc, trail, board, *blocks),
     }
 }
 
@@ -112,7 +85,7 @@ pub(crate) fn draft<H: Hash32 + Drop>(
     trail: &mut Trail<H>,
     board: &mut Board,
     event: &Event,
-) -> Result<(Drafted, Option<(u32, Compiled)>), TrailError>
+) -> Result<(Boxed<Drafted>, Option<(u32, Boxed<Compiled>)>), TrailError>
     requires playable { IsPlayable (setup_of (H.digest_of trail.old.hasher) board.old) board.old trail.old.messages }
     requires is { IsEvent (setup_of (H.digest_of trail.old.hasher) board.old) event.now }
     ensures hasher { trail.new.hasher ≡ trail.old.hasher }
@@ -130,10 +103,7 @@ pub(crate) fn draft<H: Hash32 + Drop>(
             contract,
             party,
             digests,
-        } => {
-            let answer = draft_commit(alloc, trail, board, *contract, party, digests.as_slice())?;
-            Ok(answer)
-        }
+        } => draft_committed(alloc, trail, board, *contract, party, digests.as_slice()),
         _ => {
             let drafted = draft_other(alloc, trail, board, event)?;
             Ok((drafted, None))

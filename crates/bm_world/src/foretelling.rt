@@ -37,12 +37,12 @@ fn try_outcome<H: Hash32 + Drop>(
         board.header.secrets.as_slice(),
         &board.known,
         &board.exchange,
-        answer.0.posts.as_slice(),
-        &answer.0.allowed,
+        answer.0.value().posts.as_slice(),
+        &answer.0.value().allowed,
     )?;
     match guessed {
         Some(_) => Ok(None),
-        None => Ok(Some(answer.0.into_outcome())),
+        None => Ok(Some(answer.0.into_value().into_outcome())),
     }
 }
 

@@ -1,4 +1,5 @@
-//! The drafts of events that hand a transaction to the ledger, in a world that a run led to.
+//! The drafts of events that hand a transaction to the ledger, in a world that a run led to. Each is made in a function of its own and
+//! stands in a box.
 
 ghost use Rattle.std.specs.Prelude.{◌≡◌, IfOk, IfErr};
 ghost use Rattle.bm_hash.specs.Trails.{StopsAlong};
@@ -12,7 +13,7 @@ use bm_hash::{Hash32, Trail, TrailError};
 use bm_world_board::{Board, Drafted};
 use bm_world_fire::{draft_fire, draft_fire_init};
 use bm_world_spend::{draft_append, draft_give};
-use spec_data::Name;
+use spec_data::{Boxed, Name};
 use std::alloc::Global;
 
 /// The draft of a transaction that is handed over as it is.
@@ -22,7 +23,7 @@ pub(crate) fn draft_appended<H: Hash32 + Drop>(
     trail: &mut Trail<H>,
     board: &Board,
     bytes: &[u8],
-) -> Result<Drafted, TrailError>
+) -> Result<Boxed<Drafted>, TrailError>
     requires playable { IsPlayable (setup_of (H.digest_of trail.old.hasher) board.now) board.now trail.old.messages }
     requires piece { IsPiece bytes.now }
     ensures hasher { trail.new.hasher ≡ trail.old.hasher }
@@ -32,7 +33,7 @@ pub(crate) fn draft_appended<H: Hash32 + Drop>(
         IfErr result (StopsAlong H.digest_of trail.old trail.new ((run.draft s w (events.Append bytes.now)).hashes)) }
 {
     let drafted = draft_append(alloc, trail, board, bytes)?;
-    Ok(drafted)
+    Ok(Boxed::new(alloc, drafted)?)
 }
 
 /// The draft of a gift, whose pairs are then in the book.
@@ -44,7 +45,7 @@ pub(crate) fn draft_given<H: Hash32 + Drop>(
     party: &Name,
     inputs: &[u32],
     outputs: &[(Name, u64)],
-) -> Result<Drafted, TrailError>
+) -> Result<Boxed<Drafted>, TrailError>
     requires playable { IsPlayable (setup_of (H.digest_of trail.old.hasher) board.old) board.old trail.old.messages }
     requires gift { IsGift (setup_of (H.digest_of trail.old.hasher) board.old) party.now inputs.now outputs.now }
     ensures hasher { trail.new.hasher ≡ trail.old.hasher }
@@ -56,7 +57,7 @@ pub(crate) fn draft_given<H: Hash32 + Drop>(
         IfErr result (StopsAlong H.digest_of trail.old trail.new ((run.draft s w (events.Give party.now inputs.now outputs.now)).hashes)) }
 {
     let drafted = draft_give(alloc, trail, board, party, inputs, outputs)?;
-    Ok(drafted)
+    Ok(Boxed::new(alloc, drafted)?)
 }
 
 /// The draft of the initial transaction of a contract.
@@ -66,7 +67,7 @@ pub(crate) fn draft_initial<H: Hash32 + Drop>(
     trail: &mut Trail<H>,
     board: &Board,
     contract: u32,
-) -> Result<Drafted, TrailError>
+) -> Result<Boxed<Drafted>, TrailError>
     requires playable { IsPlayable (setup_of (H.digest_of trail.old.hasher) board.now) board.now trail.old.messages }
     ensures hasher { trail.new.hasher ≡ trail.old.hasher }
     ensures ok { let s = setup_of (H.digest_of trail.old.hasher) board.now in let w = world_of board.now trail.old.messages in
@@ -75,7 +76,7 @@ pub(crate) fn draft_initial<H: Hash32 + Drop>(
         IfErr result (StopsAlong H.digest_of trail.old trail.new ((run.draft s w (events.FireInit contract)).hashes)) }
 {
     let drafted = draft_fire_init(alloc, trail, board, contract)?;
-    Ok(drafted)
+    Ok(Boxed::new(alloc, drafted)?)
 }
 
 /// The draft of the transaction of a branch.
@@ -86,7 +87,7 @@ pub(crate) fn draft_taken<H: Hash32 + Drop>(
     board: &Board,
     output: u32,
     branch: u32,
-) -> Result<Drafted, TrailError>
+) -> Result<Boxed<Drafted>, TrailError>
     requires playable { IsPlayable (setup_of (H.digest_of trail.old.hasher) board.now) board.now trail.old.messages }
     ensures hasher { trail.new.hasher ≡ trail.old.hasher }
     ensures ok { let s = setup_of (H.digest_of trail.old.hasher) board.now in let w = world_of board.now trail.old.messages in
@@ -95,5 +96,5 @@ pub(crate) fn draft_taken<H: Hash32 + Drop>(
         IfErr result (StopsAlong H.digest_of trail.old trail.new ((run.draft s w (events.Fire output branch)).hashes)) }
 {
     let drafted = draft_fire(alloc, trail, board, output, branch)?;
-    Ok(drafted)
+    Ok(Boxed::new(alloc, drafted)?)
 }

@@ -9,6 +9,7 @@ mod handing;
 mod placing;
 mod playing;
 mod standing;
+mod telling;
 mod world;
 
 pub use halt::Halt;

@@ -4,7 +4,7 @@ ghost use Rattle.std.specs.Prelude.{◌≡◌};
 ghost use Rattle.bm_world_board.specs.Compiling.{placed};
 
 use bm_compile::Compiled;
-use spec_data::Seq;
+use spec_data::{Boxed, Seq};
 use std::alloc::Global;
 use std::mem;
 
@@ -12,7 +12,7 @@ use std::mem;
 pub(crate) fn place(
     alloc: Global,
     compiled: &mut Seq<Option<Compiled>>,
-    entry: Option<(u32, Compiled)>,
+    entry: Option<(u32, Boxed<Compiled>)>,
 )
     ensures { compiled.new ≡ placed entry compiled.old }
 {
@@ -20,7 +20,7 @@ pub(crate) fn place(
         let mut all = mem::replace(compiled, Seq::new(alloc)).into_vec();
         let number = contract as usize;
         if number < all.len() {
-            all[number] = Some(one);
+            all[number] = Some(one.into_value());
         }
         *compiled = Seq::of(all);
     }

@@ -15,7 +15,7 @@ use bm_compile::Compiled;
 use bm_hash::{Hash32, Trail};
 use bm_world_board::{Board, Drafted};
 use bm_world_settle::{first_guessed, settle};
-use spec_data::Seq;
+use spec_data::{Boxed, Seq};
 use spec_run::{Event, Outcome, Record};
 use std::alloc::Global;
 
@@ -25,7 +25,7 @@ fn draft_or_halt<H: Hash32 + Drop>(
     trail: &mut Trail<H>,
     board: &mut Board,
     event: &Event,
-) -> Result<(Drafted, Option<(u32, Compiled)>), Halt>
+) -> Result<(Boxed<Drafted>, Option<(u32, Boxed<Compiled>)>), Halt>
     requires playable { IsPlayable (setup_of (H.digest_of trail.old.hasher) board.old) board.old trail.old.messages }
     requires is { IsEvent (setup_of (H.digest_of trail.old.hasher) board.old) event.now }
     ensures hasher { trail.new.hasher ≡ trail.old.hasher }
@@ -51,7 +51,7 @@ fn draft_passing<H: Hash32 + Drop>(
     trail: &mut Trail<H>,
     board: &mut Board,
     event: &Event,
-) -> Result<(Drafted, Option<(u32, Compiled)>), Halt>
+) -> Result<(Boxed<Drafted>, Option<(u32, Boxed<Compiled>)>), Halt>
     requires playable { IsPlayable (setup_of (H.digest_of trail.old.hasher) board.old) board.old trail.old.messages }
     requires is { IsEvent (setup_of (H.digest_of trail.old.hasher) board.old) event.now }
     ensures hasher { trail.new.hasher ≡ trail.old.hasher }
@@ -67,8 +67,8 @@ fn draft_passing<H: Hash32 + Drop>(
         board.header.secrets.as_slice(),
         &board.known,
         &board.exchange,
-        answer.0.posts.as_slice(),
-        &answer.0.allowed,
+        answer.0.value().posts.as_slice(),
+        &answer.0.value().allowed,
     )?;
     if let Some(held) = guessed {
         return Err(Halt::Guessed {
@@ -100,9 +100,9 @@ fn attempt<H: Hash32 + Drop>(
 {
     let answer = draft_passing(alloc, trail, board, event)?;
     let (drafted, entry) = answer;
-    settle(alloc, board, trace, event, &drafted)?;
+    let outcome = settle(alloc, board, trace, event, drafted)?;
     place(alloc, &mut board.compiled, entry);
-    Ok(drafted.into_outcome())
+    Ok(outcome)
 }
 
 /// One event. After a halt only the trail is changed.
@@ -162,7 +162,7 @@ fn try_event<H: Hash32 + Drop>(
         trail.new.messages event.now) }
 {
     let answer = draft_passing(alloc, trail, board, event)?;
-    Ok(!is_refused(&answer.0.outcome))
+    Ok(!is_refused(&answer.0.value().outcome))
 }
 
 /// Whether an event would be done or accepted. Only the trail is changed.

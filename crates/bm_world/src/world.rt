@@ -125,6 +125,21 @@ impl<H: Hash32 + Drop> World<H> {
         &self.board
     }
 
+    /// The header and the records. What else the world holds is let go.
+    pub fn into_records(self) -> (Header, Seq<Record>)
+        ensures header { result.0 ≡ self.header }
+        ensures records { result.1 ≡ self.trace }
+    {
+        let World {
+            alloc: _,
+            trail: _,
+            board,
+            trace,
+            halt: _,
+        } = self;
+        (board.into_header(), trace)
+    }
+
     /// The ledger.
     pub fn ledger(&self) -> &Ledger
         ensures { result.now ≡ chain_of self.now.world }

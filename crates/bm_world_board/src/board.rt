@@ -73,6 +73,24 @@ impl Board {
         }
     }
 
+    /// The header, taken out. The other parts are let go.
+    pub fn into_header(self) -> Header
+        ensures { result ≡ self.header }
+    {
+        let Board {
+            header,
+            contracts: _,
+            coins: _,
+            book: _,
+            exchange: _,
+            accounts: _,
+            known: _,
+            begun: _,
+            compiled: _,
+        } = self;
+        header
+    }
+
     /// Whether the party is honest.
     pub fn is_honest(&self, party: &Name) -> bool
         ensures { result ≡ is_among party.now self.now.header.honest }

@@ -9,7 +9,7 @@ ghost use Rattle.bm_world_board.specs.Drafts.{as_draft, changed, tx_in};
 use bm_world_coins::NewPositions;
 use spec_bitcoin::Tx;
 use spec_calculus::Advertised;
-use spec_data::{Bytes, Name, Seq};
+use spec_data::{Boxed, Bytes, Name, Seq};
 use spec_run::{Outcome, Reason};
 use std::alloc::Global;
 
@@ -47,6 +47,21 @@ impl Drop for Appending {
     }
 }
 
+impl Appending {
+    // The transaction, taken out.
+    fn into_tx(self) -> Tx
+        ensures { result ≡ self.tx }
+    {
+        let Appending {
+            tx,
+            txid: _,
+            spent: _,
+            purpose: _,
+        } = self;
+        tx
+    }
+}
+
 /// A party's commitment for a contract, its digests in the precondition's order.
 pub struct Promising {
     pub contract: u32,
@@ -74,7 +89,7 @@ pub enum Change {
     /// A party commits its secrets.
     Commit(Promising),
     /// A transaction is appended to the ledger.
-    Append(Appending),
+    Append(Boxed<Appending>),
 }
 
 impl Drop for Change {
@@ -85,6 +100,18 @@ impl Drop for Change {
             | Change::Advertise(_)
             | Change::Commit(_)
             | Change::Append(_) => {}
+        }
+    }
+}
+
+impl Change {
+    // The transaction that is appended, if one is, taken out.
+    fn into_tx(self) -> Option<Tx>
+        ensures { result ≡ tx_in self }
+    {
+        match self {
+            Change::Append(appending) => Some(appending.into_value().into_tx()),
+            Change::Nothing | Change::Blocks(_) | Change::Advertise(_) | Change::Commit(_) => None,
         }
     }
 }
@@ -136,6 +163,20 @@ impl Drafted {
             allowed: None,
             change,
         }
+    }
+
+    /// What a record keeps of it, taken out: the outcome, and the transaction, if one is appended.
+    pub fn into_kept(self) -> (Outcome, Option<Tx>)
+        ensures outcome { result.0 ≡ self.outcome }
+        ensures tx { result.1 ≡ tx_in self.change }
+    {
+        let Drafted {
+            outcome,
+            posts: _,
+            allowed: _,
+            change,
+        } = self;
+        (outcome, change.into_tx())
     }
 
     /// The outcome, taken out.

@@ -14,7 +14,7 @@ use crate::drafted::{Appending, Change, Drafted, Purpose};
 use bm_hash::{Hash32, Trail, TrailError, hash_all};
 use bm_ledger::Ledger;
 use spec_bitcoin::{Tx, TxIn, TxOut};
-use spec_data::{Bytes, OutOfMemory, Seq};
+use spec_data::{Boxed, Bytes, OutOfMemory, Seq};
 use spec_run::{Outcome, Reason};
 use std::alloc::Global;
 
@@ -102,16 +102,17 @@ fn draft_accepted(
         made,
         lock: tx.lock,
     };
+    let appending = Appending {
+        tx,
+        txid,
+        spent,
+        purpose,
+    };
     Ok(Drafted {
         outcome,
         posts,
         allowed: None,
-        change: Change::Append(Appending {
-            tx,
-            txid,
-            spent,
-            purpose,
-        }),
+        change: Change::Append(Boxed::new(alloc, appending)?),
     })
 }
 

@@ -6,17 +6,17 @@ ghost use Rattle.spec_run.specs.World.{is_deposit, live_position};
 
 use crate::positions::HeldPosition;
 use spec_bitcoin::{OutPoint, TxOut};
-use spec_data::{Bytes, OutOfMemory};
+use spec_data::{Boxed, Bytes, OutOfMemory};
 use std::alloc::Global;
 use std::marker::Model;
 
 /// An output that was made, spent or not. Contracts see it as the world's `Output`.
 pub struct MadeOutput {
     outpoint: OutPoint,
+    live: bool,
     value: u64,
     script: Bytes,
-    live: bool,
-    holds: Option<HeldPosition>,
+    holds: Option<Boxed<HeldPosition>>,
 }
 
 impl Model for MadeOutput {
@@ -46,7 +46,7 @@ impl MadeOutput {
         txid: &[u8; 32],
         vout: u32,
         output: &TxOut,
-        holds: Option<HeldPosition>,
+        holds: Option<Boxed<HeldPosition>>,
     ) -> Result<MadeOutput, OutOfMemory>
         ensures { IfOk result (λ o. o ≡ record { outpoint = record { txid = txid.now; vout = vout }; value = output.now.value; script = output.now.script; live = true; holds = holds }) }
     {
@@ -66,11 +66,21 @@ impl MadeOutput {
         self.live && self.holds.is_none()
     }
 
+    // What it stands for, where it is or was a contract's.
+    fn held(&self) -> Option<&HeldPosition>
+        ensures { option_copied result ≡ self.now.holds }
+    {
+        match &self.holds {
+            Some(held) => Some(held.value()),
+            None => None,
+        }
+    }
+
     /// What it stands for, where it is live and a contract's.
     pub fn live_position(&self) -> Option<&HeldPosition>
         ensures { option_copied result ≡ live_position (Some self.now) }
     {
-        if self.live { self.holds.as_ref() } else { None }
+        if self.live { self.held() } else { None }
     }
 
     /// Where it lies.

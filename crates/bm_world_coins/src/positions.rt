@@ -5,7 +5,7 @@ ghost use Rattle.spec_terms.specs.declared.path.PathStep.TheVariants.{Part};
 ghost use Rattle.spec_run.specs.Ledger.{position_path};
 ghost use Rattle.bm_world_coins.specs.Coined.{position_by};
 
-use spec_data::OutOfMemory;
+use spec_data::{Boxed, OutOfMemory};
 use spec_terms::{Path, PathStep};
 use std::alloc::Global;
 use std::marker::Model;
@@ -119,18 +119,23 @@ fn held_copy(alloc: Global, contract: u32, position: &Path) -> Result<HeldPositi
 
 impl NewPositions {
     /// What output k stands for.
-    pub fn of_output(&self, alloc: Global, k: u32) -> Result<Option<HeldPosition>, OutOfMemory>
+    pub fn of_output(
+        &self,
+        alloc: Global,
+        k: u32,
+    ) -> Result<Option<Boxed<HeldPosition>>, OutOfMemory>
         ensures { IfOk result (λ held. held ≡ position_by self.now k) }
     {
         match self {
             NewPositions::Deposits => Ok(None),
             NewPositions::Same { contract, position } => {
                 let held = held_copy(alloc, *contract, position)?;
-                Ok(Some(held))
+                Ok(Some(Boxed::new(alloc, held)?))
             }
             NewPositions::Parts { contract, path } => {
                 let position = part_of(alloc, path, k)?;
-                Ok(Some(HeldPosition::new(*contract, position)))
+                let held = HeldPosition::new(*contract, position);
+                Ok(Some(Boxed::new(alloc, held)?))
             }
         }
     }

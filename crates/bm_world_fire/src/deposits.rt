@@ -20,7 +20,7 @@ fn deposit_witness<H: Hash32>(
     ensures { IfOk result (λ items. items ≡ deposit_items (H.digest_of hasher.now) owner.now digest.now) }
 {
     let key = deposit_key(alloc, hasher, owner)?;
-    let mut items = Seq::new(alloc);
+    let mut items = Seq::with_capacity(alloc, 2)?;
     items.push(Bytes::from_slice(alloc, &signature(&key, digest))?)?;
     items.push(Bytes::from_slice(alloc, &deposit_script(&key))?)?;
     Ok(items)

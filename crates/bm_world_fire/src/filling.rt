@@ -39,7 +39,7 @@ fn witnessed(
 ) -> Result<Seq<TxIn>, OutOfMemory>
     ensures { IfOk result (λ new. new ≡ spec.witnessed inputs.now witnesses.now) }
 {
-    let mut new = Seq::new(alloc);
+    let mut new = Seq::with_capacity(alloc, inputs.len())?;
     for (k, input) in inputs.iter().enumerate() {
         new.push(input_with(alloc, input, witness_at(witnesses, k))?)?;
     }

@@ -1,2 +1,3 @@
-pub mod Settled
 mod Unguessed
+pub mod Last
+pub mod Settled

@@ -46,6 +46,10 @@ pub record Makes (old new : Board) (x : Drafted) : Type 0 where
   pub known : new.known ≡ old.known
   pub compiled : new.compiled ≡ old.compiled
 
+-- the record of an event of which this was drafted, still without its transaction
+abbrev pub bare : Event → Drafted → Record
+bare event x = record { event = event; outcome = x.outcome; tx = None }
+
 -- the record of an event of which this was drafted
 abbrev pub recorded : Event → Drafted → Record
 recorded event x = record { event = event; outcome = x.outcome; tx = tx_in x.change }

@@ -1,36 +1,29 @@
 //! What was drafted is made: memory is taken first, and what can't be taken back comes last.
 
-ghost use Rattle.std.specs.Prelude.{◌≡◌, ◌++◌, ◌∷◌, [], ℕ, List, length, take, IfOk, OnOk, OnErr};
+ghost use Rattle.std.specs.Prelude.{◌≡◌, ◌<◌, ◌++◌, ◌∷◌, [], ℕ, List, length, take, IfOk, OnOk, OnErr};
 ghost use Rattle.bm_world_board.specs.declared.drafted.Change.TheVariants.{Append};
 ghost use Rattle.bm_world_board.specs.Drafts.{world_of, changed, tx_in, with_begun};
-ghost use Rattle.bm_world_settle.specs.Settling.{CanAppend, IsMakeable, Grows, Makes, recorded};
+ghost use Rattle.bm_world_settle.specs.Settling.{CanAppend, IsMakeable, Grows, Makes, bare, recorded};
+ghost use Rattle.spec_run.specs.declared.event.Event.{Event as Happening};
+ghost use Rattle.spec_run.specs.declared.outcome.Record.{Record as Entry};
 
 use bm_exchange::Exchange;
 use bm_world_board::{Appending, Board, Change, Drafted};
 use spec_bitcoin::Tx;
-use spec_data::{Bytes, OutOfMemory, Seq};
-use spec_run::{Event, Record};
+use spec_data::{Boxed, Bytes, OutOfMemory, Seq};
+use spec_run::{Event, Outcome, Record};
 use std::alloc::Global;
+use std::mem;
 
-// An equal transaction, where the change has one.
-fn tx_of(alloc: Global, change: &Change) -> Result<Option<Tx>, OutOfMemory>
-    ensures { IfOk result (λ tx. tx ≡ tx_in change.now) }
+// Puts a transaction into the last record; it takes no memory.
+fn put_tx(alloc: Global, trace: &mut Seq<Record>, tx: Option<Tx>)
+    requires { 0 < length trace.old }
+    ensures { (front : List Entry) (r : Entry) → trace.old ≡ front ++ r ∷ [] → trace.new ≡ front ++ record r { tx = tx } ∷ [] }
 {
-    Ok(match change {
-        Change::Append(a) => Some(a.tx.copy(alloc)?),
-        _ => None,
-    })
-}
-
-// The record of an event.
-fn record_of(alloc: Global, event: &Event, drafted: &Drafted) -> Result<Record, OutOfMemory>
-    ensures { IfOk result (λ r. r ≡ recorded event.now drafted.now) }
-{
-    Ok(Record {
-        event: event.copy(alloc)?,
-        outcome: drafted.outcome.copy(alloc)?,
-        tx: tx_of(alloc, &drafted.change)?,
-    })
+    let mut all = mem::replace(trace, Seq::new(alloc)).into_vec();
+    let last = all.len() - 1;
+    all[last].tx = tx;
+    *trace = Seq::of(all);
 }
 
 /// Posts these strings. After an error some of them are posted.
@@ -108,28 +101,33 @@ fn make_change(board: &mut Board, change: &Change) -> Result<(), OutOfMemory>
             Ok(())
         }
         Change::Append(appending) => {
-            append(board, appending)?;
+            append(board, appending.value())?;
             Ok(())
         }
     }
 }
 
-// Puts the record of an event to the others. After an error they are as before.
+// Puts the record of an event to the others, still without a transaction. After an error they are as before.
 fn put_record(
     alloc: Global,
     trace: &mut Seq<Record>,
     event: &Event,
     drafted: &Drafted,
 ) -> Result<(), OutOfMemory>
-    ensures ok { OnOk result (trace.new ≡ trace.old ++ recorded event.now drafted.now ∷ []) }
+    ensures ok { OnOk result (trace.new ≡ trace.old ++ bare event.now drafted.now ∷ []) }
     ensures err { OnErr result (trace.new ≡ trace.old) }
 {
-    let entry = record_of(alloc, event, drafted)?;
-    trace.push(entry)?;
+    let event = event.copy(alloc)?;
+    let outcome = drafted.outcome.copy(alloc)?;
+    trace.push(Record {
+        event,
+        outcome,
+        tx: None,
+    })?;
     Ok(())
 }
 
-// Makes what was drafted. After an error a record or some strings more may be there.
+// Makes what was drafted, but for the transaction of its record. After an error a record or some strings more may be there.
 fn make(
     alloc: Global,
     board: &mut Board,
@@ -139,7 +137,7 @@ fn make(
 ) -> Result<(), OutOfMemory>
     requires ready { IsMakeable board.old drafted.now.change }
     ensures world { OnOk result (Makes board.old board.new drafted.now) }
-    ensures trace { OnOk result (trace.new ≡ trace.old ++ recorded event.now drafted.now ∷ []) }
+    ensures trace { OnOk result (trace.new ≡ trace.old ++ bare event.now drafted.now ∷ []) }
     ensures rest { OnErr result (board.new ≡ record board.old { exchange = board.new.exchange }) }
     ensures exchange { OnErr result (Grows board.old.exchange board.new.exchange) }
     ensures records { OnErr result (take (length trace.old) trace.new ≡ trace.old) }
@@ -150,25 +148,37 @@ fn make(
     Ok(())
 }
 
-/// Makes what was drafted, and puts its record to the others. After an error nothing has changed: what only takes memory
-/// comes first, and what can't be taken back comes last.
+// Puts the transaction that was drafted, if one was, into its record, and answers the outcome.
+fn put_drafted(alloc: Global, trace: &mut Seq<Record>, drafted: Drafted) -> Outcome
+    requires { 0 < length trace.old }
+    ensures outcome { result ≡ drafted.outcome }
+    ensures trace { (front : List Entry) (event : Happening) → trace.old ≡ front ++ bare event drafted ∷ [] → trace.new ≡ front ++ recorded event drafted ∷ [] }
+{
+    let (outcome, tx) = drafted.into_kept();
+    put_tx(alloc, trace, tx);
+    outcome
+}
+
+/// Makes what was drafted, puts its record to the others, and answers its outcome. After an error nothing has changed: what only takes
+/// memory comes first, and what can't be taken back comes last.
 pub fn settle(
     alloc: Global,
     board: &mut Board,
     trace: &mut Seq<Record>,
     event: &Event,
-    drafted: &Drafted,
-) -> Result<(), OutOfMemory>
-    requires ready { IsMakeable board.old drafted.now.change }
-    ensures world { OnOk result (Makes board.old board.new drafted.now) }
-    ensures trace { OnOk result (trace.new ≡ trace.old ++ recorded event.now drafted.now ∷ []) }
+    drafted: Boxed<Drafted>,
+) -> Result<Outcome, OutOfMemory>
+    requires ready { IsMakeable board.old drafted.change }
+    ensures world { OnOk result (Makes board.old board.new drafted) }
+    ensures trace { OnOk result (trace.new ≡ trace.old ++ recorded event.now drafted ∷ []) }
+    ensures outcome { IfOk result (λ outcome. outcome ≡ drafted.outcome) }
     ensures board { OnErr result (board.new ≡ board.old) }
     ensures records { OnErr result (trace.new ≡ trace.old) }
 {
     let records = trace.len();
     let posts = board.exchange.posts();
-    match make(alloc, board, trace, event, drafted) {
-        Ok(()) => Ok(()),
+    match make(alloc, board, trace, event, drafted.value()) {
+        Ok(()) => Ok(put_drafted(alloc, trace, drafted.into_value())),
         Err(error) => {
             trace.truncate(records);
             board.exchange.cut_posts(posts);

@@ -44,7 +44,7 @@ fn bare_input(alloc: Global, coins: &Coins, number: u32) -> Result<TxIn, OutOfMe
 fn bare_inputs(alloc: Global, coins: &Coins, numbers: &[u32]) -> Result<Seq<TxIn>, OutOfMemory>
     ensures { IfOk result (λ is. is ≡ map (by.input_of coins.now.outputs) numbers.now) }
 {
-    let mut inputs = Seq::new(alloc);
+    let mut inputs = Seq::with_capacity(alloc, numbers.len())?;
     for number in numbers {
         inputs.push(bare_input(alloc, coins, *number)?)?;
     }
@@ -85,7 +85,7 @@ fn outputs_to(
 ) -> Result<Seq<TxOut>, OutOfMemory>
     ensures { IfOk result (λ os. (s : Setup) → accounts.now ≡ map (account_of s.hash) s.header.parties → os ≡ map (given_output s) outputs.now) }
 {
-    let mut made = Seq::new(alloc);
+    let mut made = Seq::with_capacity(alloc, outputs.len())?;
     for output in outputs {
         made.push(output_to(alloc, accounts, output)?)?;
     }
@@ -145,7 +145,7 @@ fn witness_of(
 ) -> Result<Seq<Bytes>, OutOfMemory>
     ensures { IfOk result (λ w. w ≡ by.witness_of account.now digest.now) }
 {
-    let mut witness = Seq::new(alloc);
+    let mut witness = Seq::with_capacity(alloc, 2)?;
     witness.push(Bytes::from_slice(alloc, &signature(&account.key, digest))?)?;
     witness.push(Bytes::from_slice(alloc, &account.script)?)?;
     Ok(witness)
@@ -211,7 +211,7 @@ fn signed_inputs<H: Hash32 + Drop>(
     ensures front { IsFront book.old book.new }
     ensures trail { Hashes H.digest_of trail.old trail.new (flat_map (by.strings_of (H.digest_of trail.old.hasher) coins.now.outputs tx.now account.now.script) numbers.now) result }
 {
-    let mut inputs = Seq::new(alloc);
+    let mut inputs = Seq::with_capacity(alloc, numbers.len())?;
     for number in numbers {
         put_signed(
             alloc,

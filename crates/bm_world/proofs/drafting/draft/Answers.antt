@@ -1,5 +1,4 @@
 use Rattle.std.proofs.Common.{sym, ◌∙◌}
-use Rattle.bm_world_commit.proofs.Bound.{bound_at}
 use Rattle.bm_world.proofs.Compiling.{no_commit, still_compiled}
 use Rattle.bm_world.proofs.drafting.draft.Goals as goal
 
@@ -11,6 +10,3 @@ returns-in_ok-drafted-in_default-clause-compiled g c =
 
 pub draft_other-requires-clause-kind : goal.draft_other-requires-clause-kind
 draft_other-requires-clause-kind g c = no_commit c.args.event.now c.in_default.not-Commit
-
-pub draft_commit-requires-clause-bound : goal.draft_commit-requires-clause-bound
-draft_commit-requires-clause-bound g c = bound_at _ c.requires.playable.kept.config _ c.requires.playable.kept.books _

@@ -1,4 +1,3 @@
-use Rattle.bm_world_board.specs.Drafts.{setup_of, world_of}
 use Rattle.bm_world_spend.proofs.Kept.{placed_kept}
 use Rattle.bm_world.proofs.Fresh.{fresh_tx}
 use Rattle.bm_world.proofs.handing.draft_appended.Goals as goal

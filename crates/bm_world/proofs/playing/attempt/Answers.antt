@@ -11,10 +11,10 @@ settle-requires g c = record {
       c.in_ok-answer.answer.0 c.in_ok-answer.ensures.passes.drafts;
 }
 
-pub returns-in_err-settle-clause-halts : goal.returns-in_err-settle-clause-halts
-returns-in_err-settle-clause-halts g c =
+pub returns-in_err-outcome-clause-halts : goal.returns-in_err-outcome-clause-halts
+returns-in_err-outcome-clause-halts g c =
     let hash = g.H.Hash32.digest_of c.args.trail.now.hasher in
-    let p = err_from_is_err_and c.from_residual-in_err-settle.result c.from_residual-in_err-settle.ensures.1 in
+    let p = err_from_is_err_and c.from_residual-in_err-outcome.result c.from_residual-in_err-outcome.ensures.1 in
     rw (p.1, p.2) (memory_halts (setup_of hash c.args.board.now) (world_of c.args.board.now c.args.trail.now.messages) _
     c.draft_passing.new.trail.messages c.args.event.now c.in_ok-answer.answer.0 c.requires.playable.clear
     c.in_ok-answer.ensures.passes.drafts)
@@ -22,11 +22,11 @@ returns-in_err-settle-clause-halts g c =
 pub returns-clause-goes : goal.returns-clause-goes
 returns-clause-goes g c =
     let hash = g.H.Hash32.digest_of c.args.trail.now.hasher in
-    rw c.into_outcome.ensures
+    rw c.in_ok-outcome.ensures.outcome
     (goes_by (setup_of hash c.args.board.now) (world_of c.args.board.now c.args.trail.now.messages) _ c.draft_passing.new.trail.messages
     c.args.board.now.compiled c.args.event.now c.in_ok-answer.answer.0 c.in_ok-answer.answer.1
     c.requires.playable.clear c.in_ok-answer.ensures.passes c.draft_passing.new.board c.settle.new.board _ c.args.trace.now
     c.settle.new.trace refl
     (ap (λ (b : Board). b.exchange.posted) c.draft_passing.ensures.signs.rest)
-    (ap (λ (b : Board). b.compiled) c.draft_passing.ensures.signs.rest) c.in_ok-settle.ensures.world refl c.place.ensures
-    c.in_ok-settle.ensures.trace)
+    (ap (λ (b : Board). b.compiled) c.draft_passing.ensures.signs.rest) c.in_ok-outcome.ensures.world refl c.place.ensures
+    c.in_ok-outcome.ensures.trace)

@@ -1,6 +1,10 @@
 use Rattle.std.proofs.Common.{sym, ap, ◌∙◌}
+use Rattle.bm_world_board.specs.declared.drafted.Change.TheVariants.{Append}
 use Rattle.bm_world_board.specs.Drafts.{world_of, changed}
 use Rattle.bm_world_settle.proofs.settling.make_change.Goals as goal
 
 pub returns-in_ok-append-in-Append-clause-ok : goal.returns-in_ok-append-in-Append-clause-ok
-returns-in_ok-append-in-Append-clause-ok c = λ messages. c.in_ok-append-in-Append.ensures.ok messages ∙ ap (changed (world_of c.args.board.now messages)) (sym c.in-Append.is)
+returns-in_ok-append-in-Append-clause-ok c = λ messages.
+    c.in_ok-append-in-Append.ensures.ok messages
+    ∙ ap (λ a. changed (world_of c.args.board.now messages) (Append a)) c.value.ensures
+    ∙ ap (changed (world_of c.args.board.now messages)) (sym c.in-Append.is)

@@ -28,7 +28,7 @@ loop-number-preserved g c =
 
 pub returns-in_err-put_signed-clause-trail : goal.returns-in_err-put_signed-clause-trail
 returns-in_err-put_signed-clause-trail g c =
-    let p = err_from_is_err_and c.from_residual.result c.from_residual.ensures.1 in
+    let p = err_from_is_err_and c.from_residual-in_err-put_signed.result c.from_residual-in_err-put_signed.ensures.1 in
     let same = c.loop-number.invariant.hasher in
     let numbers = c.args.numbers.now in
     let i = c.loop-number.number-index in

@@ -1,5 +1,4 @@
-use Rattle.std.proofs.Common.{◌≡◌, None, ◌∙◌, sym}
-use Rattle.spec_run.specs.World.{live_position_at}
+use Rattle.std.proofs.Common.{◌∙◌, sym}
 use Rattle.bm_world_board.specs.Drafts.{setup_of, world_of}
 use Rattle.bm_world.proofs.Placed.{placed_reached, node_is}
 use Rattle.bm_world.proofs.world.World.node.Goals as goal

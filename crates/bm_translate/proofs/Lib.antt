@@ -8,4 +8,4 @@ pub mod Telling
 pub mod Kinded
 pub mod Turns
 pub mod Lookups
-pub mod Unknown
+pub mod Known

@@ -61,6 +61,15 @@ watched_all hash messages promises posted contracts = map (watched_of hash messa
 abbrev pub strings_of : List Watched → List (List ℕ)
 strings_of watched = flat_map (λ x. option_to_list x.string) watched
 
+-- of these strings, those of the secrets
+abbrev pub told_of : List Watched → List (List ℕ) → List (List ℕ)
+told_of watched posts = filter (λ s. is_among s (strings_of watched)) posts
+
+-- the strings behind the first, where there are any
+abbrev pub behind : Option (List (List ℕ)) → List (List ℕ)
+behind None = []
+behind (Some strings) = strings
+
 -- ---- what an event posts
 
 abbrev pub done_posts : List HeldSecret → Event → List (List ℕ)

@@ -7,13 +7,14 @@ ghost use Rattle.spec_run.specs.declared.outcome.Outcome.TheVariants as outcomes
 ghost use Rattle.bm_world_board.specs.Drafts.{setup_of};
 ghost use Rattle.spec_run.specs.Steps as spec;
 ghost use Rattle.bm_exchange.specs.Exchanged.{digests_by};
-ghost use Rattle.bm_translate.specs.Shown.{revealed_of, posts_of};
+ghost use Rattle.bm_translate.specs.Shown.{revealed_of, posts_of, told_of};
 ghost use Rattle.bm_translate.specs.Lengths.{lengths_by};
 ghost use Rattle.bm_translate.specs.Moments.{IsTurn, IsAccepted};
 
 use crate::kinds::{kind_steps, pre_of};
 use crate::lengths::lengths_of;
 use crate::running::Running;
+use crate::strings_shown::Shown;
 use crate::told::init_steps;
 use bm_exchange::Exchange;
 use bm_hash::{Hash32, Trail};
@@ -105,11 +106,11 @@ fn done_steps<H: Hash32 + Drop>(
     trail: &Trail<H>,
     board: &Board,
     running: &Running,
-    shown: &Exchange,
+    shown: &Shown<'_>,
     recorded: &Record,
 ) -> Result<Vec<Step>, OutOfMemory>
     requires done { recorded.now.outcome ≡ outcomes.Done }
-    requires shown { shown.now.posted ≡ posts_of board.now.header.secrets recorded.now }
+    requires shown { shown.now ≡ told_of running.now.secrets (posts_of board.now.header.secrets recorded.now) }
     ensures { (f w next : World) → IsTurn (setup_of (H.digest_of trail.now.hasher) board.now) board.now trail.now.messages f w next running.now recorded.now
         → IfOk result (λ made. made.items
         ≡ spec.done_steps (setup_of (H.digest_of trail.now.hasher) board.now) f.posted w next recorded.now.event) }
@@ -176,13 +177,13 @@ fn accepted_steps<H: Hash32 + Drop>(
     trail: &Trail<H>,
     board: &Board,
     running: &Running,
-    shown: &Exchange,
+    shown: &Shown<'_>,
     recorded: &Record,
     tx: &Tx,
     spent: &[u32],
 ) -> Result<Vec<Step>, OutOfMemory>
     requires few { length board.now.compiled < 2 ^ 32 }
-    requires shown { shown.now.posted ≡ posts_of board.now.header.secrets recorded.now }
+    requires shown { shown.now ≡ told_of running.now.secrets (posts_of board.now.header.secrets recorded.now) }
     requires accepted { IsAccepted recorded.now.outcome }
     ensures { (f w next : World) → IsTurn (setup_of (H.digest_of trail.now.hasher) board.now) board.now trail.now.messages f w next running.now recorded.now
         → IfOk result (λ made. made.items
@@ -195,17 +196,17 @@ fn accepted_steps<H: Hash32 + Drop>(
 }
 
 /// The steps of the event of this record, in a run that ends with this board and trail. Before the event this is known, and these are
-/// the strings that it posted.
+/// the strings of secrets that it posted.
 pub fn event_steps<H: Hash32 + Drop>(
     alloc: Global,
     trail: &Trail<H>,
     board: &Board,
     running: &Running,
-    shown: &Exchange,
+    shown: &Shown<'_>,
     recorded: &Record,
 ) -> Result<Vec<Step>, OutOfMemory>
     requires few { length board.now.compiled < 2 ^ 32 }
-    requires shown { shown.now.posted ≡ posts_of board.now.header.secrets recorded.now }
+    requires shown { shown.now ≡ told_of running.now.secrets (posts_of board.now.header.secrets recorded.now) }
     ensures { (f w next : World) → IsTurn (setup_of (H.digest_of trail.now.hasher) board.now) board.now trail.now.messages f w next running.now recorded.now
         → IfOk result (λ made. made.items
         ≡ spec.outcome_steps (setup_of (H.digest_of trail.now.hasher) board.now) f.posted running.now.config w next

@@ -8,6 +8,7 @@ mod lengths;
 mod moves;
 mod posts;
 mod running;
+mod strings_shown;
 mod told;
 mod watching;
 
@@ -18,5 +19,6 @@ pub use posts::posted_by;
 pub use running::Running;
 pub use spec_calculus::{Move, Owner, Step};
 pub use spec_data::{Name, OutOfMemory};
+pub use strings_shown::Shown;
 pub use told::init_steps;
 pub use watching::{Secrets, Watched};

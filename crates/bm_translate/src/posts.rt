@@ -1,105 +1,135 @@
-//! The strings that an event posted.
+//! The strings of secrets that an event posted.
 
 ghost use Rattle.std.specs.Prelude.{◌≡◌, ◌++◌, ◌∷◌, [], IfOk, OnOk};
 ghost use Rattle.std.specs.List.{flat_map};
 ghost use Rattle.spec_run.specs.Setup.{held_among, bytes_or_none};
 ghost use Rattle.bm_translate.specs.Shown as spec;
 
-use bm_exchange::{Exchange, held_secret};
+use crate::strings_shown::Shown;
+use crate::watching::Secrets;
+use bm_exchange::held_secret;
 use spec_bitcoin::{Tx, TxIn};
 use spec_data::{Bytes, Name, OutOfMemory};
 use spec_run::{Event, HeldSecret, Outcome, Record};
 use std::alloc::Global;
 
-// Posts these items.
-fn put_items(shown: &mut Exchange, items: &[Bytes]) -> Result<(), OutOfMemory>
-    ensures { OnOk result (shown.new.posted ≡ shown.old.posted ++ items.now) }
+// Shows the string, if it is that of a secret.
+fn put_string<'a>(
+    shown: &mut Shown<'a>,
+    secrets: &Secrets,
+    string: &'a [u8],
+) -> Result<(), OutOfMemory>
+    ensures { OnOk result (shown.new ≡ shown.old ++ spec.told_of secrets.now (string.now ∷ [])) }
+{
+    if secrets.has(string) {
+        shown.add(string)
+    } else {
+        Ok(())
+    }
+}
+
+// Shows what these items tell.
+fn put_items<'a>(
+    shown: &mut Shown<'a>,
+    secrets: &Secrets,
+    items: &'a [Bytes],
+) -> Result<(), OutOfMemory>
+    ensures { OnOk result (shown.new ≡ shown.old ++ spec.told_of secrets.now items.now) }
 {
     for item in items {
-        shown.post(item.as_slice())?;
+        put_string(shown, secrets, item.as_slice())?;
     }
     Ok(())
 }
 
-// Posts every item of these inputs.
-fn put_inputs(shown: &mut Exchange, inputs: &[TxIn]) -> Result<(), OutOfMemory>
-    ensures { OnOk result (shown.new.posted ≡ shown.old.posted ++ flat_map (λ i. i.witness) inputs.now) }
+// Shows what the items of these inputs tell.
+#[tactic(auto, using(crate::proofs::Known::told_append))]
+fn put_inputs<'a>(
+    shown: &mut Shown<'a>,
+    secrets: &Secrets,
+    inputs: &'a [TxIn],
+) -> Result<(), OutOfMemory>
+    ensures { OnOk result (shown.new ≡ shown.old ++ spec.told_of secrets.now (flat_map (λ i. i.witness) inputs.now)) }
 {
     for input in inputs {
-        put_items(shown, input.witness.as_slice())?;
+        put_items(shown, secrets, input.witness.as_slice())?;
     }
     Ok(())
 }
 
-// Posts what a transaction posts, where there is one.
-fn put_tx(shown: &mut Exchange, tx: &Option<Tx>) -> Result<(), OutOfMemory>
-    ensures { OnOk result (shown.new.posted ≡ shown.old.posted ++ spec.tx_posts tx.now) }
+// Shows what a transaction tells, where there is one.
+fn put_tx<'a>(
+    shown: &mut Shown<'a>,
+    secrets: &Secrets,
+    tx: &'a Option<Tx>,
+) -> Result<(), OutOfMemory>
+    ensures { OnOk result (shown.new ≡ shown.old ++ spec.told_of secrets.now (spec.tx_posts tx.now)) }
 {
     match tx {
-        Some(tx) => put_inputs(shown, tx.inputs.as_slice()),
+        Some(tx) => put_inputs(shown, secrets, tx.inputs.as_slice()),
         None => Ok(()),
     }
 }
 
-// Posts the party's secret, or the empty string, where it isn't held.
-fn put_own(
-    shown: &mut Exchange,
-    secrets: &[HeldSecret],
-    party: &Name,
-    name: &Name,
-) -> Result<(), OutOfMemory>
-    ensures { OnOk result (shown.new.posted ≡ shown.old.posted ++ bytes_or_none (held_among party.now name.now secrets.now) ∷ []) }
+// The party's secret, or the empty string, where it isn't held.
+fn own_string<'a>(held: &'a [HeldSecret], party: &Name, name: &Name) -> &'a [u8]
+    ensures { result.now ≡ bytes_or_none (held_among party.now name.now held.now) }
 {
-    match held_secret(secrets, party, name) {
-        Some(bytes) => {
-            shown.post(bytes)?;
-            Ok(())
-        }
-        None => {
-            shown.post(&[])?;
-            Ok(())
-        }
+    match held_secret(held, party, name) {
+        Some(bytes) => bytes,
+        None => &[],
     }
 }
 
-// Posts what an event posted that was done.
-fn put_done(shown: &mut Exchange, secrets: &[HeldSecret], event: &Event) -> Result<(), OutOfMemory>
-    ensures { OnOk result (shown.new.posted ≡ shown.old.posted ++ spec.done_posts secrets.now event.now) }
+// Shows what an event tells that was done.
+fn put_done<'a>(
+    shown: &mut Shown<'a>,
+    secrets: &Secrets,
+    held: &'a [HeldSecret],
+    event: &'a Event,
+) -> Result<(), OutOfMemory>
+    ensures { OnOk result (shown.new ≡ shown.old ++ spec.told_of secrets.now (spec.done_posts held.now event.now)) }
 {
     match event {
-        Event::Post { bytes } => {
-            shown.post(bytes.as_slice())?;
-            Ok(())
+        Event::Post { bytes } => put_string(shown, secrets, bytes.as_slice()),
+        Event::Reveal { party, secret, .. } => {
+            put_string(shown, secrets, own_string(held, party, secret))
         }
-        Event::Reveal { party, secret, .. } => put_own(shown, secrets, party, secret),
         _ => Ok(()),
     }
 }
 
-// Posts what the event of this record posted.
-fn put_posts(
-    shown: &mut Exchange,
-    secrets: &[HeldSecret],
-    recorded: &Record,
+// Shows what the event of this record tells.
+fn put_posts<'a>(
+    shown: &mut Shown<'a>,
+    secrets: &Secrets,
+    held: &'a [HeldSecret],
+    recorded: &'a Record,
 ) -> Result<(), OutOfMemory>
-    ensures { OnOk result (shown.new.posted ≡ shown.old.posted ++ spec.posts_of secrets.now recorded.now) }
+    ensures { OnOk result (shown.new ≡ shown.old ++ spec.told_of secrets.now (spec.posts_of held.now recorded.now)) }
 {
     match &recorded.outcome {
-        Outcome::Done => put_done(shown, secrets, &recorded.event),
-        Outcome::Accepted { .. } => put_tx(shown, &recorded.tx),
+        Outcome::Done => put_done(shown, secrets, held, &recorded.event),
+        Outcome::Accepted { .. } => put_tx(shown, secrets, &recorded.tx),
         Outcome::Refused(_) => Ok(()),
     }
 }
 
-/// An exchange where nothing but what the event of this record posted is told: its index answers for each string.
-pub fn posted_by(
+/// Those of the strings that the event of this record posted which are strings of secrets. Each is looked up once, and none where no
+/// secret has a string.
+#[tactic(auto, using(crate::proofs::Known::told_none))]
+pub fn posted_by<'a>(
     alloc: Global,
-    secrets: &[HeldSecret],
-    recorded: &Record,
-) -> Result<Exchange, OutOfMemory>
-    ensures { IfOk result (λ shown. shown.posted ≡ spec.posts_of secrets.now recorded.now) }
+    secrets: &Secrets,
+    held: &'a [HeldSecret],
+    recorded: &'a Record,
+) -> Result<Shown<'a>, OutOfMemory>
+    ensures { IfOk result (λ shown. shown ≡ spec.told_of secrets.now (spec.posts_of held.now recorded.now)) }
 {
-    let mut shown = Exchange::new(alloc, 0)?;
-    put_posts(&mut shown, secrets, recorded)?;
+    let mut shown = Shown::new(alloc);
+    if secrets.has_none() {
+        return Ok(shown);
+    }
+    put_posts(&mut shown, secrets, held, recorded)?;
     Ok(shown)
 }

@@ -1,12 +1,13 @@
 //! Secrets that are waited for.
 
-ghost use Rattle.std.specs.Prelude.{◌≡◌, ◌<◌, ◌^◌, ◌++◌, ◌∷◌, [], length, option_map, option_to_list, is_some, map, IfOk, OnOk};
-ghost use Rattle.spec_data.specs.Lists.{look_up};
+ghost use Rattle.std.specs.Prelude.{◌≡◌, ◌==◌, ◌<◌, ◌^◌, ◌++◌, ◌∷◌, [], length, option_map, option_to_list, is_some, map, IfOk, OnOk};
+ghost use Rattle.spec_data.specs.Lists.{is_among, look_up};
 ghost use Rattle.spec_terms.specs.Precondition.{secrets};
 ghost use Rattle.spec_calculus.specs.Branches as branches;
 ghost use Rattle.spec_run.specs.Secrets.{digest_at, secrets_from, secrets_of_contract};
 ghost use Rattle.bm_translate.specs.Shown as spec;
 
+use crate::strings_shown::Shown;
 use bm_calculus::Config;
 use bm_exchange::{Exchange, Strings, is_secret_long};
 use bm_hash::{Hash32, Trail};
@@ -35,8 +36,8 @@ impl Drop for Watched {
     }
 }
 
-/// All secrets of a run, by contract and precondition. Their strings stand in an index: an event that posts none of them shows no
-/// secret, and is done with before any secret is looked at.
+/// All secrets of a run, by contract and precondition. Their strings stand in an index, which tells those that an event posted from
+/// its other strings: an event that posts none of them is done with before any secret is looked at.
 pub struct Secrets {
     watched: Vec<Watched>,
     strings: Strings,
@@ -229,11 +230,11 @@ fn strings_of(alloc: Global, watched: &[Watched]) -> Result<Strings, OutOfMemory
 }
 
 // Whether the string is there, and is shown.
-fn is_shown(shown: &Exchange, string: &Option<Bytes>) -> bool
-    ensures { result ≡ spec.is_one_of shown.now.posted string.now }
+fn is_shown(shown: &Shown<'_>, string: &Option<Bytes>) -> bool
+    ensures { result ≡ spec.is_one_of shown.now string.now }
 {
     match string {
-        Some(string) => shown.posted(string.as_slice()),
+        Some(string) => shown.has(string.as_slice()),
         None => false,
     }
 }
@@ -248,8 +249,8 @@ fn is_committed(config: &Config, secret: &Revealed) -> bool
 }
 
 // Whether these strings are the first to show the secret, which is committed.
-fn comes_up(config: &Config, shown: &Exchange, watched: &Watched) -> bool
-    ensures { result ≡ spec.comes_up config.now.committed shown.now.posted watched.now }
+fn comes_up(config: &Config, shown: &Shown<'_>, watched: &Watched) -> bool
+    ensures { result ≡ spec.comes_up config.now.committed shown.now watched.now }
 {
     if watched.posted {
         return false;
@@ -282,10 +283,10 @@ fn reveal_of(watched: &Watched) -> Step
 fn revealed_by(
     alloc: Global,
     config: &Config,
-    shown: &Exchange,
+    shown: &Shown<'_>,
     watched: &[Watched],
 ) -> Result<Vec<Step>, OutOfMemory>
-    ensures { IfOk result (λ made. made.items ≡ spec.revealed_by config.now.committed shown.now.posted watched.now) }
+    ensures { IfOk result (λ made. made.items ≡ spec.revealed_by config.now.committed shown.now watched.now) }
 {
     let mut made = Vec::new(alloc);
     for one in watched {
@@ -296,21 +297,20 @@ fn revealed_by(
     Ok(made)
 }
 
-// The secrets that these strings reveal: none, if no secret has one of them.
-fn revealed_if_known(
+// The secrets that these strings reveal: none are looked at, if there is no string.
+#[tactic(auto, using(crate::proofs::Known::none_revealed))]
+fn revealed_if_any(
     alloc: Global,
     config: &Config,
-    shown: &Exchange,
+    shown: &Shown<'_>,
     watched: &[Watched],
-    strings: &Strings,
 ) -> Result<Vec<Step>, OutOfMemory>
-    requires strings { strings.now ≡ spec.strings_of watched.now }
-    ensures { IfOk result (λ made. made.items ≡ spec.revealed_by config.now.committed shown.now.posted watched.now) }
+    ensures { IfOk result (λ made. made.items ≡ spec.revealed_by config.now.committed shown.now watched.now) }
 {
-    if shown.tells_one_of(strings) {
-        revealed_by(alloc, config, shown, watched)
-    } else {
+    if shown.is_empty() {
         Ok(Vec::new(alloc))
+    } else {
+        revealed_by(alloc, config, shown, watched)
     }
 }
 
@@ -332,8 +332,8 @@ fn put_revealed(
 }
 
 // Notes that these strings are posted.
-fn note_all(shown: &Exchange, watched: &mut Vec<Watched>)
-    ensures { watched.new.items ≡ map (spec.noted shown.now.posted) watched.old.items }
+fn note_all(shown: &Shown<'_>, watched: &mut Vec<Watched>)
+    ensures { watched.new.items ≡ map (spec.noted shown.now) watched.old.items }
 {
     for one in watched.iter_mut() {
         if !one.posted {
@@ -342,15 +342,15 @@ fn note_all(shown: &Exchange, watched: &mut Vec<Watched>)
     }
 }
 
-// Notes that these strings are posted, if some secret has one of them.
-fn note_if_known(shown: &Exchange, watched: &mut Vec<Watched>, strings: &Strings)
-    requires strings { strings.now ≡ spec.strings_of watched.old.items }
-    ensures noted { watched.new.items ≡ map (spec.noted shown.now.posted) watched.old.items }
-    ensures strings { strings.now ≡ spec.strings_of watched.new.items }
+// Notes that these strings are posted, if there are any. The secrets keep their strings.
+fn note_if_any(shown: &Shown<'_>, watched: &mut Vec<Watched>)
+    ensures noted { watched.new.items ≡ map (spec.noted shown.now) watched.old.items }
+    ensures strings { spec.strings_of watched.new.items ≡ spec.strings_of watched.old.items }
 {
-    if shown.tells_one_of(strings) {
-        note_all(shown, watched);
+    if shown.is_empty() {
+        return;
     }
+    note_all(shown, watched);
 }
 
 impl Secrets {
@@ -370,16 +370,30 @@ impl Secrets {
         Ok(Secrets { watched, strings })
     }
 
+    /// Whether no secret has a string that is known.
+    pub fn has_none(&self) -> bool
+        ensures { result ≡ (length (spec.strings_of self.now) == 0) }
+    {
+        self.strings.count() == 0
+    }
+
+    /// Whether it is the string of a secret.
+    pub fn has(&self, string: &[u8]) -> bool
+        ensures { result ≡ is_among string.now (spec.strings_of self.now) }
+    {
+        self.strings.has(string)
+    }
+
     /// The steps that reveal what these strings are the first to show.
     pub fn revealed(
         &self,
         alloc: Global,
         config: &Config,
-        shown: &Exchange,
+        shown: &Shown<'_>,
     ) -> Result<Vec<Step>, OutOfMemory>
-        ensures { IfOk result (λ made. made.items ≡ spec.revealed_by config.now.committed shown.now.posted self.now) }
+        ensures { IfOk result (λ made. made.items ≡ spec.revealed_by config.now.committed shown.now self.now) }
     {
-        revealed_if_known(alloc, config, shown, &self.watched, &self.strings)
+        revealed_if_any(alloc, config, shown, &self.watched)
     }
 
     /// Adds the steps that reveal the secrets of the party in the contract which are posted already.
@@ -395,9 +409,9 @@ impl Secrets {
     }
 
     /// Notes that these strings are posted.
-    pub fn note(&mut self, shown: &Exchange)
-        ensures { self.new ≡ map (spec.noted shown.now.posted) self.old }
+    pub fn note(&mut self, shown: &Shown<'_>)
+        ensures { self.new ≡ map (spec.noted shown.now) self.old }
     {
-        note_if_known(shown, &mut self.watched, &self.strings);
+        note_if_any(shown, &mut self.watched);
     }
 }

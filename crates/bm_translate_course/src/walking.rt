@@ -82,7 +82,12 @@ pub(crate) fn pass<H: Hash32 + Drop>(
         recorded.now.event recorded.now.tx recorded.now.outcome)
         × (running.new ≡ passed_by running.old made (posts_of board.now.header.secrets recorded.now))) }
 {
-    let shown = posted_by(alloc, board.header.secrets.as_slice(), recorded)?;
+    let shown = posted_by(
+        alloc,
+        &running.secrets,
+        board.header.secrets.as_slice(),
+        recorded,
+    )?;
     let made = event_steps(alloc, trail, board, running, &shown, recorded)?;
     take_steps(running, &made)?;
     running.secrets.note(&shown);

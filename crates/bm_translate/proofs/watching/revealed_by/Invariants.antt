@@ -5,5 +5,5 @@ use Rattle.bm_translate.proofs.watching.revealed_by.Given as goal
 -- those so far, and those of the rest, are all
 abbrev pub invariant-loop-one : goal.invariant-loop-one
 invariant-loop-one l =
-    l.made.items ++ revealed_by l.config.committed l.shown.posted (drop l.one-index l.watched)
-    ≡ revealed_by l.config.committed l.shown.posted l.watched
+    l.made.items ++ revealed_by l.config.committed l.shown (drop l.one-index l.watched)
+    ≡ revealed_by l.config.committed l.shown l.watched

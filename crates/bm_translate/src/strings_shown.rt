@@ -1,0 +1,134 @@
+//! Strings that are shown.
+
+ghost use Rattle.std.specs.Prelude.{◌≡◌, ◌++◌, ◌∷◌, [], ◌==◌, length, map, OnOk};
+ghost use Rattle.spec_data.specs.Lists.{is_among};
+ghost use Rattle.bm_translate.specs.Shown.{behind};
+
+use bm_exchange::Strings;
+use spec_data::OutOfMemory;
+use std::alloc::Global;
+use std::marker::Model;
+
+// So many strings are compared one by one.
+const FEW: usize = 16;
+
+/// Strings in order, mostly few or none. The first of them are lent, and are compared one by one; those behind are copied into an
+/// index, so that no look-up goes through many. No strings take no memory.
+pub struct Shown<'a> {
+    alloc: Global,
+    few: Vec<&'a [u8]>,
+    more: Option<Strings>,
+}
+
+impl<'a> Model for Shown<'a> {
+    ghost use Rattle.std.specs.Prelude.{List, ℕ, ◌++◌, map};
+    ghost use Rattle.bm_translate.specs.Shown.{behind};
+
+    ghost Value = { List (List ℕ) };
+
+    ghost view = { λ s. map (λ b. b.now) s.few.items ++ behind s.more };
+}
+
+impl<'a> Drop for Shown<'a> {
+    fn drop(self) {
+        let Shown {
+            alloc: _,
+            few: _,
+            more: _,
+        } = self;
+    }
+}
+
+// Adds a string to those that are lent.
+fn add_lent<'a>(few: &mut Vec<&'a [u8]>, string: &'a [u8]) -> Result<(), OutOfMemory>
+    ensures { OnOk result (map (λ b. b.now) few.new.items ≡ map (λ b. b.now) few.old.items ++ string.now ∷ []) }
+{
+    few.push(string)?;
+    Ok(())
+}
+
+// Adds a string to those of an index, which is made for the first.
+fn add_copied(alloc: Global, more: &mut Option<Strings>, string: &[u8]) -> Result<(), OutOfMemory>
+    ensures { OnOk result (behind more.new ≡ behind more.old ++ string.now ∷ []) }
+{
+    match more {
+        Some(strings) => strings.add(string),
+        None => {
+            let mut strings = Strings::new(alloc);
+            strings.add(string)?;
+            *more = Some(strings);
+            Ok(())
+        }
+    }
+}
+
+// Whether the string is one of a few.
+fn is_lent(few: &[&[u8]], string: &[u8]) -> bool
+    ensures { result ≡ is_among string.now (map (λ b. b.now) few.now) }
+{
+    for one in few {
+        if *one == string {
+            return true;
+        }
+    }
+    false
+}
+
+// Whether the string is in the index, where there is one.
+fn is_copied(more: &Option<Strings>, string: &[u8]) -> bool
+    ensures { result ≡ is_among string.now (behind more.now) }
+{
+    match more {
+        Some(strings) => strings.has(string),
+        None => false,
+    }
+}
+
+// How many strings the index has, where there is one.
+fn copied_count(more: &Option<Strings>) -> usize
+    ensures { result ≡ length (behind more.now) }
+{
+    match more {
+        Some(strings) => strings.count(),
+        None => 0,
+    }
+}
+
+impl<'a> Shown<'a> {
+    /// No string.
+    pub fn new(alloc: Global) -> Shown<'a>
+        ensures { result ≡ [] }
+    {
+        Shown {
+            alloc,
+            few: Vec::new(alloc),
+            more: None,
+        }
+    }
+
+    /// Adds a string at the end.
+    pub fn add(&mut self, string: &'a [u8]) -> Result<(), OutOfMemory>
+        ensures { OnOk result (self.new ≡ self.old ++ string.now ∷ []) }
+    {
+        if self.few.len() < FEW && self.more.is_none() {
+            add_lent(&mut self.few, string)
+        } else {
+            add_copied(self.alloc, &mut self.more, string)
+        }
+    }
+
+    /// Whether there is no string.
+    pub fn is_empty(&self) -> bool
+        ensures { result ≡ (length self.now == 0) }
+    {
+        self.few.is_empty() && copied_count(&self.more) == 0
+    }
+
+    /// Whether the string is there.
+    #[tactic(auto, using(crate::proofs::Known::among_both))]
+    pub fn has(&self, string: &[u8]) -> bool
+        ensures { result ≡ is_among string.now self.now }
+    {
+        is_lent(&self.few, string) || is_copied(&self.more, string)
+    }
+}

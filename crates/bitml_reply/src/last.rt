@@ -18,10 +18,11 @@ use spec_run::Run;
 use std::alloc::Global;
 use std::mem::forget;
 
-/// Lets a world go. Its memory goes back with the process: a program writes its answer next and ends, and to give back piece by piece
-/// what a long run holds would take a sixth of its time. Nothing else lets a world go, here or in the crates of further replies.
-pub fn let_go<H: Hash32 + Drop>(world: World<H>) {
-    forget(world);
+/// Lets go of a world, or of its records. Their memory goes back with the process: a program writes its answer next and ends, and to give
+/// back piece by piece what a long run holds would take a sixth of its time. Nothing else lets a world go, here or in the crates of
+/// further replies.
+pub fn let_go<T: Drop>(held: T) {
+    forget(held);
 }
 
 // The world that a run left, or what halted an event of it.

@@ -30,28 +30,31 @@ use spec_data::{OutOfMemory, Seq};
 use spec_run::Run;
 use std::alloc::Global;
 
-// What is replied to a run that left this world, with these steps and this end.
+// What is replied to a run that left this world, with these steps and this end. Of the world only what is printed is kept meanwhile.
 fn shown_reply<H: Hash32 + Drop>(
     alloc: Global,
-    world: &World<H>,
+    world: World<H>,
     steps: &[Seq<Step>],
     end: &Ending,
 ) -> Result<Reply, OutOfMemory>
-    requires each { length steps.now ≡ length world.now.trace }
+    requires each { length steps.now ≡ length world.trace }
     requires numbered { IsNumbered end.now }
     ensures { IfOk result (λ reply. printed reply ≡ prints (ending_status (ending_of end.now))
-        (report_text world.now.header.deposits (entries_by world.now.trace steps.now) (ending_of end.now))) }
+        (report_text world.header.deposits (entries_by world.trace steps.now) (ending_of end.now))) }
 {
-    report_reply(alloc, world.header(), world.trace(), steps, end)
+    let (header, trace) = world.into_records();
+    let reply = report_reply(alloc, &header, trace.as_slice(), steps, end);
+    let_go(trace);
+    reply
 }
 
 // What is replied to the run that left this world, where nothing halted it. Its events are those of the trace.
-fn whole_reply<H: Hash32 + Drop>(alloc: Global, world: &World<H>) -> Result<Reply, OutOfMemory>
-    requires { IsLeft H.digest_of (setup_in H.digest_of world.now) (events_of world.now.trace) world.now None }
+fn whole_reply<H: Hash32 + Drop>(alloc: Global, world: World<H>) -> Result<Reply, OutOfMemory>
+    requires { IsLeft H.digest_of (setup_in H.digest_of world) (events_of world.trace) world None }
     ensures { IfOk result (λ reply. printed reply
-        ≡ run_answer play_text (setup_in H.digest_of world.now) (events_of world.now.trace)) }
+        ≡ run_answer play_text (setup_in H.digest_of world) (events_of world.trace)) }
 {
-    let made = translate(alloc, world)?;
+    let made = translate(alloc, &world)?;
     let end = whole_ending(alloc, world.ledger(), made.last)?;
     shown_reply(alloc, world, made.steps.as_slice(), &end)
 }
@@ -59,30 +62,30 @@ fn whole_reply<H: Hash32 + Drop>(alloc: Global, world: &World<H>) -> Result<Repl
 // What is replied to a run that left this world, whose event of this number was halted. That event alone is kept of it.
 fn halted_reply<H: Hash32 + Drop>(
     alloc: Global,
-    world: &World<H>,
+    world: World<H>,
     run: Run,
     number: usize,
     halt: Halt,
 ) -> Result<Reply, OutOfMemory>
-    requires { IsLeft H.digest_of (setup_in H.digest_of world.now) run.events world.now (Some (number, halt)) }
-    ensures { IfOk result (λ reply. printed reply ≡ run_answer play_text (setup_in H.digest_of world.now) run.events) }
+    requires { IsLeft H.digest_of (setup_in H.digest_of world) run.events world (Some (number, halt)) }
+    ensures { IfOk result (λ reply. printed reply ≡ run_answer play_text (setup_in H.digest_of world) run.events) }
 {
     let events = run.events.as_slice();
     let end = halted_ending(alloc, &events[number], halt)?;
     drop(run);
-    let made = translate(alloc, world)?;
+    let made = translate(alloc, &world)?;
     shown_reply(alloc, world, made.steps.as_slice(), &end)
 }
 
 // What is replied to a run that left this world. It is let go before its steps are made.
 fn left_reply<H: Hash32 + Drop>(
     alloc: Global,
-    world: &World<H>,
+    world: World<H>,
     run: Run,
     stop: Option<(usize, Halt)>,
 ) -> Result<Reply, OutOfMemory>
-    requires { IsLeft H.digest_of (setup_in H.digest_of world.now) run.events world.now stop }
-    ensures { IfOk result (λ reply. printed reply ≡ run_answer play_text (setup_in H.digest_of world.now) run.events) }
+    requires { IsLeft H.digest_of (setup_in H.digest_of world) run.events world stop }
+    ensures { IfOk result (λ reply. printed reply ≡ run_answer play_text (setup_in H.digest_of world) run.events) }
 {
     match stop {
         None => {
@@ -109,10 +112,6 @@ pub fn play_reply<H: Hash32 + Drop>(
 {
     match play(alloc, hash, &run, contracts) {
         Err(halt) => halt_reply(alloc, &halt),
-        Ok((world, stop)) => {
-            let reply = left_reply(alloc, &world, run, stop);
-            let_go(world);
-            reply
-        }
+        Ok((world, stop)) => left_reply(alloc, world, run, stop),
     }
 }

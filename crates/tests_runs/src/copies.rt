@@ -4,7 +4,7 @@ use spec_bitcoin::tx::{copy_items, copy_outputs};
 use spec_bitcoin::{Label, Op, OutPoint, Tx, TxIn, TxOut, Verdict};
 use spec_calculus::{Move, Owner};
 use spec_compiler::Prepared;
-use spec_data::{Bytes, Name, OutOfMemory, Seq};
+use spec_data::{Boxed, Bytes, Name, OutOfMemory, Seq};
 use spec_run::{Event, Header, HeldSecret};
 use spec_terms::{Path, PathStep, Place};
 use std::alloc::Global;
@@ -80,7 +80,7 @@ fn label(alloc: Global, party: Name) -> Result<Label, OutOfMemory> {
 fn signing(alloc: Global, party: Name) -> Result<Event, OutOfMemory> {
     Ok(Event::Sign {
         party,
-        label: label(alloc, party)?,
+        label: Boxed::new(alloc, label(alloc, party)?)?,
         digest: [7; 32],
     })
 }

@@ -17,14 +17,14 @@ bounds-events-number g c =
 pub shown_reply-requires-clause-each : goal.shown_reply-requires-clause-each
 shown_reply-requires-clause-each g c =
     let digest = g.H.Hash32.digest_of in
-    let w = c.args.world.now in
+    let w = c.args.world in
     ap length c.as_slice.ensures
     ∙ steps_for_each digest (setup_in digest w) c.args.run.events w _ c.requires c.in_ok-made.made.steps c.in_ok-made.ensures.steps
 
 pub returns : goal.returns
 returns g c =
     let digest = g.H.Hash32.digest_of in
-    let w = c.args.world.now in
+    let w = c.args.world in
     let s = setup_in digest w in
     let es = c.args.run.events in
     let n = c.args.number in

@@ -13,7 +13,7 @@ use Rattle.bitml_reply.proofs.play.left_reply.Goals as goal
 pub whole_reply-requires : goal.whole_reply-requires
 whole_reply-requires g c =
     let digest = g.H.Hash32.digest_of in
-    let w = c.args.world.now in
+    let w = c.args.world in
     let s = setup_in digest w in
     let es = c.args.run.events in
     let left : IsLeft digest s es w None = subst (λ (o : Option (ℕ × Halt)). IsLeft digest s es w o) c.in-None.is c.requires in
@@ -22,7 +22,7 @@ whole_reply-requires g c =
 pub returns-in-None : goal.returns-in-None
 returns-in-None g c =
     let digest = g.H.Hash32.digest_of in
-    let w = c.args.world.now in
+    let w = c.args.world in
     let s = setup_in digest w in
     let es = c.args.run.events in
     let left : IsLeft digest s es w None = subst (λ (o : Option (ℕ × Halt)). IsLeft digest s es w o) c.in-None.is c.requires in

@@ -8,8 +8,8 @@ use Rattle.bitml_reply.proofs.Reports.{unopened_told}
 use Rattle.bitml_reply.proofs.Left.{of_its_own}
 use Rattle.bitml_reply.proofs.play.play_reply.Goals as goal
 
-pub left_reply-reply-requires : goal.left_reply-reply-requires
-left_reply-reply-requires g c =
+pub left_reply-requires : goal.left_reply-requires
+left_reply-requires g c =
     let digest = g.H.Hash32.digest_of in
     let s : Setup = setup_of (digest c.args.hash) c.args.run c.args.contracts.items in
     let left = c.in-Ok.world in
@@ -25,6 +25,6 @@ returns-in-Ok g c =
     let digest = g.H.Hash32.digest_of in
     let s : Setup = setup_of (digest c.args.hash) c.args.run c.args.contracts.items in
     let left = c.in-Ok.world in
-    subst (λ (p : Printed). IfOk c.left_reply-reply.result (λ reply. printed reply ≡ p))
+    subst (λ (p : Printed). IfOk c.left_reply.result (λ reply. printed reply ≡ p))
     (ap (λ (t : Setup). run_answer play_text t c.args.run.events) c.in-Ok.ensures.left.setup)
-    c.left_reply-reply.ensures
+    c.left_reply.ensures

@@ -11,20 +11,20 @@ use Rattle.bitml_reply.proofs.play.whole_reply.Goals as goal
 pub whole_ending-requires : goal.whole_ending-requires
 whole_ending-requires g c =
     let digest = g.H.Hash32.digest_of in
-    let w = c.args.world.now in
+    let w = c.args.world in
     last_is_numbered digest (setup_in digest w) (events_of w.trace) w None c.requires c.in_ok-made.made.last c.in_ok-made.ensures.last
 
 pub shown_reply-requires-clause-each : goal.shown_reply-requires-clause-each
 shown_reply-requires-clause-each g c =
     let digest = g.H.Hash32.digest_of in
-    let w = c.args.world.now in
+    let w = c.args.world in
     ap length c.as_slice.ensures
     ∙ steps_for_each digest (setup_in digest w) (events_of w.trace) w None c.requires c.in_ok-made.made.steps c.in_ok-made.ensures.steps
 
 pub returns : goal.returns
 returns g c =
     let digest = g.H.Hash32.digest_of in
-    let w = c.args.world.now in
+    let w = c.args.world in
     let s = setup_in digest w in
     let es = events_of w.trace in
     let made = c.in_ok-made.made in

@@ -5,7 +5,6 @@ ghost use Rattle.std.specs.Str.{bytes_eq};
 ghost use Rattle.spec_run.specs.Setup.{held_among};
 ghost use Rattle.spec_run.specs.Committing as committing;
 
-use bm_hash::end_apart;
 use spec_data::Name;
 use spec_run::HeldSecret;
 
@@ -21,14 +20,11 @@ pub fn is_secret_long(bytes: &[u8]) -> bool
     LEAST_BYTES <= bytes.len() && bytes.len() <= MOST_BYTES
 }
 
-// Whether it is the party's secret of this name. Of many secrets most names end otherwise.
+// Whether it is the party's secret of this name. Of many secrets few have the name, and most are the party's.
 fn is_held(held: &HeldSecret, party: &Name, name: &Name) -> bool
     ensures { result ≡ (bytes_eq held.now.party party.now && bytes_eq held.now.name name.now) }
 {
-    if end_apart(held.name.bytes(), name.bytes()) {
-        return false;
-    }
-    held.party == *party && held.name == *name
+    held.name == *name && held.party == *party
 }
 
 /// The party's secret of this name among these.

@@ -10,7 +10,7 @@ mod pieces;
 mod strings;
 
 pub use hashing::{Hash32, Sha, Toy, Twin, hashes_bytes};
-pub use marks::{end_apart, mark_of};
+pub use marks::mark_of;
 pub use messages::{Trail, TrailError};
 pub use pieces::Pieces;
 pub use spec_data::{Bytes, OutOfMemory};

@@ -1,7 +1,6 @@
 //! The marks of byte strings: numbers that nearly always tell them apart.
 
-ghost use Rattle.std.specs.Prelude.{◌≡◌, true, false};
-ghost use Rattle.std.specs.Str.{bytes_eq};
+ghost use Rattle.std.specs.Prelude.{◌≡◌};
 ghost use Rattle.bm_hash.specs.Marks as spec;
 
 // A number mixed into a mark, as XXH64 does it: a product spreads bits upwards alone, so the turn between the two brings the highest down.
@@ -28,11 +27,4 @@ pub fn mark_of(bytes: &[u8]) -> u64
         mark = mixed(mark, u64::from(*byte));
     }
     mark
-}
-
-/// Whether two byte strings differ in their length or in their last byte: most that differ are told apart so.
-pub fn end_apart(one: &[u8], other: &[u8]) -> bool
-    ensures { result ≡ true → bytes_eq one.now other.now ≡ false }
-{
-    one.len() != other.len() || one.last() != other.last()
 }

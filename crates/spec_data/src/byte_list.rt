@@ -1,6 +1,7 @@
 //! A byte string that owns its memory.
 
-ghost use Rattle.std.specs.Prelude.{◌≡◌, ◌≤◌, List, ℕ, IfOk, length};
+ghost use Rattle.std.specs.Str.{bytes_eq};
+ghost use Rattle.std.specs.Prelude.{◌≡◌, true, false, ◌≤◌, List, ℕ, IfOk, length};
 ghost use Rattle.spec_data.specs.ByteList.{bytes_in};
 
 use std::alloc::{AllocError, Global};
@@ -8,6 +9,14 @@ use std::marker::Model;
 
 /// Want of memory.
 pub type OutOfMemory = AllocError;
+
+/// Whether two byte strings differ in their length or in their last byte: most that differ are told apart so.
+#[inline(always)]
+pub fn end_apart(one: &[u8], other: &[u8]) -> bool
+    ensures { result ≡ true → bytes_eq one.now other.now ≡ false }
+{
+    one.len() != other.len() || one.last() != other.last()
+}
 
 // Up to so many bytes stand in place. The script of a deposit has 34, the one that it pays to 35, a digest 32.
 const PLACE: usize = 38;

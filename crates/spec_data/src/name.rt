@@ -5,6 +5,7 @@ ghost use Rattle.std.specs.Cmp.{partial_equiv_from_equiv};
 ghost use Rattle.std.specs.Cmp.Lexicographic.{nat_list_eq_equiv};
 ghost use Rattle.std.specs.Prelude.{◌≡◌, ℕ, ◌<◌, ◌≤◌, ◌↔◌, List, length, IfSome, IfNone, IsSome, IsTrue};
 
+use crate::byte_list::end_apart;
 use std::marker::Model;
 
 /// A name of 1 to 32 bytes.
@@ -39,7 +40,7 @@ impl PartialEq for Name {
     ghost laws = { partial_equiv_from_equiv nat_list_eq_equiv };
 
     fn eq(&self, other: &Name) -> bool {
-        self.bytes() == other.bytes()
+        !end_apart(self.bytes(), other.bytes()) && self.bytes() == other.bytes()
     }
 }
 

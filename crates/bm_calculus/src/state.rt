@@ -155,7 +155,7 @@ impl State {
                 self.alloc,
                 &self.deposits,
                 party,
-                action,
+                action.value(),
             ),
             Step::Move { action } => move_fails(
                 self.alloc,
@@ -205,7 +205,7 @@ impl State {
                 self.time += *blocks;
                 Ok(())
             }
-            Step::AuthMove { party, action } => self.agree(party, action),
+            Step::AuthMove { party, action } => self.agree(party, action.value()),
             Step::Move { action } => self.make(action),
             Step::Advertise { contract, bindings } => self.advertise(*contract, bindings),
             Step::Commit {

@@ -30,7 +30,7 @@ impl Drop for Purpose {
 
 /// A transaction that is accepted, the numbers of what it spends, and what it is to the contracts.
 pub struct Appending {
-    pub tx: Tx,
+    pub tx: Boxed<Tx>,
     pub txid: [u8; 32],
     pub spent: Seq<u32>,
     pub purpose: Purpose,
@@ -49,7 +49,7 @@ impl Drop for Appending {
 
 impl Appending {
     // The transaction, taken out.
-    fn into_tx(self) -> Tx
+    fn into_tx(self) -> Boxed<Tx>
         ensures { result ≡ self.tx }
     {
         let Appending {
@@ -106,7 +106,7 @@ impl Drop for Change {
 
 impl Change {
     // The transaction that is appended, if one is, taken out.
-    fn into_tx(self) -> Option<Tx>
+    fn into_tx(self) -> Option<Boxed<Tx>>
         ensures { result ≡ tx_in self }
     {
         match self {
@@ -166,7 +166,7 @@ impl Drafted {
     }
 
     /// What a record keeps of it, taken out: the outcome, and the transaction, if one is appended.
-    pub fn into_kept(self) -> (Outcome, Option<Tx>)
+    pub fn into_kept(self) -> (Outcome, Option<Boxed<Tx>>)
         ensures outcome { result.0 ≡ self.outcome }
         ensures tx { result.1 ≡ tx_in self.change }
     {

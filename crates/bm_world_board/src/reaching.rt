@@ -103,7 +103,7 @@ fn draft_accepted(
         lock: tx.lock,
     };
     let appending = Appending {
-        tx,
+        tx: Boxed::new(alloc, tx)?,
         txid,
         spent,
         purpose,

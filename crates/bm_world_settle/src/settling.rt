@@ -1,6 +1,6 @@
 //! What was drafted is made: memory is taken first, and what can't be taken back comes last.
 
-ghost use Rattle.std.specs.Prelude.{◌≡◌, ◌<◌, ◌++◌, ◌∷◌, [], ℕ, List, length, take, IfOk, OnOk, OnErr};
+ghost use Rattle.std.specs.Prelude.{◌≡◌, ◌<◌, ◌++◌, ◌∷◌, [], ℕ, List, length, take, Some, IfOk, OnOk, OnErr};
 ghost use Rattle.bm_world_board.specs.declared.drafted.Change.TheVariants.{Append};
 ghost use Rattle.bm_world_board.specs.Drafts.{world_of, changed, tx_in, with_begun};
 ghost use Rattle.bm_world_settle.specs.Settling.{CanAppend, IsMakeable, Grows, Makes, bare, recorded};
@@ -16,13 +16,13 @@ use std::alloc::Global;
 use std::mem;
 
 // Puts a transaction into the last record; it takes no memory.
-fn put_tx(alloc: Global, trace: &mut Seq<Record>, tx: Option<Tx>)
+fn put_tx(alloc: Global, trace: &mut Seq<Record>, tx: Boxed<Tx>)
     requires { 0 < length trace.old }
-    ensures { (front : List Entry) (r : Entry) → trace.old ≡ front ++ r ∷ [] → trace.new ≡ front ++ record r { tx = tx } ∷ [] }
+    ensures { (front : List Entry) (r : Entry) → trace.old ≡ front ++ r ∷ [] → trace.new ≡ front ++ record r { tx = Some tx } ∷ [] }
 {
     let mut all = mem::replace(trace, Seq::new(alloc)).into_vec();
     let last = all.len() - 1;
-    all[last].tx = tx;
+    all[last].tx = Some(tx);
     *trace = Seq::of(all);
 }
 
@@ -63,7 +63,7 @@ fn append(board: &mut Board, appending: &Appending) -> Result<(), OutOfMemory>
     }
     if let Err(error) = board.coins.append(
         &appending.txid,
-        &appending.tx,
+        appending.tx.value(),
         appending.spent.as_slice(),
         &purpose.positions,
     ) {
@@ -155,7 +155,9 @@ fn put_drafted(alloc: Global, trace: &mut Seq<Record>, drafted: Drafted) -> Outc
     ensures trace { (front : List Entry) (event : Happening) → trace.old ≡ front ++ bare event drafted ∷ [] → trace.new ≡ front ++ recorded event drafted ∷ [] }
 {
     let (outcome, tx) = drafted.into_kept();
-    put_tx(alloc, trace, tx);
+    if let Some(tx) = tx {
+        put_tx(alloc, trace, tx);
+    }
     outcome
 }
 

@@ -2,7 +2,7 @@
 
 ghost use Rattle.std.specs.Prelude.{◌≡◌, IfOk};
 
-use spec_data::{Name, OutOfMemory, Seq};
+use spec_data::{Boxed, Name, OutOfMemory, Seq};
 use std::alloc::Global;
 
 /// Who owns a deposit.
@@ -39,7 +39,7 @@ pub enum Step {
     /// A party agrees to a move.
     AuthMove {
         party: Name,
-        action: Move,
+        action: Boxed<Move>,
     },
     /// A move is made.
     Move {
@@ -166,7 +166,7 @@ impl Step {
             Step::Delay { blocks } => Step::Delay { blocks: *blocks },
             Step::AuthMove { party, action } => Step::AuthMove {
                 party: *party,
-                action: action.copy(alloc)?,
+                action: Boxed::new(alloc, action.value().copy(alloc)?)?,
             },
             Step::Move { action } => Step::Move {
                 action: action.copy(alloc)?,

@@ -4,7 +4,7 @@ ghost use Rattle.std.specs.Prelude.{◌≡◌, IfOk};
 
 use crate::event::Event;
 use spec_bitcoin::{Refusal, Tx};
-use spec_data::{Name, OutOfMemory, Seq};
+use spec_data::{Boxed, Name, OutOfMemory, Seq};
 use spec_terms::Path;
 use std::alloc::Global;
 
@@ -24,7 +24,7 @@ pub enum Reason {
     BadSecretLength(Name),
     HashRepeated(Name),
     NotAllCommitted,
-    NotEndorsed(Path, Name),
+    NotEndorsed(Boxed<Path>, Name),
     NotActive,
     NoBranch,
     NotAsked,
@@ -113,7 +113,7 @@ impl Drop for Outcome {
 pub struct Record {
     pub event: Event,
     pub outcome: Outcome,
-    pub tx: Option<Tx>,
+    pub tx: Option<Boxed<Tx>>,
 }
 
 impl Drop for Record {
@@ -146,7 +146,9 @@ impl Reason {
             Reason::BadSecretLength(name) => Reason::BadSecretLength(*name),
             Reason::HashRepeated(name) => Reason::HashRepeated(*name),
             Reason::NotAllCommitted => Reason::NotAllCommitted,
-            Reason::NotEndorsed(path, party) => Reason::NotEndorsed(path.copy(alloc)?, *party),
+            Reason::NotEndorsed(path, party) => {
+                Reason::NotEndorsed(Boxed::new(alloc, path.value().copy(alloc)?)?, *party)
+            }
             Reason::NotActive => Reason::NotActive,
             Reason::NoBranch => Reason::NoBranch,
             Reason::NotAsked => Reason::NotAsked,
@@ -198,11 +200,11 @@ impl Record {
 }
 
 /// An equal transaction, if there is one.
-fn copy_tx(alloc: Global, tx: &Option<Tx>) -> Result<Option<Tx>, OutOfMemory>
+fn copy_tx(alloc: Global, tx: &Option<Boxed<Tx>>) -> Result<Option<Boxed<Tx>>, OutOfMemory>
     ensures { IfOk result (λ new. new ≡ tx.now) }
 {
     match tx {
         None => Ok(None),
-        Some(tx) => Ok(Some(tx.copy(alloc)?)),
+        Some(tx) => Ok(Some(Boxed::new(alloc, tx.value().copy(alloc)?)?)),
     }
 }

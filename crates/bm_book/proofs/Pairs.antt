@@ -1,5 +1,6 @@
 -- A set of entries as a book reads it, with one entry more and with less.
-use Rattle.std.proofs.Common.{◌≡◌, ℕ, zero, suc, List, [], ◌∷◌, ◌++◌, length, take, Bool, true, false, ◌&&◌, ◌||◌, cond, refl, sym, ap, ◌∙◌, arith}
+use Rattle.std.proofs.Common.{◌≡◌, ℕ, zero, suc, List, [], ◌∷◌, ◌++◌, length, take, slice_get, Some, Bool, true, false, ◌&&◌, ◌||◌, cond, refl, sym, ap, ◌∙◌, arith}
+use Rattle.std.proofs.lemmas.Option.{none-some, same_Some}
 use Rattle.std.specs.Prelude.{◌≢◌, ◌==◌}
 use Rattle.std.specs.List.{list_any}
 use Rattle.std.specs.Str.{bytes_eq}
@@ -31,6 +32,17 @@ is_entry-sym k s = ap (λ x. x && bytes_eq k.digest s.digest) (bytes_eq-sym k.ke
 pub is_signed : (entries : List Signed) (k : Signed) → list_any (is_entry k) entries ≡ has_signed (pairs_of entries) k.key k.digest
 is_signed [] k = refl
 is_signed (s ∷ ss) k = ap (λ b. b || list_any (is_entry k) ss) (is_entry-sym k s) ∙ ap (λ b. is_entry s k || b) (is_signed ss k)
+
+-- and so it is where an equal one has a number there
+pub signed_there : (entries : List Signed) (n : ℕ) (known k : Signed) → slice_get entries n ≡ Some known → is_entry known k ≡ true
+    → has_signed (pairs_of entries) k.key k.digest ≡ true
+signed_there [] n known k here same = absurd (none-some known here)
+signed_there (s ∷ ss) zero known k here same = rw (same_Some s known here) (rw same refl)
+signed_there (s ∷ ss) (suc n) known k here same = or_later (is_entry s k) _ (signed_there ss n known k here same)
+  where
+    or_later : (b c : Bool) → c ≡ true → b || c ≡ true
+    or_later true c h = refl
+    or_later false c h = h
 
 -- ---- their pairs
 

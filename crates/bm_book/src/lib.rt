@@ -3,6 +3,7 @@
 
 ghost use Rattle.std.specs.Prelude.{◌≡◌, ◌≤◌, ◌++◌, ◌∷◌, [], OnOk, OnErr, if◌then◌else◌, length, take, true};
 ghost use Rattle.spec_bitcoin.specs.Keys.{has_signed};
+ghost use Rattle.bm_book.specs.Entries.{pairs_of};
 
 mod signed;
 
@@ -23,9 +24,21 @@ fn signed_by(key: &[u8; 33], digest: &[u8; 32]) -> Signed
     }
 }
 
+// Whether the entry of this number is there, and is this one.
+fn stands_at(pairs: &IndexSet<Signed>, number: usize, pair: &Signed) -> bool
+    ensures { result ≡ true → has_signed (pairs_of pairs.now.keys) pair.now.key pair.now.digest ≡ true }
+{
+    match pairs.get_index(number) {
+        Some(known) => *known == *pair,
+        None => false,
+    }
+}
+
 /// The different pairs of key and digest, in order of signing.
 pub struct Book {
     pairs: IndexSet<Signed>,
+    // The number behind that of the pair that was signed last. It only says where a pair is looked for first.
+    next: usize,
 }
 
 impl Model for Book {
@@ -42,7 +55,7 @@ impl Model for Book {
 
 impl Drop for Book {
     fn drop(self) {
-        let Book { pairs: _ } = self;
+        let Book { pairs: _, next: _ } = self;
     }
 }
 
@@ -53,6 +66,7 @@ impl Book {
     {
         Book {
             pairs: IndexSet::new(alloc),
+            next: 0,
         }
     }
 
@@ -81,12 +95,19 @@ impl Book {
         }
     }
 
-    /// Adds a pair at the end, unless it is there.
+    /// Adds a pair at the end, unless it is there. Who signs again what was signed, in the same order, has each pair found behind the
+    /// one before it.
     pub fn sign(&mut self, key: [u8; 33], digest: [u8; 32]) -> Result<(), OutOfMemory>
         ensures ok { OnOk result (self.new ≡ (if has_signed self.old key digest then self.old else self.old ++ (key, digest) ∷ [])) }
         ensures err { OnErr result (self.new ≡ self.old) }
     {
-        self.pairs.insert(signed_by(&key, &digest))?;
+        let pair = signed_by(&key, &digest);
+        if stands_at(&self.pairs, self.next, &pair) {
+            self.next = self.next.wrapping_add(1);
+            return Ok(());
+        }
+        let (number, _) = self.pairs.insert_full(pair)?;
+        self.next = number.wrapping_add(1);
         Ok(())
     }
 

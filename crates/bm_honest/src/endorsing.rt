@@ -15,7 +15,7 @@ ghost use Rattle.bm_honest.specs.Pairs.{person_pairs, owner_pairs, pairs_for, pa
 
 use crate::branches::{first_nodes, next_nodes, seen_at};
 use crate::keys::deposit_key;
-use crate::needs::owner_of;
+use crate::needs::{is_asked, owner_of};
 use bm_arena::{Arena, Node};
 use bm_compile::Compiled;
 use bm_hash::Hash32;
@@ -40,7 +40,7 @@ fn put_person(
     ensures { OnOk result (pairs.new.items ≡ pairs.old.items
         ++ person_pairs asked.now digest.now party.now (person.now ∷ []) (key.now ∷ [])) }
 {
-    if *person == *party && !asked.contains(person) {
+    if *person == *party && !is_asked(asked, person) {
         pairs.push((*key, *digest))?;
     }
     Ok(())
@@ -217,7 +217,7 @@ fn pairs_by_paths<H: Hash32>(
     ensures { IfOk result (λ pairs. pairs.items
         ≡ pairs_of_paths (H.digest_of hash.now) checked.now party.now paths.now table.now) }
 {
-    let mut pairs = Vec::new(alloc);
+    let mut pairs = Vec::with_capacity(alloc, paths.len())?;
     let mut rest = table;
     let mut nodes = first_nodes(checked, arena);
     for (path, made) in paths {

@@ -14,11 +14,19 @@ use spec_data::{Name, OutOfMemory};
 use spec_terms::Pre;
 use std::alloc::Global;
 
+/// Whether the person is one of those whom a branch asks. Most branches ask nobody.
+#[inline(always)]
+pub(crate) fn is_asked(asked: &[Name], person: &Name) -> bool
+    ensures { result ≡ is_among person.now asked.now }
+{
+    !asked.is_empty() && asked.contains(person)
+}
+
 // Whether nothing more is needed of a participant: the branch asks it, or its key of the branch has signed the digest.
 fn is_ready(book: &Book, asked: &[Name], digest: &[u8; 32], person: &Name, key: &[u8; 33]) -> bool
     ensures { result ≡ (is_among person.now asked.now || has_signed book.now key.now digest.now) }
 {
-    if asked.contains(person) {
+    if is_asked(asked, person) {
         return true;
     }
     book.has(key, digest)

@@ -1,5 +1,6 @@
 -- The pairs that code signs for a contract are those of the definitions.
 use Rattle.std.proofs.Common.{◌≡◌, ℕ, List, [], ◌∷◌, Bool, true, false, cond, Option, Some, None, refl, sym, ap, ◌∙◌, subst}
+use Rattle.std.specs.Prelude.{MatchOption, option_to_list}
 use Rattle.std.specs.Option.{option_map, option_and_then}
 use Rattle.std.specs.Str.{bytes_eq}
 use Rattle.spec_terms.specs.Advert.{Advert}
@@ -22,6 +23,12 @@ use Rattle.bm_honest.specs.Gates.{Tells}
 use Rattle.bm_world_sign.specs.Instances.{Shows}
 use Rattle.bm_world_sign.specs.Starting.{pairs_by_key, gate_reason, missed_reason}
 use Rattle.bm_world_sign.specs.Authorising.{first_pair}
+
+-- ---- a pair as a list
+
+pub as_listed : (o : Option Pair) (pairs : List Pair) → MatchOption o (pairs ≡ []) (λ x. pairs ≡ x ∷ []) → pairs ≡ option_to_list o
+as_listed None pairs h = h
+as_listed (Some x) pairs h = h
 
 -- ---- a contract that is shown
 

@@ -1,6 +1,6 @@
 //! Branches of active contracts that ask a party.
 
-ghost use Rattle.std.specs.Prelude.{◌≡◌, ◌++◌, ◌∷◌, [], ℕ, List, None, IfOk, IfSome, option_map};
+ghost use Rattle.std.specs.Prelude.{◌≡◌, ◌++◌, ◌∷◌, [], ℕ, List, None, IfOk, IfSome, option_map, option_to_list};
 ghost use Rattle.bm_hash.specs.Messages.{evidence_of};
 ghost use Rattle.spec_bitcoin.specs.Keys.{key_of};
 ghost use Rattle.spec_compiler.specs.Instance.{branch_label};
@@ -79,61 +79,56 @@ fn key_at<H: Hash32 + Drop>(
 }
 
 // The pair of a key and the first of these digests, if there is one.
-fn first_pair(alloc: Global, key: [u8; 33], digests: &[[u8; 32]]) -> Result<Vec<Pair>, OutOfMemory>
-    ensures { IfOk result (λ pairs. pairs.items ≡ first_pair key digests.now) }
+fn first_pair(key: [u8; 33], digests: &[[u8; 32]]) -> Option<Pair>
+    ensures { option_to_list result ≡ first_pair key digests.now }
 {
-    let mut pairs = Vec::new(alloc);
-    let Some((digest, _)) = digests.split_first() else {
-        return Ok(pairs);
-    };
-    pairs.push((key, *digest))?;
-    Ok(pairs)
+    let (digest, _) = digests.split_first()?;
+    Some((key, *digest))
 }
 
 // The pair of the party's key of the branch at a path, nothing where the contract isn't compiled.
-fn pairs_at<H: Hash32 + Drop>(
+fn pair_at<H: Hash32 + Drop>(
     alloc: Global,
     trail: &Trail<H>,
     board: &Board,
     party: &Name,
     contract: u32,
     path: &Path,
-) -> Result<Vec<Pair>, OutOfMemory>
+) -> Result<Option<Pair>, OutOfMemory>
     requires { AllCompiled (H.digest_of trail.now.hasher) board.now trail.now.messages }
     ensures { let hash = H.digest_of trail.now.hasher in
         let s = setup_of hash board.now in
-        IfOk result (λ pairs. pairs.items ≡ spec.branch_pair s party.now contract path.now
+        IfOk result (λ pair. option_to_list pair ≡ spec.branch_pair s party.now contract path.now
         (spec.prepared_if_compiled s (instance_on hash board.now trail.now.messages contract) path.now)) }
 {
     let Some(made) = transaction_at(board, contract, path) else {
-        return Ok(Vec::new(alloc));
+        return Ok(None);
     };
     let key = key_at(alloc, trail, board, party, contract, path)?;
-    let pairs = first_pair(alloc, key, made.digests.as_slice())?;
-    Ok(pairs)
+    Ok(first_pair(key, made.digests.as_slice()))
 }
 
 // What the party signs to authorise the branch of this number of what the output holds.
-fn pairs_to_authorise<H: Hash32 + Drop>(
+fn pair_to_authorise<H: Hash32 + Drop>(
     alloc: Global,
     trail: &Trail<H>,
     board: &Board,
     party: &Name,
     output: u32,
     branch: u32,
-) -> Result<Vec<Pair>, OutOfMemory>
+) -> Result<Option<Pair>, OutOfMemory>
     requires { AllCompiled (H.digest_of trail.now.hasher) board.now trail.now.messages }
     ensures { let hash = H.digest_of trail.now.hasher in
         let w = world_of board.now trail.now.messages in
-        IfOk result (λ pairs. pairs.items
+        IfOk result (λ pair. option_to_list pair
         ≡ spec.authorising_pairs (setup_of hash board.now) w party.now (live_position_at w output) branch) }
 {
     let Some(held) = board.coins.held_at(output) else {
-        return Ok(Vec::new(alloc));
+        return Ok(None);
     };
     let path = held.path_of(alloc, branch)?;
-    let pairs = pairs_at(alloc, trail, board, party, held.contract(), &path)?;
-    Ok(pairs)
+    let pair = pair_at(alloc, trail, board, party, held.contract(), &path)?;
+    Ok(pair)
 }
 
 /// The draft of `authorise`, whose pair is then in the book; it hashes nothing.
@@ -156,7 +151,7 @@ pub fn draft_authorise<H: Hash32 + Drop>(
     if let Some(reason) = authorise_refusal(board, party, output, branch) {
         return Ok(Drafted::refused(alloc, reason));
     }
-    let pairs = pairs_to_authorise(alloc, trail, board, party, output, branch)?;
-    let drafted = draft_pairs(alloc, board, &pairs)?;
+    let pair = pair_to_authorise(alloc, trail, board, party, output, branch)?;
+    let drafted = draft_pairs(alloc, board, pair.as_slice())?;
     Ok(drafted)
 }

@@ -16,18 +16,18 @@ use bm_hash::{Hash32, Trail};
 use bm_honest::{Gate, Pair, deposit_key, may};
 use bm_wellformed::Checked;
 use bm_world_board::{Board, Drafted};
-use spec_data::{Name, OutOfMemory};
+use spec_data::{Boxed, Name, OutOfMemory};
 use spec_run::Reason;
 use spec_terms::Pre;
 use std::alloc::Global;
 
 // A gate that is shut as a reason.
-fn gate_reason(gate: Gate) -> Option<Reason>
-    ensures { result ≡ starting.gate_reason gate }
+fn gate_reason(alloc: Global, gate: Gate) -> Result<Option<Reason>, OutOfMemory>
+    ensures { IfOk result (λ reason. reason ≡ starting.gate_reason gate) }
 {
     match gate {
-        Gate::Yes => None,
-        Gate::No { path, party } => Some(Reason::NotEndorsed(path, party)),
+        Gate::Yes => Ok(None),
+        Gate::No { path, party } => Ok(Some(Reason::NotEndorsed(Boxed::new(alloc, path)?, party))),
     }
 }
 
@@ -55,7 +55,8 @@ fn missing<H: Hash32 + Drop>(
         compiled,
         &board.book,
     )?;
-    Ok(gate_reason(gate))
+    let first = gate_reason(alloc, gate)?;
+    Ok(first)
 }
 
 // Why it is refused, if it is.

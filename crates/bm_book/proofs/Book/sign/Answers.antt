@@ -8,6 +8,6 @@ pub returns-clause-ok : goal.returns-clause-ok
 returns-clause-ok c =
     let before = c.self.inside.pairs.keys in
     rw (← c.self.view_is) (
-    ap pairs_of c.in_ok-insert.ensures.keys
-    ∙ pairs_of-insert before c.signed_by.result
-    ∙ ap (λ s. if has_signed (pairs_of before) s.key s.digest then pairs_of before else pairs_of before ++ (s.key, s.digest) ∷ []) c.signed_by.ensures.signed)
+    ap pairs_of c.in_ok-number.ensures.keys
+    ∙ pairs_of-insert before c.signed_by-pair.result
+    ∙ ap (λ s. if has_signed (pairs_of before) s.key s.digest then pairs_of before else pairs_of before ++ (s.key, s.digest) ∷ []) c.signed_by-pair.ensures.signed)

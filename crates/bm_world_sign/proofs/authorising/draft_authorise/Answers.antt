@@ -1,6 +1,7 @@
 use Rattle.std.proofs.Common.{[], sym, ◌∙◌}
 use Rattle.bm_world_board.specs.Drafts.{world_of}
 use Rattle.bm_world_board.proofs.Refusals.{drafts_refused, drafts_passed}
+use Rattle.bm_world_sign.proofs.Signed.{as_listed}
 use Rattle.bm_world_sign.proofs.authorising.draft_authorise.Goals as goal
 
 pub returns-in-Some-clause-ok : goal.returns-in-Some-clause-ok
@@ -16,4 +17,4 @@ returns-clause-ok g c =
     let messages = c.args.trail.now.messages in
     drafts_passed hash _ (world_of c.args.board.now messages) messages messages _ [] _ _
     (sym (c.authorise_refusal.ensures hash messages) ∙ c.in_default.is)
-    (rw (c.deref.ensures.value, c.in_ok-pairs.ensures) at (c.in_ok-drafted.ensures.ok hash messages c.requires.clear))
+    (rw (as_listed c.in_ok-pair.pair c.as_slice.result.now c.as_slice.ensures, c.in_ok-pair.ensures) at (c.in_ok-drafted.ensures.ok hash messages c.requires.clear))

@@ -32,6 +32,6 @@ returns g c =
     let s = setup_of hash c.args.board.now in
     let w = world_of c.args.board.now messages in
     let o = instance_on hash c.args.board.now messages c.args.contract in
-    c.gate_reason.ensures
+    c.in_ok-first.ensures
     ∙ missed_shown s c.args.contract w o c.in-Some.checked.now c.in-Some.compiled.now c.in_ok-gate.gate
     (c.in-Some.ensures hash messages c.requires) (rw c.hasher.ensures at c.in_ok-gate.ensures.tells)

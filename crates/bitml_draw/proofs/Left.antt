@@ -19,10 +19,10 @@ use Rattle.bitml_play.specs.Whole.{IsLeft}
 use Rattle.bm_report.specs.Entries.{entries_by}
 use Rattle.bitml_reply.proofs.Left.{shown_are}
 
--- entries by records and steps that are these
-pub entries_same : (shown made : List Entry) (records these : List Record) (steps those : List (List Step)) → shown ≡ made → made ≡ entries_by records steps
-    → records ≡ these → steps ≡ those → shown ≡ entries_by these those
-entries_same shown made records these steps those e f r t = e ∙ f ∙ (λ i. entries_by (r i) (t i))
+-- entries by records that are these
+pub entries_same : (shown made : List Entry) (records these : List Record) (steps : List (List Step)) → shown ≡ made → made ≡ entries_by records steps
+    → records ≡ these → shown ≡ entries_by these steps
+entries_same shown made records these steps e f r = e ∙ f ∙ (λ i. entries_by (r i) steps)
 
 module _ {H : Type 0} (digest : H → List ℕ → List ℕ) (s : Setup) (es : List Event) (left : world.Played H) where
   -- the picture of its entries and its end is what is answered

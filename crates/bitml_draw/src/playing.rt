@@ -88,7 +88,7 @@ fn left_reply<H: Hash32 + Drop>(
     ensures { IfOk result (λ reply. printed reply ≡ run_answer (spec.draw_text title.now) (setup_in H.digest_of world.now) events.now) }
 {
     let made = translate(alloc, world)?;
-    let entries = entries_by(alloc, world.trace(), made.steps.as_slice())?;
+    let entries = entries_by(alloc, world.trace(), &made.steps)?;
     let end = ending_by(alloc, world, events, made.last, stop)?;
     let last = last_of(end);
     picture_reply(alloc, title, contract, &entries, &last)

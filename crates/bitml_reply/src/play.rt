@@ -22,11 +22,12 @@ use bitml_play::play;
 use bitml_shows::{report_reply, whole_ending};
 use bm_hash::Hash32;
 use bm_report::Ending;
+use bm_rows::Rows;
 use bm_translate_course::translate;
 use bm_wellformed::Checked;
 use bm_world::{Halt, World};
 use spec_calculus::Step;
-use spec_data::{OutOfMemory, Seq};
+use spec_data::OutOfMemory;
 use spec_run::Run;
 use std::alloc::Global;
 
@@ -34,7 +35,7 @@ use std::alloc::Global;
 fn shown_reply<H: Hash32 + Drop>(
     alloc: Global,
     world: World<H>,
-    steps: &[Seq<Step>],
+    steps: &Rows<Step>,
     end: &Ending,
 ) -> Result<Reply, OutOfMemory>
     requires each { length steps.now ≡ length world.trace }
@@ -56,7 +57,7 @@ fn whole_reply<H: Hash32 + Drop>(alloc: Global, world: World<H>) -> Result<Reply
 {
     let made = translate(alloc, &world)?;
     let end = whole_ending(alloc, world.ledger(), made.last)?;
-    shown_reply(alloc, world, made.steps.as_slice(), &end)
+    shown_reply(alloc, world, &made.steps, &end)
 }
 
 // What is replied to a run that left this world, whose event of this number was halted. That event alone is kept of it.
@@ -74,7 +75,7 @@ fn halted_reply<H: Hash32 + Drop>(
     let end = halted_ending(alloc, &events[number], halt)?;
     drop(run);
     let made = translate(alloc, &world)?;
-    shown_reply(alloc, world, made.steps.as_slice(), &end)
+    shown_reply(alloc, world, &made.steps, &end)
 }
 
 // What is replied to a run that left this world. It is let go before its steps are made.

@@ -3,8 +3,9 @@
 ghost use Rattle.std.specs.Prelude.{◌≡◌, length, IfOk};
 ghost use Rattle.bm_report.specs.Entries.{entry_by, entries_by};
 
+use bm_rows::Rows;
 use spec_calculus::Step;
-use spec_data::{OutOfMemory, Seq};
+use spec_data::OutOfMemory;
 use spec_run::Record;
 use spec_text::Entry;
 use spec_text::entry::copy_steps;
@@ -24,14 +25,14 @@ fn entry_by(alloc: Global, record: &Record, steps: &[Step]) -> Result<Entry, Out
 pub fn entries_by(
     alloc: Global,
     records: &[Record],
-    steps: &[Seq<Step>],
+    steps: &Rows<Step>,
 ) -> Result<Vec<Entry>, OutOfMemory>
     requires { length steps.now ≡ length records.now }
     ensures { IfOk result (λ entries. entries.items ≡ entries_by records.now steps.now) }
 {
     let mut entries = Vec::new(alloc);
     for (number, record) in records.iter().enumerate() {
-        entries.push(entry_by(alloc, record, steps[number].as_slice())?)?;
+        entries.push(entry_by(alloc, record, steps.row(number))?)?;
     }
     Ok(entries)
 }

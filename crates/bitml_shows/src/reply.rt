@@ -9,8 +9,9 @@ ghost use Rattle.bm_report.specs.Entries.{entries_by};
 
 use bitml_command::Reply;
 use bm_report::{Ending, report};
+use bm_rows::Rows;
 use spec_calculus::Step;
-use spec_data::{Bytes, OutOfMemory, Seq};
+use spec_data::{Bytes, OutOfMemory};
 use spec_run::{Header, Record};
 use std::alloc::Global;
 
@@ -30,7 +31,7 @@ pub fn report_reply(
     alloc: Global,
     header: &Header,
     records: &[Record],
-    steps: &[Seq<Step>],
+    steps: &Rows<Step>,
     ending: &Ending,
 ) -> Result<Reply, OutOfMemory>
     requires each { length steps.now ≡ length records.now }

@@ -7,11 +7,13 @@ ghost use Rattle.spec_text.specs.PlayText as spec;
 ghost use Rattle.bm_report.specs.Entries.{entry_by, entries_by};
 
 use crate::outcome::put_outcome;
+use crate::piece::put_byte;
 use crate::step::put_steps;
+use bm_rows::Rows;
 use bm_runfile::{Event, put_event};
 use bm_text::{put, put_decimal};
 use spec_calculus::Step;
-use spec_data::{Name, OutOfMemory, Seq};
+use spec_data::{Name, OutOfMemory};
 use spec_run::Record;
 use std::alloc::Global;
 
@@ -69,9 +71,9 @@ pub(crate) fn put_event_line(
 {
     put(out, b"event ")?;
     put_decimal(alloc, out, number)?;
-    put(out, b" ")?;
+    put_byte(out, b' ')?;
     put_event(alloc, out, event)?;
-    put(out, b"\n")
+    put_byte(out, b'\n')
 }
 
 #[tactic(auto, using(std::proofs::Common::append_assoc))]
@@ -86,7 +88,7 @@ fn put_entry(
 {
     put_event_line(alloc, out, number, &record.event)?;
     put_outcome(alloc, out, &record.outcome)?;
-    put(out, b"\n")?;
+    put_byte(out, b'\n')?;
     put_steps(alloc, out, &record.outcome, steps)
 }
 
@@ -96,14 +98,14 @@ pub(crate) fn put_entries(
     alloc: Global,
     out: &mut Vec<u8>,
     records: &[Record],
-    steps: &[Seq<Step>],
+    steps: &Rows<Step>,
 ) -> Result<(), OutOfMemory>
     requires { length steps.now ≡ length records.now }
     ensures { OnOk result (out.new.items ≡ out.old.items ++ spec.entries_text 1 (entries_by records.now steps.now)) }
 {
     let mut number = 1u64;
     for (place, record) in records.iter().enumerate() {
-        put_entry(alloc, out, number, record, steps[place].as_slice())?;
+        put_entry(alloc, out, number, record, steps.row(place))?;
         number += 1;
     }
     Ok(())

@@ -7,9 +7,10 @@ ghost use Rattle.spec_text.specs.PlayText.{guessed, collided};
 
 use crate::entries::{put_entries, put_event_line, put_start};
 use crate::last::{put_collided, put_guessed};
+use bm_rows::Rows;
 use bm_runfile::{Event, Header};
 use spec_calculus::Step;
-use spec_data::{Name, OutOfMemory, Seq};
+use spec_data::{Name, OutOfMemory};
 use spec_run::Record;
 use std::alloc::Global;
 
@@ -18,7 +19,7 @@ fn put_next_line(
     alloc: Global,
     out: &mut Vec<u8>,
     records: &[Record],
-    steps: &[Seq<Step>],
+    steps: &Rows<Step>,
     event: &Event,
 ) -> Result<(), OutOfMemory>
     requires { length steps.now ≡ length records.now }
@@ -35,7 +36,7 @@ fn put_up_to(
     out: &mut Vec<u8>,
     deposits: &[(Name, u64)],
     records: &[Record],
-    steps: &[Seq<Step>],
+    steps: &Rows<Step>,
     event: &Event,
 ) -> Result<(), OutOfMemory>
     requires { length steps.now ≡ length records.now }
@@ -54,7 +55,7 @@ pub(crate) fn guessed_text(
     alloc: Global,
     header: &Header,
     records: &[Record],
-    steps: &[Seq<Step>],
+    steps: &Rows<Step>,
     event: &Event,
     party: &Name,
     secret: &Name,
@@ -82,7 +83,7 @@ pub(crate) fn collided_text(
     alloc: Global,
     header: &Header,
     records: &[Record],
-    steps: &[Seq<Step>],
+    steps: &Rows<Step>,
     event: &Event,
     earlier: &[u8],
     later: &[u8],

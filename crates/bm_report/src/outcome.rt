@@ -67,7 +67,9 @@ pub fn put_reason(alloc: Global, out: &mut Vec<u8>, reason: &Reason) -> Result<(
         Reason::BadSecretLength(name) => put_name(out, b"BadSecretLength", name),
         Reason::HashRepeated(name) => put_name(out, b"HashRepeated", name),
         Reason::NotAllCommitted => put(out, b"NotAllCommitted"),
-        Reason::NotEndorsed(path, party) => put_not_endorsed(alloc, out, path.steps(), party),
+        Reason::NotEndorsed(path, party) => {
+            put_not_endorsed(alloc, out, path.value().steps(), party)
+        },
         Reason::NotActive => put(out, b"NotActive"),
         Reason::NoBranch => put(out, b"NoBranch"),
         Reason::NotAsked => put(out, b"NotAsked"),

@@ -1,6 +1,6 @@
 //! Pieces of text that several lines have.
 
-ghost use Rattle.std.specs.Prelude.{◌≡◌, ◌++◌, codes, OnOk};
+ghost use Rattle.std.specs.Prelude.{◌≡◌, ◌++◌, ◌∷◌, [], codes, OnOk};
 ghost use Rattle.std.specs.Fmt.{decimal};
 ghost use Rattle.spec_text.specs.RunText as spec;
 
@@ -23,4 +23,13 @@ pub(crate) fn put_made(
     put_output(alloc, out, number)?;
     put(out, b" ")?;
     put_decimal(alloc, out, value)
+}
+
+/// One byte at the end of what is there: a space, or the end of a line.
+#[inline(always)]
+pub(crate) fn put_byte(out: &mut Vec<u8>, byte: u8) -> Result<(), OutOfMemory>
+    ensures { OnOk result (out.new.items ≡ out.old.items ++ byte ∷ []) }
+{
+    out.push(byte)?;
+    Ok(())
 }

@@ -8,9 +8,10 @@ ghost use Rattle.bm_report.specs.Endings.{ending_of, IsNumbered};
 use crate::ending::Ending;
 use crate::halted::{collided_opening_text, collided_text, guessed_text};
 use crate::whole::whole_text;
+use bm_rows::Rows;
 use bm_runfile::{Event, Header};
 use spec_calculus::Step;
-use spec_data::{OutOfMemory, Seq};
+use spec_data::OutOfMemory;
 use spec_run::Record;
 use std::alloc::Global;
 
@@ -19,7 +20,7 @@ fn collision_text(
     alloc: Global,
     header: &Header,
     records: &[Record],
-    steps: &[Seq<Step>],
+    steps: &Rows<Step>,
     event: &Option<Event>,
     first: &[u8],
     second: &[u8],
@@ -40,7 +41,7 @@ pub fn report(
     alloc: Global,
     header: &Header,
     records: &[Record],
-    steps: &[Seq<Step>],
+    steps: &Rows<Step>,
     ending: &Ending,
 ) -> Result<Vec<u8>, OutOfMemory>
     requires each { length steps.now ≡ length records.now }

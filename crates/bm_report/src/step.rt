@@ -5,6 +5,7 @@ ghost use Rattle.std.specs.Fmt.{decimal};
 ghost use Rattle.spec_text.specs.RunText.{outputs_text, contract_party_text};
 ghost use Rattle.spec_text.specs.StepText as spec;
 
+use crate::piece::put_byte;
 use bm_runfile::{
     put_advertise, put_branch, put_contract_party, put_named, put_outputs, put_party_name,
     put_share, put_spaced_output, put_word_name, put_word_number,
@@ -245,7 +246,7 @@ fn put_step(
 {
     put(out, b"step ")?;
     put_step_words(alloc, out, made, step)?;
-    put(out, b"\n")
+    put_byte(out, b'\n')
 }
 
 fn put_all_steps(

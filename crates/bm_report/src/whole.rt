@@ -11,9 +11,10 @@ use crate::entries::{put_entries, put_start};
 use crate::last::{put_moment, put_offers, put_tip};
 use crate::secrets::put_all_secrets;
 use bm_calculus::Config;
+use bm_rows::Rows;
 use bm_runfile::{Event, Header};
 use spec_calculus::Step;
-use spec_data::{OutOfMemory, Seq};
+use spec_data::OutOfMemory;
 use spec_run::Record;
 use std::alloc::Global;
 
@@ -59,7 +60,7 @@ pub(crate) fn whole_text(
     alloc: Global,
     header: &Header,
     records: &[Record],
-    steps: &[Seq<Step>],
+    steps: &Rows<Step>,
     tip: u32,
     live: &[(u32, u64)],
     config: &Config,

@@ -217,7 +217,14 @@ pub fn event_steps<H: Hash32 + Drop>(
         (Outcome::Accepted { spent, .. }, Some(tx)) => {
             let spent = spent.as_slice();
             let accepted = accepted_steps(
-                alloc, trail, board, running, shown, recorded, tx, spent,
+                alloc,
+                trail,
+                board,
+                running,
+                shown,
+                recorded,
+                tx.value(),
+                spent,
             )?;
             Ok(accepted)
         }

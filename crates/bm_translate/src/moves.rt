@@ -15,7 +15,7 @@ use bm_calculus::Config;
 use bm_world_board::{Account, owner_of_script};
 use spec_bitcoin::{Tx, TxOut};
 use spec_calculus::{Move, Owner, Step};
-use spec_data::{Name, OutOfMemory, Seq};
+use spec_data::{Boxed, Name, OutOfMemory, Seq};
 use std::alloc::Global;
 
 // The outputs as those of a move.
@@ -101,7 +101,7 @@ fn agreements(alloc: Global, action: &Move, parties: &[Name]) -> Result<Vec<Step
 {
     let mut agreed = Vec::with_capacity(alloc, parties.len().saturating_add(1))?;
     for party in parties {
-        let action = action.copy(alloc)?;
+        let action = Boxed::new(alloc, action.copy(alloc)?)?;
         agreed.push(Step::AuthMove {
             party: *party,
             action,

@@ -9,7 +9,7 @@ use crate::strings_shown::Shown;
 use crate::watching::Secrets;
 use bm_exchange::held_secret;
 use spec_bitcoin::{Tx, TxIn};
-use spec_data::{Bytes, Name, OutOfMemory};
+use spec_data::{Boxed, Bytes, Name, OutOfMemory};
 use spec_run::{Event, HeldSecret, Outcome, Record};
 use std::alloc::Global;
 
@@ -61,12 +61,12 @@ fn put_inputs<'a>(
 fn put_tx<'a>(
     shown: &mut Shown<'a>,
     secrets: &Secrets,
-    tx: &'a Option<Tx>,
+    tx: &'a Option<Boxed<Tx>>,
 ) -> Result<(), OutOfMemory>
     ensures { OnOk result (shown.new ≡ shown.old ++ spec.told_of secrets.now (spec.tx_posts tx.now)) }
 {
     match tx {
-        Some(tx) => put_inputs(shown, secrets, tx.inputs.as_slice()),
+        Some(tx) => put_inputs(shown, secrets, tx.value().inputs.as_slice()),
         None => Ok(()),
     }
 }

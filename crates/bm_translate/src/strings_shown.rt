@@ -1,6 +1,6 @@
 //! Strings that are shown.
 
-ghost use Rattle.std.specs.Prelude.{◌≡◌, ◌++◌, ◌∷◌, [], ◌==◌, length, map, OnOk};
+ghost use Rattle.std.specs.Prelude.{◌≡◌, ◌++◌, ◌∷◌, [], ◌==◌, length, map, option_map, OnOk};
 ghost use Rattle.spec_data.specs.Lists.{is_among};
 ghost use Rattle.bm_translate.specs.Shown.{behind};
 
@@ -17,16 +17,16 @@ const FEW: usize = 16;
 pub struct Shown<'a> {
     alloc: Global,
     few: Vec<&'a [u8]>,
-    more: Option<Strings>,
+    more: Option<Box<Strings>>,
 }
 
 impl<'a> Model for Shown<'a> {
-    ghost use Rattle.std.specs.Prelude.{List, ℕ, ◌++◌, map};
+    ghost use Rattle.std.specs.Prelude.{List, ℕ, ◌++◌, map, option_map};
     ghost use Rattle.bm_translate.specs.Shown.{behind};
 
     ghost Value = { List (List ℕ) };
 
-    ghost view = { λ s. map (λ b. b.now) s.few.items ++ behind s.more };
+    ghost view = { λ s. map (λ b. b.now) s.few.items ++ behind (option_map (λ b. b.value) s.more) };
 }
 
 impl<'a> Drop for Shown<'a> {
@@ -48,15 +48,19 @@ fn add_lent<'a>(few: &mut Vec<&'a [u8]>, string: &'a [u8]) -> Result<(), OutOfMe
 }
 
 // Adds a string to those of an index, which is made for the first.
-fn add_copied(alloc: Global, more: &mut Option<Strings>, string: &[u8]) -> Result<(), OutOfMemory>
-    ensures { OnOk result (behind more.new ≡ behind more.old ++ string.now ∷ []) }
+fn add_copied(
+    alloc: Global,
+    more: &mut Option<Box<Strings>>,
+    string: &[u8],
+) -> Result<(), OutOfMemory>
+    ensures { OnOk result (behind (option_map (λ b. b.value) more.new) ≡ behind (option_map (λ b. b.value) more.old) ++ string.now ∷ []) }
 {
     match more {
         Some(strings) => strings.add(string),
         None => {
             let mut strings = Strings::new(alloc);
             strings.add(string)?;
-            *more = Some(strings);
+            *more = Some(Box::new(alloc, strings)?);
             Ok(())
         }
     }
@@ -75,8 +79,8 @@ fn is_lent(few: &[&[u8]], string: &[u8]) -> bool
 }
 
 // Whether the string is in the index, where there is one.
-fn is_copied(more: &Option<Strings>, string: &[u8]) -> bool
-    ensures { result ≡ is_among string.now (behind more.now) }
+fn is_copied(more: &Option<Box<Strings>>, string: &[u8]) -> bool
+    ensures { result ≡ is_among string.now (behind (option_map (λ b. b.value) more.now)) }
 {
     match more {
         Some(strings) => strings.has(string),
@@ -85,8 +89,8 @@ fn is_copied(more: &Option<Strings>, string: &[u8]) -> bool
 }
 
 // How many strings the index has, where there is one.
-fn copied_count(more: &Option<Strings>) -> usize
-    ensures { result ≡ length (behind more.now) }
+fn copied_count(more: &Option<Box<Strings>>) -> usize
+    ensures { result ≡ length (behind (option_map (λ b. b.value) more.now)) }
 {
     match more {
         Some(strings) => strings.count(),

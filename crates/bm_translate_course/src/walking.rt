@@ -15,6 +15,7 @@ ghost use Rattle.bm_translate_course.specs.Courses.{IsPlayed, IsNext, events_of,
 use crate::taking::take_steps;
 use bm_calculus::Config;
 use bm_hash::{Hash32, Trail};
+use bm_rows::Rows;
 use bm_translate::{Running, Secrets, event_steps, posted_by};
 use bm_wellformed::Checked;
 use bm_world_board::Board;
@@ -27,7 +28,7 @@ use theory_run::{licence_theorem, simulation_theorem};
 /// A run in the calculus: the steps of each event of the trace, and the last configuration.
 #[derive(Drop)]
 pub struct Translation {
-    pub steps: Seq<Seq<Step>>,
+    pub steps: Rows<Step>,
     pub last: Config,
 }
 
@@ -101,7 +102,7 @@ fn walk<H: Hash32 + Drop>(
     board: &Board,
     running: &mut Running,
     trace: &[Record],
-) -> Result<Seq<Seq<Step>>, OutOfMemory>
+) -> Result<Rows<Step>, OutOfMemory>
     requires few { length board.now.compiled < 2 ^ 32 }
     requires run { IsPlayed (setup_of (H.digest_of trail.now.hasher) board.now) board.now trail.now.messages trace.now }
     requires room { length board.now.coins.outputs < 2 ^ 32 }
@@ -110,9 +111,10 @@ fn walk<H: Hash32 + Drop>(
     ensures last { IfOk result (λ _. running.new.config
         ≡ run.last_configuration (setup_of (H.digest_of trail.now.hasher) board.now) (events_of trace.now)) }
 {
-    let mut all = Seq::new(alloc);
+    let mut all = Rows::new(alloc);
     for recorded in trace {
-        all.push(pass(alloc, trail, board, running, recorded)?)?;
+        let made = pass(alloc, trail, board, running, recorded)?;
+        all.push(made.into_vec())?;
     }
     Ok(all)
 }

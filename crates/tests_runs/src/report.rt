@@ -6,8 +6,9 @@ ghost use Rattle.bm_report.specs.Endings.{IsNumbered};
 use crate::timed_commitment::{all_names, begun};
 use bm_calculus::Config;
 use bm_report::{Ending, report};
+use bm_rows::Rows;
 use spec_calculus::{Move, Owner, Step};
-use spec_data::{Bytes, Name, OutOfMemory, Seq};
+use spec_data::{Boxed, Bytes, Name, OutOfMemory, Seq};
 use spec_run::{Event, Header, Outcome, Record};
 use std::alloc::Global;
 use std::test::Fail;
@@ -53,11 +54,11 @@ fn given(alloc: Global, party: Name) -> Result<Record, OutOfMemory> {
     })
 }
 
-fn steps(alloc: Global, party: Name) -> Result<Seq<Step>, OutOfMemory> {
-    let mut steps = Seq::new(alloc);
+fn steps(alloc: Global, party: Name) -> Result<Vec<Step>, OutOfMemory> {
+    let mut steps = Vec::new(alloc);
     steps.push(Step::AuthMove {
         party,
-        action: action(alloc, party)?,
+        action: Boxed::new(alloc, action(alloc, party)?)?,
     })?;
     steps.push(Step::Move {
         action: action(alloc, party)?,
@@ -143,7 +144,7 @@ fn printed(
     alloc: Global,
     header: &Header,
     records: &[Record],
-    steps: &[Seq<Step>],
+    steps: &Rows<Step>,
     ending: &Ending,
 ) -> Result<Option<Vec<u8>>, OutOfMemory> {
     if !is_small(ending) || steps.len() != records.len() {
@@ -191,11 +192,13 @@ const TEXTS: [&str; 5] = [
 fn text(alloc: Global, party: Name, row: usize) -> Result<Option<Vec<u8>>, OutOfMemory> {
     let header = header(alloc, party)?;
     let given = [given(alloc, party)?];
-    let taken = [steps(alloc, party)?];
     let records: &[Record] = if row < 2 { &given } else { &[] };
-    let steps: &[Seq<Step>] = if row < 2 { &taken } else { &[] };
+    let mut taken = Rows::new(alloc);
+    if row < 2 {
+        taken.push(steps(alloc, party)?)?;
+    }
     match ending(alloc, party, row)? {
-        Some(ending) => printed(alloc, &header, records, steps, &ending),
+        Some(ending) => printed(alloc, &header, records, &taken, &ending),
         None => Ok(None),
     }
 }

@@ -12,8 +12,7 @@ pub entries_by-requires : goal.entries_by-requires
 entries_by-requires g c =
     let digest = g.H.Hash32.digest_of in
     let w = c.args.world.now in
-    ap length c.as_slice.ensures
-    ∙ steps_for_each digest (setup_in digest w) c.args.events.now w c.args.stop c.requires.left c.in_ok-made.made.steps c.in_ok-made.ensures.steps
+    steps_for_each digest (setup_in digest w) c.args.events.now w c.args.stop c.requires.left c.in_ok-made.made.steps c.in_ok-made.ensures.steps
     ∙ ap length (sym c.trace.ensures.trace)
 
 pub ending_by-requires-clause-last : goal.ending_by-requires-clause-last
@@ -29,7 +28,7 @@ returns g c =
     subst (λ (p : Printed). IfOk c.picture_reply.result (λ reply. printed reply ≡ p))
     (drawn_is digest (setup_in digest w) c.args.events.now w c.args.title.now c.args.stop c.args.contract.now c.in_ok-made.made.steps c.deref.result.now
     c.last_of-last.result c.requires.left c.requires.contract c.in_ok-made.ensures.steps
-    (entries_same c.deref.result.now c.in_ok-entries.entries.items c.trace.result.now w.trace c.as_slice.result.now c.in_ok-made.made.steps
-    c.deref.ensures.value c.in_ok-entries.ensures c.trace.ensures.trace c.as_slice.ensures)
+    (entries_same c.deref.result.now c.in_ok-entries.entries.items c.trace.result.now w.trace c.in_ok-made.made.steps
+    c.deref.ensures.value c.in_ok-entries.ensures c.trace.ensures.trace)
     (c.last_of-last.ensures ∙ ap last_of c.in_ok-end.ensures.ending))
     c.picture_reply.ensures

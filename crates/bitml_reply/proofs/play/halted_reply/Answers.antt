@@ -18,8 +18,7 @@ pub shown_reply-requires-clause-each : goal.shown_reply-requires-clause-each
 shown_reply-requires-clause-each g c =
     let digest = g.H.Hash32.digest_of in
     let w = c.args.world in
-    ap length c.as_slice.ensures
-    ∙ steps_for_each digest (setup_in digest w) c.args.run.events w _ c.requires c.in_ok-made.made.steps c.in_ok-made.ensures.steps
+    steps_for_each digest (setup_in digest w) c.args.run.events w _ c.requires c.in_ok-made.made.steps c.in_ok-made.ensures.steps
 
 pub returns : goal.returns
 returns g c =
@@ -34,6 +33,6 @@ returns g c =
     slice_get_read es (length es) n e refl (slice_get_within es n (c.requires.stops.0) (c.requires.stops.2))
     (c.index-events-number.is ∙ ap (λ (xs : List Event). get_or xs n e) c.as_slice-events.ensures) in
     subst (λ (p : Printed). IfOk c.shown_reply.result (λ reply. printed reply ≡ p))
-    (answered digest s es w _ c.requires c.as_slice.result.now end (c.as_slice.ensures ∙ c.in_ok-made.ensures.steps)
+    (answered digest s es w _ c.requires c.in_ok-made.made.steps end c.in_ok-made.ensures.steps
     (event_is digest s es w n c.args.halt c.requires e end read c.in_ok-end.ensures.ending))
     c.shown_reply.ensures

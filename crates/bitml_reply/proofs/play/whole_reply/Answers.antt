@@ -18,8 +18,7 @@ pub shown_reply-requires-clause-each : goal.shown_reply-requires-clause-each
 shown_reply-requires-clause-each g c =
     let digest = g.H.Hash32.digest_of in
     let w = c.args.world in
-    ap length c.as_slice.ensures
-    ∙ steps_for_each digest (setup_in digest w) (events_of w.trace) w None c.requires c.in_ok-made.made.steps c.in_ok-made.ensures.steps
+    steps_for_each digest (setup_in digest w) (events_of w.trace) w None c.requires c.in_ok-made.made.steps c.in_ok-made.ensures.steps
 
 pub returns : goal.returns
 returns g c =
@@ -30,6 +29,6 @@ returns g c =
     let made = c.in_ok-made.made in
     let end = ending_of c.in_ok-end.end in
     subst (λ (p : Printed). IfOk c.shown_reply.result (λ reply. printed reply ≡ p))
-    (answered digest s es w None c.requires c.as_slice.result.now end (c.as_slice.ensures ∙ c.in_ok-made.ensures.steps)
+    (answered digest s es w None c.requires c.in_ok-made.made.steps end c.in_ok-made.ensures.steps
     (whole_ends digest s es w c.requires c.ledger.result.now made.last end c.ledger.ensures c.in_ok-made.ensures.last c.in_ok-end.ensures.whole))
     c.shown_reply.ensures

@@ -42,12 +42,12 @@ loop-recorded-preserved g c =
     let last = last_configuration s (events_of trace) in
     let x = c.recorded-item.result in
     let i = c.loop-recorded.recorded-index in
-    subst (λ xs. IsUnderWay s b ms (end_of s trace) c.pass.new.running (drop (i + 1) trace) xs all last) (sym c.in_ok-push.ensures.ok)
+    subst (λ xs. IsUnderWay s b ms (end_of s trace) c.pass.new.running (drop (i + 1) trace) xs all last) (sym (rw c.into_vec.ensures at c.in_ok-push.ensures.ok))
     (goes_on s b ms (end_of s trace) (few_outputs s b ms trace c.requires.run c.requires.room) c.loop-recorded.running (drop (i + 1) trace)
     c.loop-recorded.all all last x
     (subst (λ rest. IsUnderWay s b ms (end_of s trace) c.loop-recorded.running rest c.loop-recorded.all all last)
     (left_of trace i x c.loop-recorded-test.true c.recorded-item.is) c.loop-recorded.invariant)
-    c.in_ok-pass.field-0 c.pass.new.running c.in_ok-pass.ensures)
+    c.in_ok-made.made c.pass.new.running c.in_ok-made.ensures)
 
 pub returns-clause-steps : goal.returns-clause-steps
 returns-clause-steps g c =

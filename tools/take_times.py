@@ -1,31 +1,43 @@
 #!/usr/bin/env python3
 """Measures a program on the inputs of make_inputs.py: take_times.py PROGRAM FOLDER [KIND..]. For each kind of work it prints a row of the
 table in docs/costs.md: how much work, the least of three processor times in seconds, the most memory in megabytes, and by how much the time
-grows where the work doubles. A call that takes longer than a minute is ended, and the kind with it. It needs GNU time."""
+grows where the work doubles. Times are those of the program alone, with its start and its end. A call that takes longer than a minute is
+ended, and the kind with it. It needs GNU time, for the memory."""
 import os
+import signal
 import subprocess
 import sys
 import tempfile
+import threading
 
 RUNS, LIMIT = 3, 60
+SILENT = [(os.POSIX_SPAWN_OPEN, stream, os.devnull, os.O_WRONLY, 0) for stream in (1, 2)]
 
 
 def once(program, words):
-    """Seconds, megabytes and the status of one call. Memory is asked of GNU time: what this script itself takes counts in a child of its own."""
+    """The processor seconds of one call, and its status, which is negative where the call was ended."""
+    child = os.posix_spawn(program, [program, *words], os.environ, file_actions=SILENT)
+    end = threading.Timer(LIMIT, os.kill, (child, signal.SIGKILL))
+    end.start()
+    _, status, used = os.wait4(child, 0)
+    end.cancel()
+    return used.ru_utime + used.ru_stime, os.waitstatus_to_exitcode(status)
+
+
+def memory_of(program, words):
+    """The most megabytes of one call. They are asked of GNU time: what this script itself takes counts in a child of its own."""
     with tempfile.NamedTemporaryFile("r") as memory:
         timed = ["/usr/bin/time", "-q", "-f", "%M", "-o", memory.name, program, *words]
-        limited = ["sh", "-c", f'ulimit -t {LIMIT} && exec "$@"', "", *timed]
-        started = subprocess.Popen(limited, stdout=subprocess.DEVNULL, stderr=subprocess.DEVNULL)
-        _, status, used = os.wait4(started.pid, 0)
-        status = os.waitstatus_to_exitcode(status)
-        return used.ru_utime + used.ru_stime, int(memory.read().split()[-1]) / 1024, -1 if status > 128 else status
+        subprocess.run(timed, stdout=subprocess.DEVNULL, stderr=subprocess.DEVNULL)
+        return int(memory.read().split()[-1]) / 1024
 
 
 def best(program, words):
     found = [once(program, words)]
-    while len(found) < RUNS and found[-1][2] >= 0:
+    while len(found) < RUNS and found[-1][1] >= 0:
         found.append(once(program, words))
-    return min(found)
+    seconds, status = min(found)
+    return seconds, memory_of(program, words) if status >= 0 else 0, status
 
 
 def main(program, folder, *kinds):

@@ -88,7 +88,6 @@ fn put_entry(
 {
     put_event_line(alloc, out, number, &record.event)?;
     put_outcome(alloc, out, &record.outcome)?;
-    put_byte(out, b'\n')?;
     put_steps(alloc, out, &record.outcome, steps)
 }
 

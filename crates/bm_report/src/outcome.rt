@@ -3,10 +3,10 @@
 ghost use Rattle.std.specs.Prelude.{◌≡◌, ◌++◌, codes, OnOk};
 ghost use Rattle.std.specs.Fmt.{decimal};
 ghost use Rattle.spec_bitcoin.specs.Keys.{path_text};
-ghost use Rattle.spec_text.specs.RunText.{outputs_text};
+ghost use Rattle.spec_text.specs.RunText.{newline, outputs_text};
 ghost use Rattle.spec_text.specs.OutcomeText as spec;
 
-use crate::piece::put_made;
+use crate::piece::{put_byte, put_made};
 use bm_keys::put_path;
 use bm_runfile::{put_outputs, put_refusal};
 use bm_text::{put, put_decimal};
@@ -68,7 +68,7 @@ pub fn put_reason(alloc: Global, out: &mut Vec<u8>, reason: &Reason) -> Result<(
         Reason::HashRepeated(name) => put_name(out, b"HashRepeated", name),
         Reason::NotAllCommitted => put(out, b"NotAllCommitted"),
         Reason::NotEndorsed(path, party) => {
-            put_not_endorsed(alloc, out, path.value().steps(), party)
+            put_not_endorsed(alloc, out, path.value().steps(), party.value())
         },
         Reason::NotActive => put(out, b"NotActive"),
         Reason::NoBranch => put(out, b"NoBranch"),
@@ -124,19 +124,25 @@ fn put_refused(alloc: Global, out: &mut Vec<u8>, reason: &Reason) -> Result<(), 
     put_reason(alloc, out, reason)
 }
 
-/// The line of an outcome, without its end.
+/// The line of an outcome.
+#[tactic(auto, using(std::proofs::Common::append_assoc))]
 pub(crate) fn put_outcome(
     alloc: Global,
     out: &mut Vec<u8>,
     outcome: &Outcome,
 ) -> Result<(), OutOfMemory>
-    ensures { OnOk result (out.new.items ≡ out.old.items ++ spec.outcome_text outcome.now) }
+    ensures { OnOk result (out.new.items ≡ out.old.items ++ (spec.outcome_text outcome.now ++ newline)) }
 {
     match outcome {
-        Outcome::Done => put(out, b"done"),
+        Outcome::Done => put(out, b"done\n"),
         Outcome::Accepted { spent, made, lock } => {
-            put_accepted(alloc, out, spent.as_slice(), made.as_slice(), *lock)
+            let spent = spent.value().as_slice();
+            put_accepted(alloc, out, spent, made.value().as_slice(), *lock)?;
+            put_byte(out, b'\n')
         }
-        Outcome::Refused(reason) => put_refused(alloc, out, reason),
+        Outcome::Refused(reason) => {
+            put_refused(alloc, out, reason)?;
+            put_byte(out, b'\n')
+        }
     }
 }

@@ -2,7 +2,7 @@
 
 ghost use Rattle.std.specs.Prelude.{◌≡◌, ◌++◌, codes, flat_map, map, OnOk};
 ghost use Rattle.std.specs.Fmt.{decimal};
-ghost use Rattle.spec_text.specs.RunText.{outputs_text, contract_party_text};
+ghost use Rattle.spec_text.specs.RunText.{newline, outputs_text, contract_party_text};
 ghost use Rattle.spec_text.specs.StepText as spec;
 
 use crate::piece::put_byte;
@@ -236,6 +236,16 @@ fn put_step_words(
 }
 
 #[tactic(auto, using(std::proofs::Common::append_assoc))]
+fn put_delay_line(alloc: Global, out: &mut Vec<u8>, blocks: u32) -> Result<(), OutOfMemory>
+    ensures { OnOk result (out.new.items ≡ out.old.items ++ (codes "step " ++ (codes "delay " ++ (decimal blocks ++ newline)))) }
+{
+    put(out, b"step delay ")?;
+    put_decimal(alloc, out, blocks as u64)?;
+    put_byte(out, b'\n')
+}
+
+/// The line of a step. What passes blocks is written in one piece, since long runs mostly do.
+#[tactic(auto, using(std::proofs::Common::append_assoc))]
 fn put_step(
     alloc: Global,
     out: &mut Vec<u8>,
@@ -244,6 +254,9 @@ fn put_step(
 ) -> Result<(), OutOfMemory>
     ensures { OnOk result (out.new.items ≡ out.old.items ++ spec.step_line (map (λ m. m.0) made.now) step.now) }
 {
+    if let Step::Delay { blocks } = step {
+        return put_delay_line(alloc, out, *blocks);
+    }
     put(out, b"step ")?;
     put_step_words(alloc, out, made, step)?;
     put_byte(out, b'\n')
@@ -273,7 +286,9 @@ pub(crate) fn put_steps(
     ensures { OnOk result (out.new.items ≡ out.old.items ++ spec.step_lines outcome.now steps.now) }
 {
     match outcome {
-        Outcome::Accepted { made, .. } => put_all_steps(alloc, out, made.as_slice(), steps),
+        Outcome::Accepted { made, .. } => {
+            put_all_steps(alloc, out, made.value().as_slice(), steps)
+        }
         Outcome::Done => put_all_steps(alloc, out, &[], steps),
         Outcome::Refused(_) => put_all_steps(alloc, out, &[], steps),
     }

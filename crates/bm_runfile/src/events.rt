@@ -64,7 +64,8 @@ fn other_event_by<'a>(
     Err(WordError::Bad)
 }
 
-/// The event of a line by its first word.
+/// The event of a line by its first word. The kind of which long runs have most lines is tried first.
+#[tactic(auto, using(crate::proofs::MineLemmas::mines))]
 fn event_by<'a>(
     alloc: Global,
     word: &[u8],
@@ -73,6 +74,9 @@ fn event_by<'a>(
 ) -> Result<Event, WordError>
     ensures { Reads (λ e. e) result (event_by word.now parties.now (map (λ w. w.now) words.now)) }
 {
+    if are_same(word, b"mine") {
+        return mine(parties, words).ok_or(WordError::Bad);
+    }
     if are_same(word, b"advertise") {
         return advertise(alloc, parties, words);
     }

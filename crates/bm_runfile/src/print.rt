@@ -201,7 +201,10 @@ pub fn put_event(alloc: Global, out: &mut Vec<u8>, event: &Event) -> Result<(), 
             party,
             inputs,
             outputs,
-        } => put_give(alloc, out, party, inputs.as_slice(), outputs.as_slice()),
+        } => {
+            let outputs = outputs.value().as_slice();
+            put_give(alloc, out, party, inputs.as_slice(), outputs)
+        }
         Event::Append { bytes } => put_word_hex(alloc, out, b"append ", bytes.as_slice()),
         Event::FireInit { contract } => put_word_number(alloc, out, b"fire init ", *contract),
         Event::Fire { output, branch } => put_fire(alloc, out, *output, *branch),

@@ -10,7 +10,7 @@ use crate::error::{LineError, RunError};
 use crate::events::take_event;
 use crate::header::{Said, take_line};
 use crate::lines::first_line;
-use spec_data::{Name, Seq};
+use spec_data::{MOST_EVENTS, Name, Seq};
 use spec_run::{Event, Header, Run};
 use std::alloc::Global;
 
@@ -51,7 +51,12 @@ fn read_header(alloc: Global, text: &[u8]) -> Result<(Header, &[u8], u32), RunEr
     Err(RunError::BadLine(line))
 }
 
-/// The events of a text.
+// How many events a text has at most: the shortest line of one has seven bytes, with its end.
+fn most_events_in(text: &[u8]) -> usize {
+    MOST_EVENTS.min(text.len() / 7 + 1)
+}
+
+/// The events of a text. Their room is taken at once.
 fn read_events(
     alloc: Global,
     parties: &[Name],
@@ -61,7 +66,7 @@ fn read_events(
     requires { first + length text.now < 2 ^ 32 }
     ensures { Gives (λ v. v.items) result (spec.read_events parties.now 0 first (lines_of text.now)) }
 {
-    let mut events = Vec::new(alloc);
+    let mut events = Vec::with_capacity(alloc, most_events_in(text))?;
     let mut words = Vec::new(alloc);
     let mut rest = text;
     let mut line = first;

@@ -58,10 +58,16 @@ fn value_of(digits: &[u8]) -> Option<u64>
 }
 
 /// Writes a number as a plain decimal. It takes an allocator as all that writes does, and no memory but the room of the text.
+#[tactic(auto, using(std::proofs::lemmas::Fmt::decimal_digit))]
 pub fn put_decimal(_alloc: Global, out: &mut Vec<u8>, number: u64) -> Result<(), OutOfMemory>
     ensures ok { OnOk result (out.new.items ≡ out.old.items ++ decimal number) }
     ensures err { OnErr result (out.new.items ≡ out.old.items) }
 {
+    // Most numbers of most texts have one digit.
+    if number < 10 {
+        out.push(b'0' + number as u8)?;
+        return Ok(());
+    }
     let mut digits = Buffer::new();
     out.extend_from_slice(digits.format(number).as_bytes())
 }

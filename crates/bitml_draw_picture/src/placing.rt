@@ -207,7 +207,12 @@ fn add_entry(alloc: Global, places: &mut Vec<(u32, Path)>, entry: &Entry) -> Res
 {
     match &entry.outcome {
         Outcome::Accepted { made, .. } => {
-            add_steps(alloc, places, made.as_slice(), entry.steps.as_slice())
+            add_steps(
+                alloc,
+                places,
+                made.value().as_slice(),
+                entry.steps.as_slice(),
+            )
         }
         Outcome::Done => add_steps(alloc, places, &[], entry.steps.as_slice()),
         Outcome::Refused(_) => add_steps(alloc, places, &[], entry.steps.as_slice()),

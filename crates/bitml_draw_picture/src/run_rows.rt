@@ -48,7 +48,7 @@ fn put_came(alloc: Global, out: &mut Vec<u8>, entry: &Entry) -> Result<(), OutOf
 {
     match &entry.outcome {
         Outcome::Accepted { made, .. } => {
-            put_steps(alloc, out, made.as_slice(), entry.steps.as_slice())
+            put_steps(alloc, out, made.value().as_slice(), entry.steps.as_slice())
         }
         Outcome::Done => put_steps(alloc, out, &[], entry.steps.as_slice()),
         Outcome::Refused(_) => put_steps(alloc, out, &[], entry.steps.as_slice()),

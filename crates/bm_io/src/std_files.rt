@@ -1,6 +1,6 @@
 //! Files of the system.
 
-ghost use Rattle.std.specs.Prelude.{◌≡◌, ◌≤◌, ◌+◌, None, IfOk, length, Err};
+ghost use Rattle.std.specs.Prelude.{◌≡◌, ◌≤◌, ◌+◌, None, IfOk, IfErr, length, Err};
 ghost use Rattle.bm_io.specs.Counts.{RoseBy};
 ghost use Rattle.bm_io.specs.Files.{unread};
 
@@ -42,6 +42,23 @@ impl<R: std::rt::Files> StdFiles<R> {
     }
 }
 
+/// The bytes that most files have at most.
+const MOST_OFTEN: usize = 1_048_576;
+
+// A list without the room that it doesn't need.
+fn fitting(alloc: Global, bytes: Vec<u8>) -> Result<Vec<u8>, ReadError>
+    ensures fits { IfOk result (λ v. v.items ≡ bytes.items) }
+    ensures memory { IfErr result (λ e. e ≡ ReadError.Memory) }
+{
+    if bytes.len() >= MOST_OFTEN / 2 {
+        return Ok(bytes);
+    }
+    match Vec::from_slice(alloc, &bytes) {
+        Ok(few) => Ok(few),
+        Err(_) => Err(ReadError::Memory),
+    }
+}
+
 /// The bytes of a reader, at most `limit` of them. Counts the bytes taken, which are at most one
 /// more than the limit.
 fn take_all<T: Read>(
@@ -54,7 +71,9 @@ fn take_all<T: Read>(
     ensures later { taken.old ≤ taken.new }
     ensures too_long { result ≡ Err ReadError.TooLong → RoseBy (limit + 1) taken.old taken.new }
 {
-    let mut bytes = Vec::new(alloc);
+    let Ok(mut bytes) = Vec::with_capacity(alloc, limit.min(MOST_OFTEN)) else {
+        return Err(ReadError::Memory);
+    };
     let mut buf = [0u8; 4096];
     for _turn in 0..limit as u128 + 2 {
         let room = (limit - bytes.len()).min(4095) + 1;
@@ -63,7 +82,7 @@ fn take_all<T: Read>(
             Err(_) => return Err(ReadError::Failed),
         };
         if count == 0 {
-            return Ok(bytes);
+            return fitting(alloc, bytes);
         }
         *taken = taken.saturating_add(count as u64);
         if count > limit - bytes.len() {

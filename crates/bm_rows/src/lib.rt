@@ -1,7 +1,7 @@
 //! Lists that are laid end to end.
 #![tactic(auto)]
 
-ghost use Rattle.std.specs.Prelude.{◌≡◌, ◌<◌, ◌≤◌, ◌++◌, ◌∷◌, [], OnOk, OnErr, length, slice_index_or, slice_range};
+ghost use Rattle.std.specs.Prelude.{◌≡◌, ◌<◌, ◌≤◌, ◌++◌, ◌∷◌, [], IfOk, OnOk, OnErr, length, slice_index_or, slice_range};
 ghost use Rattle.bm_rows.specs.Laid.{start_at};
 
 use spec_data::OutOfMemory;
@@ -63,6 +63,18 @@ impl<T> Rows<T> {
         }
     }
 
+    /// No list, with room for so many of one element each.
+    pub fn with_capacity(alloc: Global, lists: usize) -> Result<Rows<T>, OutOfMemory>
+    where
+        T: Drop,
+        ensures { IfOk result (λ rows. rows ≡ []) }
+    {
+        Ok(Rows {
+            cells: Vec::with_capacity(alloc, lists)?,
+            ends: Vec::with_capacity(alloc, lists)?,
+        })
+    }
+
     /// How many lists there are.
     pub fn len(&self) -> usize
         ensures { result ≡ length self.now }
@@ -79,16 +91,15 @@ impl<T> Rows<T> {
         part_of(&self.cells, start, self.ends[number])
     }
 
-    /// Adds a list at the end.
-    pub fn push(&mut self, mut row: Vec<T>) -> Result<(), OutOfMemory>
-    where
-        T: Drop,
-        ensures ok { OnOk result (self.new ≡ self.old ++ row.items ∷ []) }
+    /// Adds a list at the end. Its elements are taken, and it keeps its room.
+    pub fn push(&mut self, row: &mut Vec<T>) -> Result<(), OutOfMemory>
+        ensures ok { OnOk result (self.new ≡ self.old ++ row.old.items ∷ []) }
+        ensures taken { OnOk result (row.new.items ≡ []) }
         ensures err { OnErr result (self.new ≡ self.old) }
     {
         // Room for the end comes first, so that no cells are to be taken back where there is none.
         self.ends.reserve(1)?;
-        self.cells.append(&mut row)?;
+        self.cells.append(row)?;
         self.ends.push_reserved(self.cells.len());
         Ok(())
     }

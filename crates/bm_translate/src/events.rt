@@ -25,11 +25,12 @@ use spec_data::{Name, OutOfMemory, Seq};
 use spec_run::{Event, Outcome, Record};
 use std::alloc::Global;
 
-// This step alone.
-fn one_step(alloc: Global, step: Step) -> Result<Vec<Step>, OutOfMemory>
+// This step alone, in the room of an empty list.
+fn one_step(room: Vec<Step>, step: Step) -> Result<Vec<Step>, OutOfMemory>
+    requires { room.items ≡ [] }
     ensures { IfOk result (λ made. made.items ≡ step ∷ []) }
 {
-    let mut made = Vec::with_capacity(alloc, 1)?;
+    let mut made = room;
     made.push(step)?;
     Ok(made)
 }
@@ -57,14 +58,16 @@ fn digests_told<'a>(exchange: &'a Exchange, contract: u32, party: &Name) -> &'a 
 // The contract is advertised with what it is bound to.
 fn advertise_steps(
     alloc: Global,
+    room: Vec<Step>,
     exchange: &Exchange,
     contract: u32,
 ) -> Result<Vec<Step>, OutOfMemory>
+    requires { room.items ≡ [] }
     ensures { IfOk result (λ made. made.items ≡ steps.Advertise contract (bindings_at exchange.now.advertised contract) ∷ []) }
 {
     let bindings = Vec::from_slice(alloc, bindings_told(exchange, contract))?;
     one_step(
-        alloc,
+        room,
         Step::Advertise {
             contract,
             bindings: Seq::of(bindings),
@@ -75,12 +78,14 @@ fn advertise_steps(
 // The party commits, and what it commits is revealed where it is posted already.
 fn commit_steps<H: Hash32 + Drop>(
     alloc: Global,
+    room: Vec<Step>,
     trail: &Trail<H>,
     board: &Board,
     running: &Running,
     contract: u32,
     party: &Name,
 ) -> Result<Vec<Step>, OutOfMemory>
+    requires { room.items ≡ [] }
     ensures { IfOk result (λ made. made.items
         ≡ steps.Commit contract party.now (lengths_by (H.digest_of trail.now.hasher) board.now.header trail.now.messages
         board.now.exchange.posted party.now (digests_by board.now.exchange.promises contract party.now))
@@ -89,7 +94,7 @@ fn commit_steps<H: Hash32 + Drop>(
     let digests = digests_told(&board.exchange, contract, party);
     let lengths = lengths_of(alloc, trail, &board.header, &board.exchange, party, digests)?;
     let mut made = one_step(
-        alloc,
+        room,
         Step::Commit {
             contract,
             party: *party,
@@ -103,12 +108,14 @@ fn commit_steps<H: Hash32 + Drop>(
 // The steps of an event that was done.
 fn done_steps<H: Hash32 + Drop>(
     alloc: Global,
+    room: Vec<Step>,
     trail: &Trail<H>,
     board: &Board,
     running: &Running,
     shown: &Shown<'_>,
     recorded: &Record,
 ) -> Result<Vec<Step>, OutOfMemory>
+    requires room { room.items ≡ [] }
     requires done { recorded.now.outcome ≡ outcomes.Done }
     requires shown { shown.now ≡ told_of running.now.secrets (posts_of board.now.header.secrets recorded.now) }
     ensures { (f w next : World) → IsTurn (setup_of (H.digest_of trail.now.hasher) board.now) board.now trail.now.messages f w next running.now recorded.now
@@ -117,7 +124,7 @@ fn done_steps<H: Hash32 + Drop>(
 {
     match &recorded.event {
         Event::Advertise { contract, .. } => {
-            let told = advertise_steps(alloc, &board.exchange, *contract)?;
+            let told = advertise_steps(alloc, room, &board.exchange, *contract)?;
             Ok(told)
         }
         Event::Commit {
@@ -125,7 +132,8 @@ fn done_steps<H: Hash32 + Drop>(
             party,
             ..
         } => {
-            let committed = commit_steps(alloc, trail, board, running, *contract, party)?;
+            let contract = *contract;
+            let committed = commit_steps(alloc, room, trail, board, running, contract, party)?;
             Ok(committed)
         }
         Event::Init { contract, party } => {
@@ -138,7 +146,7 @@ fn done_steps<H: Hash32 + Drop>(
             output,
             branch,
         } => one_step(
-            alloc,
+            room,
             Step::AuthBranch {
                 party: *party,
                 output: *output,
@@ -153,7 +161,7 @@ fn done_steps<H: Hash32 + Drop>(
             let posted = running.secrets.revealed(alloc, &running.config, shown)?;
             Ok(posted)
         }
-        Event::Mine { blocks } => one_step(alloc, Step::Delay { blocks: *blocks }),
+        Event::Mine { blocks } => one_step(room, Step::Delay { blocks: *blocks }),
         _ => Ok(Vec::new(alloc)),
     }
 }
@@ -196,9 +204,10 @@ fn accepted_steps<H: Hash32 + Drop>(
 }
 
 /// The steps of the event of this record, in a run that ends with this board and trail. Before the event this is known, and these are
-/// the strings of secrets that it posted.
+/// the strings of secrets that it posted. A step that stands alone comes into the room of an empty list.
 pub fn event_steps<H: Hash32 + Drop>(
     alloc: Global,
+    room: Vec<Step>,
     trail: &Trail<H>,
     board: &Board,
     running: &Running,
@@ -206,6 +215,7 @@ pub fn event_steps<H: Hash32 + Drop>(
     recorded: &Record,
 ) -> Result<Vec<Step>, OutOfMemory>
     requires few { length board.now.compiled < 2 ^ 32 }
+    requires room { room.items ≡ [] }
     requires shown { shown.now ≡ told_of running.now.secrets (posts_of board.now.header.secrets recorded.now) }
     ensures { (f w next : World) → IsTurn (setup_of (H.digest_of trail.now.hasher) board.now) board.now trail.now.messages f w next running.now recorded.now
         → IfOk result (λ made. made.items
@@ -213,9 +223,9 @@ pub fn event_steps<H: Hash32 + Drop>(
         recorded.now.event recorded.now.tx recorded.now.outcome) }
 {
     match (&recorded.outcome, &recorded.tx) {
-        (Outcome::Done, _) => done_steps(alloc, trail, board, running, shown, recorded),
+        (Outcome::Done, _) => { done_steps(alloc, room, trail, board, running, shown, recorded) }
         (Outcome::Accepted { spent, .. }, Some(tx)) => {
-            let spent = spent.as_slice();
+            let spent = spent.value().as_slice();
             let accepted = accepted_steps(
                 alloc,
                 trail,

@@ -49,9 +49,12 @@ fn count_all<H: Hash32 + Drop>(
         ≡ run.last_configuration (setup_of (H.digest_of trail.now.hasher) board.now) (events_of trace.now)) }
 {
     let mut count = 0u64;
+    let mut room = Vec::new(alloc);
     for recorded in trace {
-        let made = pass(alloc, trail, board, running, recorded)?;
+        let mut made = pass(alloc, room, trail, board, running, recorded)?;
         count = with_more(count, made.len())?;
+        made.clear();
+        room = made;
     }
     Ok(count)
 }

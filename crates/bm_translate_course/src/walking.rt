@@ -1,6 +1,6 @@
 //! A run is walked, event by event.
 
-ghost use Rattle.std.specs.Prelude.{◌≡◌, ◌<◌, ◌^◌, length, IfOk};
+ghost use Rattle.std.specs.Prelude.{◌≡◌, ◌<◌, ◌^◌, [], length, IfOk};
 ghost use Rattle.spec_calculus.specs.Steps as calculus;
 ghost use Rattle.spec_run.specs.Conditions.{IsHeader};
 ghost use Rattle.spec_run.specs.Statements.{Simulates, HoldsThroughout, licensed};
@@ -67,21 +67,23 @@ pub(crate) fn start<H: Hash32 + Drop>(
     })
 }
 
-/// The steps of an event, which are taken.
+/// The steps of an event, which are taken. A step that stands alone comes into the room of an empty list.
 pub(crate) fn pass<H: Hash32 + Drop>(
     alloc: Global,
+    room: Vec<Step>,
     trail: &Trail<H>,
     board: &Board,
     running: &mut Running,
     recorded: &Record,
-) -> Result<Seq<Step>, OutOfMemory>
+) -> Result<Vec<Step>, OutOfMemory>
     requires few { length board.now.compiled < 2 ^ 32 }
+    requires room { room.items ≡ [] }
     requires is { IsNext (setup_of (H.digest_of trail.now.hasher) board.now) board.now trail.now.messages running.old recorded.now }
     ensures { IfOk result (λ made. (f w next : World)
         → IsTurn (setup_of (H.digest_of trail.now.hasher) board.now) board.now trail.now.messages f w next running.old recorded.now
-        → (made ≡ outcome_steps (setup_of (H.digest_of trail.now.hasher) board.now) f.posted running.old.config w next
+        → (made.items ≡ outcome_steps (setup_of (H.digest_of trail.now.hasher) board.now) f.posted running.old.config w next
         recorded.now.event recorded.now.tx recorded.now.outcome)
-        × (running.new ≡ passed_by running.old made (posts_of board.now.header.secrets recorded.now))) }
+        × (running.new ≡ passed_by running.old made.items (posts_of board.now.header.secrets recorded.now))) }
 {
     let shown = posted_by(
         alloc,
@@ -89,10 +91,10 @@ pub(crate) fn pass<H: Hash32 + Drop>(
         board.header.secrets.as_slice(),
         recorded,
     )?;
-    let made = event_steps(alloc, trail, board, running, &shown, recorded)?;
+    let made = event_steps(alloc, room, trail, board, running, &shown, recorded)?;
     take_steps(running, &made)?;
     running.secrets.note(&shown);
-    Ok(Seq::of(made))
+    Ok(made)
 }
 
 // The steps of all events, which are taken from the opening on.
@@ -111,10 +113,12 @@ fn walk<H: Hash32 + Drop>(
     ensures last { IfOk result (λ _. running.new.config
         ≡ run.last_configuration (setup_of (H.digest_of trail.now.hasher) board.now) (events_of trace.now)) }
 {
-    let mut all = Rows::new(alloc);
+    let mut all = Rows::with_capacity(alloc, trace.len())?;
+    let mut room = Vec::new(alloc);
     for recorded in trace {
-        let made = pass(alloc, trail, board, running, recorded)?;
-        all.push(made.into_vec())?;
+        let mut made = pass(alloc, room, trail, board, running, recorded)?;
+        all.push(&mut made)?;
+        room = made;
     }
     Ok(all)
 }

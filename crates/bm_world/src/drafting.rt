@@ -68,7 +68,14 @@ fn draft_other<H: Hash32 + Drop>(
             outputs,
         } => {
             let inputs = inputs.as_slice();
-            draft_given(alloc, trail, board, party, inputs, outputs.as_slice())
+            draft_given(
+                alloc,
+                trail,
+                board,
+                party,
+                inputs,
+                outputs.value().as_slice(),
+            )
         }
         Event::Append { bytes } => draft_appended(alloc, trail, board, bytes.as_slice()),
         Event::FireInit { contract } => draft_initial(alloc, trail, board, *contract),

@@ -6,6 +6,7 @@ ghost use Rattle.bm_hash.specs.Messages.{evidence_of};
 ghost use Rattle.bm_hash.specs.Trails.{Hashes, StopsAlong};
 ghost use Rattle.spec_bitcoin.specs.Verdict as spec;
 ghost use Rattle.spec_run.specs.Ledger as run;
+ghost use Rattle.spec_run.specs.declared.outcome.Outcome.TheVariants as outcomes;
 ghost use Rattle.bm_world_board.specs.Drafts.{setup_of, world_of, Drafts};
 ghost use Rattle.bm_world_board.specs.Reaching.{IsAcceptedDraft, IsReadyIf, IsPurpose, IsFresh, reaches_in};
 
@@ -81,6 +82,22 @@ fn items_of(alloc: Global, inputs: &[TxIn]) -> Result<Seq<Bytes>, OutOfMemory>
     Ok(items)
 }
 
+// The outcome of a transaction that spends and makes these.
+fn accepted(
+    alloc: Global,
+    spent: &Seq<u32>,
+    made: Seq<(u32, u64)>,
+    lock: u32,
+) -> Result<Outcome, OutOfMemory>
+    ensures { IfOk result (λ outcome. outcome ≡ outcomes.Accepted spent.now made lock) }
+{
+    Ok(Outcome::Accepted {
+        spent: Boxed::new(alloc, spent.copy(alloc)?)?,
+        made: Boxed::new(alloc, made)?,
+        lock,
+    })
+}
+
 // The draft of a transaction that the ledger accepts, whose strings are hashed.
 fn draft_accepted(
     alloc: Global,
@@ -97,11 +114,7 @@ fn draft_accepted(
 {
     let spent = spent_numbers(alloc, board.coins.ledger(), tx.inputs.as_slice())?;
     let made = made_numbers(alloc, board.coins.ledger().births(), tx.outputs.as_slice())?;
-    let outcome = Outcome::Accepted {
-        spent: spent.copy(alloc)?,
-        made,
-        lock: tx.lock,
-    };
+    let outcome = accepted(alloc, &spent, made, tx.lock)?;
     let appending = Appending {
         tx: Boxed::new(alloc, tx)?,
         txid,

@@ -27,7 +27,10 @@ fn gate_reason(alloc: Global, gate: Gate) -> Result<Option<Reason>, OutOfMemory>
 {
     match gate {
         Gate::Yes => Ok(None),
-        Gate::No { path, party } => Ok(Some(Reason::NotEndorsed(Boxed::new(alloc, path)?, party))),
+        Gate::No { path, party } => {
+            let path = Boxed::new(alloc, path)?;
+            Ok(Some(Reason::NotEndorsed(path, Boxed::new(alloc, party)?)))
+        }
     }
 }
 

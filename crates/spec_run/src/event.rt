@@ -57,7 +57,7 @@ pub enum Event {
     Give {
         party: Name,
         inputs: Seq<u32>,
-        outputs: Seq<(Name, u64)>,
+        outputs: Boxed<Seq<(Name, u64)>>,
     },
     /// A raw transaction is handed to the ledger.
     Append {
@@ -209,7 +209,7 @@ impl Event {
             } => Event::Give {
                 party: *party,
                 inputs: inputs.copy(alloc)?,
-                outputs: outputs.copy(alloc)?,
+                outputs: Boxed::new(alloc, outputs.value().copy(alloc)?)?,
             },
             Event::Append { bytes } => Event::Append {
                 bytes: bytes.copy(alloc)?,

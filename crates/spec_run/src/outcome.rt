@@ -24,7 +24,7 @@ pub enum Reason {
     BadSecretLength(Name),
     HashRepeated(Name),
     NotAllCommitted,
-    NotEndorsed(Boxed<Path>, Name),
+    NotEndorsed(Boxed<Path>, Boxed<Name>),
     NotActive,
     NoBranch,
     NotAsked,
@@ -88,8 +88,8 @@ pub enum Outcome {
     /// The spent outputs in the order of the inputs, the new ones with their values, and the
     /// transaction's lock.
     Accepted {
-        spent: Seq<u32>,
-        made: Seq<(u32, u64)>,
+        spent: Boxed<Seq<u32>>,
+        made: Boxed<Seq<(u32, u64)>>,
         lock: u32,
     },
     Refused(Reason),
@@ -147,7 +147,8 @@ impl Reason {
             Reason::HashRepeated(name) => Reason::HashRepeated(*name),
             Reason::NotAllCommitted => Reason::NotAllCommitted,
             Reason::NotEndorsed(path, party) => {
-                Reason::NotEndorsed(Boxed::new(alloc, path.value().copy(alloc)?)?, *party)
+                let path = Boxed::new(alloc, path.value().copy(alloc)?)?;
+                Reason::NotEndorsed(path, Boxed::new(alloc, *party.value())?)
             }
             Reason::NotActive => Reason::NotActive,
             Reason::NoBranch => Reason::NoBranch,
@@ -177,8 +178,8 @@ impl Outcome {
         Ok(match self {
             Outcome::Done => Outcome::Done,
             Outcome::Accepted { spent, made, lock } => Outcome::Accepted {
-                spent: spent.copy(alloc)?,
-                made: made.copy(alloc)?,
+                spent: Boxed::new(alloc, spent.value().copy(alloc)?)?,
+                made: Boxed::new(alloc, made.value().copy(alloc)?)?,
                 lock: *lock,
             },
             Outcome::Refused(reason) => Outcome::Refused(reason.copy(alloc)?),

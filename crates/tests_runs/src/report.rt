@@ -30,7 +30,7 @@ fn give(alloc: Global, party: Name) -> Result<Event, OutOfMemory> {
     Ok(Event::Give {
         party,
         inputs: list(alloc, &[0])?,
-        outputs: list(alloc, &[(party, 60), (party, 30)])?,
+        outputs: Boxed::new(alloc, list(alloc, &[(party, 60), (party, 30)])?)?,
     })
 }
 
@@ -46,8 +46,8 @@ fn given(alloc: Global, party: Name) -> Result<Record, OutOfMemory> {
     Ok(Record {
         event: give(alloc, party)?,
         outcome: Outcome::Accepted {
-            spent: list(alloc, &[0])?,
-            made: list(alloc, &[(1, 60), (2, 30)])?,
+            spent: Boxed::new(alloc, list(alloc, &[0])?)?,
+            made: Boxed::new(alloc, list(alloc, &[(1, 60), (2, 30)])?)?,
             lock: 0,
         },
         tx: None,
@@ -195,7 +195,7 @@ fn text(alloc: Global, party: Name, row: usize) -> Result<Option<Vec<u8>>, OutOf
     let records: &[Record] = if row < 2 { &given } else { &[] };
     let mut taken = Rows::new(alloc);
     if row < 2 {
-        taken.push(steps(alloc, party)?)?;
+        taken.push(&mut steps(alloc, party)?)?;
     }
     match ending(alloc, party, row)? {
         Some(ending) => printed(alloc, &header, records, &taken, &ending),

@@ -1,4 +1,4 @@
-use Rattle.std.proofs.Common.{[], ◌+◌, drop, refl, sym, ap, ◌∙◌, subst}
+use Rattle.std.proofs.Common.{[], ◌+◌, drop, refl, sym, subst, arith}
 use Rattle.std.proofs.lemmas.List.{drop_all}
 use Rattle.spec_run.specs.Translation.{translated, last_configuration}
 use Rattle.bm_world_board.specs.Drafts.{setup_of}
@@ -16,9 +16,12 @@ loop-recorded-init g c =
     let all = translated s (events_of trace) in
     let last = last_configuration s (events_of trace) in
     record {
-      so_far = [];
-      counted = refl;
-      under_way = subst (λ r. IsUnderWay s b ms (end_of s trace) r trace [] all last) (sym c.requires.start) (starts s b ms trace c.requires.run);
+      room = c.new-room.ensures.items;
+      tallied = record {
+        so_far = [];
+        counted = refl;
+        under_way = subst (λ r. IsUnderWay s b ms (end_of s trace) r trace [] all last) (sym c.requires.start) (starts s b ms trace c.requires.run);
+      };
     }
 
 pub pass-requires-clause-is : goal.pass-requires-clause-is
@@ -34,7 +37,7 @@ pass-requires-clause-is g c =
     next_counted s b ms (end_of s trace) (few_outputs s b ms trace c.requires.run c.requires.room) c.loop-recorded.running (drop (i + 1) trace)
     c.loop-recorded.count all last x
     (subst (λ rest. IsTallied s b ms (end_of s trace) c.loop-recorded.running rest c.loop-recorded.count all last)
-    (left_of trace i x c.loop-recorded-test.true c.recorded-item.is) c.loop-recorded.invariant)
+    (left_of trace i x c.loop-recorded-test.true c.recorded-item.is) c.loop-recorded.invariant.tallied)
 
 pub loop-recorded-preserved : goal.loop-recorded-preserved
 loop-recorded-preserved g c =
@@ -46,12 +49,15 @@ loop-recorded-preserved g c =
     let last = last_configuration s (events_of trace) in
     let x = c.recorded-item.result in
     let i = c.loop-recorded.recorded-index in
-    tallied_on s b ms (end_of s trace) (few_outputs s b ms trace c.requires.run c.requires.room) c.loop-recorded.running (drop (i + 1) trace)
-    c.loop-recorded.count all last x
-    (subst (λ rest. IsTallied s b ms (end_of s trace) c.loop-recorded.running rest c.loop-recorded.count all last)
-    (left_of trace i x c.loop-recorded-test.true c.recorded-item.is) c.loop-recorded.invariant)
-    c.in_ok-made.made c.pass.new.running c.in_ok-count.count
-    (c.in_ok-count.ensures ∙ ap (λ n. c.loop-recorded.count + n) c.len.ensures) c.in_ok-made.ensures
+    record {
+      room = c.clear.ensures.items;
+      tallied = tallied_on s b ms (end_of s trace) (few_outputs s b ms trace c.requires.run c.requires.room) c.loop-recorded.running
+          (drop (i + 1) trace) c.loop-recorded.count all last x
+          (subst (λ rest. IsTallied s b ms (end_of s trace) c.loop-recorded.running rest c.loop-recorded.count all last)
+          (left_of trace i x c.loop-recorded-test.true c.recorded-item.is) c.loop-recorded.invariant.tallied)
+          c.in_ok-made.made.items c.pass.new.running c.in_ok-count.count
+          (let counted = c.in_ok-count.ensures in let long = c.len.ensures in omega (arith, counted, long)) c.in_ok-made.ensures;
+    }
 
 pub returns-clause-steps : goal.returns-clause-steps
 returns-clause-steps g c =
@@ -64,7 +70,7 @@ returns-clause-steps g c =
     (all_tallied s b ms (end_of s trace) (few_outputs s b ms trace c.requires.run c.requires.room) c.loop-recorded.running []
     c.loop-recorded.count all last
     (subst (λ rest. IsTallied s b ms (end_of s trace) c.loop-recorded.running rest c.loop-recorded.count all last)
-    (drop_all c.loop-recorded.recorded-index trace c.loop-recorded-test.false) c.loop-recorded.invariant)).0
+    (drop_all c.loop-recorded.recorded-index trace c.loop-recorded-test.false) c.loop-recorded.invariant.tallied)).0
 
 pub returns-clause-last : goal.returns-clause-last
 returns-clause-last g c =
@@ -77,4 +83,4 @@ returns-clause-last g c =
     (all_tallied s b ms (end_of s trace) (few_outputs s b ms trace c.requires.run c.requires.room) c.loop-recorded.running []
     c.loop-recorded.count all last
     (subst (λ rest. IsTallied s b ms (end_of s trace) c.loop-recorded.running rest c.loop-recorded.count all last)
-    (drop_all c.loop-recorded.recorded-index trace c.loop-recorded-test.false) c.loop-recorded.invariant)).1
+    (drop_all c.loop-recorded.recorded-index trace c.loop-recorded-test.false) c.loop-recorded.invariant.tallied)).1

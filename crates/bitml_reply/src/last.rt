@@ -18,7 +18,7 @@ use spec_run::Run;
 use std::alloc::Global;
 use std::mem::forget;
 
-/// Lets go of a world, or of its records. Their memory goes back with the process: a program writes its answer next and ends, and to give
+/// Lets go of a world, or of its records and their steps. Their memory goes back with the process: a program writes its answer next and ends, and to give
 /// back piece by piece what a long run holds would take a sixth of its time. Nothing else lets a world go, here or in the crates of
 /// further replies.
 pub fn let_go<T: Drop>(held: T) {

@@ -35,17 +35,18 @@ use std::alloc::Global;
 fn shown_reply<H: Hash32 + Drop>(
     alloc: Global,
     world: World<H>,
-    steps: &Rows<Step>,
+    steps: Rows<Step>,
     end: &Ending,
 ) -> Result<Reply, OutOfMemory>
-    requires each { length steps.now ≡ length world.trace }
+    requires each { length steps ≡ length world.trace }
     requires numbered { IsNumbered end.now }
     ensures { IfOk result (λ reply. printed reply ≡ prints (ending_status (ending_of end.now))
-        (report_text world.header.deposits (entries_by world.trace steps.now) (ending_of end.now))) }
+        (report_text world.header.deposits (entries_by world.trace steps) (ending_of end.now))) }
 {
     let (header, trace) = world.into_records();
-    let reply = report_reply(alloc, &header, trace.as_slice(), steps, end);
+    let reply = report_reply(alloc, &header, trace.as_slice(), &steps, end);
     let_go(trace);
+    let_go(steps);
     reply
 }
 
@@ -57,7 +58,7 @@ fn whole_reply<H: Hash32 + Drop>(alloc: Global, world: World<H>) -> Result<Reply
 {
     let made = translate(alloc, &world)?;
     let end = whole_ending(alloc, world.ledger(), made.last)?;
-    shown_reply(alloc, world, &made.steps, &end)
+    shown_reply(alloc, world, made.steps, &end)
 }
 
 // What is replied to a run that left this world, whose event of this number was halted. That event alone is kept of it.
@@ -75,7 +76,7 @@ fn halted_reply<H: Hash32 + Drop>(
     let end = halted_ending(alloc, &events[number], halt)?;
     drop(run);
     let made = translate(alloc, &world)?;
-    shown_reply(alloc, world, &made.steps, &end)
+    shown_reply(alloc, world, made.steps, &end)
 }
 
 // What is replied to a run that left this world. It is let go before its steps are made.

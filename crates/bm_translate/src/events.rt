@@ -1,4 +1,4 @@
-//! The steps of an event.
+//! The steps of an event. What is rare stands apart, so that its room isn't blanked for every event.
 
 ghost use Rattle.std.specs.Prelude.{◌≡◌, ◌<◌, ◌^◌, ◌++◌, ◌∷◌, [], ℕ, List, length, Some, IfOk};
 ghost use Rattle.spec_calculus.specs.declared.step.Step.TheVariants as steps;
@@ -56,6 +56,7 @@ fn digests_told<'a>(exchange: &'a Exchange, contract: u32, party: &Name) -> &'a 
 }
 
 // The contract is advertised with what it is bound to.
+#[inline(never)]
 fn advertise_steps(
     alloc: Global,
     room: Vec<Step>,
@@ -76,6 +77,7 @@ fn advertise_steps(
 }
 
 // The party commits, and what it commits is revealed where it is posted already.
+#[inline(never)]
 fn commit_steps<H: Hash32 + Drop>(
     alloc: Global,
     room: Vec<Step>,
@@ -180,6 +182,7 @@ fn behind(first: Vec<Step>, rest: Vec<Step>) -> Result<Vec<Step>, OutOfMemory>
 }
 
 // The steps of an accepted transaction that spends the outputs of these numbers.
+#[inline(never)]
 fn accepted_steps<H: Hash32 + Drop>(
     alloc: Global,
     trail: &Trail<H>,

@@ -114,9 +114,27 @@ fn has_untold(known: &Strings, exchange: &Exchange, posts: &[Bytes]) -> bool
         .any(|post| is_untold(known, exchange, post.as_slice()))
 }
 
+// The first of the secrets that these strings guess. Where there are many strings, each secret is looked up in an index of them. It
+// stands apart, so that the room that it needs isn't blanked for events that guess nothing.
+#[inline(never)]
+fn first_of_all<'a>(
+    alloc: Global,
+    secrets: &'a [HeldSecret],
+    exchange: &Exchange,
+    posts: &[Bytes],
+    allowed: &Option<(Name, Name)>,
+) -> Result<Option<&'a HeldSecret>, OutOfMemory>
+    ensures { IfOk result (λ found. option_copied found ≡ find (is_guessed exchange.now.posted posts.now allowed.now) secrets.now) }
+{
+    if posts.len() <= 16 {
+        return Ok(first_among(secrets, exchange, posts, allowed));
+    }
+    let shown = indexed(alloc, posts)?;
+    Ok(first_shown(secrets, exchange, &shown, allowed))
+}
+
 /// The first of the secrets that is guessed, with its owner. `known` has the bytes of the secrets: only where one of the strings is
-/// among them and isn't posted are the secrets gone through, and where there are many strings, each secret is then looked up in an
-/// index of them.
+/// among them and isn't posted are the secrets gone through.
 #[tactic(auto, using(crate::proofs::Unguessed::none_guessed))]
 pub fn first_guessed<'a>(
     alloc: Global,
@@ -132,9 +150,5 @@ pub fn first_guessed<'a>(
     if !has_untold(known, exchange, posts) {
         return Ok(None);
     }
-    if posts.len() <= 16 {
-        return Ok(first_among(secrets, exchange, posts, allowed));
-    }
-    let shown = indexed(alloc, posts)?;
-    Ok(first_shown(secrets, exchange, &shown, allowed))
+    first_of_all(alloc, secrets, exchange, posts, allowed)
 }

@@ -15,7 +15,7 @@ report_reply-reply-requires-clause-each g c = c.requires.each ∙ ap length (sym
 pub returns : goal.returns
 returns g c =
     let w = c.args.world in
-    let steps = c.args.steps.now in
+    let steps = c.args.steps in
     let end = ending_of c.args.end.now in
     subst (λ (p : Printed). IfOk c.report_reply-reply.result (λ reply. printed reply ≡ p))
     (ap (λ (h : Header). prints (ending_status end) (report_text h.deposits (entries_by c.as_slice.result.now steps) end)) c.into_records-header.ensures.header

@@ -2,7 +2,6 @@
 
 ghost use Rattle.std.specs.Prelude.{◌≡◌, [], IfSome, slice_index_or, true};
 
-use crate::marks::mark_of;
 use crate::pieces::Pieces;
 use spec_data::OutOfMemory;
 use std::alloc::Global;
@@ -11,26 +10,30 @@ use std::alloc::Global;
 const ROW: usize = 8;
 
 // What a slot has in which no place is kept.
-const FREE: u32 = u32::MAX;
+const FREE: u64 = u64::MAX;
+
+// The half of a slot that is a place. The other half is that of the mark, which tells where the place is kept: so a message that stands
+// far back in memory isn't looked at for nothing, nor anew where there are to be more slots.
+const PLACE: u64 = 0xffff_ffff;
 
 /// The places of messages, each in a slot that the message's mark tells. They are hints: a place may be missing, or another message may
 /// stand there, so whoever asks is told a place only where the message was seen to stand. No clause says what is kept.
 #[derive(Drop)]
 pub(crate) struct Hints {
     alloc: Global,
-    slots: Vec<u32>,
+    slots: Vec<u64>,
     ahead: [usize; 2],
     last: bool,
 }
 
-// The first slot of the row of a mark.
-fn row_of(slots: &[u32], mark: u64) -> usize {
+// The first slot of the row of a mark: rows follow one another as the upper halves of marks do.
+fn row_of(slots: &[u64], mark: u64) -> usize {
     let rows = slots.len().saturating_sub(ROW) as u64;
-    if rows == 0 { 0 } else { (mark % rows) as usize }
+    ((mark >> 32).wrapping_mul(rows) >> 32) as usize
 }
 
 // The slots in which the place of a message of this mark may be kept.
-fn row(slots: &[u32], mark: u64) -> &[u32] {
+fn row(slots: &[u64], mark: u64) -> &[u64] {
     let first = row_of(slots, mark);
     match slots.get(first..first.saturating_add(ROW)) {
         Some(row) => row,
@@ -39,22 +42,27 @@ fn row(slots: &[u32], mark: u64) -> &[u32] {
 }
 
 // The first free slot of the row of a mark, or the row's first one where none is free.
-fn slot_for(slots: &[u32], mark: u64) -> usize {
+fn slot_for(slots: &[u64], mark: u64) -> usize {
     let first = row_of(slots, mark);
-    for (k, place) in row(slots, mark).iter().enumerate() {
-        if *place == FREE {
+    for (k, kept) in row(slots, mark).iter().enumerate() {
+        if *kept == FREE {
             return first.saturating_add(k);
         }
     }
     first
 }
 
-// Keeps a place for a mark. One beyond 32 bits isn't kept.
-fn keep(slots: &mut [u32], mark: u64, place: usize) {
-    let slot = slot_for(slots, mark);
+// Keeps a place with the half of its mark.
+fn keep(slots: &mut [u64], hint: u64) {
+    let slot = slot_for(slots, hint);
     if let Some(kept) = slots.get_mut(slot) {
-        *kept = place.min(FREE as usize) as u32;
+        *kept = hint;
     }
+}
+
+// A place and the half of a mark. One beyond 32 bits is none.
+fn hint_of(mark: u64, place: usize) -> u64 {
+    (mark & !PLACE) | (place as u64).min(PLACE)
 }
 
 // Whether the message stands at a place.
@@ -67,27 +75,30 @@ fn stands_at(messages: &Pieces, place: usize, message: &[u8]) -> bool
     messages.get(place) == message
 }
 
-// The first of the places in a row at which the message stands.
-fn place_in(row: &[u32], messages: &Pieces, message: &[u8]) -> Option<usize>
+// The first of the places in a row, of those kept for this mark, at which the message stands.
+fn place_in(row: &[u64], messages: &Pieces, mark: u64, message: &[u8]) -> Option<usize>
     ensures { IfSome result (λ place. slice_index_or messages.now place [] ≡ message.now) }
 {
-    for place in row {
-        if *place == FREE {
+    for kept in row {
+        if *kept == FREE {
             return None;
         }
-        if stands_at(messages, *place as usize, message) {
-            return Some(*place as usize);
+        let place = (*kept & PLACE) as usize;
+        if *kept & !PLACE == mark & !PLACE && stands_at(messages, place, message) {
+            return Some(place);
         }
     }
     None
 }
 
-// All of these messages' places, in slots for twice as many.
-fn placed(alloc: Global, messages: &Pieces) -> Result<Vec<u32>, OutOfMemory> {
-    let count = messages.len().saturating_mul(2).saturating_add(64);
+// The same hints in slots for twice as many places as there are.
+fn spread(alloc: Global, kept: &[u64], places: usize) -> Result<Vec<u64>, OutOfMemory> {
+    let count = places.saturating_mul(2).saturating_add(64);
     let mut slots = vec![in alloc; FREE; count]?;
-    for place in 0..messages.len() {
-        keep(&mut slots, mark_of(messages.get(place)), place);
+    for hint in kept {
+        if *hint != FREE {
+            keep(&mut slots, *hint);
+        }
     }
     Ok(slots)
 }
@@ -136,7 +147,7 @@ impl Hints {
     pub(crate) fn find(&mut self, messages: &Pieces, mark: u64, message: &[u8]) -> Option<usize>
         ensures { IfSome result (λ place. slice_index_or messages.now place [] ≡ message.now) }
     {
-        let place = place_in(row(&self.slots, mark), messages, message)?;
+        let place = place_in(row(&self.slots, mark), messages, mark, message)?;
         self.follow(place);
         Some(place)
     }
@@ -146,11 +157,10 @@ impl Hints {
     pub(crate) fn note_last(&mut self, messages: &Pieces, mark: u64) {
         let count = messages.len();
         if count / 3 >= self.slots.len() / 4 {
-            if let Ok(slots) = placed(self.alloc, messages) {
+            if let Ok(slots) = spread(self.alloc, &self.slots, count) {
                 self.slots = slots;
-                return;
             }
         }
-        keep(&mut self.slots, mark, count.saturating_sub(1));
+        keep(&mut self.slots, hint_of(mark, count.saturating_sub(1)));
     }
 }

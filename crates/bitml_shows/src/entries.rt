@@ -11,12 +11,12 @@ use spec_text::Entry;
 use spec_text::entry::copy_steps;
 use std::alloc::Global;
 
-fn entry_by(alloc: Global, record: &Record, steps: &[Step]) -> Result<Entry, OutOfMemory>
-    ensures { IfOk result (λ entry. entry ≡ entry_by record.now steps.now) }
+fn entry_by(alloc: Global, recorded: &Record, steps: &[Step]) -> Result<Entry, OutOfMemory>
+    ensures { IfOk result (λ entry. entry ≡ entry_by recorded.now steps.now) }
 {
     Ok(Entry {
-        event: record.event.copy(alloc)?,
-        outcome: record.outcome.copy(alloc)?,
+        event: recorded.event.copy(alloc)?,
+        outcome: recorded.outcome.copy(alloc)?,
         steps: copy_steps(alloc, steps)?,
     })
 }
@@ -31,8 +31,8 @@ pub fn entries_by(
     ensures { IfOk result (λ entries. entries.items ≡ entries_by records.now steps.now) }
 {
     let mut entries = Vec::new(alloc);
-    for (number, record) in records.iter().enumerate() {
-        entries.push(entry_by(alloc, record, steps.row(number))?)?;
+    for (number, recorded) in records.iter().enumerate() {
+        entries.push(entry_by(alloc, recorded, steps.row(number))?)?;
     }
     Ok(entries)
 }

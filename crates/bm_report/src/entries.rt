@@ -81,14 +81,14 @@ fn put_entry(
     alloc: Global,
     out: &mut Vec<u8>,
     number: u64,
-    record: &Record,
+    recorded: &Record,
     steps: &[Step],
 ) -> Result<(), OutOfMemory>
-    ensures { OnOk result (out.new.items ≡ out.old.items ++ spec.entry_text number (entry_by record.now steps.now)) }
+    ensures { OnOk result (out.new.items ≡ out.old.items ++ spec.entry_text number (entry_by recorded.now steps.now)) }
 {
-    put_event_line(alloc, out, number, &record.event)?;
-    put_outcome(alloc, out, &record.outcome)?;
-    put_steps(alloc, out, &record.outcome, steps)
+    put_event_line(alloc, out, number, &recorded.event)?;
+    put_outcome(alloc, out, &recorded.outcome)?;
+    put_steps(alloc, out, &recorded.outcome, steps)
 }
 
 /// What the records came to, numbered from 1 on, each with its steps.
@@ -103,8 +103,8 @@ pub(crate) fn put_entries(
     ensures { OnOk result (out.new.items ≡ out.old.items ++ spec.entries_text 1 (entries_by records.now steps.now)) }
 {
     let mut number = 1u64;
-    for (place, record) in records.iter().enumerate() {
-        put_entry(alloc, out, number, record, steps.row(place))?;
+    for (place, recorded) in records.iter().enumerate() {
+        put_entry(alloc, out, number, recorded, steps.row(place))?;
         number += 1;
     }
     Ok(())

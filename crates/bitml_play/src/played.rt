@@ -31,6 +31,7 @@ fn play_opened<H: Hash32 + Drop>(
     ensures { IfOk result (λ p. IsLeft H.digest_of (setup_of (H.digest_of world.hasher) run.now world.contracts) run.now.events p.0 p.1) }
 {
     let mut world = world;
+    world.make_room(run.events.len())?;
     let stop = play_events(&mut world, run.events.as_slice())?;
     Ok((world, stop))
 }

@@ -1,4 +1,5 @@
 pub mod Names
+pub mod Blocks
 pub mod Taken
 pub mod Later
 pub mod Here

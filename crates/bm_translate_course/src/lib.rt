@@ -2,6 +2,7 @@
 #![tactic(auto)]
 
 mod counting;
+mod passing;
 mod taking;
 mod translating;
 mod walking;

@@ -76,8 +76,8 @@ fn note_asked(asked: &mut Seq<BranchAuthorisation>, step: &Step) -> Result<(), O
     }
 }
 
-// The configuration after a step that may be taken.
-fn apply(config: &mut Config, step: &Step) -> Result<(), OutOfMemory>
+/// The configuration after a step that may be taken.
+pub(crate) fn apply(config: &mut Config, step: &Step) -> Result<(), OutOfMemory>
     requires enabled { calculus.fails config.old step.now ≡ 0 }
     requires room { config.old.next + calculus.names_made config.old step.now < 2 ^ 32 }
     ensures { OnOk result (config.new ≡ calculus.effect config.old step.now) }

@@ -12,6 +12,7 @@ ghost use Rattle.bm_translate.specs.Moments.{IsTurn};
 ghost use Rattle.bm_translate.specs.Shown.{posts_of};
 ghost use Rattle.bm_translate_course.specs.Courses.{IsPlayed, IsNext, events_of, started, passed_by};
 
+use crate::passing::{blocks_of, pass_blocks};
 use crate::taking::take_steps;
 use bm_calculus::Config;
 use bm_hash::{Hash32, Trail};
@@ -67,8 +68,10 @@ pub(crate) fn start<H: Hash32 + Drop>(
     })
 }
 
-/// The steps of an event, which are taken. A step that stands alone comes into the room of an empty list.
-pub(crate) fn pass<H: Hash32 + Drop>(
+// The steps of an event that is more than blocks that come. It stands apart, so that the room that it needs isn't blanked where only time
+// passes.
+#[inline(never)]
+fn pass_event<H: Hash32 + Drop>(
     alloc: Global,
     room: Vec<Step>,
     trail: &Trail<H>,
@@ -95,6 +98,31 @@ pub(crate) fn pass<H: Hash32 + Drop>(
     take_steps(running, &made)?;
     running.secrets.note(&shown);
     Ok(made)
+}
+
+/// The steps of an event, which are taken. A step that stands alone comes into the room of an empty list.
+pub(crate) fn pass<H: Hash32 + Drop>(
+    alloc: Global,
+    room: Vec<Step>,
+    trail: &Trail<H>,
+    board: &Board,
+    running: &mut Running,
+    recorded: &Record,
+) -> Result<Vec<Step>, OutOfMemory>
+    requires few { length board.now.compiled < 2 ^ 32 }
+    requires room { room.items ≡ [] }
+    requires is { IsNext (setup_of (H.digest_of trail.now.hasher) board.now) board.now trail.now.messages running.old recorded.now }
+    ensures { IfOk result (λ made. (f w next : World)
+        → IsTurn (setup_of (H.digest_of trail.now.hasher) board.now) board.now trail.now.messages f w next running.old recorded.now
+        → (made.items ≡ outcome_steps (setup_of (H.digest_of trail.now.hasher) board.now) f.posted running.old.config w next
+        recorded.now.event recorded.now.tx recorded.now.outcome)
+        × (running.new ≡ passed_by running.old made.items (posts_of board.now.header.secrets recorded.now))) }
+{
+    if let Some(blocks) = blocks_of(recorded) {
+        let made = pass_blocks(room, running, blocks)?;
+        return Ok(made);
+    }
+    pass_event(alloc, room, trail, board, running, recorded)
 }
 
 // The steps of all events, which are taken from the opening on.

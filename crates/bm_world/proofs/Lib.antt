@@ -3,6 +3,7 @@ mod Foretold
 mod Fresh
 mod Heard
 mod Opened
+mod Passed
 mod Placed
 mod Played
 mod Posts

@@ -118,7 +118,7 @@ cause_of s w e (Guessed party secret) collided unguessed h is = absurd (unguesse
 cause_of s w e Memory collided unguessed h is = absurd (none-some h is)
 
 -- memory is short after some of the strings
-short_halts : (s : Setup) (w : World) (new : List (List ℕ)) (e : Event) → HashedFront s.hash w.hashed new (draft s w e).hashes
+pub short_halts : (s : Setup) (w : World) (new : List (List ℕ)) (e : Event) → HashedFront s.hash w.hashed new (draft s w e).hashes
     → Halts s w new e Memory
 short_halts s w new e hashed = record {
   hashed = hashed;

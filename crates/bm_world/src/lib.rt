@@ -6,6 +6,7 @@ mod evidence;
 mod foretelling;
 mod halt;
 mod handing;
+mod passing;
 mod placing;
 mod playing;
 mod standing;

@@ -10,6 +10,7 @@ ghost use Rattle.bm_world.specs.Playing.{IsPlayable, IsCompiledAfter, Passes, Sa
 use crate::drafting::draft;
 use crate::evidence::trail_halt;
 use crate::halt::Halt;
+use crate::passing::{pass_blocks, passing};
 use crate::placing::place;
 use bm_compile::Compiled;
 use bm_hash::{Hash32, Trail};
@@ -105,8 +106,10 @@ fn attempt<H: Hash32 + Drop>(
     Ok(outcome)
 }
 
-/// One event. After a halt only the trail is changed.
-pub(crate) fn play<H: Hash32 + Drop>(
+// One event that is drafted. After a halt only the trail is changed. It stands apart, so that the room that it needs isn't blanked where
+// only time passes.
+#[inline(never)]
+fn play_drafted<H: Hash32 + Drop>(
     alloc: Global,
     trail: &mut Trail<H>,
     board: &mut Board,
@@ -131,6 +134,31 @@ pub(crate) fn play<H: Hash32 + Drop>(
             board.book.cut(pairs);
             Err(halt)
         }
+    }
+}
+
+/// One event. After a halt only the trail is changed.
+pub(crate) fn play<H: Hash32 + Drop>(
+    alloc: Global,
+    trail: &mut Trail<H>,
+    board: &mut Board,
+    trace: &mut Seq<Record>,
+    event: &Event,
+) -> Result<Outcome, Halt>
+    requires playable { IsPlayable (setup_of (H.digest_of trail.old.hasher) board.old) board.old trail.old.messages }
+    requires is { IsEvent (setup_of (H.digest_of trail.old.hasher) board.old) event.now }
+    ensures hasher { trail.new.hasher ≡ trail.old.hasher }
+    ensures same { SameBoard board.old board.new }
+    ensures goes { IfOk result (GoesOn (setup_of (H.digest_of trail.old.hasher) board.old) (world_of board.old trail.old.messages)
+        board.new trail.new.messages trace.old trace.new event.now) }
+    ensures halts { IfErr result (Halts (setup_of (H.digest_of trail.old.hasher) board.old) (world_of board.old trail.old.messages)
+        trail.new.messages event.now) }
+    ensures board { OnErr result (board.new ≡ board.old) }
+    ensures records { OnErr result (trace.new ≡ trace.old) }
+{
+    match passing(board, event) {
+        Some(blocks) => pass_blocks(trail, board, trace, event, blocks),
+        None => play_drafted(alloc, trail, board, trace, event),
     }
 }
 

@@ -29,7 +29,7 @@ use bm_wellformed::Checked;
 use bm_world_board::Board;
 use bm_world_opening::open_board;
 use spec_bitcoin::{Refusal, Tx};
-use spec_data::Seq;
+use spec_data::{OutOfMemory, Seq};
 use spec_run::{Event, Header, Outcome, Record};
 use std::alloc::Global;
 use std::marker::Model;
@@ -206,6 +206,16 @@ impl<H: Hash32 + Drop> World<H> {
     {
         choices_are_found();
         node_at(&self.board, output)
+    }
+
+    /// Room for the records of so many events, where none has come yet. Nothing changes.
+    pub fn make_room(&mut self, events: usize) -> Result<(), OutOfMemory>
+        ensures { self.new ≡ self.old }
+    {
+        if self.trace.is_empty() {
+            self.trace = Seq::with_capacity(self.alloc, events)?;
+        }
+        Ok(())
     }
 
     /// One event: what came of it, which is then recorded, or what halted the run. After a halt nothing but the trail has changed,

@@ -1,23 +1,32 @@
-use Rattle.std.proofs.Common.{◌≡◌, map, ap, ◌∙◌}
-use Rattle.bm_translate.specs.declared.running.Running.{Running}
-use Rattle.bm_translate.specs.Shown.{noted, posts_of, told_of}
-use Rattle.bm_translate.proofs.Known.{noted_told}
-use Rattle.bm_translate_course.specs.Passing.{after_all}
-use Rattle.bm_translate_course.proofs.Taken.{secrets_after}
+use Rattle.std.proofs.Common.{ap, sym, subst, ◌∙◌}
+use Rattle.spec_calculus.specs.Steps.{Legal}
+use Rattle.bm_world_board.specs.Drafts.{setup_of}
+use Rattle.bm_translate_course.specs.Courses.{passed_by}
+use Rattle.bm_translate.specs.Shown.{posts_of}
+use Rattle.bm_translate_course.proofs.Blocks.{steps_are, passed_are}
 use Rattle.bm_translate_course.proofs.walking.pass.Goals as goal
 
-pub returns : goal.returns
-returns g c = λ f w next turn.
+pub pass_blocks-requires : goal.pass_blocks-requires
+pass_blocks-requires g c =
+    let hash = g.H.Hash32.digest_of c.args.trail.now.hasher in
+    let is = c.requires.is in
+    let made = steps_are c.args.recorded.now c.in-Some.blocks c.in-Some.ensures.event c.in-Some.ensures.outcome (setup_of hash c.args.board.now)
+    is.end.posted c.args.running.now.config is.world is.next in
+    record {
+      room = c.requires.room;
+      enabled = (subst (Legal c.args.running.now.config) made is.legal).0;
+      few = rw made at is.room;
+    }
+
+pub returns-in-Some : goal.returns-in-Some
+returns-in-Some g c = λ f w next turn.
+    let hash = g.H.Hash32.digest_of c.args.trail.now.hasher in
+    let x = c.args.recorded.now in
     let r = c.args.running.now in
-    let made = c.in_ok-made.made.items in
-    let taken : c.take_steps.new.running ≡ after_all c.args.running.now c.in_ok-made.made.items =
-    c.in_ok-take_steps.ensures ∙ ap (after_all r) c.deref.ensures.value in
-    let secrets : c.take_steps.new.running.secrets ≡ c.args.running.now.secrets =
-    ap (λ (x : Running). x.secrets) taken ∙ secrets_after made r in
-    let shown = c.in_ok-shown.ensures ∙ ap (λ held. told_of r.secrets (posts_of held c.args.recorded.now)) c.as_slice.ensures in
-    let told : c.note.new.self ≡ map (noted (posts_of c.args.board.now.header.secrets c.args.recorded.now)) c.args.running.now.secrets =
-    c.note.ensures ∙ (λ i. map (noted (shown i)) (secrets i))
-    ∙ noted_told r.secrets (posts_of c.args.board.now.header.secrets c.args.recorded.now) in (
-      c.in_ok-made.ensures f w next turn,
-      λ i. record { config = (taken i).config; inits = (taken i).inits; asked = (taken i).asked; secrets = told i },
+    let held = c.args.board.now.header.secrets in
+    let made = c.in_ok-made.ensures.made
+    ∙ sym (steps_are x c.in-Some.blocks c.in-Some.ensures.event c.in-Some.ensures.outcome (setup_of hash c.args.board.now) f.posted r.config w next) in (
+      made,
+      c.in_ok-made.ensures.running ∙ passed_are x c.in-Some.blocks c.in-Some.ensures.event c.in-Some.ensures.outcome held r
+          ∙ ap (λ ss. passed_by r ss (posts_of held x)) (sym c.in_ok-made.ensures.made),
     )

@@ -1,8 +1,10 @@
 #!/usr/bin/env python3
 """Measures a program on the inputs of make_inputs.py: take_times.py PROGRAM FOLDER [KIND..]. For each kind of work it prints a row of the
-table in docs/costs.md: how much work, the least of three processor times in seconds, the most memory in megabytes, and by how much the time
-grows where the work doubles. Times are those of the program alone, with its start and its end. A call that takes longer than a minute is
-ended, and the kind with it. It needs GNU time, for the memory."""
+table in docs/costs.md: how much work, the least processor times in seconds, the most memory in megabytes, by how much the time grows where
+the work doubles, and what part the last is of `make 7 30`, where the inputs have that. The calls of a kind are taken in turn, with
+`make 7 30` among them, since the speed of a machine may change: three times, and up to 25 times while they take less than four seconds.
+Times are those of the program alone, with its start and its end. A call that takes longer than a minute is ended, and the kind with it. It
+needs GNU time, for the memory."""
 import os
 import signal
 import subprocess
@@ -10,7 +12,7 @@ import sys
 import tempfile
 import threading
 
-RUNS, LIMIT = 3, 60
+FEWEST, MOST, ENOUGH, LIMIT = 3, 25, 4, 60
 SILENT = [(os.POSIX_SPAWN_OPEN, stream, os.devnull, os.O_WRONLY, 0) for stream in (1, 2)]
 
 
@@ -32,12 +34,29 @@ def memory_of(program, words):
         return int(memory.read().split()[-1]) / 1024
 
 
-def best(program, words):
-    found = [once(program, words)]
-    while len(found) < RUNS and found[-1][1] >= 0:
-        found.append(once(program, words))
-    seconds, status = min(found)
-    return seconds, memory_of(program, words) if status >= 0 else 0, status
+def in_turn(program, calls):
+    """The least seconds of each call up to the first that was ended, and whether one was."""
+    found, spent = [[] for _ in calls], 0
+    while len(found[-1]) < FEWEST or len(found[-1]) < MOST and spent < ENOUGH:
+        for k, words in enumerate(calls):
+            seconds, status = once(program, words)
+            found[k].append(seconds)
+            spent += seconds
+            if status < 0:
+                return [min(times) for times in found[: k + 1]], True
+    return [min(times) for times in found], False
+
+
+def row(program, kind, calls, beside):
+    """A row of the table. The call that the others are set beside, if there is one, is taken before them."""
+    sizes, words = [size for size, _ in calls], [words for _, words in calls]
+    times, ended = in_turn(program, [*beside, *words])
+    whole, times = times[: len(beside)], times[len(beside) :]
+    memory = max((memory_of(program, call) for call in words[: len(times) - ended]), default=0)
+    growth = ", ".join(f"{b / a:.1f}" for a, b in zip(times, times[1:]) if a)
+    shown = ["ended" if ended and k == len(times) - 1 else f"{t:.4f}" for k, t in enumerate(times)]
+    part = f"{times[-1] / whole[0]:.3f}" if whole and not ended else "-"
+    return f"| {kind} | {' / '.join(map(str, sizes))} | {' / '.join(shown)} | {memory:.0f} | {growth} | {part} |"
 
 
 def main(program, folder, *kinds):
@@ -46,19 +65,12 @@ def main(program, folder, *kinds):
     with open("words") as file:
         for line in file:
             kind, size, *words = line.split()
-            if not kinds or kind in kinds:
-                rows.setdefault(kind, []).append((int(size), words))
-    print("| Work | How much | Seconds | MB | Twice the work |\n|---|---|---|---|---|")
+            rows.setdefault(kind, []).append((int(size), words))
+    beside = [words for _, words in rows.get("make", [])][-1:]
+    print("| Work | How much | Seconds | MB | Twice the work | Beside `make 7 30` |\n|---|---|---|---|---|---|")
     for kind, calls in rows.items():
-        sizes, times, most, status = [], [], 0, 0
-        for size, words in calls:
-            seconds, memory, status = best(program, words)
-            sizes, times, most = [*sizes, size], [*times, seconds], max(most, memory)
-            if status < 0:
-                break
-        growth = [f"{b / a:.1f}" for a, b in zip(times, times[1:]) if a]
-        shown = ["ended" if status < 0 and k == len(times) - 1 else f"{t:.3f}" for k, t in enumerate(times)]
-        print(f"| {kind} | {' / '.join(map(str, sizes))} | {' / '.join(shown)} | {most:.0f} | {', '.join(growth)} |", flush=True)
+        if not kinds or kind in kinds:
+            print(row(program, kind, calls, [] if kind == "make" else beside), flush=True)
 
 
 if __name__ == "__main__":

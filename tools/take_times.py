@@ -2,7 +2,7 @@
 """Measures a program on the inputs of make_inputs.py: take_times.py PROGRAM FOLDER [KIND..]. For each kind of work it prints a row of the
 table in docs/costs.md: how much work, the least processor times in seconds, the most memory in megabytes, by how much the time grows where
 the work doubles, and what part the last is of `make 7 30`, where the inputs have that. The calls of a kind are taken in turn, with
-`make 7 30` among them, since the speed of a machine may change: three times, and up to 25 times while they take less than four seconds.
+`make 7 30` among them, since the speed of a machine may change: three times, and up to 25 times while they take less than ten seconds.
 Times are those of the program alone, with its start and its end. A call that takes longer than a minute is ended, and the kind with it. It
 needs GNU time, for the memory."""
 import os
@@ -12,7 +12,7 @@ import sys
 import tempfile
 import threading
 
-FEWEST, MOST, ENOUGH, LIMIT = 3, 25, 4, 60
+FEWEST, MOST, ENOUGH, LIMIT = 3, 25, 10, 60
 SILENT = [(os.POSIX_SPAWN_OPEN, stream, os.devnull, os.O_WRONLY, 0) for stream in (1, 2)]
 
 

@@ -3,66 +3,76 @@
 ghost use Rattle.std.specs.Prelude.{◌≡◌, [], IfSome, slice_index_or, true};
 
 use crate::pieces::Pieces;
-use spec_data::OutOfMemory;
 use std::alloc::Global;
 
 // In how many slots in a row a place may be kept.
 const ROW: usize = 8;
 
+// The most slots for short messages: what is asked for again was nearly always asked for shortly before, and few slots stay near in memory.
+const MOST: usize = 1 << 14;
+
+// From how many bytes on a message is long. Long ones are few and costly to hash: they have slots of their own, so many.
+const LONG: usize = 512;
+
+const OF_LONG: usize = 512;
+
 // What a slot has in which no place is kept.
-const FREE: u64 = u64::MAX;
+const FREE: u32 = u32::MAX;
 
-// The half of a slot that is a place. The other half is that of the mark, which tells where the place is kept: so a message that stands
-// far back in memory isn't looked at for nothing, nor anew where there are to be more slots.
-const PLACE: u64 = 0xffff_ffff;
+// The part of a slot that is a place. The byte above it is one of the mark: so a message that stands far back in memory isn't looked at
+// for nothing.
+const PLACE: u32 = 0xff_ffff;
 
-/// The places of messages, each in a slot that the message's mark tells. They are hints: a place may be missing, or another message may
-/// stand there, so whoever asks is told a place only where the message was seen to stand. No clause says what is kept.
+/// The places of messages that were asked for of late, each in a slot that the message's mark tells. They are hints: a place may be
+/// missing, or another message may stand there, so whoever asks is told a place only where the message was seen to stand. No clause says
+/// what is kept. Of a mark its upper half is used.
 #[derive(Drop)]
 pub(crate) struct Hints {
     alloc: Global,
-    slots: Vec<u64>,
+    short: Vec<u32>,
+    long: Vec<u32>,
     ahead: [usize; 2],
     last: bool,
 }
 
-// The first slot of the row of a mark: rows follow one another as the upper halves of marks do.
-fn row_of(slots: &[u64], mark: u64) -> usize {
-    let rows = slots.len().saturating_sub(ROW) as u64;
-    ((mark >> 32).wrapping_mul(rows) >> 32) as usize
+// The half of a mark that tells the slot.
+fn half_of(mark: u64) -> u32 {
+    (mark >> 32) as u32
 }
 
-// The slots in which the place of a message of this mark may be kept.
-fn row(slots: &[u64], mark: u64) -> &[u64] {
-    let first = row_of(slots, mark);
+// The first slot of the row of a mark: rows follow one another as marks do.
+fn row_of(slots: &[u32], mark: u32) -> usize {
+    let rows = slots.len().saturating_sub(ROW) as u64;
+    (u64::from(mark).wrapping_mul(rows) >> 32) as usize
+}
+
+// The slots of a row.
+fn row_at(slots: &[u32], first: usize) -> &[u32] {
     match slots.get(first..first.saturating_add(ROW)) {
         Some(row) => row,
         None => &[],
     }
 }
 
-// The first free slot of the row of a mark, or the row's first one where none is free.
-fn slot_for(slots: &[u64], mark: u64) -> usize {
-    let first = row_of(slots, mark);
-    for (k, kept) in row(slots, mark).iter().enumerate() {
+// The first free slot of a row, or, where none is free, the one that is a place's turn.
+fn slot_for(slots: &[u32], first: usize, place: usize) -> usize {
+    for (k, kept) in row_at(slots, first).iter().enumerate() {
         if *kept == FREE {
             return first.saturating_add(k);
         }
     }
-    first
+    first.saturating_add(place % ROW)
 }
 
-// Keeps a place with the half of its mark.
-fn keep(slots: &mut [u64], hint: u64) {
-    let slot = slot_for(slots, hint);
-    if let Some(kept) = slots.get_mut(slot) {
-        *kept = hint;
+// Keeps a place, unless it is beyond the sixteen millions that a slot can tell.
+fn keep(slots: &mut [u32], mark: u32, place: usize) {
+    if place >= PLACE as usize {
+        return;
     }
-}
-
-// A place and the half of a mark. One beyond 32 bits is none.
-fn hint_of(mark: u64, place: usize) -> u64 {
-    (mark & !PLACE) | (place as u64).min(PLACE)
+    let slot = slot_for(slots, row_of(slots, mark), place);
+    if let Some(kept) = slots.get_mut(slot) {
+        *kept = mark << 24 | place as u32;
+    }
 }
 
 // Whether the message stands at a place.
@@ -76,7 +86,7 @@ fn stands_at(messages: &Pieces, place: usize, message: &[u8]) -> bool
 }
 
 // The first of the places in a row, of those kept for this mark, at which the message stands.
-fn place_in(row: &[u64], messages: &Pieces, mark: u64, message: &[u8]) -> Option<usize>
+fn place_in(row: &[u32], messages: &Pieces, mark: u32, message: &[u8]) -> Option<usize>
     ensures { IfSome result (λ place. slice_index_or messages.now place [] ≡ message.now) }
 {
     for kept in row {
@@ -84,23 +94,11 @@ fn place_in(row: &[u64], messages: &Pieces, mark: u64, message: &[u8]) -> Option
             return None;
         }
         let place = (*kept & PLACE) as usize;
-        if *kept & !PLACE == mark & !PLACE && stands_at(messages, place, message) {
+        if *kept >> 24 == mark & 0xff && stands_at(messages, place, message) {
             return Some(place);
         }
     }
     None
-}
-
-// The same hints in slots for twice as many places as there are.
-fn spread(alloc: Global, kept: &[u64], places: usize) -> Result<Vec<u64>, OutOfMemory> {
-    let count = places.saturating_mul(2).saturating_add(64);
-    let mut slots = vec![in alloc; FREE; count]?;
-    for hint in kept {
-        if *hint != FREE {
-            keep(&mut slots, *hint);
-        }
-    }
-    Ok(slots)
 }
 
 impl Hints {
@@ -108,7 +106,8 @@ impl Hints {
     pub(crate) fn new(alloc: Global) -> Hints {
         Hints {
             alloc,
-            slots: Vec::new(alloc),
+            short: Vec::new(alloc),
+            long: Vec::new(alloc),
             ahead: [0; 2],
             last: false,
         }
@@ -143,24 +142,70 @@ impl Hints {
         self.last = !self.last;
     }
 
+    // The slots for messages of so many bytes.
+    fn slots(&self, bytes: usize) -> &[u32] {
+        if bytes < LONG {
+            &self.short
+        } else {
+            &self.long
+        }
+    }
+
     /// The place of a message of this mark, where one is kept at which it stands.
     pub(crate) fn find(&mut self, messages: &Pieces, mark: u64, message: &[u8]) -> Option<usize>
         ensures { IfSome result (λ place. slice_index_or messages.now place [] ≡ message.now) }
     {
-        let place = place_in(row(&self.slots, mark), messages, mark, message)?;
+        let mark = half_of(mark);
+        let slots = self.slots(message.len());
+        let place = place_in(row_at(slots, row_of(slots, mark)), messages, mark, message)?;
         self.follow(place);
         Some(place)
     }
 
-    /// Keeps the place of the last of these messages, whose mark this is. A quarter of the slots stays free; where there is no memory for
-    /// more of them, those that are there are shared.
-    pub(crate) fn note_last(&mut self, messages: &Pieces, mark: u64) {
-        let count = messages.len();
-        if count / 3 >= self.slots.len() / 4 {
-            if let Ok(slots) = spread(self.alloc, &self.slots, count) {
-                self.slots = slots;
-            }
+    // Keeps the place of a message of so many bytes.
+    fn note(&mut self, mark: u64, bytes: usize, place: usize) {
+        if bytes < LONG {
+            keep(&mut self.short, half_of(mark), place);
+        } else {
+            keep(&mut self.long, half_of(mark), place);
         }
-        keep(&mut self.slots, hint_of(mark, count.saturating_sub(1)));
+    }
+
+    /// Keeps the place of a message anew, whose hint was lost: one that is asked for often would else be hashed each time.
+    pub(crate) fn renew(&mut self, mark: u64, message: &[u8], place: usize) {
+        self.note(mark, message.len(), place);
+        self.follow(place);
+    }
+
+    // More slots, where there may be more and a quarter of them isn't free. They begin free: what is asked for is soon kept there again.
+    // Where there is no memory for them, those that are there are shared.
+    fn spread(&mut self, count: usize) {
+        if self.short.len() >= MOST || count / 3 < self.short.len() / 4 {
+            return;
+        }
+        let more = count.saturating_mul(2).saturating_add(64).min(MOST);
+        if let Ok(slots) = vec![in self.alloc; FREE; more] {
+            self.short = slots;
+        }
+    }
+
+    // The slots for long messages, taken with the first of these.
+    fn spread_long(&mut self) {
+        if !self.long.is_empty() {
+            return;
+        }
+        if let Ok(slots) = vec![in self.alloc; FREE; OF_LONG] {
+            self.long = slots;
+        }
+    }
+
+    /// Keeps the place of a message of this mark, which is the last of so many.
+    pub(crate) fn note_last(&mut self, mark: u64, message: &[u8], count: usize) {
+        if message.len() < LONG {
+            self.spread(count);
+        } else {
+            self.spread_long();
+        }
+        self.note(mark, message.len(), count.saturating_sub(1));
     }
 }

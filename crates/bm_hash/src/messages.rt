@@ -193,6 +193,7 @@ impl<H: Hash32 + Drop> Trail<H> {
         match self.index.get(&Key { digest }).copied() {
             Some(place) => {
                 if self.messages.get(place) == message {
+                    self.hints.renew(mark, message, place);
                     return Ok(digest);
                 }
                 self.messages.push(message)?;
@@ -201,7 +202,7 @@ impl<H: Hash32 + Drop> Trail<H> {
             }
             None => {
                 add_message(&mut self.messages, &mut self.index, digest, message)?;
-                self.hints.note_last(&self.messages, mark);
+                self.hints.note_last(mark, message, self.messages.len());
                 Ok(digest)
             }
         }

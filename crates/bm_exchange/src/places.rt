@@ -1,9 +1,12 @@
 //! Where strings stand first.
 
-ghost use Rattle.std.specs.Prelude.{◌≡◌};
-ghost use Rattle.std.specs.Option.{option_copied};
-ghost use Rattle.bm_exchange.specs.Placed.{mark_of, is_place};
+ghost use Rattle.std.specs.Prelude.{◌≡◌, Some, IfOk, OnErr};
+ghost use Rattle.std.specs.BTreeMap.{UpdatesBy};
+ghost use Rattle.std.specs.Option.{option_copied, unwrap_or};
+ghost use Rattle.std.specs.Ordering.{nat_cmp};
+ghost use Rattle.bm_exchange.specs.Placed.{mark_of, marked_at, is_place};
 
+use spec_data::OutOfMemory;
 use std::collections::BTreeMap;
 
 /// Where strings stand first. A string is found by its mark, a number of 64 bits, and where an earlier string has this mark, by all its
@@ -22,6 +25,20 @@ pub(crate) fn mark_of(string: &[u8]) -> u64
         Some(last) => u64::from_le_bytes(*last),
         None => 0,
     }
+}
+
+/// Puts the place of a mark in the index, unless an earlier string has it; the place that the mark has then.
+pub(crate) fn add_mark(
+    marked: &mut BTreeMap<u64, usize>,
+    mark: u64,
+    place: usize,
+) -> Result<usize, OutOfMemory>
+    ensures first { IfOk result (λ first. first ≡ unwrap_or (marked_at marked.old mark) place) }
+    ensures put { IfOk result (λ first. UpdatesBy nat_cmp (λ k. nat_cmp mark k) marked.old marked.new (Some first)) }
+    ensures err { OnErr result (marked.new.entries ≡ marked.old.entries) }
+{
+    let first = *marked.entry(mark)?.or_insert(place);
+    Ok(first)
 }
 
 /// Whether the place that was found is this one.

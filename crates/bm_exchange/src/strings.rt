@@ -1,10 +1,10 @@
 //! Strings in order, with an index that tells where each stands first.
 
-ghost use Rattle.std.specs.Prelude.{List, ℕ, ◌≡◌, ◌++◌, ◌∷◌, [], ◌<◌, ◌≤◌, ◌-◌, true, false, length, take, is_some, OnOk, OnErr};
+ghost use Rattle.std.specs.Prelude.{List, ℕ, ◌≡◌, ◌++◌, ◌∷◌, [], ◌<◌, ◌≤◌, ◌-◌, true, false, if◌then◌else◌, length, take, is_some, IfOk, OnOk, OnErr};
 ghost use Rattle.spec_data.specs.Lists.{is_among};
 ghost use Rattle.bm_exchange.specs.Placed.{IsPlaced, mark_of, marked_at};
 
-use crate::places::{Places, is_here, mark_of};
+use crate::places::{Places, add_mark, is_here, mark_of};
 use bm_hash::Pieces;
 use spec_data::OutOfMemory;
 use std::alloc::{AllocError, Global};
@@ -108,27 +108,25 @@ fn has_string(strings: &Pieces, places: &Places, string: &[u8]) -> bool
     is_there(strings, places, string)
 }
 
-// Adds a string of a mark that none has.
-fn add_marked(
-    strings: &mut Pieces,
-    places: &mut Places,
-    mark: u64,
-    string: &[u8],
-) -> Result<(), OutOfMemory>
+// Adds a string if none has its mark, and tells whether it was added. The index is gone down once for both.
+fn add_first(strings: &mut Pieces, places: &mut Places, string: &[u8]) -> Result<bool, OutOfMemory>
     requires placed { IsPlaced strings.old places.old }
-    requires of_string { mark ≡ mark_of string.now }
-    requires free { is_some (marked_at places.old.marked mark) ≡ false }
-    ensures ok { OnOk result (strings.new ≡ strings.old ++ string.now ∷ []) }
+    ensures ok { IfOk result (λ added. strings.new ≡ if added then strings.old ++ string.now ∷ [] else strings.old) }
+    ensures taken { IfOk result (λ added. added ≡ false → is_some (marked_at places.new.marked (mark_of string.now)) ≡ true) }
     ensures err { OnErr result (strings.new ≡ strings.old) }
     ensures placed { IsPlaced strings.new places.new }
 {
     let place = strings.len();
     strings.push(string)?;
-    if places.marked.insert(mark, place).is_err() {
+    let Ok(first) = add_mark(&mut places.marked, mark_of(string), place) else {
         strings.truncate(place);
         return Err(AllocError);
+    };
+    if first == place {
+        return Ok(true);
     }
-    Ok(())
+    strings.truncate(place);
+    Ok(false)
 }
 
 // Adds a string that isn't there, though another of its mark is.
@@ -179,10 +177,10 @@ fn add_string(
     ensures err { OnErr result (strings.new ≡ strings.old) }
     ensures placed { IsPlaced strings.new places.new }
 {
-    let mark = mark_of(string);
-    if !places.marked.contains_key(&mark) {
-        add_marked(strings, places, mark, string)
-    } else if is_there(strings, places, string) {
+    if add_first(strings, places, string)? {
+        return Ok(());
+    }
+    if is_there(strings, places, string) {
         add_again(strings, places, string)
     } else {
         add_other(alloc, strings, places, string)

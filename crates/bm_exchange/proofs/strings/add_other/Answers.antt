@@ -1,6 +1,5 @@
-use Rattle.std.proofs.Common.{rules, ◌≡◌, ◌∷◌, [], take, ap, ◌∙◌, arith}
-use Rattle.std.proofs.lemmas.List.{take-append-le, take_all}
-use Rattle.bm_exchange.proofs.Placing.{placed_other, placed_still-others}
+use Rattle.std.proofs.Common.{rules, ◌≡◌}
+use Rattle.bm_exchange.proofs.Placing.{cut_back, placed_other, placed_still-others}
 use Rattle.bm_exchange.proofs.strings.add_other.Goals as goal
 
 pub returns-clause-placed : goal.returns-clause-placed
@@ -10,9 +9,5 @@ returns-clause-placed c =
 
 pub returns-then-is_err-clause-placed : goal.returns-then-is_err-clause-placed
 returns-then-is_err-clause-placed c =
-    let n = c.len-place.ensures in
-    let same : c.truncate.new.self ≡ c.args.strings.now =
-    c.truncate.ensures ∙ ap (take c.len-place.result) c.in_ok-push.ensures.ok
-    ∙ take-append-le c.len-place.result c.args.strings.now (c.args.string.now ∷ []) (omega (arith, n))
-    ∙ take_all c.len-place.result c.args.strings.now (omega (arith, n)) in
+    let same : c.truncate.new.self ≡ c.args.strings.now = cut_back _ c.args.string.now _ _ _ c.len-place.ensures c.in_ok-push.ensures.ok c.truncate.ensures in
     rw same (placed_still-others _ c.args.places.now c.insert.new.self c.requires.placed (search rules))

@@ -7,10 +7,9 @@ ghost use Rattle.spec_text.specs.PlayText as spec;
 ghost use Rattle.bm_report.specs.Entries.{entry_by, entries_by};
 
 use crate::outcome::put_outcome;
-use crate::piece::put_byte;
 use crate::step::put_steps;
 use bm_rows::Rows;
-use bm_runfile::{Event, put_event};
+use bm_runfile::{Event, put_byte, put_event};
 use bm_text::{put, put_decimal};
 use spec_calculus::Step;
 use spec_data::{Name, OutOfMemory};

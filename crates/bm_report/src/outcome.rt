@@ -6,9 +6,9 @@ ghost use Rattle.spec_bitcoin.specs.Keys.{path_text};
 ghost use Rattle.spec_text.specs.RunText.{newline, outputs_text};
 ghost use Rattle.spec_text.specs.OutcomeText as spec;
 
-use crate::piece::{put_byte, put_made};
+use crate::piece::put_made;
 use bm_keys::put_path;
-use bm_runfile::{put_outputs, put_refusal};
+use bm_runfile::{put_byte, put_outputs, put_refusal};
 use bm_text::{put, put_decimal};
 use spec_data::{Name, OutOfMemory};
 use spec_run::{Outcome, Reason};

@@ -1,11 +1,11 @@
 //! Pieces of text that several lines have.
 
-ghost use Rattle.std.specs.Prelude.{◌≡◌, ◌++◌, ◌∷◌, [], codes, OnOk};
+ghost use Rattle.std.specs.Prelude.{◌≡◌, ◌++◌, codes, OnOk};
 ghost use Rattle.std.specs.Fmt.{decimal};
 ghost use Rattle.spec_text.specs.RunText as spec;
 
-use bm_runfile::put_output;
-use bm_text::{put, put_decimal};
+use bm_runfile::{put_byte, put_output};
+use bm_text::put_decimal;
 use spec_data::OutOfMemory;
 use std::alloc::Global;
 
@@ -19,17 +19,8 @@ pub(crate) fn put_made(
 ) -> Result<(), OutOfMemory>
     ensures { OnOk result (out.new.items ≡ out.old.items ++ (codes " " ++ (spec.output_text number ++ (codes " " ++ decimal value)))) }
 {
-    put(out, b" ")?;
+    put_byte(out, b' ')?;
     put_output(alloc, out, number)?;
-    put(out, b" ")?;
+    put_byte(out, b' ')?;
     put_decimal(alloc, out, value)
-}
-
-/// One byte at the end of what is there: a space, or the end of a line.
-#[inline(always)]
-pub(crate) fn put_byte(out: &mut Vec<u8>, byte: u8) -> Result<(), OutOfMemory>
-    ensures { OnOk result (out.new.items ≡ out.old.items ++ byte ∷ []) }
-{
-    out.push(byte)?;
-    Ok(())
 }

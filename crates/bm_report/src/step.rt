@@ -5,10 +5,9 @@ ghost use Rattle.std.specs.Fmt.{decimal};
 ghost use Rattle.spec_text.specs.RunText.{newline, outputs_text, contract_party_text};
 ghost use Rattle.spec_text.specs.StepText as spec;
 
-use crate::piece::put_byte;
 use bm_runfile::{
-    put_advertise, put_branch, put_contract_party, put_named, put_outputs, put_party_name,
-    put_share, put_spaced_output, put_word_name, put_word_number,
+    put_advertise, put_branch, put_byte, put_contract_party, put_named, put_outputs,
+    put_party_name, put_share, put_spaced_output, put_word_name, put_word_number,
 };
 use bm_text::{put, put_decimal};
 use spec_calculus::{Owner, Step};

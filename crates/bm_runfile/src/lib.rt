@@ -20,7 +20,7 @@ pub use limits::run_limits_are_defined;
 pub use lines::{first_line, words_of};
 pub use paths::read_path;
 pub use pieces::{
-    put_advertise, put_bindings, put_branch, put_contract_party, put_named, put_output,
+    put_advertise, put_bindings, put_branch, put_byte, put_contract_party, put_named, put_output,
     put_outputs, put_party_name, put_share, put_spaced_output, put_word_name, put_word_number,
 };
 pub use print::{print_event, print_header, put_event};

@@ -1,6 +1,6 @@
 //! Pieces that the lines of events and of steps share.
 
-ghost use Rattle.std.specs.Prelude.{◌≡◌, ◌++◌, codes, OnOk};
+ghost use Rattle.std.specs.Prelude.{◌≡◌, ◌++◌, ◌∷◌, [], codes, OnOk};
 ghost use Rattle.std.specs.Fmt.{decimal};
 ghost use Rattle.spec_text.specs.RunText as spec;
 ghost use Rattle.spec_text.specs.StepText.{branch_text};
@@ -8,6 +8,15 @@ ghost use Rattle.spec_text.specs.StepText.{branch_text};
 use bm_text::{put, put_decimal};
 use spec_data::{Name, OutOfMemory};
 use std::alloc::Global;
+
+/// One byte at the end of what is there: a space, say, or the end of a line.
+#[inline(always)]
+pub fn put_byte(out: &mut Vec<u8>, byte: u8) -> Result<(), OutOfMemory>
+    ensures { OnOk result (out.new.items ≡ out.old.items ++ byte ∷ []) }
+{
+    out.push(byte)?;
+    Ok(())
+}
 
 /// A word and a number.
 #[tactic(auto, using(std::proofs::Common::append_assoc))]
@@ -30,14 +39,14 @@ pub fn put_word_name(out: &mut Vec<u8>, word: &[u8], name: &Name) -> Result<(), 
 {
     put(out, word)?;
     put(out, name.bytes())?;
-    put(out, b" ")
+    put_byte(out, b' ')
 }
 
 /// An output by its number, as `#n`.
 pub fn put_output(alloc: Global, out: &mut Vec<u8>, number: u32) -> Result<(), OutOfMemory>
     ensures { OnOk result (out.new.items ≡ out.old.items ++ spec.output_text number) }
 {
-    put(out, b"#")?;
+    put_byte(out, b'#')?;
     put_decimal(alloc, out, number as u64)
 }
 
@@ -52,7 +61,7 @@ pub fn put_branch(
     ensures { OnOk result (out.new.items ≡ out.old.items ++ branch_text output branch) }
 {
     put_output(alloc, out, output)?;
-    put(out, b" ")?;
+    put_byte(out, b' ')?;
     put_decimal(alloc, out, branch as u64)
 }
 
@@ -61,7 +70,7 @@ pub fn put_branch(
 pub fn put_spaced_output(alloc: Global, out: &mut Vec<u8>, number: u32) -> Result<(), OutOfMemory>
     ensures { OnOk result (out.new.items ≡ out.old.items ++ (codes " " ++ spec.output_text number)) }
 {
-    put(out, b" ")?;
+    put_byte(out, b' ')?;
     put_output(alloc, out, number)
 }
 
@@ -80,9 +89,9 @@ pub fn put_outputs(alloc: Global, out: &mut Vec<u8>, numbers: &[u32]) -> Result<
 pub fn put_named(out: &mut Vec<u8>, name: &Name) -> Result<(), OutOfMemory>
     ensures { OnOk result (out.new.items ≡ out.old.items ++ (codes " " ++ (name.now ++ codes "="))) }
 {
-    put(out, b" ")?;
+    put_byte(out, b' ')?;
     put(out, name.bytes())?;
-    put(out, b"=")
+    put_byte(out, b'=')
 }
 
 #[tactic(auto, using(std::proofs::Common::append_assoc))]
@@ -122,9 +131,9 @@ pub fn put_share(
 ) -> Result<(), OutOfMemory>
     ensures { OnOk result (out.new.items ≡ out.old.items ++ (codes " " ++ (owner.now ++ (codes " " ++ decimal value)))) }
 {
-    put(out, b" ")?;
+    put_byte(out, b' ')?;
     put(out, owner)?;
-    put(out, b" ")?;
+    put_byte(out, b' ')?;
     put_decimal(alloc, out, value)
 }
 
@@ -139,7 +148,7 @@ pub fn put_contract_party(
     ensures { OnOk result (out.new.items ≡ out.old.items ++ spec.contract_party_text contract party.now) }
 {
     put_decimal(alloc, out, contract as u64)?;
-    put(out, b" ")?;
+    put_byte(out, b' ')?;
     put(out, party.bytes())
 }
 
@@ -158,7 +167,7 @@ pub fn put_party_name(
 {
     put(out, word)?;
     put_contract_party(alloc, out, contract, party)?;
-    put(out, b" ")?;
+    put_byte(out, b' ')?;
     put(out, name.bytes())
 }
 

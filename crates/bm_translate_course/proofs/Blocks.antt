@@ -17,13 +17,16 @@ use Rattle.bm_translate_course.specs.Passing.{after_step}
 use Rattle.bm_translate_course.specs.Courses.{passed_by}
 
 module _ (x : Record) (blocks : ℕ) (event : x.event ≡ events.Mine blocks) (outcome : x.outcome ≡ outcomes.Done) where
+  -- they are one step
   pub steps_are : (s : Setup) (strings : List (List ℕ)) (g : Configuration) (w next : World)
       → outcome_steps s strings g w next x.event x.tx x.outcome ≡ steps.Delay blocks ∷ []
   steps_are s strings g w next = λ i. outcome_steps s strings g w next (event i) x.tx (outcome i)
 
+  -- they post nothing
   posts_are : (held : List HeldSecret) → posts_of held x ≡ []
   posts_are held = λ i. posts_by held (event i) x.tx (outcome i)
 
+  -- so no secret that is watched gets known by them
   none_new : (held : List HeldSecret) (watched : List Watched) → watched ≡ map (noted (posts_of held x)) watched
   none_new held watched = none_noted [] watched refl ∙ sym (ap (λ posts. map (noted posts) watched) (posts_are held))
 

@@ -1,6 +1,6 @@
 //! Blocks that come: an event that posts nothing, and whose one step says as much.
 
-ghost use Rattle.std.specs.Prelude.{◌≡◌, ◌<◌, ◌^◌, ◌∷◌, [], IfOk, IfSome, OnOk};
+ghost use Rattle.std.specs.Prelude.{◌≡◌, ◌≢◌, ℕ, ◌<◌, ◌^◌, ◌∷◌, [], IfOk, IfNone, IfSome, OnOk};
 ghost use Rattle.spec_calculus.specs.Steps as calculus;
 ghost use Rattle.spec_calculus.specs.declared.step.Step.TheVariants as steps;
 ghost use Rattle.spec_run.specs.declared.event.Event.TheVariants as events;
@@ -17,6 +17,7 @@ use spec_run::{Event, Outcome, Record};
 pub(crate) fn blocks_of(recorded: &Record) -> Option<u32>
     ensures event { IfSome result (λ blocks. recorded.now.event ≡ events.Mine blocks) }
     ensures outcome { IfSome result (λ _. recorded.now.outcome ≡ outcomes.Done) }
+    ensures none { IfNone result ((blocks : ℕ) → recorded.now.event ≡ events.Mine blocks → recorded.now.outcome ≢ outcomes.Done) }
 {
     match (&recorded.event, &recorded.outcome) {
         (Event::Mine { blocks }, Outcome::Done) => Some(*blocks),

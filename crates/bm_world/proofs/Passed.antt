@@ -1,5 +1,5 @@
 -- Blocks that come: nothing is hashed, nothing is posted, and no contract is compiled.
-use Rattle.std.proofs.Common.{◌≡◌, ℕ, List, [], ◌∷◌, ◌++◌, ◌+◌, ◌≤◌, None, refl, sym, ap, subst, ◌∙◌, append-nil}
+use Rattle.std.proofs.Common.{◌≡◌, ℕ, List, [], ◌∷◌, ◌++◌, ◌+◌, ◌≤◌, None, refl, sym, subst, ◌∙◌, append-nil}
 use Rattle.std.specs.List.{find}
 use Rattle.std.proofs.lemmas.Bool.{le-leb}
 use Rattle.spec_data.specs.Ranges.{last_height}
@@ -9,14 +9,17 @@ use Rattle.spec_run.specs.declared.header.HeldSecret.{HeldSecret}
 use Rattle.spec_run.specs.declared.outcome.Outcome.TheVariants as outcomes
 use Rattle.spec_run.specs.declared.outcome.Record.{Record}
 use Rattle.spec_run.specs.World.{World}
-use Rattle.spec_run.specs.Draft.{Draft, is_guessed, done, unless}
+use Rattle.spec_run.specs.Draft.{Draft, is_guessed, done}
 use Rattle.spec_run.specs.Event.{mine_row, mine_draft}
 use Rattle.bm_hash.proofs.HashesLemmas.{hashed_none}
 use Rattle.bm_world_board.specs.declared.board.Board.{Board}
 use Rattle.bm_world_board.specs.declared.drafted.Change.TheVariants.{Blocks}
 use Rattle.bm_world_board.specs.declared.drafted.Drafted.{Drafted}
 use Rattle.bm_world_board.specs.Drafts.{setup_of, world_of, Drafts}
+use Rattle.bm_world_board.specs.Secrets.{secret_strings}
+use Rattle.bm_world_board.proofs.Refusals.{passed_by}
 use Rattle.bm_world_settle.specs.Settling.{Makes}
+use Rattle.bm_world_settle.proofs.Unguessed.{none_guessed}
 use Rattle.bm_world.specs.declared.halt.Halt.TheVariants.{Memory}
 use Rattle.bm_world.specs.Playing.{IsPlayable, IsCompiledAfter, GoesOn, Halts}
 use Rattle.bm_world.proofs.Compiling.{still_compiled}
@@ -28,12 +31,11 @@ passed blocks = record { outcome = outcomes.Done; posts = []; allowed = None; ch
 
 -- where nothing is posted nothing is guessed
 unguessed : (posted : List (List ℕ)) (secrets : List HeldSecret) → find (is_guessed posted [] None) secrets ≡ None
-unguessed posted [] = refl
-unguessed posted (held ∷ secrets) = unguessed posted secrets
+unguessed posted secrets = none_guessed (secret_strings secrets) posted [] None refl secrets refl
 
 -- before the limit of time nothing refuses them
 mine_is : (w : World) (blocks : ℕ) → w.tip + blocks ≤ last_height → done (record w { tip = w.tip + blocks }) [] ≡ mine_draft w blocks
-mine_is w blocks few = sym (ap (λ o. unless o w [] (done (record w { tip = w.tip + blocks }) [])) within)
+mine_is w blocks few = passed_by (first_reason (mine_row w blocks)) w [] (done (record w { tip = w.tip + blocks }) []) within
   where
     within : first_reason (mine_row w blocks) ≡ None
     within = rw (le-leb (w.tip + blocks) last_height few) refl

@@ -1,6 +1,6 @@
-//! Blocks that come: the one event of which nothing is drafted, since it asks for no memory but that of its record.
+//! Blocks that come within the limit of time: nothing is drafted of them, since they ask for no memory but that of their record.
 
-ghost use Rattle.std.specs.Prelude.{◌≡◌, ◌+◌, ◌≤◌, ◌∷◌, ◌++◌, [], None, IfOk, IfErr, IfSome, OnOk, OnErr};
+ghost use Rattle.std.specs.Prelude.{◌≡◌, ℕ, ◌+◌, ◌<◌, ◌≤◌, ◌∷◌, ◌++◌, [], None, IfOk, IfErr, IfNone, IfSome, OnOk, OnErr};
 ghost use Rattle.spec_data.specs.Ranges.{last_height};
 ghost use Rattle.spec_run.specs.declared.event.Event.TheVariants as events;
 ghost use Rattle.spec_run.specs.declared.outcome.Outcome.TheVariants as outcomes;
@@ -17,6 +17,7 @@ use spec_run::{Event, Outcome, Record};
 pub(crate) fn passing(board: &Board, event: &Event) -> Option<u32>
     ensures event { IfSome result (λ blocks. event.now ≡ events.Mine blocks) }
     ensures few { IfSome result (λ blocks. board.now.coins.tip + blocks ≤ last_height) }
+    ensures none { IfNone result ((blocks : ℕ) → event.now ≡ events.Mine blocks → last_height < board.now.coins.tip + blocks) }
 {
     if let Event::Mine { blocks } = event {
         if board.coins.tip() as u64 + *blocks as u64 <= LAST_HEIGHT as u64 {

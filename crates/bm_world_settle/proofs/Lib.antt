@@ -1,3 +1,3 @@
-mod Unguessed
+pub mod Unguessed
 pub mod Last
 pub mod Settled

@@ -2,11 +2,14 @@
 """Measures a program on the inputs of make_inputs.py: take_times.py PROGRAM FOLDER [KIND..]. For each kind of work it prints a row of the
 table in docs/costs.md: how much work, the least processor times in seconds, the most memory in megabytes, by how much the time grows where
 the work doubles, and what part the last is of `make 7 30`, where the inputs have that. The calls of a kind are taken in turn, with
-`make 7 30` among them, since the speed of a machine may change: three times, and up to 25 times while they take less than ten seconds.
+`make 7 30` among them: three times, and up to 25 times while they take less than ten seconds. The speed of a machine may change from one
+second to the next, and a short call finds a fast moment sooner than a long one: so what is set beside another was taken in the same turn,
+and of all turns the middle is printed.
 Times are those of the program alone, with its start and its end. A call that takes longer than a minute is ended, and the kind with it. It
 needs GNU time, for the memory."""
 import os
 import signal
+import statistics
 import subprocess
 import sys
 import tempfile
@@ -35,7 +38,7 @@ def memory_of(program, words):
 
 
 def in_turn(program, calls):
-    """The least seconds of each call up to the first that was ended, and whether one was."""
+    """The seconds of each call in each turn, up to the first that was ended, and whether one was."""
     found, spent = [[] for _ in calls], 0
     while len(found[-1]) < FEWEST or len(found[-1]) < MOST and spent < ENOUGH:
         for k, words in enumerate(calls):
@@ -43,8 +46,13 @@ def in_turn(program, calls):
             found[k].append(seconds)
             spent += seconds
             if status < 0:
-                return [min(times) for times in found[: k + 1]], True
-    return [min(times) for times in found], False
+                return found[: k + 1], True
+    return found, False
+
+
+def beside_in_turn(times, others):
+    """The middle of what some calls took beside others, turn by turn."""
+    return statistics.median(b / a for a, b in zip(others, times) if a)
 
 
 def row(program, kind, calls, beside):
@@ -53,9 +61,9 @@ def row(program, kind, calls, beside):
     times, ended = in_turn(program, [*beside, *words])
     whole, times = times[: len(beside)], times[len(beside) :]
     memory = max((memory_of(program, call) for call in words[: len(times) - ended]), default=0)
-    growth = ", ".join(f"{b / a:.1f}" for a, b in zip(times, times[1:]) if a)
-    shown = ["ended" if ended and k == len(times) - 1 else f"{t:.4f}" for k, t in enumerate(times)]
-    part = f"{times[-1] / whole[0]:.3f}" if whole and not ended else "-"
+    growth = ", ".join(f"{beside_in_turn(b, a):.1f}" for a, b in zip(times, times[1:]))
+    shown = ["ended" if ended and k == len(times) - 1 else f"{min(t):.4f}" for k, t in enumerate(times)]
+    part = f"{beside_in_turn(times[-1], whole[0]):.3f}" if whole and not ended else "-"
     return f"| {kind} | {' / '.join(map(str, sizes))} | {' / '.join(shown)} | {memory:.0f} | {growth} | {part} |"
 
 

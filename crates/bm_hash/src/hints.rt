@@ -11,9 +11,10 @@ const ROW: usize = 8;
 // The most slots for short messages: what is asked for again was nearly always asked for shortly before, and few slots stay near in memory.
 const MOST: usize = 1 << 14;
 
-// From how many bytes on a message is long. Long ones are few and costly to hash: they have slots of their own, so many.
+// From how many bytes on a message is long. Long ones are few and costly to hash: they have slots of their own.
 const LONG: usize = 512;
 
+// The slots for long messages.
 const OF_LONG: usize = 512;
 
 // What a slot has in which no place is kept.

@@ -1,4 +1,5 @@
 pub mod Marks
 pub mod Updates
 pub mod Placing
+pub mod Posting
 pub mod Forgetting

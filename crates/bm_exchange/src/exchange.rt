@@ -7,6 +7,7 @@ ghost use Rattle.spec_run.specs.World.{is_promise_of, bindings_at, digests_at};
 ghost use Rattle.spec_run.specs.Committing.{used_digests};
 ghost use Rattle.bm_exchange.specs.Exchanged.{digests_by};
 
+use crate::posts::Posts;
 use crate::promised::{Promised, add_promise, all_digests, digests_of, has_promised};
 use crate::strings::Strings;
 use spec_calculus::Advertised;
@@ -18,7 +19,7 @@ use std::marker::Model;
 /// commitments are kept with an index, since each commitment asks for each of its digests whether it was used before.
 pub struct Exchange {
     alloc: Global,
-    posted: Strings,
+    posted: Posts,
     advertised: Seq<Advertised>,
     promises: Seq<Promised>,
     used: Strings,
@@ -95,7 +96,7 @@ impl Exchange {
     {
         Ok(Exchange {
             alloc,
-            posted: Strings::new(alloc),
+            posted: Posts::new(alloc),
             advertised: Seq::of(Vec::with_capacity(alloc, contracts as usize)?),
             promises: Seq::new(alloc),
             used: Strings::new(alloc),
@@ -189,6 +190,13 @@ impl Exchange {
         ensures { result ≡ length self.now.posted }
     {
         self.posted.count()
+    }
+
+    /// Makes it fast to ask whether a string was posted, until further ones are. Nothing changes.
+    pub fn index_posts(&mut self)
+        ensures { self.new ≡ self.old }
+    {
+        self.posted.index();
     }
 
     /// Leaves the first `count` posted strings; it takes no memory.

@@ -4,6 +4,7 @@
 
 mod exchange;
 mod places;
+mod posts;
 mod promised;
 mod secrets;
 mod strings;

@@ -84,6 +84,19 @@ fn draft_other<H: Hash32 + Drop>(
     }
 }
 
+// Makes it fast to ask what was posted, before an event for which somebody asks: a reveal, a branch that is fired, and a commitment, of whose
+// secrets the lengths are sought. In a long run most events are others.
+fn make_ready(board: &mut Board, event: &Event)
+    ensures { board.new ≡ board.old }
+{
+    match event {
+        Event::Commit { .. } => board.exchange.index_posts(),
+        Event::Reveal { .. } => board.exchange.index_posts(),
+        Event::Fire { .. } => board.exchange.index_posts(),
+        _ => {}
+    }
+}
+
 /// The draft of an event, and the contract that it compiles, where it is the last commitment to it. The pairs that it signs are then
 /// in the book; the compiled contract isn't yet placed on the board.
 #[tactic(auto, using(bm_hash::proofs::HashesLemmas::stops_early))]
@@ -105,6 +118,7 @@ pub(crate) fn draft<H: Hash32 + Drop>(
     ensures err { IfErr result (StopsAlong H.digest_of trail.old trail.new
         ((run.draft (setup_of (H.digest_of trail.old.hasher) board.old) (world_of board.old trail.old.messages) event.now).hashes)) }
 {
+    make_ready(board, event);
     match event {
         Event::Commit {
             contract,

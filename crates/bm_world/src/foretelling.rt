@@ -36,7 +36,7 @@ fn try_outcome<H: Hash32 + Drop>(
         alloc,
         board.header.secrets.as_slice(),
         &board.known,
-        &board.exchange,
+        &mut board.exchange,
         answer.0.value().posts.as_slice(),
         &answer.0.value().allowed,
     )?;

@@ -67,7 +67,7 @@ fn draft_passing<H: Hash32 + Drop>(
         alloc,
         board.header.secrets.as_slice(),
         &board.known,
-        &board.exchange,
+        &mut board.exchange,
         answer.0.value().posts.as_slice(),
         &answer.0.value().allowed,
     )?;

@@ -1,4 +1,4 @@
--- Where no string is an untold secret, none is guessed.
+-- Where no string is a secret, or none an untold one, none is guessed.
 use Rattle.std.proofs.Common.{◌≡◌, ℕ, List, [], ◌∷◌, Bool, true, false, ◌||◌, Option, None, refl, sym, subst, inl, inr}
 use Rattle.std.specs.Prelude.{◌⊎◌, not, ◌&&◌}
 use Rattle.std.specs.List.{find, list_any}
@@ -43,3 +43,19 @@ module _ (known posted posts : List (List ℕ)) (allowed : Option (List ℕ × L
 
   pub none_guessed : (secrets : List HeldSecret) → known ≡ secret_strings secrets → find (is_guessed posted posts allowed) secrets ≡ None
   none_guessed secrets same = none_within secrets (λ t i. subst (λ l. is_among t l ≡ true) (sym same) i)
+
+-- a string that is no secret is no untold one
+untold_known : (known posted posts : List (List ℕ)) → list_any (λ post. is_among post known) posts ≡ false
+    → list_any (is_untold known posted) posts ≡ false
+untold_known known posted [] h = refl
+untold_known known posted (post ∷ posts) h = by_test (is_among post known) h (untold_known known posted posts)
+  where
+    by_test : (b : Bool) → (b || list_any (λ post. is_among post known) posts) ≡ false
+        → (list_any (λ post. is_among post known) posts ≡ false → list_any (is_untold known posted) posts ≡ false)
+        → ((b && not (is_among post posted)) || list_any (is_untold known posted) posts) ≡ false
+    by_test true n ih = cc
+    by_test false n ih = ih n
+
+pub none_known : (known posted posts : List (List ℕ)) (allowed : Option (List ℕ × List ℕ)) → list_any (λ post. is_among post known) posts ≡ false
+    → (secrets : List HeldSecret) → known ≡ secret_strings secrets → find (is_guessed posted posts allowed) secrets ≡ None
+none_known known posted posts allowed none = none_guessed known posted posts allowed (untold_known known posted posts none)

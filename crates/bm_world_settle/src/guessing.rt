@@ -20,6 +20,7 @@ fn indexed(alloc: Global, posts: &[Bytes]) -> Result<Exchange, OutOfMemory>
 {
     let mut shown = Exchange::new(alloc, 0)?;
     post_all(&mut shown, posts)?;
+    shown.index_posts();
     Ok(shown)
 }
 
@@ -98,6 +99,13 @@ fn first_among<'a>(
         .find(|held| is_guessed_by(posts, exchange, allowed, held))
 }
 
+// Whether one of the strings has the bytes of a secret. Each is looked up once.
+fn has_known(known: &Strings, posts: &[Bytes]) -> bool
+    ensures { result ≡ list_any (λ post. is_among post known.now) posts.now }
+{
+    posts.iter().any(|post| known.has(post.as_slice()))
+}
+
 // Whether the string has the bytes of a secret, and isn't posted.
 fn is_untold(known: &Strings, exchange: &Exchange, string: &[u8]) -> bool
     ensures { result ≡ is_untold known.now exchange.now.posted string.now }
@@ -105,7 +113,7 @@ fn is_untold(known: &Strings, exchange: &Exchange, string: &[u8]) -> bool
     known.has(string) && !exchange.posted(string)
 }
 
-// Whether one of the strings has the bytes of a secret, and isn't posted. Each is looked up once.
+// Whether one of the strings has the bytes of a secret, and isn't posted.
 fn has_untold(known: &Strings, exchange: &Exchange, posts: &[Bytes]) -> bool
     ensures { result ≡ list_any (is_untold known.now exchange.now.posted) posts.now }
 {
@@ -133,10 +141,10 @@ fn first_of_all<'a>(
     Ok(first_shown(secrets, exchange, &shown, allowed))
 }
 
-/// The first of the secrets that is guessed, with its owner. `known` has the bytes of the secrets: only where one of the strings is
-/// among them and isn't posted are the secrets gone through.
+// The first of the secrets that is guessed, where one of the strings has the bytes of a secret: only where one of these isn't posted are
+// the secrets gone through.
 #[tactic(auto, using(crate::proofs::Unguessed::none_guessed))]
-pub fn first_guessed<'a>(
+fn first_untold<'a>(
     alloc: Global,
     secrets: &'a [HeldSecret],
     known: &Strings,
@@ -151,4 +159,25 @@ pub fn first_guessed<'a>(
         return Ok(None);
     }
     first_of_all(alloc, secrets, exchange, posts, allowed)
+}
+
+/// The first of the secrets that is guessed, with its owner. `known` has the bytes of the secrets. Where none of the strings is among them
+/// nobody asks what was posted; else that is made fast to ask first, and the exchange says the same.
+pub fn first_guessed<'a>(
+    alloc: Global,
+    secrets: &'a [HeldSecret],
+    known: &Strings,
+    exchange: &mut Exchange,
+    posts: &[Bytes],
+    allowed: &Option<(Name, Name)>,
+) -> Result<Option<&'a HeldSecret>, OutOfMemory>
+    requires known { known.now ≡ secret_strings secrets.now }
+    ensures same { exchange.new ≡ exchange.old }
+    ensures found { IfOk result (λ found. option_copied found ≡ find (is_guessed exchange.old.posted posts.now allowed.now) secrets.now) }
+{
+    if !has_known(known, posts) {
+        return Ok(None);
+    }
+    exchange.index_posts();
+    first_untold(alloc, secrets, known, exchange, posts, allowed)
 }

@@ -26,6 +26,7 @@ fn are_found(exchange: &Exchange) -> bool {
 fn posted_strings_take_no_search(rt: HostRuntime) -> Result<(), Fail> {
     let mut exchange = Exchange::new(rt.alloc(), 0)?;
     post_all(&mut exchange)?;
+    exchange.index_posts();
     assert!(rt; are_found(&exchange));
     Ok(())
 }

@@ -30,7 +30,7 @@ returns-in-Some-clause-foretells g c =
     ≡ Some c.in-Some.field-0.now =
     sym (ap (λ (b : Board). find (is_guessed b.exchange.posted c.in_ok-answer.answer.0.posts c.in_ok-answer.answer.0.allowed)
     b.header.secrets) c.draft.ensures.board.rest)
-    ∙ sym (rw (c.as_slice.ensures, c.as_slice-2.ensures, c.value.ensures, c.value-2.ensures) at c.in_ok-guessed.ensures) ∙ ap option_copied c.in-Some.is in
+    ∙ sym (rw (c.as_slice.ensures, c.as_slice-2.ensures, c.value.ensures, c.value-2.ensures) at c.in_ok-guessed.ensures.found) ∙ ap option_copied c.in-Some.is in
     foretells_guess (setup_of hash c.args.board.now) (world_of c.args.board.now c.args.trail.now.messages) _ c.draft.new.trail.messages
     c.args.event.now x c.requires.playable.clear c.in_ok-answer.ensures.ok c.in-Some.field-0.now found
 
@@ -41,7 +41,7 @@ returns-in-None-clause-foretells g c =
     let none : find (is_guessed c.args.board.now.exchange.posted x.posts x.allowed) c.args.board.now.header.secrets ≡ None =
     sym (ap (λ (b : Board). find (is_guessed b.exchange.posted c.in_ok-answer.answer.0.posts c.in_ok-answer.answer.0.allowed)
     b.header.secrets) c.draft.ensures.board.rest)
-    ∙ sym (rw (c.as_slice.ensures, c.as_slice-2.ensures, c.value.ensures, c.value-2.ensures) at c.in_ok-guessed.ensures) ∙ ap option_copied c.in-None.is in
+    ∙ sym (rw (c.as_slice.ensures, c.as_slice-2.ensures, c.value.ensures, c.value-2.ensures) at c.in_ok-guessed.ensures.found) ∙ ap option_copied c.in-None.is in
     rw (c.into_outcome.ensures, c.into_value.ensures)
     (foretells_outcome (setup_of hash c.args.board.now) (world_of c.args.board.now c.args.trail.now.messages) _ c.draft.new.trail.messages
     c.args.event.now x c.requires.playable.clear c.in_ok-answer.ensures.ok none)

@@ -23,7 +23,7 @@ returns-in-Some-clause-halts g c =
     ≡ Some c.in-Some.held.now =
     sym (ap (λ (b : Board). find (is_guessed b.exchange.posted c.in_ok-answer.answer.0.posts c.in_ok-answer.answer.0.allowed)
     b.header.secrets) c.draft_or_halt.ensures.board.rest)
-    ∙ sym (rw (c.as_slice.ensures, c.as_slice-2.ensures, c.value.ensures, c.value-2.ensures) at c.in_ok-guessed.ensures) ∙ ap option_copied c.in-Some.is in
+    ∙ sym (rw (c.as_slice.ensures, c.as_slice-2.ensures, c.value.ensures, c.value-2.ensures) at c.in_ok-guessed.ensures.found) ∙ ap option_copied c.in-Some.is in
     guess_halts (setup_of hash c.args.board.now) (world_of c.args.board.now c.args.trail.now.messages) _ c.draft_or_halt.new.trail.messages
     c.args.event.now x c.requires.playable.clear c.in_ok-answer.ensures.ok c.in-Some.held.now found
 
@@ -34,10 +34,12 @@ returns-clause-passes g c =
     let none : find (is_guessed c.args.board.now.exchange.posted x.posts x.allowed) c.args.board.now.header.secrets ≡ None =
     sym (ap (λ (b : Board). find (is_guessed b.exchange.posted c.in_ok-answer.answer.0.posts c.in_ok-answer.answer.0.allowed)
     b.header.secrets) c.draft_or_halt.ensures.board.rest)
-    ∙ sym (rw (c.as_slice.ensures, c.as_slice-2.ensures, c.value.ensures, c.value-2.ensures) at c.in_ok-guessed.ensures) ∙ ap option_copied c.in_default.is in
+    ∙ sym (rw (c.as_slice.ensures, c.as_slice-2.ensures, c.value.ensures, c.value-2.ensures) at c.in_ok-guessed.ensures.found) ∙ ap option_copied c.in_default.is in
+    rw c.first_guessed.ensures.same (
     passes_by (setup_of hash c.args.board.now) (world_of c.args.board.now c.args.trail.now.messages) _ c.draft_or_halt.new.trail.messages
     c.args.event.now x c.requires.playable.clear c.in_ok-answer.ensures.ok
     c.args.board.now.compiled c.in_ok-answer.answer.1 none c.in_ok-answer.ensures.compiled
+    )
 
 pub returns-in_err-guessed-clause-halts : goal.returns-in_err-guessed-clause-halts
 returns-in_err-guessed-clause-halts g c =

@@ -18,7 +18,6 @@ use Rattle.theory_script.specs.Keyed.Listed.{are_once, PathsInOrder}
 use Rattle.bm_compile.specs.Numbered.{named, keys_of_branches}
 use Rattle.bm_compile.proofs.Chains.{map-view}
 use Rattle.bm_compile.proofs.Places.{named_paths, named_positions}
-use Rattle.bm_compile.specs.Keyed.Detailed.{ready}
 use Rattle.bm_compile.specs.Passes.{keys_of_node, labels_of_path, labels_of_node, script_of_node, scripts_of_node, listed_script, root_with}
 
 -- ---- lists
@@ -152,10 +151,6 @@ module _ (hash : List ℕ → List ℕ) (keys : Keys) (s : Instance) where
       ∙ given hash keys s
 
   -- ---- paths
-
-  -- without what each spends and makes, the transactions are those of the compiled contract
-  pub paths_prepared : map (λ p. (p.0, p.1.prepared)) (map (ready hash) (path_transactions hash keys s)) ≡ (compilation hash keys s).paths
-  paths_prepared = map-view (ready hash) (λ p. (p.0, p.1.prepared)) (path_transactions hash keys s)
 
   pub paths_named : NodesGivePaths → map (λ p. p.0) (compilation hash keys s).paths ≡ named true (nodes_of s.advert.root)
   paths_named given =

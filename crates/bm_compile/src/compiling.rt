@@ -15,14 +15,14 @@ ghost use Rattle.spec_compiler.specs.Keyed.Compilation.{path_transactions, scrip
 ghost use Rattle.spec_compiler.specs.Hashed as plan;
 ghost use Rattle.spec_nodes.specs.Nodes.{nodes_of};
 ghost use Rattle.theory_nodes.specs.Keyed.Walk.{script_of};
-ghost use Rattle.bm_compile.specs.Keyed.Detailed.{detailed, details, ready};
+ghost use Rattle.bm_compile.specs.Keyed.Detailed.{detailed, details, kept_of};
 ghost use Rattle.bm_compile.specs.Keyed.Numbered as keyed;
 ghost use Rattle.bm_compile.specs.Limits.{MeetNoLimit};
 ghost use Rattle.bm_compile.specs.Numbered.{numbered, instance_with};
 ghost use Rattle.bm_compile.specs.Passes.{has_short_reveals, keys_of_node, listed_script, root_with};
 
 use crate::compiled::Compiled;
-use crate::detailed::{Detailed, Details};
+use crate::detailed::{Detailed, Details, Kept};
 use crate::labelling::key_table;
 use crate::preparing::detail;
 use crate::scripting::script_table;
@@ -102,8 +102,8 @@ fn root_waiting(setting: &Setting, txid: [u8; 32]) -> Waiting
     }
 }
 
-// The transactions of the paths, from the initial one on. Their strings are hashed.
-fn prepare_paths<H: Hash32 + Drop, K: KeySource>(
+// What is kept of the transactions of the paths, from the initial one on. Their strings are hashed.
+fn prepare_paths<H: Hash32 + Drop, K: KeySource, M: Kept + Drop>(
     alloc: Global,
     trail: &mut Trail<H>,
     source: &K,
@@ -111,14 +111,14 @@ fn prepare_paths<H: Hash32 + Drop, K: KeySource>(
     scripts: &[Bytes],
     arena: &Arena,
     init: &Prepared,
-) -> Result<Seq<(Path, Detailed)>, TrailError>
+) -> Result<Seq<(Path, M)>, TrailError>
     requires clear { evidence_of (H.digest_of trail.old.hasher) trail.old.messages ≡ None }
     requires root { arena.now ≡ nodes_of setting.now.advert.root }
     requires scripts { let hash = H.digest_of trail.old.hasher in
         (n : ℕ) → listed_script scripts.now n ≡ script_of hash (K.keys source.now) setting.now (nodes_of setting.now.advert.root) n }
     requires initial { let hash = H.digest_of trail.old.hasher in init.now ≡ prepared hash (initial hash (K.keys source.now) setting.now) }
     ensures made { let hash = H.digest_of trail.old.hasher in
-        IfOk result (λ made. made ≡ map (ready hash) (path_transactions hash (K.keys source.now) setting.now)) }
+        IfOk result (λ made. made ≡ map (kept_of M.kept hash) (path_transactions hash (K.keys source.now) setting.now)) }
     ensures trail { let hash = H.digest_of trail.old.hasher in
         let strings = flat_map (λ p. unsigned_strings hash p.1) (path_transactions hash (K.keys source.now) setting.now) in
         Hashes H.digest_of trail.old trail.new strings result }
@@ -130,21 +130,23 @@ fn prepare_paths<H: Hash32 + Drop, K: KeySource>(
     prepare_nodes(alloc, trail, source, setting, scripts, arena.nodes(), root)
 }
 
-// All transactions. Their strings are hashed.
-fn prepare_all<H: Hash32 + Drop, K: KeySource>(
+// The initial transaction, and what is kept of the others. Their strings are hashed.
+fn prepare_all<H: Hash32 + Drop, K: KeySource, M: Kept + Drop>(
     alloc: Global,
     trail: &mut Trail<H>,
     source: &K,
     setting: &Setting,
     scripts: &[Bytes],
     arena: &Arena,
-) -> Result<(Detailed, Seq<(Path, Detailed)>), TrailError>
+) -> Result<(Detailed, Seq<(Path, M)>), TrailError>
     requires clear { evidence_of (H.digest_of trail.old.hasher) trail.old.messages ≡ None }
     requires root { arena.now ≡ nodes_of setting.now.advert.root }
     requires scripts { let hash = H.digest_of trail.old.hasher in
         (n : ℕ) → listed_script scripts.now n ≡ script_of hash (K.keys source.now) setting.now (nodes_of setting.now.advert.root) n }
-    ensures made { let whole = details (H.digest_of trail.old.hasher) (K.keys source.now) setting.now in
-        IfOk result (λ made. made ≡ (whole.init, whole.paths)) }
+    ensures init { let hash = H.digest_of trail.old.hasher in
+        IfOk result (λ made. made.0 ≡ detailed hash (initial hash (K.keys source.now) setting.now)) }
+    ensures paths { let hash = H.digest_of trail.old.hasher in
+        IfOk result (λ made. made.1 ≡ map (kept_of M.kept hash) (path_transactions hash (K.keys source.now) setting.now)) }
     ensures trail { let hash = H.digest_of trail.old.hasher in
         let paths = flat_map (λ p. unsigned_strings hash p.1) (path_transactions hash (K.keys source.now) setting.now) in
         Hashes H.digest_of trail.old trail.new (unsigned_strings hash (initial hash (K.keys source.now) setting.now) ++ paths) result }
@@ -163,20 +165,34 @@ fn prepare_all<H: Hash32 + Drop, K: KeySource>(
     Ok((init, paths))
 }
 
+// What a contract is compiled to: the transactions, of which the initial one is whole, the script of each position, and the keys of each
+// node.
+type Made<M> = (
+    Detailed,
+    Seq<(Path, M)>,
+    Seq<(Path, Bytes)>,
+    Seq<Seq<[u8; 33]>>,
+);
+
 // All transactions and scripts, and the keys of each node. The strings of the keys, of the scripts and of the transactions are hashed.
-fn detail_all<H: Hash32 + Drop, K: KeySource>(
+fn make_all<H: Hash32 + Drop, K: KeySource, M: Kept + Drop>(
     alloc: Global,
     trail: &mut Trail<H>,
     source: &K,
     setting: &Setting,
     arena: &Arena,
-) -> Result<(Details, Seq<Seq<[u8; 33]>>), TrailError>
+) -> Result<Made<M>, TrailError>
     requires clear { evidence_of (H.digest_of trail.old.hasher) trail.old.messages ≡ None }
     requires root { arena.now ≡ nodes_of setting.now.advert.root }
     requires few { list_all has_short_reveals arena.now ≡ true }
-    ensures details { IfOk result (λ made. made.0 ≡ details (H.digest_of trail.old.hasher) (K.keys source.now) setting.now) }
+    ensures init { let hash = H.digest_of trail.old.hasher in
+        IfOk result (λ made. made.0 ≡ detailed hash (initial hash (K.keys source.now) setting.now)) }
+    ensures paths { let hash = H.digest_of trail.old.hasher in
+        IfOk result (λ made. made.1 ≡ map (kept_of M.kept hash) (path_transactions hash (K.keys source.now) setting.now)) }
+    ensures scripts { let hash = H.digest_of trail.old.hasher in
+        IfOk result (λ made. made.2 ≡ scripts_of hash (K.keys source.now) setting.now) }
     ensures keys { let hash = H.digest_of trail.old.hasher in
-        IfOk result (λ made. made.1 ≡ map (keys_of_node hash (K.keys source.now) setting.now) (nodes_of setting.now.advert.root)) }
+        IfOk result (λ made. made.3 ≡ map (keys_of_node hash (K.keys source.now) setting.now) (nodes_of setting.now.advert.root)) }
     ensures trail { let hash = H.digest_of trail.old.hasher in
         Hashes H.digest_of trail.old trail.new (compiled_strings hash (K.keys source.now) setting.now) result }
 {
@@ -186,26 +202,7 @@ fn detail_all<H: Hash32 + Drop, K: KeySource>(
     let made = prepare_all(alloc, trail, source, setting, scripts.as_slice(), arena)?;
     let listed = position_scripts(alloc, arena.nodes(), scripts.as_slice())?;
     let (init, paths) = made;
-    let details = Details {
-        init,
-        paths,
-        scripts: listed,
-    };
-    Ok((details, keys))
-}
-
-// The transactions of the paths without their details.
-fn without_details(
-    alloc: Global,
-    paths: Seq<(Path, Detailed)>,
-) -> Result<Seq<(Path, Prepared)>, OutOfMemory>
-    ensures { IfOk result (λ made. made ≡ map (λ p. (p.0, p.1.prepared)) paths) }
-{
-    let mut made = Seq::new(alloc);
-    for (path, detailed) in paths.into_vec() {
-        made.push((path, detailed.into_prepared()))?;
-    }
-    Ok(made)
+    Ok((init, paths, listed, keys))
 }
 
 // The whole, of what was made.
@@ -215,22 +212,23 @@ fn gather<H: Hash32, K: KeySource>(
     source: &K,
     setting: &Setting,
     arena: Arena,
-    made: Details,
-    table: Seq<Seq<[u8; 33]>>,
+    made: Made<Prepared>,
 ) -> Result<Compiled, OutOfMemory>
     requires root { arena ≡ nodes_of setting.now.advert.root }
-    requires made { made ≡ details (H.digest_of trail.now.hasher) (K.keys source.now) setting.now }
+    requires init { let hash = H.digest_of trail.now.hasher in made.0 ≡ detailed hash (initial hash (K.keys source.now) setting.now) }
+    requires paths { let hash = H.digest_of trail.now.hasher in
+        made.1 ≡ map (λ p. (p.0, prepared hash p.1)) (path_transactions hash (K.keys source.now) setting.now) }
+    requires scripts { let hash = H.digest_of trail.now.hasher in made.2 ≡ scripts_of hash (K.keys source.now) setting.now }
     requires keys { let hash = H.digest_of trail.now.hasher in
-        table ≡ map (keys_of_node hash (K.keys source.now) setting.now) (nodes_of setting.now.advert.root) }
+        made.3 ≡ map (keys_of_node hash (K.keys source.now) setting.now) (nodes_of setting.now.advert.root) }
     ensures { IfOk result (λ c. c ≡ keyed.numbered (H.digest_of trail.now.hasher) (K.keys source.now) setting.now) }
 {
     nodes_give_scripts();
     nodes_give_paths();
     paths_in_order();
-    let (init, paths, scripts) = made.into_parts();
-    let bare = without_details(alloc, paths)?;
+    let (init, paths, scripts, table) = made;
     let keys = branches_keys(alloc, arena.nodes(), table)?;
-    Compiled::of(alloc, arena, init.into_prepared(), bare, scripts, keys)
+    Compiled::of(alloc, arena, init.into_prepared(), paths, scripts, keys)
 }
 
 // The contract of these nodes.
@@ -250,8 +248,8 @@ fn compile_nodes<H: Hash32 + Drop, K: KeySource>(
     ensures trail { let hash = H.digest_of trail.old.hasher in
         Hashes H.digest_of trail.old trail.new (compiled_strings hash (K.keys source.now) setting.now) result }
 {
-    let (made, table) = detail_all(alloc, trail, source, setting, &arena)?;
-    let compiled = gather(alloc, trail, source, setting, arena, made, table)?;
+    let made = make_all(alloc, trail, source, setting, &arena)?;
+    let compiled = gather(alloc, trail, source, setting, arena, made)?;
     Ok(compiled)
 }
 
@@ -293,8 +291,13 @@ pub fn compile_details<H: Hash32 + Drop, K: KeySource>(
     let advert = checked.advert();
     let setting = setting_of(contract, checked, bound, hashes);
     let arena = Arena::of(alloc, &advert.root)?;
-    let (details, _) = detail_all(alloc, trail, source, &setting, &arena)?;
-    Ok(details)
+    let made = make_all(alloc, trail, source, &setting, &arena)?;
+    let (init, paths, scripts, _) = made;
+    Ok(Details {
+        init,
+        paths,
+        scripts,
+    })
 }
 
 /// The transactions, digests and scripts that a checked contract is compiled to, with its numbered nodes, by the keys that `source`

@@ -1,6 +1,7 @@
 //! A contract's transactions with what each does and spends.
 
 ghost use Rattle.std.specs.Prelude.{◌≡◌};
+ghost use Rattle.bm_compile.specs.declared.detailed.Detailed.{Detailed};
 
 use bm_syntax::Path;
 use spec_compiler::{Prepared, Unsigned};
@@ -36,6 +37,33 @@ impl Drop for Details {
             paths: _,
             scripts: _,
         } = self;
+    }
+}
+
+/// What is kept of each transaction. A draft has the script of what it spends, with the keys of all branches of a position: where nobody
+/// asks for drafts they aren't kept.
+pub(crate) trait Kept {
+    // what is kept of a transaction
+    ghost kept: { Detailed → Self };
+
+    /// What is kept of this one.
+    fn keep(whole: Detailed) -> Self
+        ensures { result ≡ kept whole };
+}
+
+impl Kept for Detailed {
+    ghost kept = { λ whole. whole };
+
+    fn keep(whole: Detailed) -> Detailed {
+        whole
+    }
+}
+
+impl Kept for Prepared {
+    ghost kept = { λ whole. whole.prepared };
+
+    fn keep(whole: Detailed) -> Prepared {
+        whole.into_prepared()
     }
 }
 

@@ -8,11 +8,11 @@ ghost use Rattle.spec_terms.specs.Precondition.{volatile, value_of_puts};
 ghost use Rattle.spec_compiler.specs.Keyed.Hashed.{unsigned_strings};
 ghost use Rattle.theory_nodes.specs.Keyed.Walk as spec;
 ghost use Rattle.bm_arena.specs.NodeView.{node_view, deed_view};
-ghost use Rattle.bm_compile.specs.Keyed.Detailed.{detailed, ready};
+ghost use Rattle.bm_compile.specs.Keyed.Detailed.{detailed, kept_of};
 ghost use Rattle.bm_compile.specs.Passes.{listed_script, ready_strings};
 ghost use Rattle.bm_compile.specs.Seen.{is_bound, deed_parts, has_bound_puts, has_few_parts, is_payable};
 
-use crate::detailed::Detailed;
+use crate::detailed::{Detailed, Kept};
 use crate::preparing::detail;
 use crate::setting::Setting;
 use crate::sourcing::KeySource;
@@ -26,15 +26,15 @@ use std::alloc::Global;
 use theory_nodes::Waiting;
 
 // A transaction with its path, put to the others.
-fn put_made(
+fn put_made<M: Kept + Drop>(
     alloc: Global,
-    made: &mut Seq<(Path, Detailed)>,
+    made: &mut Seq<(Path, M)>,
     path: &Path,
-    detailed: Detailed,
+    kept: M,
 ) -> Result<(), OutOfMemory>
-    ensures { OnOk result (made.new ≡ made.old ++ (path.now, detailed) ∷ []) }
+    ensures { OnOk result (made.new ≡ made.old ++ (path.now, kept) ∷ []) }
 {
-    made.push((path.copy(alloc)?, detailed))
+    made.push((path.copy(alloc)?, kept))
 }
 
 // The transaction of a branch of a choice that waits, ready to be signed. Its strings are hashed.
@@ -73,15 +73,15 @@ fn prepare_branch<H: Hash32 + Drop, K: KeySource>(
     detail(alloc, trail, draft)
 }
 
-// What a branch of a choice that waits makes: its transaction, and the choices that wait for it.
+// What a branch of a choice that waits makes: what is kept of its transaction, and the choices that wait for it.
 #[tactic(auto, using(bm_hash::proofs::HashesLemmas::stops_late))]
-fn put_branch<H: Hash32 + Drop, K: KeySource>(
+fn put_branch<H: Hash32 + Drop, K: KeySource, M: Kept + Drop>(
     alloc: Global,
     trail: &mut Trail<H>,
     source: &K,
     setting: &Setting,
     scripts: &[Bytes],
-    made: &mut Seq<(Path, Detailed)>,
+    made: &mut Seq<(Path, M)>,
     stack: &mut Vec<Waiting>,
     waiting: &Waiting,
     path: &Path,
@@ -99,26 +99,26 @@ fn put_branch<H: Hash32 + Drop, K: KeySource>(
         ≡ spec.deed_waits hash setting.now one waiting.now.value (deed_view core.now) ++ reverse stack.old.items) }
     ensures made { let hash = H.digest_of trail.old.hasher in
         let one = spec.node_unsigned hash (K.keys source.now) setting.now (listed_script scripts.now) waiting.now lock (deed_view core.now) in
-        OnOk result (made.new ≡ made.old ++ (path.now, detailed hash one) ∷ []) }
+        OnOk result (made.new ≡ made.old ++ (path.now, M.kept (detailed hash one)) ∷ []) }
     ensures trail { let hash = H.digest_of trail.old.hasher in
         let one = spec.node_unsigned hash (K.keys source.now) setting.now (listed_script scripts.now) waiting.now lock (deed_view core.now) in
         Hashes H.digest_of trail.old trail.new (unsigned_strings hash one) result }
 {
     let detailed = prepare_branch(alloc, trail, source, setting, scripts, waiting, lock, core)?;
     push_waits(setting, stack, detailed.prepared.txid, waiting.value, core)?;
-    put_made(alloc, made, path, detailed)?;
+    put_made(alloc, made, path, M::keep(detailed))?;
     Ok(())
 }
 
 // What a node makes: a choice that waits then waits once for each of its branches.
 #[tactic(auto, using(bm_hash::proofs::HashesLemmas::hashed_none, bm_hash::proofs::HashesLemmas::stops_early))]
-fn put_node<H: Hash32 + Drop, K: KeySource>(
+fn put_node<H: Hash32 + Drop, K: KeySource, M: Kept + Drop>(
     alloc: Global,
     trail: &mut Trail<H>,
     source: &K,
     setting: &Setting,
     scripts: &[Bytes],
-    made: &mut Seq<(Path, Detailed)>,
+    made: &mut Seq<(Path, M)>,
     stack: &mut Vec<Waiting>,
     node: &Node,
 ) -> Result<(), TrailError>
@@ -133,7 +133,7 @@ fn put_node<H: Hash32 + Drop, K: KeySource>(
         ≡ spec.next_stack hash (K.keys source.now) setting.now (listed_script scripts.now) (node_view node.now) (reverse stack.old.items)) }
     ensures made { let hash = H.digest_of trail.old.hasher in
         let more = spec.made_by hash (K.keys source.now) setting.now (listed_script scripts.now) (node_view node.now) (reverse stack.old.items) in
-        OnOk result (made.new ≡ made.old ++ map (ready hash) more) }
+        OnOk result (made.new ≡ made.old ++ map (kept_of M.kept hash) more) }
     ensures trail { let hash = H.digest_of trail.old.hasher in
         let more = spec.made_by hash (K.keys source.now) setting.now (listed_script scripts.now) (node_view node.now) (reverse stack.old.items) in
         Hashes H.digest_of trail.old trail.new (flat_map (ready_strings hash) more) result }
@@ -157,9 +157,9 @@ fn put_node<H: Hash32 + Drop, K: KeySource>(
     }
 }
 
-/// The transactions that these nodes make, by path, where the first one waits for `root`. It hashes the strings of each.
+/// What is kept of the transactions that these nodes make, by path, where the first one waits for `root`. It hashes the strings of each.
 #[tactic(auto, using(bm_hash::proofs::HashesLemmas::stops_early))]
-pub(crate) fn prepare_nodes<H: Hash32 + Drop, K: KeySource>(
+pub(crate) fn prepare_nodes<H: Hash32 + Drop, K: KeySource, M: Kept + Drop>(
     alloc: Global,
     trail: &mut Trail<H>,
     source: &K,
@@ -167,7 +167,7 @@ pub(crate) fn prepare_nodes<H: Hash32 + Drop, K: KeySource>(
     scripts: &[Bytes],
     nodes: &[Node],
     root: Waiting,
-) -> Result<Seq<(Path, Detailed)>, TrailError>
+) -> Result<Seq<(Path, M)>, TrailError>
     requires clear { evidence_of (H.digest_of trail.old.hasher) trail.old.messages ≡ None }
     requires payable { let hash = H.digest_of trail.old.hasher in
         let all = spec.walk hash (K.keys source.now) setting.now (listed_script scripts.now) (map node_view nodes.now) (root ∷ []) in
@@ -176,7 +176,7 @@ pub(crate) fn prepare_nodes<H: Hash32 + Drop, K: KeySource>(
     requires parts { list_all has_few_parts (map node_view nodes.now) ≡ true }
     ensures made { let hash = H.digest_of trail.old.hasher in
         let all = spec.walk hash (K.keys source.now) setting.now (listed_script scripts.now) (map node_view nodes.now) (root ∷ []) in
-        IfOk result (λ made. made ≡ map (ready hash) all) }
+        IfOk result (λ made. made ≡ map (kept_of M.kept hash) all) }
     ensures trail { let hash = H.digest_of trail.old.hasher in
         let all = spec.walk hash (K.keys source.now) setting.now (listed_script scripts.now) (map node_view nodes.now) (root ∷ []) in
         Hashes H.digest_of trail.old trail.new (flat_map (ready_strings hash) all) result }

@@ -16,6 +16,10 @@ detailed hash d = record { draft = d; prepared = prepared hash d }
 abbrev pub ready : (List ℕ → List ℕ) → List PathStep × Unsigned → List PathStep × Detailed
 ready hash p = (p.0, detailed hash p.1)
 
+-- of a path, what is kept of it
+abbrev pub kept_of : {M : Type 0} → (Detailed → M) → (List ℕ → List ℕ) → List PathStep × Unsigned → List PathStep × M
+kept_of kept hash p = (p.0, kept (detailed hash p.1))
+
 -- of a contract
 abbrev pub details : (List ℕ → List ℕ) → Keys → Instance → Details
 details hash keys s = record {

@@ -10,7 +10,7 @@ use Rattle.bm_arena.specs.NodeView.{node_view}
 use Rattle.theory_nodes.specs.Keyed.Walk.{listed_scripts}
 use Rattle.bm_compile.specs.Passes.{listed_script}
 use Rattle.bm_compile.proofs.Whole.{listed_whole}
-use Rattle.bm_compile.proofs.compiling.detail_all.Goals as goal
+use Rattle.bm_compile.proofs.compiling.make_all.Goals as goal
 
 pub returns-in_err-keyed-clause-trail : goal.returns-in_err-keyed-clause-trail
 returns-in_err-keyed-clause-trail g c =
@@ -61,14 +61,11 @@ returns-clause-trail g c =
       tt,
     )
 
-pub returns-clause-details : goal.returns-clause-details
-returns-clause-details g c =
-    let digest = g.H.Hash32.digest_of in
-    let first = c.args.trail.now.hasher in
+pub returns-clause-scripts : goal.returns-clause-scripts
+returns-clause-scripts g c =
+    let hash = g.H.Hash32.digest_of c.args.trail.now.hasher in
     let keys = g.K.KeySource.keys c.args.source.now in
     let s = c.args.setting.now in
     let nodes = c.nodes.ensures ∙ c.requires.root in
-    let listed = c.in_ok-listed.ensures ∙ ap (λ t. listed_scripts (listed_script t) 0 (map node_view c.nodes.result.now)) c.as_slice-2.ensures
-    ∙ listed_whole (digest first) keys s (listed_script c.in_ok-keyed.keyed.1) (map node_view c.nodes.result.now) c.nodes_give_scripts.ensures nodes c.in_ok-keyed.ensures.scripts in
-    let made = rw c.in_ok-keyed.ensures.trail.0 at c.in_ok-made.ensures.made in
-    λ j. record { init = (made j).0; paths = (made j).1; scripts = listed j }
+    c.in_ok-listed.ensures ∙ ap (λ t. listed_scripts (listed_script t) 0 (map node_view c.nodes.result.now)) c.as_slice-2.ensures
+    ∙ listed_whole hash keys s (listed_script c.in_ok-keyed.keyed.1) (map node_view c.nodes.result.now) c.nodes_give_scripts.ensures nodes c.in_ok-keyed.ensures.scripts

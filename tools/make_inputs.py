@@ -82,12 +82,16 @@ def header(parties, secrets, deposits):
     return "\n".join(lines) + "\n--\n"
 
 
+def committed(parties, number, first):
+    """The events up to the last commitment, with which a contract is compiled."""
+    lines = [f"advertise {number} " + " ".join(f"x{p}=#{first + k}" for k, p in enumerate(parties))]
+    return "\n".join(lines + [f"commit {number} {p}" for p in parties]) + "\n"
+
+
 def begun(parties, number, first):
     """The events after which a contract may be begun."""
-    lines = [f"advertise {number} " + " ".join(f"x{p}=#{first + k}" for k, p in enumerate(parties))]
-    for word in ("commit", "endorse", "init"):
-        lines += [f"{word} {number} {p}" for p in parties]
-    return "\n".join(lines + [f"fire init {number}"]) + "\n"
+    lines = [f"{word} {number} {p}" for word in ("endorse", "init") for p in parties]
+    return committed(parties, number, first) + "\n".join(lines + [f"fire init {number}"]) + "\n"
 
 
 def size(n):
@@ -158,6 +162,10 @@ def main(folder):
         write(f"parties{n}.run", header(parties, ["a"], 1) + begun(parties, 0, 0))
         call("participants", n, "play", f"parties{n}.run", f"parties{n}.bitml")
         call("weigh", n, "weigh", f"parties{n}.run", f"parties{n}.bitml")
+    write("committed16.run", header(many, ["a"], 1) + committed(many, 0, 0))
+    for n in (128, 256, 512):
+        write(f"branches{n}.bitml", contract(many, n))
+        call("compile", n, "play", "committed16.run", f"branches{n}.bitml")
     for n in (4, 8, 16):
         names = [f"a{k}" for k in range(n)]
         run = header(many, names, n) + "".join(begun(many, k, 16 * k) for k in range(n))

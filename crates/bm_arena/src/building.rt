@@ -20,7 +20,9 @@ use std::alloc::Global;
 fn longer(alloc: Global, path: &Path, step: PathStep) -> Result<Path, OutOfMemory>
     ensures { IfOk result (λ new. new ≡ path.now ++ step ∷ []) }
 {
-    let mut steps = Vec::from_slice(alloc, path.steps())?;
+    let known = path.steps();
+    let mut steps = Vec::with_capacity(alloc, known.len().saturating_add(1))?;
+    steps.extend_from_slice(known)?;
     steps.push(step)?;
     Ok(Path::of(steps))
 }

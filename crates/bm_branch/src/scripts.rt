@@ -139,7 +139,12 @@ pub fn prefix_script(
         IfOk result (λ ops. ops.items ≡ spec.branch_ops demands) }
     ensures short { IfOk result (λ ops. list_all is_short_push ops.items ≡ true) }
 {
-    let mut ops = Vec::new(alloc);
+    // two operations for each key, and some sixteen for each secret
+    let most = keys
+        .len()
+        .saturating_mul(2)
+        .saturating_add(reveals.len().saturating_mul(16));
+    let mut ops = Vec::with_capacity(alloc, most)?;
     put_secrets(alloc, &mut ops, reveals, hashes, pred)?;
     put_signed(alloc, &mut ops, keys)?;
     Ok(ops)

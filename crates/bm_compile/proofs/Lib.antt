@@ -1,5 +1,6 @@
 pub mod Chains
 pub mod Indexing
+pub mod Labels
 pub mod Places
 pub mod Small
 pub mod Stacks

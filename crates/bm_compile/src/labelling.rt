@@ -7,7 +7,7 @@ ghost use Rattle.bm_hash.specs.Trails.{Hashes};
 ghost use Rattle.spec_compiler.specs.Keyed.Keys.{key_in};
 ghost use Rattle.spec_compiler.specs.Keyed.Instance.{branch_label, branch_keys};
 ghost use Rattle.bm_arena.specs.NodeView.{node_view};
-ghost use Rattle.bm_compile.specs.Keyed.Sources.{label_strings};
+ghost use Rattle.bm_compile.specs.Keyed.Sources.{label_strings, named_for};
 ghost use Rattle.bm_compile.specs.Passes.{keys_of_node, labels_of_path, labels_of_node};
 
 use crate::setting::Setting;
@@ -29,7 +29,17 @@ fn label_of(alloc: Global, contract: u32, path: &Path, party: &Name) -> Result<L
     })
 }
 
-// The key of a party for the branch at a path, put to the others. All that can fail after its strings are hashed is done
+// The label is then another party's.
+fn rename(label: &mut Label, party: &Name)
+    ensures { label.new ≡ named_for label.old party.now }
+{
+    match label {
+        Label::Deposit { party: named } => *named = *party,
+        Label::Branch { party: named, .. } => *named = *party,
+    }
+}
+
+// The key of a party by this label once it is the party's, put to the others. All that can fail after its strings are hashed is done
 // here, so that a loop over the parties has one way to end early.
 #[tactic(auto, using(bm_hash::proofs::HashesLemmas::stops_early, bm_hash::proofs::HashesLemmas::stops_late))]
 fn put_key<H: Hash32 + Drop, K: KeySource>(
@@ -37,23 +47,23 @@ fn put_key<H: Hash32 + Drop, K: KeySource>(
     trail: &mut Trail<H>,
     source: &K,
     keys: &mut Seq<[u8; 33]>,
-    contract: u32,
-    path: &Path,
+    label: &mut Label,
     party: &Name,
 ) -> Result<(), TrailError>
     requires clear { evidence_of (H.digest_of trail.old.hasher) trail.old.messages ≡ None }
-    ensures keys { let label = branch_label contract path.now party.now in
-        OnOk result (keys.new ≡ keys.old ++ key_in (H.digest_of trail.old.hasher) (K.keys source.now) label ∷ []) }
-    ensures trail { Hashes H.digest_of trail.old trail.new (label_strings (K.keys source.now) (branch_label contract path.now party.now)) result }
+    ensures label { label.new ≡ named_for label.old party.now }
+    ensures keys { OnOk result (keys.new ≡ keys.old
+        ++ key_in (H.digest_of trail.old.hasher) (K.keys source.now) (named_for label.old party.now) ∷ []) }
+    ensures trail { Hashes H.digest_of trail.old trail.new (label_strings (K.keys source.now) (named_for label.old party.now)) result }
 {
-    let label = label_of(alloc, contract, path, party)?;
-    let made = source.key(alloc, trail, &label)?;
+    rename(label, party);
+    let made = source.key(alloc, trail, label)?;
     keys.push(made)?;
     Ok(())
 }
 
-// The key of each of these parties for the branch at a path, in order.
-#[tactic(auto, using(bm_hash::proofs::HashesLemmas::hashed_none))]
+// The key of each of these parties for the branch at a path, in order. One label serves all, since its path takes memory.
+#[tactic(auto, using(bm_hash::proofs::HashesLemmas::hashed_none, bm_hash::proofs::HashesLemmas::stops_early))]
 fn party_keys<H: Hash32 + Drop, K: KeySource>(
     alloc: Global,
     trail: &mut Trail<H>,
@@ -68,9 +78,13 @@ fn party_keys<H: Hash32 + Drop, K: KeySource>(
     ensures trail { Hashes H.digest_of trail.old trail.new
         (flat_map (λ party. label_strings (K.keys source.now) (branch_label contract path.now party)) parties.now) result }
 {
-    let mut keys = Seq::new(alloc);
+    let mut keys = Seq::with_capacity(alloc, parties.len())?;
+    let Some(first) = parties.first() else {
+        return Ok(keys);
+    };
+    let mut label = label_of(alloc, contract, path, first)?;
     for party in parties {
-        put_key(alloc, trail, source, &mut keys, contract, path, party)?;
+        put_key(alloc, trail, source, &mut keys, &mut label, party)?;
     }
     Ok(keys)
 }

@@ -64,7 +64,8 @@ pub fn encode_script(alloc: Global, ops: &[Op]) -> Result<Vec<u8>, OutOfMemory>
     requires { list_all is_short_push ops.now ≡ true }
     ensures { IfOk result (λ bytes. bytes.items ≡ spec.encode ops.now) }
 {
-    let mut bytes = Vec::new(alloc);
+    // a key has 33 bytes, its push and the opcode that takes it three more
+    let mut bytes = Vec::with_capacity(alloc, ops.len().saturating_mul(18))?;
     for op in ops {
         put_op(&mut bytes, op)?;
     }

@@ -7,10 +7,13 @@ ghost use Rattle.bm_sighash.specs.Shared.{hashes_of, preimage_with, strings_at};
 
 use crate::list_hashes::ListHashes;
 use bm_hash::{Hash32, Trail, TrailError};
-use bm_tx::{put_long_word, put_place, put_sized, put_word, with_room};
+use bm_tx::{put_long_word, put_place, put_sized, put_word};
 use spec_bitcoin::{Tx, TxIn};
 use spec_data::OutOfMemory;
 use std::alloc::Global;
+
+// The bytes of what is signed without the script, or some more.
+const ROOM: usize = 200;
 
 // What is signed.
 #[tactic(auto, unfolding(spec_bitcoin::specs::Digests::preimage))]
@@ -24,7 +27,7 @@ fn preimage_bytes(
 ) -> Result<Vec<u8>, OutOfMemory>
     ensures { IfOk result (λ bytes. bytes.items ≡ preimage_with shared.now tx.now input.now script.now value) }
 {
-    let mut out = with_room(alloc)?;
+    let mut out = Vec::with_capacity(alloc, script.len().saturating_add(ROOM))?;
     put_word(&mut out, tx.version)?;
     out.extend_from_slice(&shared.prevouts)?;
     out.extend_from_slice(&shared.sequences)?;

@@ -145,7 +145,9 @@ fn in_parts(
 fn longer(alloc: Global, path: &Path, step: PathStep) -> Result<Path, OutOfMemory>
     ensures { IfOk result (λ longer. longer ≡ path.now ++ step ∷ []) }
 {
-    let mut steps = Vec::from_slice(alloc, path.steps())?;
+    let known = path.steps();
+    let mut steps = Vec::with_capacity(alloc, known.len().saturating_add(1))?;
+    steps.extend_from_slice(known)?;
     steps.push(step)?;
     Ok(Path::of(steps))
 }

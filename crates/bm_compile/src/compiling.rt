@@ -87,7 +87,7 @@ fn prepare_initial<H: Hash32 + Drop, K: KeySource>(
     ensures trail { let hash = H.digest_of trail.old.hasher in
         Hashes H.digest_of trail.old trail.new (unsigned_strings hash (initial hash (K.keys source.now) setting.now)) result }
 {
-    let draft = initial_unsigned(alloc, trail.hasher(), source, setting, scripts)?;
+    let draft = initial_unsigned(alloc, &*trail, source, setting, scripts)?;
     detail(alloc, trail, draft)
 }
 

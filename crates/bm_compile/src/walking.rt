@@ -61,14 +61,7 @@ fn prepare_branch<H: Hash32 + Drop, K: KeySource>(
         Hashes H.digest_of trail.old trail.new (unsigned_strings hash made) result }
 {
     let draft = branch_unsigned(
-        alloc,
-        trail.hasher(),
-        source,
-        setting,
-        scripts,
-        waiting,
-        lock,
-        core,
+        alloc, &*trail, source, setting, scripts, waiting, lock, core,
     )?;
     detail(alloc, trail, draft)
 }

@@ -2,6 +2,7 @@
 
 ghost use Rattle.std.specs.Prelude.{◌≡◌, [], IfSome, slice_index_or, true};
 
+use crate::marks::mark_of;
 use crate::pieces::Pieces;
 use std::alloc::Global;
 
@@ -16,6 +17,13 @@ const LONG: usize = 512;
 
 // The slots for long messages.
 const OF_LONG: usize = 512;
+
+// How many bytes of each end of a long message its mark is made of.
+const END: usize = 128;
+
+// How many of the first messages are kept anew in more slots: they are the labels and scripts of the deposits of sixteen parties, which are
+// asked for as long as a run lasts.
+const FIRST: usize = 32;
 
 // What a slot has in which no place is kept.
 const FREE: u32 = u32::MAX;
@@ -34,6 +42,21 @@ pub(crate) struct Hints {
     long: Vec<u32>,
     ahead: [usize; 2],
     last: bool,
+}
+
+/// The mark by which the place of a message is kept. Of a long message the ends are mixed alone: they tell nearly all apart, and what stands
+/// at a place is compared whole.
+pub(crate) fn hint_of(message: &[u8]) -> u64 {
+    if message.len() < LONG {
+        return mark_of(message);
+    }
+    let Some(front) = message.first_chunk::<END>() else {
+        return 0;
+    };
+    let Some(back) = message.last_chunk::<END>() else {
+        return 0;
+    };
+    mark_of(front).rotate_left(1) ^ mark_of(back)
 }
 
 // The half of a mark that tells the slot.
@@ -153,12 +176,19 @@ impl Hints {
     }
 
     /// The place of a message of this mark, where one is kept at which it stands.
-    pub(crate) fn find(&mut self, messages: &Pieces, mark: u64, message: &[u8]) -> Option<usize>
+    pub(crate) fn place_of(&self, messages: &Pieces, mark: u64, message: &[u8]) -> Option<usize>
         ensures { IfSome result (λ place. slice_index_or messages.now place [] ≡ message.now) }
     {
         let mark = half_of(mark);
         let slots = self.slots(message.len());
-        let place = place_in(row_at(slots, row_of(slots, mark)), messages, mark, message)?;
+        place_in(row_at(slots, row_of(slots, mark)), messages, mark, message)
+    }
+
+    /// The same place, from which is followed what is asked for next.
+    pub(crate) fn find(&mut self, messages: &Pieces, mark: u64, message: &[u8]) -> Option<usize>
+        ensures { IfSome result (λ place. slice_index_or messages.now place [] ≡ message.now) }
+    {
+        let place = self.place_of(messages, mark, message)?;
         self.follow(place);
         Some(place)
     }
@@ -178,15 +208,28 @@ impl Hints {
         self.follow(place);
     }
 
-    // More slots, where there may be more and a quarter of them isn't free. They begin free: what is asked for is soon kept there again.
-    // Where there is no memory for them, those that are there are shared.
-    fn spread(&mut self, count: usize) {
+    // Keeps the place of the message that stands there.
+    fn note_at(&mut self, messages: &Pieces, place: usize) {
+        if place < messages.len() {
+            let message = messages.get(place);
+            self.note(hint_of(message), message.len(), place);
+        }
+    }
+
+    // More slots, where there may be more and a quarter of them isn't free. But for the first messages they begin free: what is asked for
+    // is soon kept there again. Where there is no memory for them, those that are there are shared.
+    fn spread(&mut self, messages: &Pieces) {
+        let count = messages.len();
         if self.short.len() >= MOST || count / 3 < self.short.len() / 4 {
             return;
         }
         let more = count.saturating_mul(2).saturating_add(64).min(MOST);
-        if let Ok(slots) = vec![in self.alloc; FREE; more] {
-            self.short = slots;
+        let Ok(slots) = vec![in self.alloc; FREE; more] else {
+            return;
+        };
+        self.short = slots;
+        for place in 0..FIRST {
+            self.note_at(messages, place);
         }
     }
 
@@ -200,13 +243,13 @@ impl Hints {
         }
     }
 
-    /// Keeps the place of a message of this mark, which is the last of so many.
-    pub(crate) fn note_last(&mut self, mark: u64, message: &[u8], count: usize) {
+    /// Keeps the place of the last message, which has this mark.
+    pub(crate) fn note_last(&mut self, mark: u64, message: &[u8], messages: &Pieces) {
         if message.len() < LONG {
-            self.spread(count);
+            self.spread(messages);
         } else {
             self.spread_long();
         }
-        self.note(mark, message.len(), count.saturating_sub(1));
+        self.note(mark, message.len(), messages.len().saturating_sub(1));
     }
 }

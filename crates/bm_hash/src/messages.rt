@@ -10,14 +10,16 @@ ghost use Rattle.bm_hash.specs.Messages.{evidence_of, message_of, IsAt};
 ghost use Rattle.bm_hash.specs.Trails.{Hashed, Hashes, IsClash, HaveApartDigests};
 
 use crate::hashing::Hash32;
-use crate::hints::Hints;
+use crate::hints::{Hints, hint_of};
 use crate::key::Key;
-use crate::marks::mark_of;
 use crate::pieces::Pieces;
 use indexmap::IndexMap;
 use spec_data::OutOfMemory;
 use std::alloc::{AllocError, AllocFailed, Global};
 use std::marker::Model;
+
+// The bytes of messages for which room is taken with the first: of room that isn't filled the system gives nothing, and less is copied as it grows.
+const ROOM: usize = 1 << 21;
 
 /// Why a message was not hashed.
 #[derive(Clone, Copy, Debug, PartialEq, Eq)]
@@ -89,6 +91,9 @@ fn add_message(
     ensures unindexed { OnErr result (IsUnchanged index.old index.new) }
 {
     let place = messages.len();
+    if place == 0 {
+        messages.expect(ROOM);
+    }
     messages.push(message)?;
     if index.insert(Key { digest }, place).is_err() {
         messages.truncate(place);
@@ -133,6 +138,19 @@ fn known_digest(
     ensures { IfSome result (λ d. IsAt messages.now (place_in index.now d) message.now) }
 {
     let place = hints.find(messages, mark, message)?;
+    digest_at(index, place)
+}
+
+// The same without a note of what was asked for.
+fn noted_digest(
+    messages: &Pieces,
+    index: &IndexMap<Key, usize>,
+    hints: &Hints,
+    message: &[u8],
+) -> Option<[u8; 32]>
+    ensures { IfSome result (λ d. IsAt messages.now (place_in index.now d) message.now) }
+{
+    let place = hints.place_of(messages, hint_of(message), message)?;
     digest_at(index, place)
 }
 
@@ -181,6 +199,16 @@ impl<H: Hash32 + Drop> Trail<H> {
         digest_ahead(&self.messages, &self.index, &mut self.hints, message)
     }
 
+    // The digest of a message that stands on a trail on which nothing clashed.
+    fn noted(&self, message: &[u8]) -> Option<[u8; 32]>
+        ensures { IfSome result (λ d. d ≡ H.digest_of self.now.hasher message.now) }
+    {
+        if self.collision.is_some() {
+            return None;
+        }
+        noted_digest(&self.messages, &self.index, &self.hints, message)
+    }
+
     // The digest of a message of this mark as the hash function gives it; the message is then on the trail.
     fn hash_anew(&mut self, mark: u64, message: &[u8]) -> Result<[u8; 32], TrailError>
         ensures digest { IfOk result (λ d. d ≡ H.digest_of self.old.hasher message.now) }
@@ -202,7 +230,7 @@ impl<H: Hash32 + Drop> Trail<H> {
             }
             None => {
                 add_message(&mut self.messages, &mut self.index, digest, message)?;
-                self.hints.note_last(mark, message, self.messages.len());
+                self.hints.note_last(mark, message, &self.messages);
                 Ok(digest)
             }
         }
@@ -216,7 +244,7 @@ impl<H: Hash32 + Drop> Trail<H> {
         if let Some(digest) = self.recall_ahead(message) {
             return Ok(digest);
         }
-        let mark = mark_of(message);
+        let mark = hint_of(message);
         match self.recall(mark, message) {
             Some(digest) => Ok(digest),
             None => self.hash_anew(mark, message),
@@ -265,5 +293,21 @@ impl<H: Hash32 + Drop> Trail<H> {
     {
         let place = self.index.get(&Key { digest: *digest }).copied()?;
         Some(self.messages.get(place))
+    }
+}
+
+/// The hash function of the trail, which is spared where the message was found there. Nothing is added.
+impl<H: Hash32 + Drop> Hash32 for Trail<H> {
+    ghost digest_of = { λ t. H.digest_of t.hasher };
+
+    ghost sized = { λ t. H.sized t.hasher };
+
+    ghost bytes = { λ t. H.bytes t.hasher };
+
+    fn hash32(&self, message: &[u8]) -> [u8; 32] {
+        match self.noted(message) {
+            Some(digest) => digest,
+            None => self.hasher.hash32(message),
+        }
     }
 }

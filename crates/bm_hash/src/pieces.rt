@@ -88,6 +88,13 @@ impl Pieces {
         Ok(())
     }
 
+    /// Takes room for strings of so many bytes, where there is memory for it. Nothing changes.
+    pub fn expect(&mut self, bytes: usize)
+        ensures { self.new ≡ self.old }
+    {
+        let _ = self.bytes.reserve(bytes);
+    }
+
     /// Leaves the first strings, this many.
     pub fn truncate(&mut self, count: usize)
         requires { count ≤ length self.old }

@@ -11,4 +11,4 @@ mod strings;
 
 pub use exchange::Exchange;
 pub use secrets::{held_secret, is_secret_long};
-pub use strings::Strings;
+pub use strings::{Strings, are_same};

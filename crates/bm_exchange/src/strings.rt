@@ -1,12 +1,13 @@
 //! Strings in order, with an index that tells where each stands first.
 
 ghost use Rattle.std.specs.Prelude.{List, ℕ, ◌≡◌, ◌++◌, ◌∷◌, [], ◌<◌, ◌≤◌, ◌-◌, true, false, if◌then◌else◌, length, take, is_some, IfOk, OnOk, OnErr};
+ghost use Rattle.std.specs.Str.{bytes_eq};
 ghost use Rattle.spec_data.specs.Lists.{is_among};
 ghost use Rattle.bm_exchange.specs.Placed.{IsPlaced, mark_of, marked_at};
 
 use crate::places::{Places, add_mark, is_here, mark_of};
 use bm_hash::Pieces;
-use spec_data::OutOfMemory;
+use spec_data::{OutOfMemory, end_apart};
 use std::alloc::{AllocError, Global};
 use std::collections::BTreeMap;
 use std::marker::Model;
@@ -37,6 +38,13 @@ impl Drop for Strings {
             places: _,
         } = self;
     }
+}
+
+/// Whether two strings are the same. Of many most end otherwise.
+pub fn are_same(one: &[u8], other: &[u8]) -> bool
+    ensures { result ≡ bytes_eq one.now other.now }
+{
+    !end_apart(one, other) && one == other
 }
 
 impl Strings {

@@ -1,13 +1,51 @@
 //! Strings that are shown.
 
-ghost use Rattle.std.specs.Prelude.{◌≡◌, ◌++◌, ◌∷◌, [], ◌==◌, length, map, option_map, OnOk};
+ghost use Rattle.std.specs.Prelude.{◌≡◌, ℕ, List, ◌++◌, ◌∷◌, [], ◌==◌, length, map, option_map, IfSome, OnOk};
 ghost use Rattle.spec_data.specs.Lists.{is_among};
-ghost use Rattle.bm_translate.specs.Shown.{behind};
+ghost use Rattle.bm_translate.specs.Shown.{behind, is_one_of};
 
-use bm_exchange::Strings;
-use spec_data::OutOfMemory;
+use bm_exchange::{Strings, are_same};
+use spec_data::{Bytes, OutOfMemory};
 use std::alloc::Global;
 use std::marker::Model;
+
+/// What shows strings.
+pub(crate) trait Shows {
+    // the strings
+    ghost strings: { Self → List (List ℕ) };
+
+    /// Whether the string is there, and is shown.
+    fn shows(&self, string: &Option<Bytes>) -> bool
+        ensures { result ≡ is_one_of (strings self.now) string.now };
+}
+
+/// One string alone.
+#[derive(Clone, Copy)]
+pub(crate) struct Only<'a> {
+    pub(crate) string: &'a [u8],
+}
+
+impl<'a> Shows for Only<'a> {
+    ghost strings = { λ o. o.string.now ∷ [] };
+
+    fn shows(&self, string: &Option<Bytes>) -> bool {
+        match string {
+            Some(string) => are_same(self.string, string.as_slice()),
+            None => false,
+        }
+    }
+}
+
+impl<'a> Shows for Shown<'a> {
+    ghost strings = { λ s. s };
+
+    fn shows(&self, string: &Option<Bytes>) -> bool {
+        match string {
+            Some(string) => self.has(string.as_slice()),
+            None => false,
+        }
+    }
+}
 
 // So many strings are compared one by one.
 const FEW: usize = 16;
@@ -71,7 +109,7 @@ fn is_lent(few: &[&[u8]], string: &[u8]) -> bool
     ensures { result ≡ is_among string.now (map (λ b. b.now) few.now) }
 {
     for one in few {
-        if *one == string {
+        if are_same(one, string) {
             return true;
         }
     }
@@ -126,6 +164,16 @@ impl<'a> Shown<'a> {
         ensures { result ≡ (length self.now == 0) }
     {
         self.few.is_empty() && copied_count(&self.more) == 0
+    }
+
+    /// The string, where there is one alone.
+    pub(crate) fn only(&self) -> Option<Only<'a>>
+        ensures { IfSome result (λ o. self.now ≡ o.string.now ∷ []) }
+    {
+        match self.few.as_slice() {
+            [string] if self.more.is_none() => Some(Only { string }),
+            _ => None,
+        }
     }
 
     /// Whether the string is there.

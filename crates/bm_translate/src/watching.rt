@@ -7,7 +7,7 @@ ghost use Rattle.spec_calculus.specs.Branches as branches;
 ghost use Rattle.spec_run.specs.Secrets.{digest_at, secrets_from, secrets_of_contract};
 ghost use Rattle.bm_translate.specs.Shown as spec;
 
-use crate::strings_shown::Shown;
+use crate::strings_shown::{Shown, Shows};
 use bm_calculus::Config;
 use bm_exchange::{Exchange, Strings, is_secret_long};
 use bm_hash::{Hash32, Trail};
@@ -229,16 +229,6 @@ fn strings_of(alloc: Global, watched: &[Watched]) -> Result<Strings, OutOfMemory
     Ok(strings)
 }
 
-// Whether the string is there, and is shown.
-fn is_shown(shown: &Shown<'_>, string: &Option<Bytes>) -> bool
-    ensures { result ≡ spec.is_one_of shown.now string.now }
-{
-    match string {
-        Some(string) => shown.has(string.as_slice()),
-        None => false,
-    }
-}
-
 // Whether the secret is committed.
 fn is_committed(config: &Config, secret: &Revealed) -> bool
     ensures { result ≡ is_some (branches.length_at config.now.committed secret.now.contract secret.now.party secret.now.secret) }
@@ -249,13 +239,13 @@ fn is_committed(config: &Config, secret: &Revealed) -> bool
 }
 
 // Whether these strings are the first to show the secret, which is committed.
-fn comes_up(config: &Config, shown: &Shown<'_>, watched: &Watched) -> bool
-    ensures { result ≡ spec.comes_up config.now.committed shown.now watched.now }
+fn comes_up<S: Shows>(config: &Config, shown: &S, watched: &Watched) -> bool
+    ensures { result ≡ spec.comes_up config.now.committed (S.strings shown.now) watched.now }
 {
     if watched.posted {
         return false;
     }
-    if !is_shown(shown, &watched.string) {
+    if !shown.shows(&watched.string) {
         return false;
     }
     is_committed(config, &watched.secret)
@@ -280,13 +270,13 @@ fn reveal_of(watched: &Watched) -> Step
 }
 
 // The secrets that these strings reveal.
-fn revealed_by(
+fn revealed_by<S: Shows>(
     alloc: Global,
     config: &Config,
-    shown: &Shown<'_>,
+    shown: &S,
     watched: &[Watched],
 ) -> Result<Vec<Step>, OutOfMemory>
-    ensures { IfOk result (λ made. made.items ≡ spec.revealed_by config.now.committed shown.now watched.now) }
+    ensures { IfOk result (λ made. made.items ≡ spec.revealed_by config.now.committed (S.strings shown.now) watched.now) }
 {
     let mut made = Vec::new(alloc);
     for one in watched {
@@ -308,9 +298,11 @@ fn revealed_if_any(
     ensures { IfOk result (λ made. made.items ≡ spec.revealed_by config.now.committed shown.now watched.now) }
 {
     if shown.is_empty() {
-        Ok(Vec::new(alloc))
-    } else {
-        revealed_by(alloc, config, shown, watched)
+        return Ok(Vec::new(alloc));
+    }
+    match shown.only() {
+        Some(only) => revealed_by(alloc, config, &only, watched),
+        None => revealed_by(alloc, config, shown, watched),
     }
 }
 
@@ -332,13 +324,23 @@ fn put_revealed(
 }
 
 // Notes that these strings are posted.
-fn note_all(shown: &Shown<'_>, watched: &mut Vec<Watched>)
-    ensures { watched.new.items ≡ map (spec.noted shown.now) watched.old.items }
+fn note_all<S: Shows>(shown: &S, watched: &mut Vec<Watched>)
+    ensures { watched.new.items ≡ map (spec.noted (S.strings shown.now)) watched.old.items }
 {
     for one in watched.iter_mut() {
         if !one.posted {
-            one.posted = is_shown(shown, &one.string);
+            one.posted = shown.shows(&one.string);
         }
+    }
+}
+
+// Notes that these strings are posted. One alone is compared with less ado.
+fn note_shown(shown: &Shown<'_>, watched: &mut Vec<Watched>)
+    ensures { watched.new.items ≡ map (spec.noted shown.now) watched.old.items }
+{
+    match shown.only() {
+        Some(only) => note_all(&only, watched),
+        None => note_all(shown, watched),
     }
 }
 
@@ -350,7 +352,7 @@ fn note_if_any(shown: &Shown<'_>, watched: &mut Vec<Watched>)
     if shown.is_empty() {
         return;
     }
-    note_all(shown, watched);
+    note_shown(shown, watched);
 }
 
 impl Secrets {

@@ -1,6 +1,6 @@
 //! Secrets that are guessed.
 
-ghost use Rattle.std.specs.Prelude.{◌≡◌, IfOk};
+ghost use Rattle.std.specs.Prelude.{◌≡◌, ◌∷◌, [], IfOk};
 ghost use Rattle.std.specs.List.{find, list_any};
 ghost use Rattle.std.specs.Option.{option_copied};
 ghost use Rattle.spec_data.specs.Lists.{is_among};
@@ -9,7 +9,7 @@ ghost use Rattle.bm_world_board.specs.Secrets.{secret_strings};
 ghost use Rattle.bm_world_settle.specs.Guessing.{is_untold};
 
 use crate::settling::post_all;
-use bm_exchange::{Exchange, Strings};
+use bm_exchange::{Exchange, Strings, are_same};
 use spec_data::{Bytes, Name, OutOfMemory};
 use spec_run::HeldSecret;
 use std::alloc::Global;
@@ -69,7 +69,7 @@ fn first_shown<'a>(
 fn is_one_of(posts: &[Bytes], string: &[u8]) -> bool
     ensures { result ≡ is_among string.now posts.now }
 {
-    posts.iter().any(|post| post.as_slice() == string)
+    posts.iter().any(|post| are_same(post.as_slice(), string))
 }
 
 // Whether a few strings have the bytes of a secret that isn't posted and may not be.
@@ -83,6 +83,33 @@ fn is_guessed_by(
 {
     let bytes = held.bytes.as_slice();
     is_one_of(posts, bytes) && !exchange.posted(bytes) && !may_post(allowed, held)
+}
+
+// Whether a string has the bytes of a secret that isn't posted and may not be.
+fn is_guessed_as(
+    post: &[u8],
+    exchange: &Exchange,
+    allowed: &Option<(Name, Name)>,
+    held: &HeldSecret,
+) -> bool
+    ensures { result ≡ is_guessed exchange.now.posted (post.now ∷ []) allowed.now held.now }
+{
+    let bytes = held.bytes.as_slice();
+    are_same(post, bytes) && !exchange.posted(bytes) && !may_post(allowed, held)
+}
+
+// The first of the secrets that one string guesses.
+fn first_as<'a>(
+    secrets: &'a [HeldSecret],
+    exchange: &Exchange,
+    post: &[u8],
+    allowed: &Option<(Name, Name)>,
+) -> Option<&'a HeldSecret>
+    ensures { option_copied result ≡ find (is_guessed exchange.now.posted (post.now ∷ []) allowed.now) secrets.now }
+{
+    secrets
+        .iter()
+        .find(|held| is_guessed_as(post, exchange, allowed, held))
 }
 
 // The first of the secrets that a few strings guess. Each is compared with each of them.
@@ -134,6 +161,9 @@ fn first_of_all<'a>(
 ) -> Result<Option<&'a HeldSecret>, OutOfMemory>
     ensures { IfOk result (λ found. option_copied found ≡ find (is_guessed exchange.now.posted posts.now allowed.now) secrets.now) }
 {
+    if let [post] = posts {
+        return Ok(first_as(secrets, exchange, post.as_slice(), allowed));
+    }
     if posts.len() <= 16 {
         return Ok(first_among(secrets, exchange, posts, allowed));
     }

@@ -8,4 +8,4 @@ returns-then-is_empty-clause-noted c =
     none_noted c.args.shown.now c.args.watched.now.items (sym c.is_empty.ensures ∙ c.if-is_empty.true)
 
 pub returns-clause-strings : goal.returns-clause-strings
-returns-clause-strings c = ap strings_of c.note_all.ensures ∙ strings_kept c.args.shown.now c.args.watched.now.items
+returns-clause-strings c = ap strings_of c.note_shown.ensures ∙ strings_kept c.args.shown.now c.args.watched.now.items

@@ -4,6 +4,6 @@ use Rattle.bm_translate.proofs.watching.revealed_by.Given as goal
 
 -- those so far, and those of the rest, are all
 abbrev pub invariant-loop-one : goal.invariant-loop-one
-invariant-loop-one l =
-    l.made.items ++ revealed_by l.config.committed l.shown (drop l.one-index l.watched)
-    ≡ revealed_by l.config.committed l.shown l.watched
+invariant-loop-one g l =
+    l.made.items ++ revealed_by l.config.committed (g.S.Shows.strings l.shown) (drop l.one-index l.watched)
+    ≡ revealed_by l.config.committed (g.S.Shows.strings l.shown) l.watched

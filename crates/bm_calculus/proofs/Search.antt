@@ -1,5 +1,5 @@
 -- What a binary search finds in a list by ascending numbers is what a walk over the whole list finds, and takes out.
-use Rattle.std.proofs.Common.{◌≡◌, ℕ, zero, suc, ◌<◌, ◌≤◌, ◌≢◌, List, [], ◌∷◌, length, map, get_or, true, false, None, Result}
+use Rattle.std.proofs.Common.{◌≡◌, ℕ, zero, suc, ◌<◌, ◌≤◌, ◌≢◌, List, [], ◌∷◌, length, map, get_or, true, false, None, Some, Result}
 use Rattle.std.proofs.Common.{Ok, Err, IfOk, IfErr, slice_get, refl, sym, ap, arith}
 use Rattle.std.specs.Prelude.{◌==◌, not, nat_lt, find, filter, Bool}
 use Rattle.std.specs.List.{list_all, remove}
@@ -8,6 +8,7 @@ use Rattle.std.specs.Ordering.{nat_cmp, ordering_index}
 use Rattle.std.proofs.lemmas.Bool.{and_parts}
 use Rattle.std.proofs.lemmas.Bool.Decides.{nat_tests}
 use Rattle.std.proofs.lemmas.Cmp.{ranked}
+use Rattle.std.specs.Option.{option_map}
 use Rattle.spec_calculus.specs.InOrder.{are_ascending}
 
 module _ {X : Type 0} (name : X → ℕ) where
@@ -111,3 +112,18 @@ module _ {X : Type 0} (name : X → ℕ) where
           let before : j < at → name (get_or xs j d) < n = λ k. ranked (name (get_or xs j d)) n _ (sym (sides.0 j d (omega arith) k)) in
           let beyond : at ≤ j → n < name (get_or xs j d) = λ k. ranked (name (get_or xs j d)) n _ (sym (sides.1 j d k l)) in
           grind (arith, before, beyond, same)
+
+  named_at : (n : ℕ) (xs : List X) (i : ℕ) (d : X) → option_map name (slice_get xs i) ≡ Some n
+      → (i < length xs) × (name (get_or xs i d) ≡ n)
+  named_at n [] i d e = cc
+  named_at n (x ∷ xs) zero d e = (omega arith, cc)
+  named_at n (x ∷ xs) (suc i) d e = let p = named_at n xs i d e in (let l = p.0 in omega (arith, l), p.1)
+
+  -- one that has the number is the one that a walk finds, wherever it was looked for
+  pub seen : (n : ℕ) (stays : X → Bool) (xs : List X) (i : ℕ) → ((x : X) → stays x ≡ not (name x == n))
+      → are_ascending (map name xs) ≡ true → option_map name (slice_get xs i) ≡ Some n
+      → (slice_get xs i ≡ find (λ x. name x == n) xs) × (i < length xs) × (remove xs i ≡ filter stays xs)
+  seen n stays [] i same h e = cc
+  seen n stays (x ∷ xs) i same h e =
+      let p = named_at n (x ∷ xs) i x e in
+      (find_present n (x ∷ xs) i x h p.0 p.1, p.0, one_goes n stays (x ∷ xs) i x same h p.0 p.1)

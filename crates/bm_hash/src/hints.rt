@@ -10,7 +10,7 @@ use std::alloc::Global;
 const ROW: usize = 8;
 
 // The most slots for short messages: what is asked for again was nearly always asked for shortly before, and few slots stay near in memory.
-const MOST: usize = 1 << 14;
+const MOST: usize = 1 << 12;
 
 // From how many bytes on a message is long. Long ones are few and costly to hash: they have slots of their own.
 const LONG: usize = 512;

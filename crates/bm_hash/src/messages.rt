@@ -78,6 +78,31 @@ impl<H: Hash32 + Drop> Drop for Trail<H> {
     }
 }
 
+// Makes room for three times as many as there are, where there is none for one more: what is put anew into a larger table lies far apart
+// in memory, so that is done seldom. Where there is no memory for so many, the next one asks for what it needs.
+fn widen(index: &mut IndexMap<Key, usize>)
+    ensures { IsUnchanged index.old index.new }
+{
+    let count = index.len();
+    if count == index.capacity() {
+        let _ = index.reserve(count.saturating_mul(3));
+    }
+}
+
+// Adds the place of a digest.
+fn add_place(
+    index: &mut IndexMap<Key, usize>,
+    digest: [u8; 32],
+    place: usize,
+) -> Result<(), OutOfMemory>
+    ensures indexed { OnOk result (Places index.old index.new digest place) }
+    ensures unindexed { OnErr result (IsUnchanged index.old index.new) }
+{
+    widen(index);
+    index.insert(Key { digest }, place)?;
+    Ok(())
+}
+
 // Adds a message with its digest.
 fn add_message(
     messages: &mut Pieces,
@@ -95,7 +120,7 @@ fn add_message(
         messages.expect(ROOM);
     }
     messages.push(message)?;
-    if index.insert(Key { digest }, place).is_err() {
+    if add_place(index, digest, place).is_err() {
         messages.truncate(place);
         return Err(AllocError);
     }

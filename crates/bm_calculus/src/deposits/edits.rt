@@ -1,6 +1,7 @@
 //! What is found and changed in a list of deposits by ascending numbers. Only where many go are all of them walked, once.
 
-ghost use Rattle.std.specs.Prelude.{◌≡◌, ◌≤◌, ◌<◌, ◌+◌, ◌^◌, ◌++◌, ◌∷◌, [], map, filter, not, true, length, slice_get, IfOk, IfErr, OnOk, OnErr, None, ℕ};
+ghost use Rattle.std.specs.Prelude.{◌≡◌, ◌≤◌, ◌<◌, ◌+◌, ◌^◌, ◌++◌, ◌∷◌, [], map, filter, not, true, length, slice_get, IfOk, IfErr, IfSome, OnOk, OnErr, None, Some, ℕ};
+ghost use Rattle.std.specs.Option.{option_map};
 ghost use Rattle.std.specs.VecDeque.{deque_len, deque_capacity};
 ghost use Rattle.std.specs.BTreeSet.{contains};
 ghost use Rattle.std.specs.Ordering.{nat_cmp};
@@ -18,6 +19,21 @@ use std::collections::{BTreeSet, VecDeque};
 // mostly go first. For more of them a walk over all deposits is worth its cost.
 const FEW: usize = 64;
 
+// Where the deposit of this number stands, if none is gone of those that came between the first one and it: so it mostly is with the
+// oldest, for which memory that is far apart isn't searched.
+fn place_from_first(deposits: &VecDeque<Deposit>, number: u32) -> Option<usize>
+    ensures { IfSome result (λ i. option_map (λ d. d.number) (slice_get deposits.now.items i) ≡ Some number) }
+{
+    let first = deposits.get(0)?;
+    let place = number.checked_sub(first.number)? as usize;
+    let deposit = deposits.get(place)?;
+    if deposit.number == number {
+        Some(place)
+    } else {
+        None
+    }
+}
+
 /// The place of the deposit of this number.
 pub fn place(deposits: &VecDeque<Deposit>, number: u32) -> Result<usize, usize>
     requires ascending { are_ascending (map (λ d. d.number) deposits.now.items) ≡ true }
@@ -27,6 +43,9 @@ pub fn place(deposits: &VecDeque<Deposit>, number: u32) -> Result<usize, usize>
     ensures taken { IfOk result (λ i. lists.remove deposits.now.items i ≡ spec.kept deposits.now.items (number ∷ [])) }
     ensures kept { IfErr result (λ _. deposits.now.items ≡ spec.kept deposits.now.items (number ∷ [])) }
 {
+    if let Some(place) = place_from_first(deposits, number) {
+        return Ok(place);
+    }
     deposits.binary_search_by_key(&number, |d| d.number)
 }
 

@@ -4,8 +4,14 @@ use Rattle.std.specs.List.Sorted.{IsSearchInRange}
 use Rattle.spec_data.specs.Lists.{has_number}
 use Rattle.spec_calculus.specs.declared.parts.Deposit.{Deposit}
 use Rattle.bm_calculus.proofs.Gone.{stays_without}
-use Rattle.bm_calculus.proofs.Search.{searched}
+use Rattle.bm_calculus.proofs.Search.{searched, seen}
 use Rattle.bm_calculus.proofs.deposits.edits.place.Goals as goal
+
+pub returns-in-Some : goal.returns-in-Some
+returns-in-Some c =
+    let s = seen (λ (x : Deposit). x.number) c.args.number (λ x. not (has_number x.number (c.args.number ∷ []))) _ c.in-Some.place
+    (stays_without c.args.number) c.requires.ascending c.in-Some.ensures in
+    record { found = s.0; absent = tt; within = s.1; taken = s.2; kept = tt }
 
 -- the closure gives the number of a deposit
 pub returns : goal.returns

@@ -3,7 +3,8 @@
 ghost use Rattle.std.specs.Prelude.{◌≡◌, true, length, Some, IfOk};
 ghost use Rattle.spec_tool.specs.Commands.{files_of};
 ghost use Rattle.spec_tool.specs.Answers.{text_answer};
-ghost use Rattle.bitml_command.specs.Seen.{command, printed};
+ghost use Rattle.bitml_command.specs.Seen.{command};
+ghost use Rattle.spec_tool.specs.Replies.{printed};
 ghost use Rattle.bitml.specs.Served.{IsServed};
 
 use crate::audit::audit_texts;
@@ -14,9 +15,10 @@ use crate::plan::plan_texts;
 use crate::play::play_texts;
 use crate::psbt::{joined_texts, psbt_texts, shown_texts};
 use crate::weigh::weigh_texts;
-use bitml_command::{Command, Reply};
+use bitml_command::Command;
 use bm_hash::Hash32;
 use spec_data::{Bytes, OutOfMemory};
+use spec_tool::Reply;
 use std::alloc::Global;
 
 /// What a command replies to the texts of its files.

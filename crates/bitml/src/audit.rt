@@ -3,13 +3,14 @@
 ghost use Rattle.std.specs.Prelude.{◌≡◌, length, IfOk};
 ghost use Rattle.spec_tool.specs.Reads.{text_at};
 ghost use Rattle.spec_tool.specs.Answers.{with_contract, audited_file};
-ghost use Rattle.bitml_command.specs.Seen.{printed};
+ghost use Rattle.spec_tool.specs.Replies.{printed};
 
 use crate::third::third;
-use bitml_command::{Judgement, Reply, judge_two};
+use bitml_command::{Judgement, judge_two};
 use bm_audit::audit_reply;
 use bm_hash::Hash32;
 use spec_data::{Bytes, OutOfMemory};
+use spec_tool::Reply;
 use std::alloc::Global;
 
 /// What `audit` replies to the texts of a run, of its contract and of a file with transactions.

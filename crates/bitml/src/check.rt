@@ -4,10 +4,11 @@ ghost use Rattle.std.specs.Prelude.{◌≡◌, length, IfOk};
 ghost use Rattle.spec_tool.specs.Reads.{text_at};
 ghost use Rattle.spec_tool.specs.Commands.{check_judged};
 ghost use Rattle.spec_tool.specs.Answers.{contract_in};
-ghost use Rattle.bitml_command.specs.Seen.{printed};
+ghost use Rattle.spec_tool.specs.Replies.{printed};
 
-use bitml_command::{Reply, check_reply};
+use bitml_command::check_reply;
 use spec_data::{Bytes, OutOfMemory};
+use spec_tool::Reply;
 use std::alloc::Global;
 
 /// What `check` replies to the text of its file.

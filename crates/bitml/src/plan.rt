@@ -4,12 +4,13 @@ ghost use Rattle.std.specs.Prelude.{◌≡◌, ◌≤◌, length, IfOk};
 ghost use Rattle.spec_text.specs.PlanText.{plan_text};
 ghost use Rattle.spec_tool.specs.Commands.{run_answer};
 ghost use Rattle.spec_tool.specs.Answers.{with_contract};
-ghost use Rattle.bitml_command.specs.Seen.{printed};
+ghost use Rattle.spec_tool.specs.Replies.{printed};
 
-use bitml_command::{Judgement, Reply, judge_two};
+use bitml_command::{Judgement, judge_two};
 use bitml_reply::plan_reply;
 use bm_hash::Hash32;
 use spec_data::{Bytes, OutOfMemory};
+use spec_tool::Reply;
 use std::alloc::Global;
 
 /// What `plan` replies to the texts of a run and its contract.

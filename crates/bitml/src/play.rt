@@ -6,12 +6,13 @@ ghost use Rattle.spec_text.specs.Played.{play_text};
 ghost use Rattle.spec_tool.specs.Reads.{text_at};
 ghost use Rattle.spec_tool.specs.Commands.{run_answer, both_judged};
 ghost use Rattle.spec_tool.specs.Answers.{run_in, contracts_in};
-ghost use Rattle.bitml_command.specs.Seen.{printed};
+ghost use Rattle.spec_tool.specs.Replies.{printed};
 
-use bitml_command::{Judgement, Reply, judge_both};
+use bitml_command::{Judgement, judge_both};
 use bitml_reply::play_reply;
 use bm_hash::Hash32;
 use spec_data::{Bytes, OutOfMemory};
+use spec_tool::Reply;
 use std::alloc::Global;
 
 /// What `play` replies to the texts of a run and its contracts.

@@ -5,14 +5,14 @@ ghost use Rattle.std.specs.Option.{option_copied};
 ghost use Rattle.spec_tool.specs.Reads.{text_at};
 ghost use Rattle.spec_tool.specs.Answers.{with_contract, if_whole, printed_of};
 ghost use Rattle.spec_tool.specs.PsbtText as psbts;
-ghost use Rattle.bitml_command.specs.Seen.{printed};
+ghost use Rattle.spec_tool.specs.Replies.{printed};
 
-use bitml_command::{Judgement, Reply, judge_two};
+use bitml_command::{Judgement, judge_two};
 use bitml_reply::psbt_reply;
 use bm_hash::Hash32;
 use bm_psbt_text::{psbt_joined, psbt_shown};
 use spec_data::{Bytes, OutOfMemory};
-use spec_tool::Which;
+use spec_tool::{Reply, Which};
 use std::alloc::Global;
 
 /// What `psbt RUN CONTRACT WHICH` replies to the texts of a run and its contract.

@@ -3,12 +3,13 @@
 ghost use Rattle.std.specs.Prelude.{◌≡◌, ◌≤◌, length, IfOk};
 ghost use Rattle.spec_tool.specs.Answers.{with_contract, if_whole, printed_of};
 ghost use Rattle.spec_tool.specs.WeighText as weights;
-ghost use Rattle.bitml_command.specs.Seen.{printed};
+ghost use Rattle.spec_tool.specs.Replies.{printed};
 
-use bitml_command::{Judgement, Reply, judge_two};
+use bitml_command::{Judgement, judge_two};
 use bitml_reply::weigh_reply;
 use bm_hash::Hash32;
 use spec_data::{Bytes, OutOfMemory};
+use spec_tool::Reply;
 use std::alloc::Global;
 
 /// What `weigh` replies to the texts of a run and its contract.

@@ -10,8 +10,8 @@ use Rattle.theory_text.specs.RunFiles.{IsReadRun}
 use Rattle.spec_tool.specs.Commands.{Printed, JudgedAll, both_judged}
 use Rattle.spec_tool.specs.Reads.{Text}
 use Rattle.spec_tool.specs.Answers.{contracts_in}
-use Rattle.bitml_command.specs.Seen.{printed}
-use Rattle.bitml_command.specs.declared.reply.Reply.{Reply}
+use Rattle.spec_tool.specs.Replies.{printed}
+use Rattle.spec_tool.specs.declared.reply.Reply.{Reply}
 use Rattle.bitml_command.specs.declared.both.Judgement.{Judgement}
 use Rattle.bitml_command.specs.declared.both.Judgement.TheVariants.{Refused, Taken}
 use Rattle.bitml_command.specs.declared.error.JudgeError.{JudgeError}

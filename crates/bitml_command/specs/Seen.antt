@@ -7,11 +7,9 @@ use Rattle.spec_text.specs.Words.{given}
 use Rattle.spec_tool.specs.declared.which.Which.{Which}
 use Rattle.spec_tool.specs.declared.which.Which.TheVariants as names
 use Rattle.spec_tool.specs.Commands as spec
-use Rattle.spec_tool.specs.Commands.{Printed}
 use Rattle.spec_tool.specs.Reads.{Asked}
 use Rattle.bitml_command.specs.declared.command.Command.{Command}
 use Rattle.bitml_command.specs.declared.command.Command.TheVariants as commands
-use Rattle.bitml_command.specs.declared.reply.Reply.{Reply}
 
 abbrev pub command : Command → spec.Command
 command (commands.Check contract) = spec.check contract.now
@@ -37,9 +35,6 @@ at_path (Some path) = Some (names.At path)
 -- a file that is asked for
 abbrev pub asked : Bor (List ℕ) × ℕ → Asked
 asked file = ((file.0).now, file.1)
-
-abbrev pub printed : Reply → Printed
-printed reply = record { status = reply.status; text = reply.text }
 
 -- a run is played with no more contracts than it may have
 abbrev pub HasFew : Option spec.Command → Type 0

@@ -8,11 +8,11 @@ ghost use Rattle.bitml_command.specs.Judges.{JudgesFiles, IsTakenIfAny};
 use crate::contracts::contracts_in;
 use crate::error::{ContractsError, JudgeError};
 use crate::replies::{contract_refused, run_refused};
-use crate::reply::Reply;
 use crate::run::run_in;
 use bm_runfile::Run;
 use bm_wellformed::Checked;
 use spec_data::{Bytes, OutOfMemory};
+use spec_tool::Reply;
 use std::alloc::{AllocError, Global};
 use theory_text::run_files_spell_runs;
 

@@ -12,7 +12,6 @@ mod path_word;
 mod reading;
 mod refusal;
 mod replies;
-mod reply;
 mod run;
 mod words;
 
@@ -24,6 +23,5 @@ pub use error::{ContractsError, JudgeError};
 pub use files::files_of;
 pub use reading::{Reading, read_all};
 pub use replies::{check_reply, contract_refused, run_refused};
-pub use reply::Reply;
 pub use run::run_in;
 pub use words::command_of;

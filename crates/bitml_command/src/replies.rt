@@ -3,16 +3,16 @@
 ghost use Rattle.std.specs.Prelude.{◌≡◌, IfOk, Ok};
 ghost use Rattle.spec_tool.specs.Commands as spec;
 ghost use Rattle.spec_tool.specs.Answers.{contract_in};
-ghost use Rattle.bitml_command.specs.Seen.{printed};
+ghost use Rattle.spec_tool.specs.Replies.{printed};
 
 use crate::contract::contract_in;
 use crate::error::JudgeError;
 use crate::refusal::put_contract_refused;
-use crate::reply::Reply;
 use bm_print::print_advert;
 use bm_text::put;
 use bm_wellformed::Checked;
 use spec_data::{Bytes, OutOfMemory};
+use spec_tool::Reply;
 use std::alloc::{AllocError, Global};
 
 /// The contract of this number is refused.
@@ -21,10 +21,7 @@ pub fn contract_refused(alloc: Global, number: usize, why: &[u8]) -> Result<Repl
 {
     let mut text = Vec::new(alloc);
     put_contract_refused(alloc, &mut text, number as u64, why)?;
-    Ok(Reply {
-        status: 1,
-        text: Bytes::of(text),
-    })
+    Ok(Reply::new(1, text))
 }
 
 /// The run is refused.
@@ -36,10 +33,7 @@ pub fn run_refused(alloc: Global, why: &[u8]) -> Result<Reply, OutOfMemory>
     put(&mut text, b"run refused ")?;
     put(&mut text, why)?;
     put(&mut text, b"\n")?;
-    Ok(Reply {
-        status: 6,
-        text: Bytes::of(text),
-    })
+    Ok(Reply::new(6, text))
 }
 
 /// The reply to a contract that is taken.
@@ -52,10 +46,7 @@ fn accepted(alloc: Global, contract: &Checked) -> Result<Reply, OutOfMemory>
     let canonical = print_advert(alloc, contract.advert())?;
     put(&mut text, canonical.as_slice())?;
     put(&mut text, b"\n")?;
-    Ok(Reply {
-        status: 0,
-        text: Bytes::of(text),
-    })
+    Ok(Reply::new(0, text))
 }
 
 /// What `check` replies to the file of its contract.

@@ -8,9 +8,9 @@ use Rattle.spec_deal.specs.Answers.{deal_read_answer}
 use Rattle.spec_deal.specs.Commands.{DealCommand, deal_files}
 use Rattle.bm_io.specs.Files.{Told}
 use Rattle.bm_io.specs.Logs.{Reply as Entry}
-use Rattle.bitml_command.specs.Seen.{printed}
+use Rattle.spec_tool.specs.Replies.{printed}
 use Rattle.bitml_command.specs.declared.reading.Reading.{Reading}
-use Rattle.bitml_command.specs.declared.reply.Reply.{Reply}
+use Rattle.spec_tool.specs.declared.reply.Reply.{Reply}
 use Rattle.bitml_command.specs.Files.{reads_of, Tells, AsksFront, ReadsAll, RoseIfFailed}
 use Rattle.bitml_command.specs.Logs.{Logs}
 use Rattle.bitml_command.proofs.Logged.{log_begins}

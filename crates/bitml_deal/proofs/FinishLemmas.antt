@@ -9,8 +9,8 @@ use Rattle.spec_deal.specs.declared.transaction.Transaction.{Transaction}
 use Rattle.spec_deal.specs.Answers.{signatures_in, unless_refused}
 use Rattle.spec_deal.specs.SignatureFile.{read_given}
 use Rattle.spec_deal.specs.Transactions.{transactions}
-use Rattle.bitml_command.specs.Seen.{printed}
-use Rattle.bitml_command.specs.declared.reply.Reply.{Reply}
+use Rattle.spec_tool.specs.Replies.{printed}
+use Rattle.spec_tool.specs.declared.reply.Reply.{Reply}
 use Rattle.deal_finish.specs.declared.error.FinishError.{FinishError}
 use Rattle.deal_finish.specs.declared.error.FinishError.TheVariants as finishes
 use Rattle.deal_finish.specs.Finishes.{Refuses}

@@ -16,7 +16,7 @@ use Rattle.spec_deal.specs.DealText.{plan_text, psbts_text, unsigned_psbt, missi
 use Rattle.spec_deal.specs.RefusedText.{finish_refused_line}
 use Rattle.spec_deal.specs.SecretFile.{SecretsRead, shows}
 use Rattle.spec_deal.specs.SignatureFile.{read_given}
-use Rattle.bitml_command.specs.Seen.{printed}
+use Rattle.spec_tool.specs.Replies.{printed}
 use Rattle.deal_finish.specs.declared.error.FinishError.{FinishError}
 use Rattle.deal_finish.specs.declared.error.FinishError.TheVariants as finishes
 use Rattle.bitml_deal.specs.Opens.{Answer}

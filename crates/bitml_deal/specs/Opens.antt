@@ -11,7 +11,7 @@ use Rattle.spec_deal.specs.Needed.{needed_deposits}
 use Rattle.spec_deal.specs.Setting.{deal_keys, deal_instance}
 use Rattle.spec_deal.specs.Transactions.{transactions}
 use Rattle.bm_hash.specs.Trails.{Hashed}
-use Rattle.bitml_command.specs.Seen.{printed}
+use Rattle.spec_tool.specs.Replies.{printed}
 use Rattle.deal_compile.specs.Signable.{is_signable}
 use Rattle.spec_deal.specs.Answers.{deal_refused}
 use Rattle.deal_file.specs.declared.error.DealError.{DealError}

@@ -4,7 +4,7 @@ ghost use Rattle.std.specs.Prelude.{◌≡◌, ◌≤◌, true, length, IfOk};
 ghost use Rattle.spec_tool.specs.Reads.{text_at};
 ghost use Rattle.spec_deal.specs.Answers.{deal_text_answer};
 ghost use Rattle.spec_deal.specs.Commands.{deal_files};
-ghost use Rattle.bitml_command.specs.Seen.{printed};
+ghost use Rattle.spec_tool.specs.Replies.{printed};
 ghost use Rattle.deal_command.specs.Seen.{command};
 ghost use Rattle.theory_deal.specs.Causes.{reads_deal};
 ghost use Rattle.bitml_deal.specs.Later.{later_answer};
@@ -16,10 +16,10 @@ use crate::opening::{Compiled, Opening, open};
 use crate::plan::plan_reply;
 use crate::psbt::{psbt_reply, psbts_reply};
 use crate::signatures::{held_reply, missing_reply};
-use bitml_command::Reply;
 use bm_hash::{Hash32, Trail};
 use deal_command::DealCommand;
 use spec_data::{Bytes, OutOfMemory};
+use spec_tool::Reply;
 use std::alloc::Global;
 
 // The file of signatures of a command.

@@ -7,7 +7,7 @@ ghost use Rattle.spec_tool.specs.Commands.{prints};
 ghost use Rattle.spec_tool.specs.Keyed.Listed.{Listed};
 ghost use Rattle.spec_deal.specs.Answers as answers;
 ghost use Rattle.spec_deal.specs.RefusedText.{finish_refused_line};
-ghost use Rattle.bitml_command.specs.Seen.{printed};
+ghost use Rattle.spec_tool.specs.Replies.{printed};
 ghost use Rattle.bitml_deal.specs.Later.{IsUnfinished};
 ghost use Rattle.bitml_deal.specs.Named.{IsOne};
 ghost use Rattle.bitml_deal.specs.Opens.{answered, IsMade, HashedAll};
@@ -16,7 +16,6 @@ use crate::naming::{named, no_path};
 use crate::opening::Compiled;
 use crate::secrets::{Shown, secrets_in};
 use crate::signatures::{signatures_in, signatures_refused};
-use bitml_command::Reply;
 use bm_hash::{Hash32, Trail};
 use bm_text::{put, put_hex};
 use deal_finish::{FinishError, finish, put_finish_refused};
@@ -24,7 +23,7 @@ use deal_secrets::Strings;
 use deal_signatures::{Given, SignatureError};
 use spec_data::{Bytes, OutOfMemory};
 use spec_deal::{FinishRefusal, Transaction};
-use spec_tool::Which;
+use spec_tool::{Reply, Which};
 use std::alloc::{AllocError, Global};
 
 // The transaction can't be finished.
@@ -33,10 +32,7 @@ fn finish_refused(alloc: Global, refusal: &FinishRefusal) -> Result<Reply, OutOf
 {
     let mut text = Vec::new(alloc);
     put_finish_refused(alloc, &mut text, refusal)?;
-    Ok(Reply {
-        status: 16,
-        text: Bytes::of(text),
-    })
+    Ok(Reply::new(16, text))
 }
 
 // What is replied where it isn't.
@@ -56,10 +52,7 @@ fn finished(alloc: Global, bytes: &[u8]) -> Result<Reply, OutOfMemory>
     let mut text = Vec::new(alloc);
     put_hex(alloc, &mut text, bytes)?;
     put(&mut text, b"\n")?;
-    Ok(Reply {
-        status: 0,
-        text: Bytes::of(text),
-    })
+    Ok(Reply::new(0, text))
 }
 
 // What is replied to these signatures and strings.

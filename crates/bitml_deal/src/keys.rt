@@ -6,12 +6,13 @@ ghost use Rattle.spec_tool.specs.Commands.{prints};
 ghost use Rattle.spec_tool.specs.Reads.{text_at};
 ghost use Rattle.spec_deal.specs.Answers.{with_advert};
 ghost use Rattle.spec_deal.specs.DealText as shown;
-ghost use Rattle.bitml_command.specs.Seen.{printed};
+ghost use Rattle.spec_tool.specs.Replies.{printed};
 
-use bitml_command::{JudgeError, Reply, contract_in, contract_refused};
+use bitml_command::{JudgeError, contract_in, contract_refused};
 use bm_wellformed::Checked;
 use deal_file::keys_text;
 use spec_data::{Bytes, OutOfMemory};
+use spec_tool::Reply;
 use std::alloc::{AllocError, Global};
 
 // The lines that a deal file of this contract needs.

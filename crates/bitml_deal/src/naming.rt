@@ -3,15 +3,14 @@
 ghost use Rattle.std.specs.Prelude.{◌≡◌, option_map, IfOk};
 ghost use Rattle.spec_tool.specs.Keyed.Listed.{same_which};
 ghost use Rattle.spec_deal.specs.Answers as answers;
-ghost use Rattle.bitml_command.specs.Seen.{printed};
+ghost use Rattle.spec_tool.specs.Replies.{printed};
 ghost use Rattle.bitml_deal.specs.Named as spec;
 
-use bitml_command::Reply;
 use bm_keys::put_path;
 use bm_text::put;
-use spec_data::{Bytes, OutOfMemory};
+use spec_data::OutOfMemory;
 use spec_deal::Transaction;
-use spec_tool::Which;
+use spec_tool::{Reply, Which};
 use std::alloc::Global;
 
 fn same_which(which: &Which, other: &Which) -> bool
@@ -54,8 +53,5 @@ pub(crate) fn no_path(alloc: Global, which: &Which) -> Result<Reply, OutOfMemory
         Which::At(path) => put_path(alloc, &mut text, path.steps())?,
     }
     put(&mut text, b"\n")?;
-    Ok(Reply {
-        status: 16,
-        text: Bytes::of(text),
-    })
+    Ok(Reply::new(16, text))
 }

@@ -6,11 +6,11 @@ ghost use Rattle.spec_deal.specs.Answers as answers;
 ghost use Rattle.spec_deal.specs.Needed.{needed_deposits};
 ghost use Rattle.spec_deal.specs.Setting.{deal_keys, deal_instance};
 ghost use Rattle.bm_hash.specs.Messages.{evidence_of};
-ghost use Rattle.bitml_command.specs.Seen.{printed};
+ghost use Rattle.spec_tool.specs.Replies.{printed};
 ghost use Rattle.deal_file.specs.Gives.{Gives};
 ghost use Rattle.bitml_deal.specs.Opens.{answered, IsMade, HashedAll, Leads, IsRefused};
 
-use bitml_command::{JudgeError, Reply, contract_in, contract_refused};
+use bitml_command::{JudgeError, contract_in, contract_refused};
 use bitml_shows::collided_reply;
 use bm_hash::{Hash32, Trail, TrailError};
 use bm_wellformed::Checked;
@@ -18,6 +18,7 @@ use deal_compile::{CompiledDeal, circular, compile_deal};
 use deal_file::{DealError, put_deal_refused, read_deal};
 use spec_data::{Bytes, OutOfMemory};
 use spec_deal::{Deal, DealFault};
+use spec_tool::Reply;
 use std::alloc::{AllocError, Global};
 use theory_deal::deals_give_all;
 
@@ -46,10 +47,7 @@ fn deal_refused(alloc: Global, fault: &DealFault) -> Result<Reply, OutOfMemory>
 {
     let mut text = Vec::new(alloc);
     put_deal_refused(alloc, &mut text, fault)?;
-    Ok(Reply {
-        status: 13,
-        text: Bytes::of(text),
-    })
+    Ok(Reply::new(13, text))
 }
 
 /// What is replied where two strings of a trail collide.

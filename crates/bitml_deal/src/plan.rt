@@ -3,14 +3,14 @@
 ghost use Rattle.std.specs.Prelude.{◌≡◌, IfOk};
 ghost use Rattle.spec_tool.specs.Commands.{prints};
 ghost use Rattle.spec_deal.specs.DealText as shown;
-ghost use Rattle.bitml_command.specs.Seen.{printed};
+ghost use Rattle.spec_tool.specs.Replies.{printed};
 ghost use Rattle.bitml_deal.specs.Opens.{answered, IsMade};
 
 use crate::opening::Compiled;
-use bitml_command::Reply;
 use bm_hash::Hash32;
 use deal_plan::plan_text;
-use spec_data::{Bytes, OutOfMemory};
+use spec_data::OutOfMemory;
+use spec_tool::Reply;
 use std::alloc::Global;
 
 /// Scripts, deposits, transactions and digests, and who signs.
@@ -30,8 +30,5 @@ pub(crate) fn plan_reply<H: Hash32>(
         &compiled.deal,
         &compiled.made,
     )?;
-    Ok(Reply {
-        status: 0,
-        text: Bytes::of(text),
-    })
+    Ok(Reply::new(0, text))
 }

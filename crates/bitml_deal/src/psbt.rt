@@ -12,14 +12,13 @@ ghost use Rattle.spec_deal.specs.Answers as answers;
 ghost use Rattle.spec_deal.specs.DealText as shown;
 ghost use Rattle.spec_deal.specs.Transactions.{transaction as transaction_of, transactions as transactions_of};
 ghost use Rattle.deal_compile.specs.Signable.{is_signable};
-ghost use Rattle.bitml_command.specs.Seen.{printed};
+ghost use Rattle.spec_tool.specs.Replies.{printed};
 
 use crate::naming::{named, no_path};
-use bitml_command::Reply;
 use deal_psbt::{psbt_text, psbts_text};
-use spec_data::{Bytes, OutOfMemory};
+use spec_data::OutOfMemory;
 use spec_deal::Transaction;
-use spec_tool::Which;
+use spec_tool::{Reply, Which};
 use std::alloc::Global;
 
 /// All transactions for signers.
@@ -29,10 +28,7 @@ pub(crate) fn psbts_reply(alloc: Global, transactions: &[Transaction]) -> Result
         → IfOk result (λ reply. printed reply ≡ prints 0 (shown.psbts_text hash keys s)) }
 {
     let text = psbts_text(alloc, transactions)?;
-    Ok(Reply {
-        status: 0,
-        text: Bytes::of(text),
-    })
+    Ok(Reply::new(0, text))
 }
 
 // A transaction for signers.
@@ -42,10 +38,7 @@ fn one_reply(alloc: Global, transaction: &Transaction) -> Result<Reply, OutOfMem
         → IfOk result (λ reply. printed reply ≡ prints 0 (psbt_line (shown.unsigned_psbt hash l))) }
 {
     let text = psbt_text(alloc, transaction)?;
-    Ok(Reply {
-        status: 0,
-        text: Bytes::of(text),
-    })
+    Ok(Reply::new(0, text))
 }
 
 /// The transaction of this name for signers.

@@ -5,16 +5,16 @@ ghost use Rattle.spec_tool.specs.Commands.{prints};
 ghost use Rattle.spec_deal.specs.Answers as answers;
 ghost use Rattle.spec_deal.specs.RefusedText.{secrets_refused_line};
 ghost use Rattle.spec_deal.specs.Setting.{deal_keys, deal_instance};
-ghost use Rattle.bitml_command.specs.Seen.{printed};
+ghost use Rattle.spec_tool.specs.Replies.{printed};
 ghost use Rattle.bitml_deal.specs.Later.{Tells};
 ghost use Rattle.bitml_deal.specs.Opens.{HashedAll};
 
 use crate::opening::{Compiled, clash_reply};
-use bitml_command::Reply;
 use bm_hash::{Hash32, Trail};
 use deal_secrets::{SecretsError, Strings, put_secrets_refused, read_secrets};
 use spec_data::{Bytes, OutOfMemory};
 use spec_deal::SecretFault;
+use spec_tool::Reply;
 use std::alloc::{AllocError, Global};
 
 /// What a file of secrets comes to.
@@ -32,10 +32,7 @@ fn secrets_refused(alloc: Global, fault: SecretFault) -> Result<Reply, OutOfMemo
 {
     let mut text = Vec::new(alloc);
     put_secrets_refused(alloc, &mut text, fault)?;
-    Ok(Reply {
-        status: 15,
-        text: Bytes::of(text),
-    })
+    Ok(Reply::new(15, text))
 }
 
 // The strings of a text.

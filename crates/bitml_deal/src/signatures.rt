@@ -8,15 +8,15 @@ ghost use Rattle.spec_deal.specs.Answers as answers;
 ghost use Rattle.spec_deal.specs.DealText as shown;
 ghost use Rattle.spec_deal.specs.RefusedText.{signatures_refused_line};
 ghost use Rattle.spec_deal.specs.Transactions.{transactions as transactions_of};
-ghost use Rattle.bitml_command.specs.Seen.{printed};
+ghost use Rattle.spec_tool.specs.Replies.{printed};
 ghost use Rattle.deal_signatures.specs.Gives.{Gives};
 ghost use Rattle.bitml_deal.specs.Later.{given_in};
 
-use bitml_command::Reply;
 use deal_missing::{held_text, missing_text};
 use deal_signatures::{Given, SignatureError, put_signatures_refused, read_signatures};
 use spec_data::{Bytes, OutOfMemory};
 use spec_deal::{SignatureFault, Transaction};
+use spec_tool::Reply;
 use std::alloc::{AllocError, Global};
 
 /// The signatures of a file, none of whose bytes are given where it is too long; or why it is refused.
@@ -39,10 +39,7 @@ pub(crate) fn signatures_refused(alloc: Global, fault: SignatureFault) -> Result
 {
     let mut text = Vec::new(alloc);
     put_signatures_refused(alloc, &mut text, fault)?;
-    Ok(Reply {
-        status: 14,
-        text: Bytes::of(text),
-    })
+    Ok(Reply::new(14, text))
 }
 
 // The signatures that aren't there, and whether the initial transaction may be signed.

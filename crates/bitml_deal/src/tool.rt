@@ -4,7 +4,7 @@ ghost use Rattle.std.specs.Prelude.{◌≡◌, Some, map, string_bytes, IfOk, On
 ghost use Rattle.spec_deal.specs.Answers.{deal_read_answer};
 ghost use Rattle.spec_deal.specs.Commands.{deal_files, deal_command_of};
 ghost use Rattle.spec_tool.specs.Reads.{texts_read};
-ghost use Rattle.bitml_command.specs.Seen.{printed};
+ghost use Rattle.spec_tool.specs.Replies.{printed};
 ghost use Rattle.bitml_command.specs.Files.{reads_of, AsksFront, CountsAll};
 ghost use Rattle.bitml_command.specs.Logs.{LogsFront};
 ghost use Rattle.bitml_headline.specs.Headline.{around};
@@ -14,12 +14,13 @@ ghost use Rattle.bitml_deal.specs.Replied.{Replied};
 ghost use Rattle.bitml_deal.specs.Dealt.{AnswersOrGivesUp, Headline};
 
 use crate::answering::text_reply;
-use bitml_command::{Reading, Reply, read_all};
+use bitml_command::{Reading, read_all};
 use bitml_headline::finish;
 use bm_hash::Hash32;
 use bm_io::{Files, Sink};
 use deal_command::{DealCommand, command_of, files_of};
 use spec_data::{Bytes, OutOfMemory};
+use spec_tool::Reply;
 use std::alloc::Global;
 use theory_deal::{
     deal_statuses_have_causes, deals_are_sized, deals_give_all, false_without_one, finish_theorem,

@@ -4,14 +4,13 @@ ghost use Rattle.std.specs.Prelude.{◌≡◌, ◌≤◌, ◌∷◌, [], length,
 ghost use Rattle.spec_text.specs.Limits.{most_events};
 ghost use Rattle.theory_text.specs.RunFiles.{IsReadRun};
 ghost use Rattle.spec_tool.specs.Commands.{prints, run_answer, setup_of};
-ghost use Rattle.bitml_command.specs.Seen.{printed};
+ghost use Rattle.spec_tool.specs.Replies.{printed};
 ghost use Rattle.bm_world.specs.Playing.{setup_in};
 ghost use Rattle.bm_report.specs.Endings.{ending_of};
 ghost use Rattle.bitml_play.specs.Whole.{IsLeft};
 ghost use Rattle.spec_picture.specs.Picture.{picture_text};
 ghost use Rattle.spec_picture.specs.Drawing as spec;
 
-use bitml_command::Reply;
 use bitml_draw_picture::{Last, draw};
 use bitml_play::play;
 use bitml_reply::{ending_by, let_go};
@@ -21,9 +20,10 @@ use bm_report::Ending;
 use bm_translate_course::translate;
 use bm_wellformed::Checked;
 use bm_world::{Halt, World};
-use spec_data::{Bytes, OutOfMemory};
+use spec_data::OutOfMemory;
 use spec_run::{Event, Run};
 use spec_text::Entry;
+use spec_tool::Reply;
 use std::alloc::{AllocError, Global};
 
 // How a run ends, as it is drawn.
@@ -68,10 +68,7 @@ fn picture_reply(
         ≡ prints (spec.last_status last.now) (picture_text title.now contract.now entries.now last.now)) }
 {
     let text = draw(alloc, title, contract, entries, last)?;
-    Ok(Reply {
-        status: status_of(last),
-        text: Bytes::of(text),
-    })
+    Ok(Reply::new(status_of(last), text))
 }
 
 // What is replied to a run of these events, with this contract alone, that left this world.

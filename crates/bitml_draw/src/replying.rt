@@ -1,13 +1,14 @@
 //! What is replied to the texts of a run and of its contract.
 
 ghost use Rattle.std.specs.Prelude.{◌≡◌, ◌≤◌, length, IfOk};
-ghost use Rattle.bitml_command.specs.Seen.{printed};
+ghost use Rattle.spec_tool.specs.Replies.{printed};
 ghost use Rattle.spec_picture.specs.Drawing as spec;
 
 use crate::playing::draw_reply;
-use bitml_command::{Judgement, Reply, judge_two};
+use bitml_command::{Judgement, judge_two};
 use bm_hash::Hash32;
 use spec_data::{Bytes, OutOfMemory};
+use spec_tool::Reply;
 use std::alloc::Global;
 
 /// What is replied to the two texts.

@@ -4,7 +4,7 @@ ghost use Rattle.std.specs.Prelude.{◌≡◌, false, Some, map, length, string_
 ghost use Rattle.spec_tool.specs.Commands.{plan, files_of as files_named};
 ghost use Rattle.spec_picture.specs.Drawing.{words_drawn, drawn_answer, read_drawn, title_of};
 ghost use Rattle.spec_tool.specs.Reads.{texts_read};
-ghost use Rattle.bitml_command.specs.Seen.{printed};
+ghost use Rattle.spec_tool.specs.Replies.{printed};
 ghost use Rattle.bitml_command.specs.Files.{reads_of, AsksFront};
 ghost use Rattle.bitml_command.specs.Logs.{LogsFront};
 ghost use Rattle.bitml_headline.specs.Headline.{around};
@@ -12,12 +12,13 @@ ghost use Rattle.bitml_headline.specs.Replied.{standing, Replied};
 ghost use Rattle.bitml_draw.specs.Drawn.{AnswersOrGivesUp, DrawsOrGivesUp};
 
 use crate::replying::draw_texts;
-use bitml_command::{Command, Reading, Reply, files_of, read_all};
+use bitml_command::{Command, Reading, files_of, read_all};
 use bitml_headline::finish;
 use bm_hash::Hash32;
 use bm_io::{Files, Sink};
 use bm_text::put;
 use spec_data::{Bytes, OutOfMemory};
+use spec_tool::Reply;
 use std::alloc::Global;
 use theory_picture::{answers_are_pictures, nothing_is_drawn_twice};
 

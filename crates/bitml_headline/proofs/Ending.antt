@@ -6,9 +6,9 @@ use Rattle.std.specs.Prelude.{IfOk, OnErr, is_some}
 use Rattle.spec_tool.specs.Reads.{Asked, Read, are_made}
 use Rattle.spec_tool.specs.Commands.{Command, Printed, files_of, usage}
 use Rattle.bm_io.specs.Files.{Told}
-use Rattle.bitml_command.specs.Seen.{printed}
+use Rattle.spec_tool.specs.Replies.{printed}
 use Rattle.bitml_command.specs.declared.reading.Reading.{Reading}
-use Rattle.bitml_command.specs.declared.reply.Reply.{Reply}
+use Rattle.spec_tool.specs.declared.reply.Reply.{Reply}
 use Rattle.bm_io.specs.Logs.{Reply as Entry}
 use Rattle.bitml_command.specs.Files.{reads_of, Tells, AsksFront, ReadsAll, RoseIfFailed}
 use Rattle.bitml_command.specs.Logs.{entries, asked_in, Logs, LogsFront}

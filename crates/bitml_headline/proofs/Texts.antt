@@ -4,9 +4,9 @@ use Rattle.std.specs.Prelude.{IfOk}
 use Rattle.spec_data.specs.Digits.{onto}
 use Rattle.spec_tool.specs.Reads.{Text, failed, texts_read}
 use Rattle.spec_tool.specs.Commands.{Printed, prints}
-use Rattle.bitml_command.specs.Seen.{printed}
+use Rattle.spec_tool.specs.Replies.{printed}
 use Rattle.bitml_command.specs.declared.reading.Reading.{Reading}
-use Rattle.bitml_command.specs.declared.reply.Reply.{Reply}
+use Rattle.spec_tool.specs.declared.reply.Reply.{Reply}
 use Rattle.bitml_command.specs.Files.{taken, last_of, reads_of}
 
 -- the texts that were read

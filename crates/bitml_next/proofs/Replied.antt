@@ -16,8 +16,8 @@ use Rattle.spec_next.specs.Candidates.{all_candidates}
 use Rattle.spec_next.specs.Prospects.{outlooks}
 use Rattle.spec_next.specs.OutlookText.{outlook_text, next_text}
 use Rattle.spec_next.specs.Foreseen.{foreseen_strings, foreseen_collision, unless_collided, next_printed}
-use Rattle.bitml_command.specs.Seen.{printed}
-use Rattle.bitml_command.specs.declared.reply.Reply.{Reply}
+use Rattle.spec_tool.specs.Replies.{printed}
+use Rattle.spec_tool.specs.declared.reply.Reply.{Reply}
 use Rattle.bm_world.specs.declared.halt.Halt.{Halt}
 use Rattle.bm_world.specs.declared.halt.Halt.TheVariants.{Collided, Guessed, Memory}
 use Rattle.bm_world.specs.Playing.{Played, setup_in}

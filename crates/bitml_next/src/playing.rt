@@ -10,11 +10,10 @@ ghost use Rattle.spec_tool.specs.Answers.{if_whole};
 ghost use Rattle.spec_next.specs.Foreseen as spec;
 ghost use Rattle.spec_next.specs.OutlookText.{outlook_text};
 ghost use Rattle.spec_next.specs.Prospects.{outlooks};
-ghost use Rattle.bitml_command.specs.Seen.{printed};
+ghost use Rattle.spec_tool.specs.Replies.{printed};
 ghost use Rattle.bm_translate_course.specs.Courses.{events_of};
 ghost use Rattle.bm_world.specs.Playing.{setup_in};
 
-use bitml_command::Reply;
 use bitml_reply::{halt_reply, let_go, play_to_end};
 use bm_calculus::Config;
 use bm_hash::Hash32;
@@ -23,9 +22,10 @@ use bm_wellformed::Checked;
 use bm_world::World;
 use next_outlook::outlooks;
 use next_text::outlooks_text;
-use spec_data::{Bytes, OutOfMemory};
+use spec_data::OutOfMemory;
 use spec_next::Outlook;
 use spec_run::Run;
+use spec_tool::Reply;
 use std::alloc::Global;
 
 // The lines of what comes next.
@@ -33,10 +33,7 @@ fn told_reply(alloc: Global, list: &[Outlook]) -> Result<Reply, OutOfMemory>
     ensures { IfOk result (λ reply. printed reply ≡ prints 0 (flat_map outlook_text list.now)) }
 {
     let text = outlooks_text(alloc, list)?;
-    Ok(Reply {
-        status: 0,
-        text: Bytes::of(text),
-    })
+    Ok(Reply::new(0, text))
 }
 
 // What is replied of this world and its configuration. The run wasn't halted.

@@ -7,14 +7,15 @@ ghost use Rattle.spec_tool.specs.Commands.{prints, both_judged};
 ghost use Rattle.spec_next.specs.FirstLines as first;
 ghost use Rattle.spec_next.specs.Foreseen.{next_printed};
 ghost use Rattle.spec_next.specs.NextAnswer as spec;
-ghost use Rattle.bitml_command.specs.Seen.{printed};
+ghost use Rattle.spec_tool.specs.Replies.{printed};
 
 use crate::playing::next_reply;
-use bitml_command::{JudgeError, Judgement, Reply, contract_in, contract_refused, judge_both};
+use bitml_command::{JudgeError, Judgement, contract_in, contract_refused, judge_both};
 use bm_hash::Hash32;
 use bm_wellformed::Checked;
 use next_first::begin_text;
 use spec_data::{Bytes, OutOfMemory};
+use spec_tool::Reply;
 use std::alloc::{AllocError, Global};
 
 // The first lines of a run of a contract.
@@ -22,10 +23,7 @@ fn begins(alloc: Global, contract: &Checked) -> Result<Reply, OutOfMemory>
     ensures { IfOk result (λ reply. printed reply ≡ prints 0 (first.begin_text contract.now)) }
 {
     let text = begin_text(alloc, contract)?;
-    Ok(Reply {
-        status: 0,
-        text: Bytes::of(text),
-    })
+    Ok(Reply::new(0, text))
 }
 
 // What is replied to the text of a contract.

@@ -16,8 +16,8 @@ use Rattle.spec_tool.specs.Commands.{Printed, prints, ending_status, run_answer}
 use Rattle.spec_tool.specs.Answers.{if_whole, printed_of}
 use Rattle.spec_tool.specs.WeighText.{weigh_text}
 use Rattle.spec_tool.specs.PsbtText.{psbt_text, which_psbt}
-use Rattle.bitml_command.specs.Seen.{printed}
-use Rattle.bitml_command.specs.declared.reply.Reply.{Reply}
+use Rattle.spec_tool.specs.Replies.{printed}
+use Rattle.spec_tool.specs.declared.reply.Reply.{Reply}
 use Rattle.bm_world.specs.Playing as world
 use Rattle.bitml_reply.specs.Last.{IsHalted, IsWhole}
 use Rattle.bitml_reply.specs.Counted.{run_counts}

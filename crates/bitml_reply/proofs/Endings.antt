@@ -13,8 +13,8 @@ use Rattle.spec_text.specs.PlayText as shown
 use Rattle.spec_text.specs.PlayText.{Ending, collided_line, guessed_line}
 use Rattle.spec_text.specs.Played.{halted, ending_by, ending_from, end_of, ending}
 use Rattle.spec_tool.specs.Commands.{Printed, prints, ending_status}
-use Rattle.bitml_command.specs.Seen.{printed}
-use Rattle.bitml_command.specs.declared.reply.Reply.{Reply}
+use Rattle.spec_tool.specs.Replies.{printed}
+use Rattle.spec_tool.specs.declared.reply.Reply.{Reply}
 use Rattle.bm_world.specs.Playing as world
 use Rattle.bm_world.specs.declared.halt.Halt.{Halt}
 use Rattle.bm_world.specs.declared.halt.Halt.TheVariants.{Collided, Guessed, Memory}

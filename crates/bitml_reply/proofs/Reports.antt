@@ -17,8 +17,8 @@ use Rattle.spec_text.specs.declared.entry.Entry.{Entry}
 use Rattle.spec_text.specs.PlayText.{Ending, whole, collided_line, report_text}
 use Rattle.spec_text.specs.Played.{entries, ending, end_of, play_text}
 use Rattle.spec_tool.specs.Commands.{prints, ending_status, run_answer}
-use Rattle.bitml_command.specs.Seen.{printed}
-use Rattle.bitml_command.specs.declared.reply.Reply.{Reply}
+use Rattle.spec_tool.specs.Replies.{printed}
+use Rattle.spec_tool.specs.declared.reply.Reply.{Reply}
 use Rattle.bm_world.specs.declared.halt.Halt.{Halt}
 use Rattle.bm_world.specs.declared.halt.Halt.TheVariants.{Collided, Guessed, Memory}
 use Rattle.bm_world.specs.Starting.{Unopened}

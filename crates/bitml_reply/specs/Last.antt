@@ -5,8 +5,8 @@ use Rattle.spec_run.specs.Setup.{Setup}
 use Rattle.spec_text.specs.PlanText.{unless_halted}
 use Rattle.spec_text.specs.Played.{ending}
 use Rattle.spec_tool.specs.Commands.{prints, ending_status}
-use Rattle.bitml_command.specs.Seen.{printed}
-use Rattle.bitml_command.specs.declared.reply.Reply.{Reply}
+use Rattle.spec_tool.specs.Replies.{printed}
+use Rattle.spec_tool.specs.declared.reply.Reply.{Reply}
 use Rattle.bm_world.specs.Playing as world
 use Rattle.bitml_play.specs.Whole.{IsLeft}
 use Rattle.bm_world.specs.declared.halt.Halt.{Halt}

@@ -1,13 +1,13 @@
 //! What is replied where a run halts.
 
 ghost use Rattle.std.specs.Prelude.{◌≡◌, Some, IfOk};
-ghost use Rattle.bitml_command.specs.Seen.{printed};
+ghost use Rattle.spec_tool.specs.Replies.{printed};
 ghost use Rattle.bitml_reply.specs.Halting.{halt_printed};
 
-use bitml_command::Reply;
 use bitml_shows::{collided_reply, guessed_reply};
 use bm_world::Halt;
 use spec_data::OutOfMemory;
+use spec_tool::Reply;
 use std::alloc::{AllocError, Global};
 
 /// What is replied where this halts a run: the line of the two messages that collide, or of the secret that is guessed.

@@ -7,7 +7,7 @@ ghost use Rattle.spec_text.specs.Limits.{most_events};
 ghost use Rattle.spec_text.specs.PlanText as spec;
 ghost use Rattle.theory_text.specs.RunFiles.{IsReadRun};
 ghost use Rattle.spec_tool.specs.Commands.{prints, run_answer, setup_of};
-ghost use Rattle.bitml_command.specs.Seen.{printed};
+ghost use Rattle.spec_tool.specs.Replies.{printed};
 ghost use Rattle.bm_translate_course.specs.Courses.{events_of};
 ghost use Rattle.bm_world.specs.Playing.{setup_in};
 ghost use Rattle.bitml_play.specs.Whole.{IsLeft};
@@ -15,15 +15,15 @@ ghost use Rattle.bitml_reply.specs.Counted.{run_counts};
 
 use crate::halting::halt_reply;
 use crate::last::{let_go, play_to_end};
-use bitml_command::Reply;
 use bitml_shows::live_outputs;
 use bm_hash::Hash32;
 use bm_plan::counts_text;
 use bm_translate_course::{Counted, count_steps};
 use bm_wellformed::Checked;
 use bm_world::World;
-use spec_data::{Bytes, OutOfMemory};
+use spec_data::OutOfMemory;
 use spec_run::Run;
+use spec_tool::Reply;
 use std::alloc::Global;
 
 // The counts of the run that left this world and is this in the calculus. Its events are those of the trace.
@@ -62,10 +62,7 @@ fn told<H: Hash32 + Drop>(
         ≡ prints 0 (run_counts (setup_in H.digest_of world.now) (events_of world.now.trace))) }
 {
     let text = counts(alloc, world, made)?;
-    Ok(Reply {
-        status: 0,
-        text: Bytes::of(text),
-    })
+    Ok(Reply::new(0, text))
 }
 
 // What is printed of the run that left this world.

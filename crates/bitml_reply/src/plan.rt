@@ -7,18 +7,18 @@ ghost use Rattle.spec_text.specs.PlanText as spec;
 ghost use Rattle.theory_text.specs.RunFiles.{IsReadRun};
 ghost use Rattle.spec_run.specs.Compiled.{compiled_instance};
 ghost use Rattle.spec_tool.specs.Commands.{prints, run_answer, setup_of};
-ghost use Rattle.bitml_command.specs.Seen.{printed};
+ghost use Rattle.spec_tool.specs.Replies.{printed};
 ghost use Rattle.bm_world.specs.Playing.{setup_in};
 
 use crate::halting::halt_reply;
 use crate::last::{let_go, play_to_end};
-use bitml_command::Reply;
 use bm_hash::Hash32;
 use bm_plan::plan_text;
 use bm_wellformed::Checked;
 use bm_world::World;
-use spec_data::{Bytes, OutOfMemory};
+use spec_data::OutOfMemory;
 use spec_run::Run;
+use spec_tool::Reply;
 use std::alloc::Global;
 
 // The transactions of the first contract in this world.
@@ -27,10 +27,7 @@ fn planned<H: Hash32 + Drop>(alloc: Global, world: &World<H>) -> Result<Reply, O
         (compiled_instance (setup_in H.digest_of world.now) world.now.world 0))) }
 {
     let text = plan_text(alloc, world.compiled(0))?;
-    Ok(Reply {
-        status: 0,
-        text: Bytes::of(text),
-    })
+    Ok(Reply::new(0, text))
 }
 
 /// What `plan` replies to a run and its contracts: the transactions of the first.

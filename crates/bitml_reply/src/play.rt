@@ -7,7 +7,7 @@ ghost use Rattle.spec_text.specs.PlayText.{report_text};
 ghost use Rattle.spec_text.specs.Played.{play_text};
 ghost use Rattle.theory_text.specs.RunFiles.{IsReadRun};
 ghost use Rattle.spec_tool.specs.Commands.{prints, ending_status, run_answer, setup_of};
-ghost use Rattle.bitml_command.specs.Seen.{printed};
+ghost use Rattle.spec_tool.specs.Replies.{printed};
 ghost use Rattle.bm_report.specs.Endings.{ending_of, IsNumbered};
 ghost use Rattle.bm_report.specs.Entries.{entries_by};
 ghost use Rattle.bm_translate_course.specs.Courses.{events_of};
@@ -17,7 +17,6 @@ ghost use Rattle.bitml_play.specs.Whole.{IsLeft};
 use crate::ends::halted_ending;
 use crate::halting::halt_reply;
 use crate::last::let_go;
-use bitml_command::Reply;
 use bitml_play::play;
 use bitml_shows::{report_reply, whole_ending};
 use bm_hash::Hash32;
@@ -29,6 +28,7 @@ use bm_world::{Halt, World};
 use spec_calculus::Step;
 use spec_data::OutOfMemory;
 use spec_run::Run;
+use spec_tool::Reply;
 use std::alloc::Global;
 
 // What is replied to a run that left this world, with these steps and this end. Of the world only what is printed is kept meanwhile.

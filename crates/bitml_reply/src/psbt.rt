@@ -6,20 +6,19 @@ ghost use Rattle.theory_text.specs.RunFiles.{IsReadRun};
 ghost use Rattle.spec_tool.specs.Commands.{prints, setup_of};
 ghost use Rattle.spec_tool.specs.Answers.{if_whole, printed_of};
 ghost use Rattle.spec_tool.specs.PsbtText as spec;
-ghost use Rattle.bitml_command.specs.Seen.{printed};
+ghost use Rattle.spec_tool.specs.Replies.{printed};
 ghost use Rattle.bm_world.specs.Playing.{setup_in};
 ghost use Rattle.bitml_reply.specs.Last.{IsLeftBySome};
 
 use crate::halting::halt_reply;
 use crate::last::{let_go, play_to_end};
-use bitml_command::Reply;
 use bm_hash::Hash32;
 use bm_psbt_plan::psbt_text;
 use bm_wellformed::Checked;
 use bm_world::World;
-use spec_data::{Bytes, OutOfMemory};
+use spec_data::OutOfMemory;
 use spec_run::Run;
-use spec_tool::Which;
+use spec_tool::{Reply, Which};
 use std::alloc::Global;
 
 // The first contract's transaction of this name, with the signatures that this world's book has.
@@ -59,10 +58,7 @@ fn signed<H: Hash32 + Drop>(
         ≡ prints 0 (spec.which_psbt (setup_in H.digest_of world.now) world.now.world which.now)) }
 {
     let text = psbt_of(alloc, world, which)?;
-    Ok(Reply {
-        status: 0,
-        text: Bytes::of(text),
-    })
+    Ok(Reply::new(0, text))
 }
 
 /// What `psbt RUN CONTRACT WHICH` replies to a run and its contract.

@@ -6,19 +6,19 @@ ghost use Rattle.theory_text.specs.RunFiles.{IsReadRun};
 ghost use Rattle.spec_tool.specs.Commands.{prints, setup_of};
 ghost use Rattle.spec_tool.specs.Answers.{if_whole, printed_of};
 ghost use Rattle.spec_tool.specs.WeighText as spec;
-ghost use Rattle.bitml_command.specs.Seen.{printed};
+ghost use Rattle.spec_tool.specs.Replies.{printed};
 ghost use Rattle.bm_world.specs.Playing.{setup_in};
 ghost use Rattle.bitml_reply.specs.Weighed.{weigh_line};
 
 use crate::halting::halt_reply;
 use crate::last::{let_go, play_to_end};
-use bitml_command::Reply;
 use bm_hash::Hash32;
 use bm_plan::weigh_text;
 use bm_wellformed::Checked;
 use bm_world::World;
-use spec_data::{Bytes, OutOfMemory};
+use spec_data::OutOfMemory;
 use spec_run::Run;
+use spec_tool::Reply;
 use std::alloc::Global;
 
 // The weights of the first contract in this world.
@@ -39,10 +39,7 @@ fn weighed<H: Hash32 + Drop>(alloc: Global, world: &World<H>) -> Result<Reply, O
         ≡ prints 0 (weigh_line (setup_in H.digest_of world.now) world.now.world)) }
 {
     let text = weights(alloc, world)?;
-    Ok(Reply {
-        status: 0,
-        text: Bytes::of(text),
-    })
+    Ok(Reply::new(0, text))
 }
 
 /// What `weigh` replies to a run and its contract.

@@ -3,11 +3,11 @@
 ghost use Rattle.std.specs.Prelude.{◌≡◌, IfOk};
 ghost use Rattle.spec_text.specs.PlayText as spec;
 ghost use Rattle.spec_tool.specs.Commands.{prints};
-ghost use Rattle.bitml_command.specs.Seen.{printed};
+ghost use Rattle.spec_tool.specs.Replies.{printed};
 
-use bitml_command::Reply;
 use bm_report::{put_collided, put_guessed};
-use spec_data::{Bytes, Name, OutOfMemory};
+use spec_data::{Name, OutOfMemory};
+use spec_tool::Reply;
 use std::alloc::Global;
 
 /// A run whose opening or event collides: the two strings, the earlier one first.
@@ -16,10 +16,7 @@ pub fn collided_reply(alloc: Global, earlier: &[u8], later: &[u8]) -> Result<Rep
 {
     let mut text = Vec::new(alloc);
     put_collided(alloc, &mut text, earlier, later)?;
-    Ok(Reply {
-        status: 8,
-        text: Bytes::of(text),
-    })
+    Ok(Reply::new(8, text))
 }
 
 /// A run whose event guesses: the party and the name of its secret.
@@ -28,8 +25,5 @@ pub fn guessed_reply(alloc: Global, party: &Name, secret: &Name) -> Result<Reply
 {
     let mut text = Vec::new(alloc);
     put_guessed(&mut text, party, secret)?;
-    Ok(Reply {
-        status: 7,
-        text: Bytes::of(text),
-    })
+    Ok(Reply::new(7, text))
 }

@@ -3,16 +3,16 @@
 ghost use Rattle.std.specs.Prelude.{◌≡◌, length, IfOk};
 ghost use Rattle.spec_text.specs.PlayText.{report_text};
 ghost use Rattle.spec_tool.specs.Commands.{prints, ending_status};
-ghost use Rattle.bitml_command.specs.Seen.{printed};
+ghost use Rattle.spec_tool.specs.Replies.{printed};
 ghost use Rattle.bm_report.specs.Endings.{ending_of, IsNumbered};
 ghost use Rattle.bm_report.specs.Entries.{entries_by};
 
-use bitml_command::Reply;
 use bm_report::{Ending, report};
 use bm_rows::Rows;
 use spec_calculus::Step;
-use spec_data::{Bytes, OutOfMemory};
+use spec_data::OutOfMemory;
 use spec_run::{Header, Record};
+use spec_tool::Reply;
 use std::alloc::Global;
 
 // 0 where all events were played, 7 where a secret was guessed, 8 where strings collided.
@@ -41,8 +41,5 @@ pub fn report_reply(
         (report_text header.now.deposits (entries_by records.now steps.now) (ending_of ending.now))) }
 {
     let text = report(alloc, header, records, steps, ending)?;
-    Ok(Reply {
-        status: ending_status(ending),
-        text: Bytes::of(text),
-    })
+    Ok(Reply::new(ending_status(ending), text))
 }

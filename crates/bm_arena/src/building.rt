@@ -12,20 +12,9 @@ ghost use Rattle.bm_arena.specs.NodeView.{deed_view};
 use crate::arena::Arena;
 use crate::node::{Core, Node};
 use bm_syntax::copies::copy_test;
-use bm_syntax::{Contract, Guarded, Name, Part, Path, PathStep, add_new, lock};
+use bm_syntax::{Contract, Guarded, Name, Part, Path, PathStep, add_new, lock, longer};
 use spec_data::OutOfMemory;
 use std::alloc::Global;
-
-// The path with one more step.
-fn longer(alloc: Global, path: &Path, step: PathStep) -> Result<Path, OutOfMemory>
-    ensures { IfOk result (λ new. new ≡ path.now ++ step ∷ []) }
-{
-    let known = path.steps();
-    let mut steps = Vec::with_capacity(alloc, known.len().saturating_add(1))?;
-    steps.extend_from_slice(known)?;
-    steps.push(step)?;
-    Ok(Path::of(steps))
-}
 
 // The parties that a branch asks, each that is new.
 fn add_asked(names: &mut Vec<Name>, branch: &Guarded) -> Result<(), OutOfMemory>

@@ -16,8 +16,8 @@ use Rattle.spec_tool.specs.Answers.{if_whole}
 use Rattle.spec_tool.specs.Commands.{prints}
 use Rattle.spec_tool.specs.PsbtText.{not_compiled_line}
 use Rattle.spec_tool.specs.AuditText.{report_text, uncompiled_text, audit_text, audited, audit_answer}
-use Rattle.bitml_command.specs.Seen.{printed}
-use Rattle.bitml_command.specs.declared.reply.Reply.{Reply}
+use Rattle.spec_tool.specs.Replies.{printed}
+use Rattle.spec_tool.specs.declared.reply.Reply.{Reply}
 use Rattle.bm_compile.specs.Numbered.{Numbered, numbered}
 use Rattle.bm_world.specs.declared.halt.Halt.{Halt}
 use Rattle.bm_world.specs.declared.halt.Halt.TheVariants.{Collided, Guessed, Memory}

@@ -6,17 +6,16 @@ ghost use Rattle.spec_tool.specs.Audit.{audit_collision};
 ghost use Rattle.spec_tool.specs.Commands.{prints};
 ghost use Rattle.spec_tool.specs.PsbtText.{not_compiled_line};
 ghost use Rattle.spec_tool.specs.AuditText as spec;
-ghost use Rattle.bitml_command.specs.Seen.{printed};
+ghost use Rattle.spec_tool.specs.Replies.{printed};
 ghost use Rattle.bm_world.specs.Playing.{setup_in};
 
 use crate::report::audit;
 use crate::report_text::report_text;
-use bitml_command::Reply;
 use bitml_reply::halt_reply;
 use bm_hash::Hash32;
 use bm_world::World;
-use spec_data::{Bytes, OutOfMemory};
-use spec_tool::AuditReport;
+use spec_data::OutOfMemory;
+use spec_tool::{AuditReport, Reply};
 use std::alloc::Global;
 
 // The lines of a report.
@@ -25,10 +24,7 @@ fn found_reply(alloc: Global, report: &AuditReport, compiled: bool) -> Result<Re
         ≡ prints 0 (spec.report_text report.now ++ (if compiled then [] else not_compiled_line))) }
 {
     let text = report_text(alloc, report, compiled)?;
-    Ok(Reply {
-        status: 0,
-        text: Bytes::of(text),
-    })
+    Ok(Reply::new(0, text))
 }
 
 // Whether the first contract is compiled.

@@ -7,15 +7,15 @@ ghost use Rattle.theory_text.specs.RunFiles.{IsReadRun};
 ghost use Rattle.spec_tool.specs.Commands.{setup_of};
 ghost use Rattle.spec_tool.specs.Answers.{if_whole, audited_file};
 ghost use Rattle.spec_tool.specs.AuditText as spec;
-ghost use Rattle.bitml_command.specs.Seen.{printed};
+ghost use Rattle.spec_tool.specs.Replies.{printed};
 
 use crate::auditing::world_reply;
-use bitml_command::Reply;
 use bitml_reply::{halt_reply, let_go, play_to_end};
 use bm_hash::Hash32;
 use bm_wellformed::Checked;
 use spec_data::{Bytes, OutOfMemory};
 use spec_run::Run;
+use spec_tool::Reply;
 use std::alloc::Global;
 
 // What is replied where the file of an audit has too many bytes.

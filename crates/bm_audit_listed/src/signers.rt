@@ -2,7 +2,6 @@
 
 ghost use Rattle.std.specs.Prelude.{◌≡◌, ◌++◌, map, option_map, OnOk, IfOk};
 ghost use Rattle.spec_data.specs.Lists.{look_up};
-ghost use Rattle.spec_terms.specs.Core.{core as core_of, puts_of};
 ghost use Rattle.spec_terms.specs.Precondition.{persistent, volatile};
 ghost use Rattle.spec_compiler.specs.Instance.{branch_label};
 ghost use Rattle.spec_compiler.specs.Endorsements.{put_owner};
@@ -11,7 +10,7 @@ ghost use Rattle.bm_syntax.specs.View.{guarded};
 ghost use Rattle.bm_audit_listed.specs.Parts as spec;
 
 use bm_syntax::walk::at;
-use bm_syntax::{Guarded, core};
+use bm_syntax::{Guarded, puts};
 use bm_wellformed::Checked;
 use spec_bitcoin::Label;
 use spec_data::{Name, OutOfMemory, Seq};
@@ -102,16 +101,6 @@ fn branch_labels(
         })?;
     }
     Ok(labels)
-}
-
-// The deposits that a branch puts.
-fn puts(branch: &Guarded) -> &[Name]
-    ensures { result.now ≡ puts_of (core_of (guarded branch.now)) }
-{
-    match core(branch) {
-        Guarded::PutReveal { puts, .. } => puts,
-        _ => &[],
-    }
 }
 
 // Of a branch, all participants for the position's output, and then the owners of the deposits that are put.

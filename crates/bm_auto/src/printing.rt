@@ -3,14 +3,14 @@
 ghost use Rattle.std.specs.Prelude.{◌≡◌, ◌++◌, flat_map, IfOk, OnOk};
 ghost use Rattle.spec_text.specs.RunText.{newline, event_text, run_text};
 ghost use Rattle.spec_tool.specs.Commands.{prints};
-ghost use Rattle.bitml_command.specs.Seen.{printed};
+ghost use Rattle.spec_tool.specs.Replies.{printed};
 ghost use Rattle.bm_auto.specs.Longer.{longer};
 
-use bitml_command::Reply;
 use bm_runfile::{print_header, put_event};
 use bm_text::put;
-use spec_data::{Bytes, OutOfMemory};
+use spec_data::OutOfMemory;
 use spec_run::{Event, Header};
+use spec_tool::Reply;
 use std::alloc::Global;
 
 #[tactic(auto, using(std::proofs::Common::append_assoc))]
@@ -56,8 +56,5 @@ pub fn longer_reply(
     ensures { IfOk result (λ reply. printed reply ≡ prints 0 (run_text (longer header.now events.now more.now))) }
 {
     let text = longer_text(alloc, header, events, more)?;
-    Ok(Reply {
-        status: 0,
-        text: Bytes::of(text),
-    })
+    Ok(Reply::new(0, text))
 }

@@ -3,11 +3,11 @@
 ghost use Rattle.std.specs.Prelude.{◌≡◌, ◌++◌, codes, IfOk, OnOk};
 ghost use Rattle.spec_text.specs.RunText.{newline};
 ghost use Rattle.spec_tool.specs.AutoText as spec;
-ghost use Rattle.bitml_command.specs.Seen.{printed};
+ghost use Rattle.spec_tool.specs.Replies.{printed};
 
-use bitml_command::Reply;
 use bm_text::put;
-use spec_data::{Bytes, OutOfMemory};
+use spec_data::OutOfMemory;
+use spec_tool::Reply;
 use std::alloc::Global;
 
 #[tactic(auto, using(std::proofs::Common::append_assoc))]
@@ -25,8 +25,5 @@ pub fn strategy_refused(alloc: Global, why: &[u8]) -> Result<Reply, OutOfMemory>
 {
     let mut text = Vec::new(alloc);
     put_refused(&mut text, why)?;
-    Ok(Reply {
-        status: 11,
-        text: Bytes::of(text),
-    })
+    Ok(Reply::new(11, text))
 }

@@ -27,8 +27,8 @@ use Rattle.spec_tool.specs.Turns.{Progress, Progressed, extended}
 use Rattle.theory_auto.specs.Continued.{StrategiesGoOn}
 use Rattle.theory_auto.specs.OwnRules.{IsHonest, StrategiesKeepToRules}
 use Rattle.theory_auto.specs.Spelled.{GoesWith, LongerRunsAreSpelled}
-use Rattle.bitml_command.specs.Seen.{printed}
-use Rattle.bitml_command.specs.declared.reply.Reply.{Reply}
+use Rattle.spec_tool.specs.Replies.{printed}
+use Rattle.spec_tool.specs.declared.reply.Reply.{Reply}
 use Rattle.bm_world.specs.declared.halt.Halt.{Halt}
 use Rattle.bm_world.specs.declared.halt.Halt.TheVariants as halts
 use Rattle.bm_world.specs.Playing as world

@@ -12,7 +12,7 @@ use Rattle.spec_tool.specs.Reads.{Text}
 use Rattle.spec_tool.specs.Turns.{Progress, extended}
 use Rattle.theory_auto.specs.Continued.{GoesOnBy}
 use Rattle.theory_auto.specs.OwnRules.{KeepsToRules}
-use Rattle.bitml_command.specs.declared.reply.Reply.{Reply}
+use Rattle.spec_tool.specs.declared.reply.Reply.{Reply}
 
 -- the text is that of the run with the events of these rules behind its own
 pub record Continues (s : Setup) (run : Run) (rules : List Rule) (text : List ℕ) : Type 0 where

@@ -7,20 +7,19 @@ ghost use Rattle.spec_text.specs.RunText.{run_text};
 ghost use Rattle.spec_tool.specs.Commands.{prints};
 ghost use Rattle.spec_tool.specs.AutoText.{auto_answer};
 ghost use Rattle.theory_auto.specs.OwnRules.{IsHonest};
-ghost use Rattle.bitml_command.specs.Seen.{printed};
+ghost use Rattle.spec_tool.specs.Replies.{printed};
 ghost use Rattle.bm_auto.specs.Longer.{longer};
 ghost use Rattle.bm_world.specs.Playing.{setup_in};
 ghost use Rattle.bitml_play.specs.Whole.{IsLeft};
 ghost use Rattle.bm_auto_reply.specs.Continued.{ContinuesIfWhole};
 
-use bitml_command::Reply;
 use bitml_reply::halt_reply;
 use bm_auto::{extend, longer_reply};
 use bm_hash::Hash32;
 use bm_world::World;
 use spec_data::OutOfMemory;
 use spec_run::{Event, Run};
-use spec_tool::Rule;
+use spec_tool::{Reply, Rule};
 use std::alloc::Global;
 use theory_auto::{strategies_go_on, strategies_keep_to_rules};
 

@@ -9,19 +9,18 @@ ghost use Rattle.spec_tool.specs.Commands.{setup_of};
 ghost use Rattle.spec_tool.specs.Answers.{if_whole, rules_judged};
 ghost use Rattle.spec_tool.specs.AutoText as spec;
 ghost use Rattle.theory_auto.specs.OwnRules.{IsHonest};
-ghost use Rattle.bitml_command.specs.Seen.{printed};
+ghost use Rattle.spec_tool.specs.Replies.{printed};
 ghost use Rattle.bm_auto.specs.Judged.{judged};
 ghost use Rattle.bm_auto_reply.specs.Continued.{ContinuesIfWhole, GoesOnBeside};
 
 use crate::continuing::continued_reply;
-use bitml_command::Reply;
 use bitml_reply::{halt_reply, let_go, play_to_end};
 use bm_auto::{StrategyJudgement, judge_strategy, strategy_refused};
 use bm_hash::Hash32;
 use bm_wellformed::Checked;
 use spec_data::{Bytes, OutOfMemory};
 use spec_run::Run;
-use spec_tool::Rule;
+use spec_tool::{Reply, Rule};
 use std::alloc::Global;
 use theory_auto::{longer_runs_are_spelled, strategies_are_honest};
 

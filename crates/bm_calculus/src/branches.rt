@@ -5,7 +5,7 @@ ghost use Rattle.spec_terms.specs.Core.{asks as asks_in, puts_of as puts_in, rev
 ghost use Rattle.spec_calculus.specs.Branches as spec;
 ghost use Rattle.bm_syntax.specs.View.{guarded, parts_view};
 
-use bm_syntax::{Guarded, Part, branch_at};
+use bm_syntax::{Guarded, Part, branch_at, longer};
 use bm_wellformed::Checked;
 use spec_calculus::{ActiveContract, BranchAuthorisation};
 use spec_data::{Name, OutOfMemory};
@@ -110,15 +110,6 @@ pub fn parts(core: &Guarded) -> &[Part]
         Guarded::Split { parts } => parts,
         _ => &[],
     }
-}
-
-/// The path with one step more.
-pub fn longer(alloc: Global, path: &Path, step: PathStep) -> Result<Path, OutOfMemory>
-    ensures { IfOk result (λ p. p ≡ path.now ++ step ∷ []) }
-{
-    let mut steps = Vec::from_slice(alloc, path.steps())?;
-    steps.push(step)?;
-    Ok(Path::of(steps))
 }
 
 /// What is left of a sum after the fee.

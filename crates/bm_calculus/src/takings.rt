@@ -12,9 +12,9 @@ ghost use Rattle.bm_syntax.specs.View.{guarded};
 ghost use Rattle.bm_calculus.specs.Takings.{continuation};
 
 use crate::beginning::{bindings_of, numbers_of};
-use crate::branches::{branch_in, left, longer, parts, parts_made, payee, puts};
+use crate::branches::{branch_in, left, parts, parts_made, payee, puts};
 use crate::state::{State, contract_at};
-use bm_syntax::{Guarded, core};
+use bm_syntax::{Guarded, core, longer};
 use spec_calculus::{ActiveContract, Step};
 use spec_data::{Name, OutOfMemory};
 use spec_terms::PathStep;

@@ -16,7 +16,7 @@ use crate::opening::{first_outputs, opening_txid};
 use crate::outputs::{Entry, Live, made_numbers, replace_spent, spent_numbers};
 use bm_book::Book;
 use bm_hash::{Hash32, Trail, TrailError};
-use spec_bitcoin::{OutPoint, Refusal, Tx, TxOut, Verdict};
+use spec_bitcoin::{OutPoint, Refusal, Tx, TxIn, TxOut, Verdict};
 use spec_data::OutOfMemory;
 use std::alloc::Global;
 use std::marker::Model;
@@ -125,6 +125,16 @@ impl Ledger {
         match self.outputs.find(place) {
             Some(entry) => Some(entry.0),
             None => None,
+        }
+    }
+
+    /// The birth number of the output that an input spends, 0 where it isn't live.
+    pub fn spent_number(&self, input: &TxIn) -> u32
+        ensures { result ≡ spec.spent_number self.now.live input.now }
+    {
+        match self.number(&input.prev) {
+            Some(number) => number,
+            None => 0,
         }
     }
 

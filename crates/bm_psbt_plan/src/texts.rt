@@ -2,14 +2,12 @@
 
 ghost use Rattle.std.specs.Prelude.{◌≡◌, ◌++◌, true, Some, option_map, OnOk, IfOk};
 ghost use Rattle.spec_tool.specs.declared.which.Which.TheVariants as names;
-ghost use Rattle.spec_terms.specs.Core.{core as core_of, puts_of};
 ghost use Rattle.spec_run.specs.Setup.{Setup, contract_at};
 ghost use Rattle.spec_run.specs.World.{World};
 ghost use Rattle.spec_run.specs.Compiled.{compiled_instance};
 ghost use Rattle.spec_tool.specs.Listed.{which_text};
 ghost use Rattle.spec_tool.specs.Psbt.{is_psbt};
 ghost use Rattle.spec_tool.specs.PsbtText as spec;
-ghost use Rattle.bm_syntax.specs.View.{guarded};
 ghost use Rattle.bm_compile.specs.Numbered.{Numbered, numbered};
 ghost use Rattle.bm_psbt_plan.specs.Parts as parts;
 ghost use Rattle.bm_psbt_plan.specs.OfRun.{IsOfRun};
@@ -23,12 +21,12 @@ use bm_keys::put_path;
 use bm_plan::position_of;
 use bm_psbt::{Psbt, encode};
 use bm_psbt_base64::base64_text;
+use bm_syntax::puts;
 use bm_syntax::walk::at;
-use bm_syntax::{Guarded, core};
 use bm_text::put;
 use bm_wellformed::Checked;
 use spec_bitcoin::Tx;
-use spec_data::{Name, OutOfMemory};
+use spec_data::OutOfMemory;
 use spec_terms::Path;
 use spec_tool::{PsbtInput, Which};
 use std::alloc::Global;
@@ -110,16 +108,6 @@ fn init_psbt<H: Hash32>(
     let pre = &checked.advert().pre;
     let inputs = persistent_inputs(alloc, hasher, book, pre, init.digests.as_slice())?;
     psbt_with(alloc, &init.tx, inputs)
-}
-
-// The deposits that a branch puts.
-fn puts(branch: &Guarded) -> &[Name]
-    ensures { result.now ≡ puts_of (core_of (guarded branch.now)) }
-{
-    match core(branch) {
-        Guarded::PutReveal { puts, .. } => puts,
-        _ => &[],
-    }
 }
 
 fn path_psbt<H: Hash32>(

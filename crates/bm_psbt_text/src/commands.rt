@@ -3,13 +3,13 @@
 ghost use Rattle.std.specs.Prelude.{◌≡◌, option_map, Ok, IfOk};
 ghost use Rattle.spec_tool.specs.PsbtBytes as bytes;
 ghost use Rattle.spec_tool.specs.PsbtText as spec;
-ghost use Rattle.bitml_command.specs.Seen.{printed};
+ghost use Rattle.spec_tool.specs.Replies.{printed};
 
 use crate::files::psbt_in;
 use crate::replies::{conflict_refused, file_refused, refused, shown};
-use bitml_command::Reply;
 use bm_psbt::{CombineError, Psbt, combine};
 use spec_data::OutOfMemory;
+use spec_tool::Reply;
 use std::alloc::{AllocError, Global};
 
 /// What `psbt FILE` answers: what the file says, or why it is refused. A file that has too many

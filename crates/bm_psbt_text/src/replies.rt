@@ -4,15 +4,15 @@ ghost use Rattle.std.specs.Prelude.{◌≡◌, ◌++◌, codes, Ok, IfOk, OnOk};
 ghost use Rattle.std.specs.Fmt.{decimal};
 ghost use Rattle.spec_text.specs.RunText.{newline};
 ghost use Rattle.spec_tool.specs.PsbtText as spec;
-ghost use Rattle.bitml_command.specs.Seen.{printed};
+ghost use Rattle.spec_tool.specs.Replies.{printed};
 ghost use Rattle.bm_psbt_text.specs.Refusals.{word_of};
 
 use crate::files::FileRefusal;
 use crate::lines::shown_text;
-use bitml_command::Reply;
 use bm_psbt::Psbt;
 use bm_text::{put, put_decimal};
-use spec_data::{Bytes, OutOfMemory};
+use spec_data::OutOfMemory;
+use spec_tool::Reply;
 use std::alloc::Global;
 
 // `psbt refused` and why.
@@ -31,10 +31,7 @@ pub(crate) fn refused(alloc: Global, why: &[u8]) -> Result<Reply, OutOfMemory>
 {
     let mut out = Vec::new(alloc);
     put_refused(&mut out, why)?;
-    Ok(Reply {
-        status: 9,
-        text: Bytes::of(out),
-    })
+    Ok(Reply::new(9, out))
 }
 
 // Why a file is refused, in a word.
@@ -79,8 +76,5 @@ pub(crate) fn shown(alloc: Global, psbt: &Psbt) -> Result<Reply, OutOfMemory>
     ensures { IfOk result (λ a. printed a ≡ spec.shown_judged (Ok psbt.now)) }
 {
     let text = shown_text(alloc, psbt)?;
-    Ok(Reply {
-        status: 0,
-        text: Bytes::of(text),
-    })
+    Ok(Reply::new(0, text))
 }

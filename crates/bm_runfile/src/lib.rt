@@ -28,4 +28,4 @@ pub use read::read_run;
 pub use refusals::{put_refusal, refusal_name};
 pub use spec_run::{Event, Header, HeldSecret, Run};
 pub use spec_text::RunLimit;
-pub use words::{a_name, one_of};
+pub use words::{a_name, digest, one_of, read_bytes, small};

@@ -14,7 +14,7 @@ use spec_data::Name;
 use std::alloc::Global;
 
 /// A number of a contract, an output, a branch or blocks.
-pub(crate) fn small(word: &[u8]) -> Option<u32>
+pub fn small(word: &[u8]) -> Option<u32>
     ensures { result ≡ small word.now }
 {
     let number = read_decimal(word)?;
@@ -114,7 +114,7 @@ pub fn one_of(names: &[Name], word: &[u8]) -> Option<Name>
 }
 
 /// Bytes in hexadecimal.
-pub(crate) fn read_bytes(alloc: Global, word: &[u8]) -> Result<Vec<u8>, WordError>
+pub fn read_bytes(alloc: Global, word: &[u8]) -> Result<Vec<u8>, WordError>
     ensures { Reads (λ v. v.items) result (read_hex word.now) }
 {
     match bm_text::read_hex(alloc, word) {
@@ -125,7 +125,7 @@ pub(crate) fn read_bytes(alloc: Global, word: &[u8]) -> Result<Vec<u8>, WordErro
 }
 
 /// A digest: 32 bytes.
-pub(crate) fn digest(alloc: Global, word: &[u8]) -> Result<[u8; 32], WordError>
+pub fn digest(alloc: Global, word: &[u8]) -> Result<[u8; 32], WordError>
     ensures { Reads (λ d. d) result (digest word.now) }
 {
     let bytes = read_bytes(alloc, word)?;

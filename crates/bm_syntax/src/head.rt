@@ -39,3 +39,23 @@ pub fn lock(branch: &Guarded) -> u32
         _ => 0,
     }
 }
+
+/// The names of the deposits that a branch puts.
+pub fn puts(branch: &Guarded) -> &[Name]
+    ensures { result.now ≡ spec.puts_of (spec.core (guarded branch.now)) }
+{
+    match core(branch) {
+        Guarded::PutReveal { puts, .. } => puts,
+        _ => &[],
+    }
+}
+
+/// The names of the secrets that a branch reveals.
+pub fn reveals(branch: &Guarded) -> &[Name]
+    ensures { result.now ≡ spec.reveals_of (spec.core (guarded branch.now)) }
+{
+    match core(branch) {
+        Guarded::PutReveal { reveals, .. } => reveals,
+        _ => &[],
+    }
+}

@@ -9,7 +9,7 @@ ghost use Rattle.bm_wellformed.specs.Small.{value_in, IsSmall, AreSmall, AreSmal
 
 use crate::entries::{after_put, root_balance};
 use crate::flaw::{Flaw, branch_shows, position_shows};
-use bm_syntax::{Advert, Contract, Guarded, Part, Path, PathStep};
+use bm_syntax::{Advert, Contract, Guarded, Part, Path, PathStep, longer};
 use spec_data::OutOfMemory;
 use spec_terms::Place;
 use std::alloc::Global;
@@ -139,15 +139,4 @@ fn in_parts(
         number += 1;
     }
     Ok(None)
-}
-
-// The path with one more step.
-fn longer(alloc: Global, path: &Path, step: PathStep) -> Result<Path, OutOfMemory>
-    ensures { IfOk result (λ longer. longer ≡ path.now ++ step ∷ []) }
-{
-    let known = path.steps();
-    let mut steps = Vec::with_capacity(alloc, known.len().saturating_add(1))?;
-    steps.extend_from_slice(known)?;
-    steps.push(step)?;
-    Ok(Path::of(steps))
 }

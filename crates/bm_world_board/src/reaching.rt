@@ -19,16 +19,6 @@ use spec_data::{Boxed, Bytes, OutOfMemory, Seq};
 use spec_run::{Outcome, Reason};
 use std::alloc::Global;
 
-// The birth number of the output that an input spends, 0 where it isn't live.
-fn spent_number(ledger: &Ledger, input: &TxIn) -> u32
-    ensures { result ≡ spec.spent_number ledger.now.live input.now }
-{
-    match ledger.number(&input.prev) {
-        Some(number) => number,
-        None => 0,
-    }
-}
-
 /// The birth numbers of the outputs that are spent, in the order of the inputs.
 pub fn spent_numbers(
     alloc: Global,
@@ -39,7 +29,7 @@ pub fn spent_numbers(
 {
     let mut numbers = Seq::new(alloc);
     for input in inputs {
-        numbers.push(spent_number(ledger, input))?;
+        numbers.push(ledger.spent_number(input))?;
     }
     Ok(numbers)
 }

@@ -16,12 +16,11 @@ ghost use Rattle.bm_world_board.specs.Reaching.{IsFresh};
 ghost use Rattle.bm_world_fire.specs.Shown.{ArePostsHashed};
 ghost use Rattle.bm_world_fire.specs.Standing.{IsSmall, AreSmall, AreStanding};
 
-use crate::branches::reveals_of;
 use crate::initial::{initial_refusal, initial_transaction};
 use crate::shown::first_unshown;
 use crate::taking::taking_transaction;
 use bm_hash::{Hash32, Trail, TrailError};
-use bm_syntax::Guarded;
+use bm_syntax::{Guarded, reveals};
 use bm_world_board::{Board, Drafted};
 use bm_world_coins::HeldPosition;
 use bm_world_spend::draft_reaching;
@@ -109,7 +108,7 @@ fn unknown_secret<H: Hash32 + Drop>(
         return Ok(None);
     };
     let hashes = board.exchange.all_digests(held.contract())?;
-    Ok(first_unshown(trail, board, hashes.as_slice(), reveals_of(taken)))
+    Ok(first_unshown(trail, board, hashes.as_slice(), reveals(taken)))
 }
 
 // Why `fire` is refused, if it is, before the ledger judges.

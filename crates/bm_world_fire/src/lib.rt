@@ -1,7 +1,6 @@
 //! Compiled transactions that are handed to the ledger, with the witnesses that anyone can fill in.
 #![tactic(auto)]
 
-mod branches;
 mod deposits;
 mod filling;
 mod firing;

@@ -20,7 +20,6 @@ ghost use Rattle.bm_world_fire.specs.Taken.{taking_with};
 ghost use Rattle.bm_world_fire.specs.Shown.{shown_by, ArePostsHashed};
 ghost use Rattle.bm_world_fire.specs.Standing.{IsStanding, AreStanding};
 
-use crate::branches::{puts_of, reveals_of};
 use crate::deposits::{put_witnesses, volatile_owners};
 use crate::filling::with_witnesses;
 use crate::shown::shown_strings;
@@ -30,7 +29,7 @@ use bm_hash::{Hash32, Trail};
 use bm_honest::branch_key;
 use bm_keys::signature;
 use bm_match::branches_at;
-use bm_syntax::Guarded;
+use bm_syntax::{Guarded, puts, reveals};
 use bm_wellformed::Checked;
 use bm_world_board::Board;
 use bm_world_coins::HeldPosition;
@@ -151,13 +150,13 @@ fn filled<H: Hash32 + Drop>(
     let hasher = trail.hasher();
     let digest = first_of(made.digests.as_slice());
     let signed = signatures(alloc, hasher, contract, path, checked.parties(), &digest)?;
-    let secrets = reveals_of(taken);
+    let secrets = reveals(taken);
     let first = position_witness(
         alloc, trail, board, secrets, &signed, hashes, branch, branches, script,
     )?;
     let pre = checked.advert().pre.as_slice();
     let others = others_of(made.digests.as_slice());
-    let witnesses = with_deposits(alloc, hasher, pre, puts_of(taken), first, others)?;
+    let witnesses = with_deposits(alloc, hasher, pre, puts(taken), first, others)?;
     let tx = with_witnesses(alloc, &made.tx, witnesses.as_slice())?;
     Ok(tx)
 }

@@ -15,11 +15,10 @@ ghost use Rattle.bm_world_spend.specs.Placed.{IsPlaced};
 ghost use Rattle.bm_world_spend.specs.Purposes as by;
 
 use bm_arena::{Core, Node};
-use bm_ledger::Ledger;
 use bm_match::{Active, Match, find_among};
 use bm_world_board::{Board, Purpose};
 use bm_world_coins::{HeldPosition, NewPositions};
-use spec_bitcoin::{Tx, TxIn};
+use spec_bitcoin::Tx;
 use spec_data::OutOfMemory;
 use spec_terms::{Path, PathStep};
 use std::alloc::Global;
@@ -48,23 +47,13 @@ fn active_at(board: &Board, number: u32) -> Option<Active>
     })
 }
 
-// The number of the output that an input spends, 0 where it isn't live.
-fn spent_number(ledger: &Ledger, input: &TxIn) -> u32
-    ensures { result ≡ spec.spent_number ledger.now.live input.now }
-{
-    match ledger.number(&input.prev) {
-        Some(number) => number,
-        None => 0,
-    }
-}
-
 // The live contract output that a transaction's first input spends.
 fn active_of(board: &Board, tx: &Tx) -> Option<Active>
     ensures { result ≡ by.active_first board.now.compiled board.now.coins.outputs
         (map (spec.spent_number (live_from 0 board.now.coins.outputs)) tx.now.inputs) }
 {
     match tx.inputs.as_slice().first() {
-        Some(input) => active_at(board, spent_number(board.coins.ledger(), input)),
+        Some(input) => active_at(board, board.coins.ledger().spent_number(input)),
         None => None,
     }
 }

@@ -3,7 +3,6 @@
 ghost use Rattle.std.specs.Prelude.{◌≡◌, ◌++◌, ◌∷◌, [], map, true, is_some, option_map, IfOk, IfSome, OnOk};
 ghost use Rattle.std.specs.List.{list_all};
 ghost use Rattle.spec_data.specs.Lists.{look_up};
-ghost use Rattle.spec_terms.specs.Core.{core as core_of, puts_of};
 ghost use Rattle.spec_terms.specs.Precondition.{persistent, volatile};
 ghost use Rattle.spec_bitcoin.specs.declared.label.Label.TheVariants.{Deposit};
 ghost use Rattle.spec_compiler.specs.Keyed.Instance.{branch_label};
@@ -14,7 +13,7 @@ ghost use Rattle.bm_syntax.specs.View.{guarded};
 ghost use Rattle.deal_compile.specs.Parts as spec;
 
 use bm_compile::volatile_of;
-use bm_syntax::{Guarded, Name, Path, Pre, core};
+use bm_syntax::{Guarded, Name, Path, Pre, puts};
 use bm_wellformed::Checked;
 use spec_bitcoin::Label;
 use spec_data::{OutOfMemory, Seq};
@@ -93,16 +92,6 @@ fn add_owners(
         labels.push(owner_label(alloc, pre, name)?)?;
     }
     Ok(())
-}
-
-// The deposits that a branch puts.
-fn puts(branch: &Guarded) -> &[Name]
-    ensures { result.now ≡ puts_of (core_of (guarded branch.now)) }
-{
-    match core(branch) {
-        Guarded::PutReveal { puts, .. } => puts,
-        _ => &[],
-    }
 }
 
 // The labels of the inputs of a branch's transaction: of all participants for the position's output, and then of the owners of the

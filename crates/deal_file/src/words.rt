@@ -1,50 +1,14 @@
 //! What the words of a deal file spell.
 
 ghost use Rattle.std.specs.Prelude.{◌≡◌, reverse, true, IfOk};
-ghost use Rattle.spec_data.specs.Digits.{read_hex};
-ghost use Rattle.spec_text.specs.Words.{small, digest};
 ghost use Rattle.spec_deal.specs.DealFile as spec;
 ghost use Rattle.bm_runfile.specs.Gives.{Reads};
 ghost use Rattle.deal_file.specs.Keying.{is_sized};
 
-use bm_runfile::WordError;
-use bm_text::{HexError, read_decimal};
+use bm_runfile::{WordError, digest, read_bytes, small};
 use spec_bitcoin::OutPoint;
 use spec_deal::Value;
 use std::alloc::Global;
-
-// The number of an output.
-fn small(word: &[u8]) -> Option<u32>
-    ensures { result ≡ small word.now }
-{
-    let number = read_decimal(word)?;
-    if number > u32::MAX as u64 {
-        return None;
-    }
-    Some(number as u32)
-}
-
-// Bytes in hexadecimal.
-fn read_bytes(alloc: Global, word: &[u8]) -> Result<Vec<u8>, WordError>
-    ensures { Reads (λ v. v.items) result (read_hex word.now) }
-{
-    match bm_text::read_hex(alloc, word) {
-        Ok(bytes) => Ok(bytes),
-        Err(HexError::Bad) => Err(WordError::Bad),
-        Err(HexError::Memory) => Err(WordError::Memory),
-    }
-}
-
-// A digest: 32 bytes.
-fn digest(alloc: Global, word: &[u8]) -> Result<[u8; 32], WordError>
-    ensures { Reads (λ d. d) result (digest word.now) }
-{
-    let bytes = read_bytes(alloc, word)?;
-    match <[u8; 32]>::try_from(bytes.as_slice()) {
-        Ok(digest) => Ok(digest),
-        Err(_) => Err(WordError::Bad),
-    }
-}
 
 // Whether it is a compressed public key, by its first byte.
 fn is_key(key: &[u8; 33]) -> bool

@@ -19,3 +19,4 @@ pub mod AutoText
 pub mod Answers
 pub mod Reading
 pub mod Causes
+pub mod Replies

@@ -1,7 +1,8 @@
 use Rattle.std.proofs.Common.{◌≡◌, sym, subst}
 use Rattle.std.specs.Prelude.{IfOk}
 use Rattle.spec_tool.specs.Answers.{text_answer}
-use Rattle.bitml_command.specs.Seen.{command, printed}
+use Rattle.bitml_command.specs.Seen.{command}
+use Rattle.spec_tool.specs.Replies.{printed}
 use Rattle.bitml_command.specs.declared.command.Command.{Command as Call}
 use Rattle.bitml.proofs.answering.text_reply.Goals as goal
 

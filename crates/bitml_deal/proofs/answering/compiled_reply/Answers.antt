@@ -1,7 +1,7 @@
 use Rattle.std.proofs.Common.{◌≡◌, sym, subst, ◌∙◌}
 use Rattle.std.specs.Prelude.{IfOk}
 use Rattle.spec_deal.specs.Setting.{deal_keys, deal_instance}
-use Rattle.bitml_command.specs.Seen.{printed}
+use Rattle.spec_tool.specs.Replies.{printed}
 use Rattle.deal_command.specs.declared.command.DealCommand.{DealCommand as Call}
 use Rattle.deal_command.specs.Seen.{command}
 use Rattle.bitml_deal.specs.Later.{later_answer}

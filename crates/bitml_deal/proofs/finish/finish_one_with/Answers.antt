@@ -4,7 +4,7 @@ use Rattle.spec_tool.specs.Commands.{Printed}
 use Rattle.spec_deal.specs.declared.signed.Signed.{Signed}
 use Rattle.spec_deal.specs.Answers.{finished_answer, with_signatures, with_secrets, secrets_in}
 use Rattle.spec_deal.specs.Setting.{deal_keys, deal_instance}
-use Rattle.bitml_command.specs.Seen.{printed}
+use Rattle.spec_tool.specs.Replies.{printed}
 use Rattle.bitml_deal.specs.Later.{given_in}
 use Rattle.bitml_deal.proofs.FinishLemmas.{given_is, refused_for}
 use Rattle.bitml_deal.proofs.finish.finish_one_with.Goals as goal

@@ -3,7 +3,7 @@ use Rattle.std.specs.Prelude.{IfOk, option_map}
 use Rattle.spec_tool.specs.Commands.{Printed}
 use Rattle.spec_deal.specs.Answers.{finish_answer}
 use Rattle.spec_deal.specs.Setting.{deal_keys, deal_instance}
-use Rattle.bitml_command.specs.Seen.{printed}
+use Rattle.spec_tool.specs.Replies.{printed}
 use Rattle.bitml_deal.proofs.NamedLemmas.{found_there, not_there, of_there}
 use Rattle.bitml_deal.proofs.finish.finish_reply.Goals as goal
 

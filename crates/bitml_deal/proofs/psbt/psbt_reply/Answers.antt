@@ -7,7 +7,7 @@ use Rattle.spec_tool.specs.Keyed.Listed.{Listed}
 use Rattle.spec_tool.specs.PsbtText.{psbt_line}
 use Rattle.spec_deal.specs.DealText.{unsigned_psbt}
 use Rattle.theory_calculus.proofs.Members.{all_in, found}
-use Rattle.bitml_command.specs.Seen.{printed}
+use Rattle.spec_tool.specs.Replies.{printed}
 use Rattle.deal_compile.specs.Signable.{is_signable}
 use Rattle.bitml_deal.specs.Named.{is_named}
 use Rattle.bitml_deal.proofs.NamedLemmas.{found_there, not_there, of_there}

@@ -1,6 +1,6 @@
 use Rattle.std.proofs.Common.{ap}
 use Rattle.spec_tool.specs.Commands.{prints}
-use Rattle.bitml_command.specs.Seen.{printed}
+use Rattle.spec_tool.specs.Replies.{printed}
 use Rattle.deal_command.specs.Seen.{command}
 use Rattle.bitml_deal.proofs.Ending.{answers_reply}
 use Rattle.bitml_deal.proofs.tool.serve.Goals as goal

@@ -5,7 +5,7 @@ use Rattle.spec_run.specs.Setup.{Setup}
 use Rattle.spec_tool.specs.Commands.{Printed, setup_of, run_answer}
 use Rattle.spec_picture.specs.Drawing.{draw_text}
 use Rattle.theory_picture.proofs.Endings.{unopened_answer}
-use Rattle.bitml_command.specs.Seen.{printed}
+use Rattle.spec_tool.specs.Replies.{printed}
 use Rattle.bm_world.specs.Playing.{setup_in}
 use Rattle.bitml_play.specs.Whole.{IsLeft}
 use Rattle.bitml_reply.proofs.Left.{of_its_own, contracts_are}

@@ -2,7 +2,7 @@ use Rattle.std.proofs.Common.{◌≡◌, length, sym, ap, subst, ◌∙◌}
 use Rattle.std.specs.Prelude.{IfOk}
 use Rattle.spec_tool.specs.Commands.{Printed}
 use Rattle.spec_picture.specs.Drawing.{last_of}
-use Rattle.bitml_command.specs.Seen.{printed}
+use Rattle.spec_tool.specs.Replies.{printed}
 use Rattle.bm_world.specs.Playing.{setup_in}
 use Rattle.bitml_reply.proofs.Left.{last_is, steps_for_each}
 use Rattle.bitml_draw.proofs.Left.{entries_same, drawn_is}

@@ -3,7 +3,7 @@ use Rattle.std.specs.Prelude.{IfOk}
 use Rattle.spec_run.specs.Setup.{Setup}
 use Rattle.spec_tool.specs.Commands.{Printed, setup_of}
 use Rattle.spec_next.specs.Foreseen.{next_printed}
-use Rattle.bitml_command.specs.Seen.{printed}
+use Rattle.spec_tool.specs.Replies.{printed}
 use Rattle.bitml_reply.specs.Last.{IsWhole}
 use Rattle.bitml_reply.proofs.Ended.{halted_if_whole}
 use Rattle.bitml_reply.proofs.Endings.{halted_told}

@@ -2,7 +2,7 @@ use Rattle.std.proofs.Common.{◌≡◌, ap, subst, ◌∙◌}
 use Rattle.std.specs.Prelude.{IfOk}
 use Rattle.spec_run.specs.Setup.{Setup}
 use Rattle.spec_tool.specs.Commands.{Printed, setup_of}
-use Rattle.bitml_command.specs.Seen.{printed}
+use Rattle.spec_tool.specs.Replies.{printed}
 use Rattle.bm_translate_course.specs.Courses.{events_of}
 use Rattle.bm_world.specs.Playing.{setup_in}
 use Rattle.bitml_reply.specs.Counted.{run_counts}

@@ -4,7 +4,7 @@ use Rattle.spec_run.specs.Setup.{Setup}
 use Rattle.spec_run.specs.Compiled.{compiled_instance}
 use Rattle.spec_text.specs.PlanText.{setting_text}
 use Rattle.spec_tool.specs.Commands.{Printed, setup_of}
-use Rattle.bitml_command.specs.Seen.{printed}
+use Rattle.spec_tool.specs.Replies.{printed}
 use Rattle.bm_world.specs.Playing.{setup_in}
 use Rattle.bitml_reply.specs.Last.{IsWhole}
 use Rattle.bitml_reply.proofs.Ended.{halted_plan, whole_plan}

@@ -3,7 +3,7 @@ use Rattle.std.specs.Prelude.{slice_get, IfOk}
 use Rattle.std.proofs.lemmas.Option.{slice_get_within, slice_get_read}
 use Rattle.spec_run.specs.declared.event.Event.{Event}
 use Rattle.spec_tool.specs.Commands.{Printed}
-use Rattle.bitml_command.specs.Seen.{printed}
+use Rattle.spec_tool.specs.Replies.{printed}
 use Rattle.bm_report.specs.Endings.{ending_of}
 use Rattle.bm_world.specs.Playing.{setup_in}
 use Rattle.bitml_reply.proofs.Left.{steps_for_each, answered, event_is}

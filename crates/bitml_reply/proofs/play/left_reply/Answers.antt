@@ -3,7 +3,7 @@ use Rattle.std.specs.Prelude.{ℕ, IfOk}
 use Rattle.spec_run.specs.declared.event.Event.{Event as Happening}
 use Rattle.spec_text.specs.Played.{play_text}
 use Rattle.spec_tool.specs.Commands.{run_answer}
-use Rattle.bitml_command.specs.Seen.{printed}
+use Rattle.spec_tool.specs.Replies.{printed}
 use Rattle.bitml_play.specs.Whole.{IsLeft}
 use Rattle.bm_world.specs.Playing.{setup_in}
 use Rattle.bm_world.specs.declared.halt.Halt.{Halt}

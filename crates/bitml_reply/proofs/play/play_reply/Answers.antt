@@ -3,7 +3,7 @@ use Rattle.std.specs.Prelude.{IfOk}
 use Rattle.spec_run.specs.Setup.{Setup}
 use Rattle.spec_text.specs.Played.{play_text}
 use Rattle.spec_tool.specs.Commands.{Printed, setup_of, run_answer}
-use Rattle.bitml_command.specs.Seen.{printed}
+use Rattle.spec_tool.specs.Replies.{printed}
 use Rattle.bitml_reply.proofs.Reports.{unopened_told}
 use Rattle.bitml_reply.proofs.Left.{of_its_own}
 use Rattle.bitml_reply.proofs.play.play_reply.Goals as goal

@@ -4,7 +4,7 @@ use Rattle.spec_run.specs.declared.header.Header.{Header}
 use Rattle.spec_run.specs.declared.outcome.Record.{Record}
 use Rattle.spec_text.specs.PlayText.{report_text}
 use Rattle.spec_tool.specs.Commands.{Printed, prints, ending_status}
-use Rattle.bitml_command.specs.Seen.{printed}
+use Rattle.spec_tool.specs.Replies.{printed}
 use Rattle.bm_report.specs.Endings.{ending_of}
 use Rattle.bm_report.specs.Entries.{entries_by}
 use Rattle.bitml_reply.proofs.play.shown_reply.Goals as goal

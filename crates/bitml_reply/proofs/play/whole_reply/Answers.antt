@@ -1,7 +1,7 @@
 use Rattle.std.proofs.Common.{◌≡◌, length, None, ap, subst, ◌∙◌}
 use Rattle.std.specs.Prelude.{IfOk}
 use Rattle.spec_tool.specs.Commands.{Printed}
-use Rattle.bitml_command.specs.Seen.{printed}
+use Rattle.spec_tool.specs.Replies.{printed}
 use Rattle.bm_report.specs.Endings.{ending_of}
 use Rattle.bm_translate_course.specs.Courses.{events_of}
 use Rattle.bm_world.specs.Playing.{setup_in}

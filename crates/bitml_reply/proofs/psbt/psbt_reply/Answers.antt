@@ -4,7 +4,7 @@ use Rattle.spec_run.specs.Setup.{Setup}
 use Rattle.spec_tool.specs.Commands.{Printed, setup_of}
 use Rattle.spec_tool.specs.Answers.{printed_of}
 use Rattle.spec_tool.specs.PsbtText.{psbt_text, which_psbt}
-use Rattle.bitml_command.specs.Seen.{printed}
+use Rattle.spec_tool.specs.Replies.{printed}
 use Rattle.bm_world.specs.Playing.{setup_in}
 use Rattle.bitml_reply.specs.Last.{IsWhole}
 use Rattle.bitml_reply.proofs.Ended.{halted_if_whole, whole_psbt}

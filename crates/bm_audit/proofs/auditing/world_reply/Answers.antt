@@ -1,7 +1,7 @@
 use Rattle.std.proofs.Common.{◌≡◌, subst}
 use Rattle.std.specs.Prelude.{IfOk}
 use Rattle.spec_tool.specs.Commands.{Printed}
-use Rattle.bitml_command.specs.Seen.{printed}
+use Rattle.spec_tool.specs.Replies.{printed}
 use Rattle.bm_world.specs.Playing.{setup_in}
 use Rattle.bm_audit.proofs.Replied.{found_path, halted_is}
 use Rattle.bm_audit.proofs.auditing.world_reply.Goals as goal

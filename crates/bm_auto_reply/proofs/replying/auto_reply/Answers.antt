@@ -5,7 +5,7 @@ use Rattle.spec_tool.specs.declared.rule.Rule.{Rule}
 use Rattle.spec_tool.specs.Answers.{if_whole, rules_judged}
 use Rattle.spec_tool.specs.AutoText.{strategy_in, auto_answer}
 use Rattle.spec_tool.specs.Commands.{Printed, setup_of}
-use Rattle.bitml_command.specs.Seen.{printed}
+use Rattle.spec_tool.specs.Replies.{printed}
 use Rattle.bm_auto.specs.Judged.{judged}
 use Rattle.bm_auto_reply.proofs.Judging.{IsRead, read_is}
 use Rattle.bm_auto_reply.proofs.Replied.{refused_beside, rules_beside}

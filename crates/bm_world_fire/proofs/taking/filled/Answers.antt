@@ -17,7 +17,7 @@ returns g c =
     let digest = c.first_of-digest.ensures ∙ ap first_of c.as_slice.ensures in
     let others = c.others_of-others.ensures ∙ ap other_digests c.as_slice-2.ensures in
     let signed = (rw c.hasher-hasher.ensures at c.in_ok-signed.ensures) ∙ (λ i. map (signed_by hash c.args.contract c.args.path.now (digest i)) (c.parties.ensures i)) in
-    let first = c.in_ok-first.ensures ∙ (λ i. witness_of ((c.deref.ensures.value ∙ signed) i) (map (λ name. bytes_or_none (shown_by s posted c.args.hashes.now name)) (c.reveals_of-secrets.ensures i)) c.args.branch c.args.branches c.args.script.now) in
+    let first = c.in_ok-first.ensures ∙ (λ i. witness_of ((c.deref.ensures.value ∙ signed) i) (map (λ name. bytes_or_none (shown_by s posted c.args.hashes.now name)) (c.reveals-secrets.ensures i)) c.args.branch c.args.branches c.args.script.now) in
     let pre = c.as_slice-pre.ensures.value ∙ ap (λ a. a.pre) c.behind-checked.view_is ∙ ap (λ a. a.pre) c.advert.ensures.value in
-    let witnesses = (rw c.hasher-hasher.ensures at c.in_ok-witnesses.ensures) ∙ (λ i. first i ∷ deposits_items hash (map (owner_in (pre i)) (c.puts_of.ensures i)) (others i)) in
+    let witnesses = (rw c.hasher-hasher.ensures at c.in_ok-witnesses.ensures) ∙ (λ i. first i ∷ deposits_items hash (map (owner_in (pre i)) (c.puts.ensures i)) (others i)) in
     c.in_ok-tx.ensures ∙ ap (with_witnesses c.args.made.now.tx) (c.as_slice-3.ensures ∙ witnesses)

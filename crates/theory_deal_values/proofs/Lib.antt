@@ -1,0 +1,4 @@
+pub mod FinishedDeal
+mod PlannedDeals
+mod RefusedDeals
+mod SignedDeals

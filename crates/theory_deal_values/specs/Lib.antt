@@ -1,0 +1,2 @@
+pub mod FinishedDeal
+pub mod Replies

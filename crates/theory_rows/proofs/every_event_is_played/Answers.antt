@@ -1,5 +1,0 @@
-use Rattle.theory_rows.proofs.EveryEvent.{every_event}
-use Rattle.theory_rows.proofs.every_event_is_played.Goals as goal
-
-pub returns : goal.returns
-returns c = every_event

@@ -8,8 +8,8 @@ use Rattle.spec_text.specs.Words.{◌>>=◌, given}
 use Rattle.spec_tool.specs.declared.which.Which.{Which}
 use Rattle.spec_tool.specs.Commands.{Command, check, play, plan, make, psbt_of, psbt_shown, psbt_joined, weigh, audit, auto, most_size, command_of, which_of}
 use Rattle.spec_tool.specs.Commands.{check_words, play_words, plan_words, make_words, psbt_words, weigh_words, audit_words, auto_words}
-use Rattle.bitml_command.specs.Seen.{command, HasFew}
-use Rattle.bitml_command.specs.declared.command.Command.{Command as Call}
+use Rattle.tool_command.specs.Seen.{command, HasFew}
+use Rattle.tool_command.specs.declared.command.Command.{Command as Call}
 use Rattle.bitml.specs.Served.{IsServed}
 
 if_served : (b : Bool) (x y : Option Command) → IsServed x → IsServed y → IsServed (if b then x else y)

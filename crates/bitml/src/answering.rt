@@ -3,7 +3,7 @@
 ghost use Rattle.std.specs.Prelude.{◌≡◌, true, length, Some, IfOk};
 ghost use Rattle.spec_tool.specs.Commands.{files_of};
 ghost use Rattle.spec_tool.specs.Answers.{text_answer};
-ghost use Rattle.bitml_command.specs.Seen.{command};
+ghost use Rattle.tool_command.specs.Seen.{command};
 ghost use Rattle.spec_tool.specs.Replies.{printed};
 ghost use Rattle.bitml.specs.Served.{IsServed};
 
@@ -15,11 +15,11 @@ use crate::plan::plan_texts;
 use crate::play::play_texts;
 use crate::psbt::{joined_texts, psbt_texts, shown_texts};
 use crate::weigh::weigh_texts;
-use bitml_command::Command;
 use bm_hash::Hash32;
 use spec_data::{Bytes, OutOfMemory};
 use spec_tool::Reply;
 use std::alloc::Global;
+use tool_command::Command;
 
 /// What a command replies to the texts of its files.
 pub(crate) fn text_reply<H: Hash32 + Drop>(

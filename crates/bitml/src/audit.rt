@@ -6,12 +6,12 @@ ghost use Rattle.spec_tool.specs.Answers.{with_contract, audited_file};
 ghost use Rattle.spec_tool.specs.Replies.{printed};
 
 use crate::third::third;
-use bitml_command::{Judgement, judge_two};
-use bm_audit::audit_reply;
 use bm_hash::Hash32;
 use spec_data::{Bytes, OutOfMemory};
 use spec_tool::Reply;
 use std::alloc::Global;
+use tool_audit::audit_reply;
+use tool_command::{Judgement, judge_two};
 
 /// What `audit` replies to the texts of a run, of its contract and of a file with transactions.
 pub(crate) fn audit_texts<H: Hash32 + Drop>(

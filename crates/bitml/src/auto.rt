@@ -6,12 +6,12 @@ ghost use Rattle.spec_tool.specs.Answers.{with_contract, size_of, strategy_file}
 ghost use Rattle.spec_tool.specs.Replies.{printed};
 
 use crate::third::third;
-use bitml_command::{Judgement, judge_two};
-use bm_auto_reply::auto_reply;
 use bm_hash::Hash32;
 use spec_data::{Bytes, OutOfMemory};
 use spec_tool::Reply;
 use std::alloc::Global;
+use tool_auto::auto_reply;
+use tool_command::{Judgement, judge_two};
 
 // How many bytes the run file has.
 fn run_bytes(texts: &[Option<Bytes>]) -> usize

@@ -6,10 +6,10 @@ ghost use Rattle.spec_tool.specs.Commands.{check_judged};
 ghost use Rattle.spec_tool.specs.Answers.{contract_in};
 ghost use Rattle.spec_tool.specs.Replies.{printed};
 
-use bitml_command::check_reply;
 use spec_data::{Bytes, OutOfMemory};
 use spec_tool::Reply;
 use std::alloc::Global;
+use tool_command::check_reply;
 
 /// What `check` replies to the text of its file.
 pub(crate) fn check_texts(alloc: Global, texts: &[Option<Bytes>]) -> Result<Reply, OutOfMemory>

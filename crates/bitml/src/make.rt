@@ -4,16 +4,16 @@ ghost use Rattle.std.specs.Prelude.{◌≡◌, ◌≤◌, ◌∷◌, [], Some, I
 ghost use Rattle.spec_text.specs.PlanText.{make_text};
 ghost use Rattle.spec_tool.specs.Commands.{most_size, run_answer, both_judged, make_answer};
 ghost use Rattle.spec_tool.specs.Answers.{run_in, contracts_in};
-ghost use Rattle.bitml_command.specs.Judges.{JudgesFiles, IsTakenIfAny};
+ghost use Rattle.tool_command.specs.Judges.{JudgesFiles, IsTakenIfAny};
 ghost use Rattle.spec_tool.specs.Replies.{printed};
 
-use bitml_command::{Judgement, judge_both};
-use bitml_reply::made_reply;
 use bm_hash::Hash32;
 use bm_make::make;
 use spec_data::{Bytes, OutOfMemory};
 use spec_tool::Reply;
 use std::alloc::Global;
+use tool_command::{Judgement, judge_both};
+use tool_replies::made_reply;
 
 // The texts of a made run and its contract, judged as if they had been read. Nothing needs them after that, so they are let go.
 fn judged(alloc: Global, run: Bytes, contract: Bytes) -> Result<Judgement, OutOfMemory>

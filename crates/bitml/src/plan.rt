@@ -6,12 +6,12 @@ ghost use Rattle.spec_tool.specs.Commands.{run_answer};
 ghost use Rattle.spec_tool.specs.Answers.{with_contract};
 ghost use Rattle.spec_tool.specs.Replies.{printed};
 
-use bitml_command::{Judgement, judge_two};
-use bitml_reply::plan_reply;
 use bm_hash::Hash32;
 use spec_data::{Bytes, OutOfMemory};
 use spec_tool::Reply;
 use std::alloc::Global;
+use tool_command::{Judgement, judge_two};
+use tool_replies::plan_reply;
 
 /// What `plan` replies to the texts of a run and its contract.
 pub(crate) fn plan_texts<H: Hash32 + Drop>(

@@ -8,12 +8,12 @@ ghost use Rattle.spec_tool.specs.Commands.{run_answer, both_judged};
 ghost use Rattle.spec_tool.specs.Answers.{run_in, contracts_in};
 ghost use Rattle.spec_tool.specs.Replies.{printed};
 
-use bitml_command::{Judgement, judge_both};
-use bitml_reply::play_reply;
 use bm_hash::Hash32;
 use spec_data::{Bytes, OutOfMemory};
 use spec_tool::Reply;
 use std::alloc::Global;
+use tool_command::{Judgement, judge_both};
+use tool_replies::play_reply;
 
 /// What `play` replies to the texts of a run and its contracts.
 pub(crate) fn play_texts<H: Hash32 + Drop>(

@@ -7,13 +7,13 @@ ghost use Rattle.spec_tool.specs.Answers.{with_contract, if_whole, printed_of};
 ghost use Rattle.spec_tool.specs.PsbtText as psbts;
 ghost use Rattle.spec_tool.specs.Replies.{printed};
 
-use bitml_command::{Judgement, judge_two};
-use bitml_reply::psbt_reply;
 use bm_hash::Hash32;
 use bm_psbt_text::{psbt_joined, psbt_shown};
 use spec_data::{Bytes, OutOfMemory};
 use spec_tool::{Reply, Which};
 use std::alloc::Global;
+use tool_command::{Judgement, judge_two};
+use tool_replies::psbt_reply;
 
 /// What `psbt RUN CONTRACT WHICH` replies to the texts of a run and its contract.
 pub(crate) fn psbt_texts<H: Hash32 + Drop>(

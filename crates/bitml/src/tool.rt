@@ -3,22 +3,22 @@
 ghost use Rattle.std.specs.Prelude.{◌≡◌, Some, map, string_bytes, IfOk, OnErr};
 ghost use Rattle.spec_tool.specs.Commands as spec;
 ghost use Rattle.spec_tool.specs.Answers.{answer};
-ghost use Rattle.bitml_command.specs.Seen.{command};
+ghost use Rattle.tool_command.specs.Seen.{command};
 ghost use Rattle.spec_tool.specs.Replies.{printed};
-ghost use Rattle.bitml_command.specs.Files.{reads_of, AsksFront, CountsAll};
-ghost use Rattle.bitml_command.specs.Logs.{LogsFront};
-ghost use Rattle.bitml_headline.specs.Headline.{around, AnswersOrGivesUp, Headline};
-ghost use Rattle.bitml_headline.specs.Replied.{standing, Replied};
+ghost use Rattle.tool_command.specs.Files.{reads_of, AsksFront, CountsAll};
+ghost use Rattle.tool_command.specs.Logs.{LogsFront};
+ghost use Rattle.tool_headline.specs.Headline.{around, AnswersOrGivesUp, Headline};
+ghost use Rattle.tool_headline.specs.Replied.{standing, Replied};
 ghost use Rattle.bitml.specs.Served.{IsServed};
 
 use crate::answering::text_reply;
-use bitml_command::{Command, Reading, command_of, files_of, read_all};
-use bitml_headline::{answers_are_headlines, finish};
 use bm_hash::{Hash32, hashes_bytes};
 use bm_io::{Files, Sink};
 use spec_data::{Bytes, OutOfMemory};
 use spec_tool::Reply;
 use std::alloc::Global;
+use tool_command::{Command, Reading, command_of, files_of, read_all};
+use tool_headline::{answers_are_headlines, finish};
 
 /// The reply to what the reads of a command's files gave.
 fn reply_to<H: Hash32 + Drop>(

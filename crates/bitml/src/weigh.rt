@@ -5,12 +5,12 @@ ghost use Rattle.spec_tool.specs.Answers.{with_contract, if_whole, printed_of};
 ghost use Rattle.spec_tool.specs.WeighText as weights;
 ghost use Rattle.spec_tool.specs.Replies.{printed};
 
-use bitml_command::{Judgement, judge_two};
-use bitml_reply::weigh_reply;
 use bm_hash::Hash32;
 use spec_data::{Bytes, OutOfMemory};
 use spec_tool::Reply;
 use std::alloc::Global;
+use tool_command::{Judgement, judge_two};
+use tool_replies::weigh_reply;
 
 /// What `weigh` replies to the texts of a run and its contract.
 pub(crate) fn weigh_texts<H: Hash32 + Drop>(

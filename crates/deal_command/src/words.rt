@@ -4,7 +4,7 @@ ghost use Rattle.std.specs.Prelude.{◌≡◌, true, is_some, map, string_bytes,
 ghost use Rattle.spec_text.specs.Words.{path};
 ghost use Rattle.spec_tool.specs.Commands.{which_of as which_named};
 ghost use Rattle.spec_deal.specs.Commands as spec;
-ghost use Rattle.bitml_command.specs.Seen.{at_path};
+ghost use Rattle.tool_command.specs.Seen.{at_path};
 ghost use Rattle.deal_command.specs.Seen.{command};
 
 use crate::command::DealCommand;

@@ -1,9 +1,9 @@
 use Rattle.std.proofs.Common.{◌≡◌, sym, subst}
 use Rattle.std.specs.Prelude.{IfOk}
 use Rattle.spec_tool.specs.Answers.{text_answer}
-use Rattle.bitml_command.specs.Seen.{command}
+use Rattle.tool_command.specs.Seen.{command}
 use Rattle.spec_tool.specs.Replies.{printed}
-use Rattle.bitml_command.specs.declared.command.Command.{Command as Call}
+use Rattle.tool_command.specs.declared.command.Command.{Command as Call}
 use Rattle.bitml.proofs.answering.text_reply.Goals as goal
 
 pub returns-in-Make : goal.returns-in-Make

@@ -1,7 +1,7 @@
 use Rattle.std.proofs.Common.{map, string_bytes, Global, refl}
 use Rattle.spec_tool.specs.Answers.{tool_answer}
 use Rattle.bitml.proofs.Commands.{served_call, no_call}
-use Rattle.bitml_headline.proofs.Ending.{tells_usage, gives_up_early}
+use Rattle.tool_headline.proofs.Ending.{tells_usage, gives_up_early}
 use Rattle.bitml.proofs.tool.answer_words.Goals as goal
 
 pub serve-requires : goal.serve-requires

@@ -2,7 +2,7 @@ use Rattle.std.proofs.Common.{sym, ap, ◌∙◌}
 use Rattle.std.specs.Option.{option_copied}
 use Rattle.spec_text.specs.Words.{steps}
 use Rattle.std.specs.Prelude.{is_some}
-use Rattle.bitml_command.proofs.PathSteps.{goes, stops}
+use Rattle.tool_command.proofs.PathSteps.{goes, stops}
 use Rattle.deal_command.proofs.path_word.are_steps.Goals as goal
 
 pub returns-in_default : goal.returns-in_default

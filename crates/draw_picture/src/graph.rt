@@ -8,13 +8,14 @@ ghost use Rattle.spec_picture.specs.Graph as spec;
 use crate::counting::{plus, small};
 use crate::placing::{is_out_of_reach, output_at, reached};
 use crate::shapes::{put_box, put_close, put_dot, put_label, put_line, put_open, put_open_plain};
-use crate::words::{node_id, number_text, party_look, put_made, put_reached, put_which};
+use crate::words::{node_id, number_text, party_look, put_made, put_reached};
 use bm_syntax::{Path, PathStep};
 use bm_text::{put, put_decimal};
 use spec_data::{Name, OutOfMemory};
 use spec_picture::{TreeRow, Ways};
 use spec_tool::Which;
 use std::alloc::Global;
+use tool_which::put_which;
 
 // The position behind a transaction.
 fn behind(which: &Which) -> &[PathStep]

@@ -3,27 +3,16 @@
 ghost use Rattle.std.specs.Prelude.{◌≡◌, ◌++◌, map, IfOk, OnOk};
 ghost use Rattle.std.specs.Fmt.{decimal};
 ghost use Rattle.spec_text.specs.StepText.{leads_text};
-ghost use Rattle.spec_tool.specs.Listed.{which_text};
 ghost use Rattle.spec_picture.specs.Words as spec;
 
 use crate::naming::step_name;
-use bm_keys::put_path;
 use bm_runfile::put_spaced_output;
 use bm_text::{put, put_decimal};
 use spec_calculus::Step;
 use spec_data::OutOfMemory;
 use spec_tool::Which;
 use std::alloc::Global;
-
-/// `init` or the path.
-pub(crate) fn put_which(alloc: Global, out: &mut Vec<u8>, which: &Which) -> Result<(), OutOfMemory>
-    ensures { OnOk result (out.new.items ≡ out.old.items ++ which_text which.now) }
-{
-    match which {
-        Which::Init => put(out, b"init"),
-        Which::At(path) => put_path(alloc, out, path.steps()),
-    }
-}
+use tool_which::put_which;
 
 pub(crate) fn node_id(alloc: Global, which: &Which) -> Result<Vec<u8>, OutOfMemory>
     ensures { IfOk result (λ text. text.items ≡ spec.node_id which.now) }

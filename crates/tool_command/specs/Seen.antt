@@ -2,10 +2,7 @@
 use Rattle.std.specs.Prelude.{ℕ, ◌≤◌, List, length, map, ◌&&◌, nat_le, Option, Some, None, string_bytes}
 use Rattle.std.specs.Borrow.{Bor}
 use Rattle.spec_data.specs.Ranges.{most_contracts}
-use Rattle.spec_terms.specs.declared.path.PathStep.{PathStep}
 use Rattle.spec_text.specs.Words.{given}
-use Rattle.spec_tool.specs.declared.which.Which.{Which}
-use Rattle.spec_tool.specs.declared.which.Which.TheVariants as names
 use Rattle.spec_tool.specs.Commands as spec
 use Rattle.spec_tool.specs.Reads.{Asked}
 use Rattle.tool_command.specs.declared.command.Command.{Command}
@@ -26,11 +23,6 @@ command (commands.Auto run contract strategy) = spec.auto run.now contract.now s
 -- the command `make` of these numbers, where the size is one of its sizes
 abbrev pub made_of : ℕ → ℕ → Option spec.Command
 made_of n s = given (nat_le 1 s && nat_le s spec.most_size) (spec.make n s)
-
--- the transaction at a path, if there is a path
-abbrev pub at_path : Option (List PathStep) → Option Which
-at_path None = None
-at_path (Some path) = Some (names.At path)
 
 -- a file that is asked for
 abbrev pub asked : Bor (List ℕ) × ℕ → Asked

@@ -8,7 +8,6 @@ mod contract;
 mod contracts;
 mod error;
 mod files;
-mod path_word;
 mod reading;
 mod refusal;
 mod replies;

@@ -1,17 +1,14 @@
 //! The command that words are.
 
 ghost use Rattle.std.specs.Prelude.{◌≡◌, Option, Some, true, is_some, map, string_bytes, option_map, IfOk, OnErr};
-ghost use Rattle.spec_text.specs.Words.{path};
 ghost use Rattle.spec_tool.specs.Commands as spec;
-ghost use Rattle.tool_command.specs.Seen.{command, made_of, at_path, HasFew};
+ghost use Rattle.tool_command.specs.Seen.{command, made_of, HasFew};
 
 use crate::command::Command;
-use crate::path_word::is_path;
-use bm_runfile::{WordError, read_path};
 use bm_text::read_decimal;
 use spec_data::OutOfMemory;
-use spec_tool::Which;
-use std::alloc::{AllocError, Global};
+use std::alloc::Global;
+use tool_which::which_of;
 
 /// The most contracts of a run.
 const MOST_CONTRACTS: usize = 16;
@@ -72,32 +69,6 @@ fn make_words(words: &[String]) -> Option<Command<'_>>
     let number = read_decimal(number.as_bytes())?;
     let size = read_decimal(size.as_bytes())?;
     made(number, size)
-}
-
-/// The path of a word that is one.
-fn path_of(alloc: Global, word: &[u8]) -> Result<Option<Which>, OutOfMemory>
-    requires { is_some (path word.now) ≡ true }
-    ensures { IfOk result (λ which. which ≡ at_path (path word.now)) }
-{
-    match read_path(alloc, word) {
-        Ok(path) => Ok(Some(Which::At(path))),
-        Err(WordError::Bad) => Ok(None),
-        Err(WordError::Memory) => Err(AllocError),
-    }
-}
-
-/// The transaction that a word names. Of a word that names none no memory is asked.
-fn which_of(alloc: Global, word: &str) -> Result<Option<Which>, OutOfMemory>
-    ensures which { IfOk result (λ which. which ≡ spec.which_of word.now) }
-    ensures memory { OnErr result (is_some (spec.which_of word.now) ≡ true) }
-{
-    if word == "init" {
-        return Ok(Some(Which::Init));
-    }
-    if !is_path(word.as_bytes()) {
-        return Ok(None);
-    }
-    path_of(alloc, word.as_bytes())
 }
 
 fn psbt_words(alloc: Global, words: &[String]) -> Result<Option<Command<'_>>, OutOfMemory>

@@ -4,7 +4,7 @@ ghost use Rattle.std.specs.Prelude.{◌≡◌, ◌≤◌, ◌<◌, length, is_so
 ghost use Rattle.std.specs.Option.{option_copied};
 ghost use Rattle.spec_text.specs.Words.{small, steps, path};
 ghost use Rattle.bm_runfile.specs.Steps.{step_length, step_at};
-ghost use Rattle.tool_command.specs.Path.{behind_number};
+ghost use Rattle.tool_which.specs.Path.{behind_number};
 
 use bm_text::read_decimal;
 

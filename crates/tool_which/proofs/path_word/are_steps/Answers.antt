@@ -2,8 +2,8 @@ use Rattle.std.proofs.Common.{sym, ap, ◌∙◌}
 use Rattle.std.specs.Option.{option_copied}
 use Rattle.spec_text.specs.Words.{steps}
 use Rattle.std.specs.Prelude.{is_some}
-use Rattle.tool_command.proofs.PathSteps.{goes, stops}
-use Rattle.deal_command.proofs.path_word.are_steps.Goals as goal
+use Rattle.tool_which.proofs.PathSteps.{goes, stops}
+use Rattle.tool_which.proofs.path_word.are_steps.Goals as goal
 
 pub returns-in_default : goal.returns-in_default
 returns-in_default c =

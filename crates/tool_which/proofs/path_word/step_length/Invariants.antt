@@ -1,6 +1,6 @@
 use Rattle.std.proofs.Common.{◌≡◌, ◌+◌, drop}
 use Rattle.bm_runfile.specs.Steps.{step_length}
-use Rattle.deal_command.proofs.path_word.step_length.Given as goal
+use Rattle.tool_which.proofs.path_word.step_length.Given as goal
 
 abbrev pub invariant-loop-byte : goal.invariant-loop-byte
 invariant-loop-byte l = record {

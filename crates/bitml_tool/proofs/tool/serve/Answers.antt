@@ -4,7 +4,7 @@ use Rattle.spec_tool.specs.Answers.{tool_answer}
 use Rattle.tool_command.specs.Seen.{command}
 use Rattle.spec_tool.specs.Replies.{printed}
 use Rattle.tool_headline.proofs.Ending.{answers_reply}
-use Rattle.bitml.proofs.tool.serve.Goals as goal
+use Rattle.bitml_tool.proofs.tool.serve.Goals as goal
 
 pub returns-in-Ok : goal.returns-in-Ok
 returns-in-Ok g c =

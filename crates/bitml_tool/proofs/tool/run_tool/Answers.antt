@@ -1,6 +1,6 @@
 use Rattle.std.proofs.Common.{map, string_bytes, Global}
-use Rattle.bitml.proofs.Commands.{few_of, served}
-use Rattle.bitml.proofs.tool.run_tool.Goals as goal
+use Rattle.bitml_tool.proofs.Commands.{few_of, served}
+use Rattle.bitml_tool.proofs.tool.run_tool.Goals as goal
 
 pub returns : goal.returns
 returns g c =

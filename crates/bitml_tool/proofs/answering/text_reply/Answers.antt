@@ -4,7 +4,7 @@ use Rattle.spec_tool.specs.Answers.{text_answer}
 use Rattle.tool_command.specs.Seen.{command}
 use Rattle.spec_tool.specs.Replies.{printed}
 use Rattle.tool_command.specs.declared.command.Command.{Command as Call}
-use Rattle.bitml.proofs.answering.text_reply.Goals as goal
+use Rattle.bitml_tool.proofs.answering.text_reply.Goals as goal
 
 pub returns-in-Make : goal.returns-in-Make
 returns-in-Make g c =

@@ -10,7 +10,7 @@ use Rattle.spec_tool.specs.Commands.{Command, check, play, plan, make, psbt_of, 
 use Rattle.spec_tool.specs.Commands.{check_words, play_words, plan_words, make_words, psbt_words, weigh_words, audit_words, auto_words}
 use Rattle.tool_command.specs.Seen.{command, HasFew}
 use Rattle.tool_command.specs.declared.command.Command.{Command as Call}
-use Rattle.bitml.specs.Served.{IsServed}
+use Rattle.bitml_tool.specs.Served.{IsServed}
 
 if_served : (b : Bool) (x y : Option Command) → IsServed x → IsServed y → IsServed (if b then x else y)
 if_served true x y hx hy = hx

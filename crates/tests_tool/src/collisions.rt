@@ -1,6 +1,6 @@
 //! Runs that are halted by two messages with one digest, or by a secret that somebody gives away.
 
-use crate::tests::calls::{files_of, status_of};
+use crate::calls::{files_of, status_of};
 use bm_hash::{Hash32, Toy, Twin};
 use bm_io::MemSink;
 use spec_data::{Bytes, OutOfMemory};

@@ -2,7 +2,7 @@ use Rattle.std.proofs.Common.{map, ap, ◌∙◌}
 use Rattle.spec_tool.specs.Answers.{answer}
 use Rattle.tool_command.specs.Seen.{command, asked}
 use Rattle.tool_headline.proofs.Ending.{replied, wanted_after}
-use Rattle.bitml.proofs.tool.reply.Goals as goal
+use Rattle.bitml_tool.proofs.tool.reply.Goals as goal
 
 pub returns-clause-reply : goal.returns-clause-reply
 returns-clause-reply g c =

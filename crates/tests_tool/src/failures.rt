@@ -1,6 +1,6 @@
 //! Reads and writes that fail.
 
-use crate::tests::calls::{files_of, status_of};
+use crate::calls::{files_of, status_of};
 use bm_hash::Sha;
 use bm_io::{MemFiles, MemSink};
 use std::alloc::Global;

@@ -5,7 +5,7 @@ ghost use Rattle.spec_tool.specs.Commands.{files_of};
 ghost use Rattle.spec_tool.specs.Answers.{text_answer};
 ghost use Rattle.tool_command.specs.Seen.{command};
 ghost use Rattle.spec_tool.specs.Replies.{printed};
-ghost use Rattle.bitml.specs.Served.{IsServed};
+ghost use Rattle.bitml_tool.specs.Served.{IsServed};
 
 use crate::audit::audit_texts;
 use crate::auto::auto_texts;

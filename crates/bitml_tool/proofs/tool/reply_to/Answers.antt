@@ -2,7 +2,7 @@ use Rattle.std.proofs.Common.{refl, ◌∙◌}
 use Rattle.spec_tool.specs.Answers.{read_answer}
 use Rattle.tool_command.specs.Seen.{command}
 use Rattle.tool_headline.proofs.Texts.{unread_reply, read_reply}
-use Rattle.bitml.proofs.tool.reply_to.Goals as goal
+use Rattle.bitml_tool.proofs.tool.reply_to.Goals as goal
 
 pub returns-then-reading : goal.returns-then-reading
 returns-then-reading g c =

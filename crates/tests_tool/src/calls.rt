@@ -1,6 +1,6 @@
 //! Calls of the whole program.
 
-use crate::tool::run_tool;
+use bitml_tool::run_tool;
 use bm_hash::Hash32;
 use bm_io::{MemFiles, MemSink};
 use std::alloc::Global;

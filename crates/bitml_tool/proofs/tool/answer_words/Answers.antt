@@ -1,8 +1,8 @@
 use Rattle.std.proofs.Common.{map, string_bytes, Global, refl}
 use Rattle.spec_tool.specs.Answers.{tool_answer}
-use Rattle.bitml.proofs.Commands.{served_call, no_call}
+use Rattle.bitml_tool.proofs.Commands.{served_call, no_call}
 use Rattle.tool_headline.proofs.Ending.{tells_usage, gives_up_early}
-use Rattle.bitml.proofs.tool.answer_words.Goals as goal
+use Rattle.bitml_tool.proofs.tool.answer_words.Goals as goal
 
 pub serve-requires : goal.serve-requires
 serve-requires g c =

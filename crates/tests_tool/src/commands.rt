@@ -1,6 +1,6 @@
 //! Each command answers where memory is ample.
 
-use crate::tests::calls::{files_of, status_of};
+use crate::calls::{files_of, status_of};
 use bm_hash::Sha;
 use bm_io::{MemFiles, MemSink};
 use std::alloc::Global;

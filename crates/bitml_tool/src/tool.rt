@@ -9,7 +9,7 @@ ghost use Rattle.tool_command.specs.Files.{reads_of, AsksFront, CountsAll};
 ghost use Rattle.tool_command.specs.Logs.{LogsFront};
 ghost use Rattle.tool_headline.specs.Headline.{around, AnswersOrGivesUp, Headline};
 ghost use Rattle.tool_headline.specs.Replied.{standing, Replied};
-ghost use Rattle.bitml.specs.Served.{IsServed};
+ghost use Rattle.bitml_tool.specs.Served.{IsServed};
 
 use crate::answering::text_reply;
 use bm_hash::{Hash32, hashes_bytes};

@@ -1,20 +1,7 @@
 //! Reads, judges and prints contracts, compiles them, and plays runs on a ledger and in the calculus at once.
 #![tactic(auto)]
 
-mod answering;
-mod audit;
-mod auto;
-mod check;
-mod make;
-mod plan;
-mod play;
-mod psbt;
-#[cfg(test)]
-mod tests;
-mod third;
-mod tool;
-mod weigh;
-
+use bitml_tool::run_tool;
 use bm_hash::Sha;
 use bm_io::{StdFiles, StdSink};
 use std::process::ExitCode;
@@ -38,6 +25,6 @@ fn main(rt: HostRuntime) -> ExitCode {
     };
     let mut files = StdFiles::new(&rt);
     let mut out = StdSink::new(io::writer(&rt));
-    let status = tool::run_tool(rt.alloc(), words.as_slice(), Sha, &mut files, &mut out);
+    let status = run_tool(rt.alloc(), words.as_slice(), Sha, &mut files, &mut out);
     ExitCode::from(status)
 }

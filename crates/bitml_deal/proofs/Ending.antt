@@ -9,14 +9,14 @@ use Rattle.spec_deal.specs.Commands.{DealCommand, deal_files}
 use Rattle.bm_io.specs.Files.{Told}
 use Rattle.bm_io.specs.Logs.{Reply as Entry}
 use Rattle.spec_tool.specs.Replies.{printed}
-use Rattle.bitml_command.specs.declared.reading.Reading.{Reading}
+use Rattle.tool_command.specs.declared.reading.Reading.{Reading}
 use Rattle.spec_tool.specs.declared.reply.Reply.{Reply}
-use Rattle.bitml_command.specs.Files.{reads_of, Tells, AsksFront, ReadsAll, RoseIfFailed}
-use Rattle.bitml_command.specs.Logs.{Logs}
-use Rattle.bitml_command.proofs.Logged.{log_begins}
-use Rattle.bitml_headline.specs.Headline.{around, Ends}
-use Rattle.bitml_headline.specs.Replied.{Standing}
-use Rattle.bitml_headline.proofs.Texts.{failed_if}
+use Rattle.tool_command.specs.Files.{reads_of, Tells, AsksFront, ReadsAll, RoseIfFailed}
+use Rattle.tool_command.specs.Logs.{Logs}
+use Rattle.tool_command.proofs.Logged.{log_begins}
+use Rattle.tool_headline.specs.Headline.{around, Ends}
+use Rattle.tool_headline.specs.Replied.{Standing}
+use Rattle.tool_headline.proofs.Texts.{failed_if}
 use Rattle.bitml_deal.specs.Dealt.{AnswersOrGivesUp}
 use Rattle.bitml_deal.specs.Replied.{Replied}
 

@@ -20,7 +20,7 @@ use Rattle.theory_deal.specs.Finished.{FalseWithoutOne}
 use Rattle.theory_deal.specs.Plan.{PlanOfRuns}
 use Rattle.theory_deal.specs.Signatures.{MissingAndHeld, MayStart}
 use Rattle.theory_deal.specs.Whole.{FinishesExactly, FinishTheorem}
-use Rattle.bitml_headline.specs.Headline.{Around}
+use Rattle.tool_headline.specs.Headline.{Around}
 use Rattle.bitml_deal.specs.Dealt.{Answers, GivesUp, AnswersOrGivesUp, CausedByTexts, Caused, Keeps, KeepsTaken}
 use Rattle.bitml_deal.specs.Dealt.{KeepsTexts, Headline}
 use Rattle.bitml_deal.proofs.WellFormed.{well_formed}

@@ -24,9 +24,9 @@ use Rattle.theory_deal.specs.Plan.{IsPlanOfRuns}
 use Rattle.theory_deal.specs.Signatures.{ListsExactly, StartsExactly}
 use Rattle.theory_deal.specs.Whole.{AreRead, IsComplete, IsFinished}
 use Rattle.bm_io.specs.Counts.{RoseBy}
-use Rattle.bitml_command.specs.Files.{Tells, AsksFront}
-use Rattle.bitml_command.specs.Logs.{Logs, LogsFront}
-use Rattle.bitml_headline.specs.Headline.{Around, Ends}
+use Rattle.tool_command.specs.Files.{Tells, AsksFront}
+use Rattle.tool_command.specs.Logs.{Logs, LogsFront}
+use Rattle.tool_headline.specs.Headline.{Around, Ends}
 
 -- the files that a command asks for; words that are none ask for no file
 abbrev pub asked_by : Option DealCommand → List Asked

@@ -5,9 +5,9 @@ use Rattle.spec_tool.specs.Reads.{Read, texts_read, are_made}
 use Rattle.spec_deal.specs.Answers.{deal_answer}
 use Rattle.spec_deal.specs.Commands.{DealCommand, deal_files}
 use Rattle.bm_io.specs.Counts.{RoseBy}
-use Rattle.bitml_command.specs.Files.{Tells}
-use Rattle.bitml_command.specs.Logs.{Logs}
-use Rattle.bitml_headline.specs.Replied.{Standing}
+use Rattle.tool_command.specs.Files.{Tells}
+use Rattle.tool_command.specs.Logs.{Logs}
+use Rattle.tool_headline.specs.Replied.{Standing}
 
 pub record Replied (hash : List ℕ → List ℕ) (command : DealCommand) (before now : Standing) (reply : Printed) : Type 0 where
   pub reads : List Read

@@ -8,12 +8,12 @@ ghost use Rattle.spec_deal.specs.Answers.{with_advert};
 ghost use Rattle.spec_deal.specs.DealText as shown;
 ghost use Rattle.spec_tool.specs.Replies.{printed};
 
-use bitml_command::{JudgeError, contract_in, contract_refused};
 use bm_wellformed::Checked;
 use deal_file::keys_text;
 use spec_data::{Bytes, OutOfMemory};
 use spec_tool::Reply;
 use std::alloc::{AllocError, Global};
+use tool_command::{JudgeError, contract_in, contract_refused};
 
 // The lines that a deal file of this contract needs.
 fn keys_reply(alloc: Global, contract: &Checked) -> Result<Reply, OutOfMemory>

@@ -10,8 +10,6 @@ ghost use Rattle.spec_tool.specs.Replies.{printed};
 ghost use Rattle.deal_file.specs.Gives.{Gives};
 ghost use Rattle.bitml_deal.specs.Opens.{answered, IsMade, HashedAll, Leads, IsRefused};
 
-use bitml_command::{JudgeError, contract_in, contract_refused};
-use bitml_shows::collided_reply;
 use bm_hash::{Hash32, Trail, TrailError};
 use bm_wellformed::Checked;
 use deal_compile::{CompiledDeal, circular, compile_deal};
@@ -21,6 +19,8 @@ use spec_deal::{Deal, DealFault};
 use spec_tool::Reply;
 use std::alloc::{AllocError, Global};
 use theory_deal::deals_give_all;
+use tool_command::{JudgeError, contract_in, contract_refused};
+use tool_shows::collided_reply;
 
 /// A contract with its deal, and what they are compiled to.
 #[derive(Drop)]

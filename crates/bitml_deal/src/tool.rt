@@ -5,17 +5,15 @@ ghost use Rattle.spec_deal.specs.Answers.{deal_read_answer};
 ghost use Rattle.spec_deal.specs.Commands.{deal_files, deal_command_of};
 ghost use Rattle.spec_tool.specs.Reads.{texts_read};
 ghost use Rattle.spec_tool.specs.Replies.{printed};
-ghost use Rattle.bitml_command.specs.Files.{reads_of, AsksFront, CountsAll};
-ghost use Rattle.bitml_command.specs.Logs.{LogsFront};
-ghost use Rattle.bitml_headline.specs.Headline.{around};
-ghost use Rattle.bitml_headline.specs.Replied.{standing};
+ghost use Rattle.tool_command.specs.Files.{reads_of, AsksFront, CountsAll};
+ghost use Rattle.tool_command.specs.Logs.{LogsFront};
+ghost use Rattle.tool_headline.specs.Headline.{around};
+ghost use Rattle.tool_headline.specs.Replied.{standing};
 ghost use Rattle.deal_command.specs.Seen.{command};
 ghost use Rattle.bitml_deal.specs.Replied.{Replied};
 ghost use Rattle.bitml_deal.specs.Dealt.{AnswersOrGivesUp, Headline};
 
 use crate::answering::text_reply;
-use bitml_command::{Reading, read_all};
-use bitml_headline::finish;
 use bm_hash::Hash32;
 use bm_io::{Files, Sink};
 use deal_command::{DealCommand, command_of, files_of};
@@ -26,6 +24,8 @@ use theory_deal::{
     deal_statuses_have_causes, deals_are_sized, deals_give_all, false_without_one, finish_theorem,
     finishes_exactly, may_start, missing_and_held, plan_of_runs,
 };
+use tool_command::{Reading, read_all};
+use tool_headline::finish;
 
 /// The reply to what the reads of a command's files gave.
 fn reply_to<H: Hash32 + Drop>(

@@ -15,9 +15,9 @@ use Rattle.spec_picture.specs.Drawing.{last_of, last_status, draw_text}
 use Rattle.theory_picture.proofs.Endings.{left_answer}
 use Rattle.bm_world.specs.Playing as world
 use Rattle.bm_world.specs.declared.halt.Halt.{Halt}
-use Rattle.bitml_play.specs.Whole.{IsLeft}
+use Rattle.tool_replies.specs.Whole.{IsLeft}
 use Rattle.bm_report.specs.Entries.{entries_by}
-use Rattle.bitml_reply.proofs.Left.{shown_are}
+use Rattle.tool_replies.proofs.Left.{shown_are}
 
 -- entries by records that are these
 pub entries_same : (shown made : List Entry) (records these : List Record) (steps : List (List Step)) → shown ≡ made → made ≡ entries_by records steps

@@ -13,7 +13,7 @@ use Rattle.spec_tool.specs.Commands.{Command, Printed, setup_of}
 use Rattle.spec_picture.specs.declared.last.Last.{Last}
 use Rattle.spec_picture.specs.Drawing.{drawn_answer, drawn_of, last_of}
 use Rattle.spec_picture.specs.Statements.{IsPictureOf, drawn}
-use Rattle.bitml_headline.specs.Headline.{Around, AnswersBy, AnswersByOrGivesUp, GivesUp}
+use Rattle.tool_headline.specs.Headline.{Around, AnswersBy, AnswersByOrGivesUp, GivesUp}
 
 -- ---- answers
 

@@ -7,24 +7,23 @@ ghost use Rattle.spec_tool.specs.Commands.{prints, run_answer, setup_of};
 ghost use Rattle.spec_tool.specs.Replies.{printed};
 ghost use Rattle.bm_world.specs.Playing.{setup_in};
 ghost use Rattle.bm_report.specs.Endings.{ending_of};
-ghost use Rattle.bitml_play.specs.Whole.{IsLeft};
+ghost use Rattle.tool_replies.specs.Whole.{IsLeft};
 ghost use Rattle.spec_picture.specs.Picture.{picture_text};
 ghost use Rattle.spec_picture.specs.Drawing as spec;
 
-use bitml_draw_picture::{Last, draw};
-use bitml_play::play;
-use bitml_reply::{ending_by, let_go};
-use bitml_shows::entries_by;
 use bm_hash::Hash32;
 use bm_report::Ending;
 use bm_translate_course::translate;
 use bm_wellformed::Checked;
 use bm_world::{Halt, World};
+use draw_picture::{Last, draw};
 use spec_data::OutOfMemory;
 use spec_run::{Event, Run};
 use spec_text::Entry;
 use spec_tool::Reply;
 use std::alloc::{AllocError, Global};
+use tool_replies::{ending_by, let_go, play};
+use tool_shows::entries_by;
 
 // How a run ends, as it is drawn.
 fn last_of(ending: Ending) -> Last

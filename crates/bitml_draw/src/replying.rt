@@ -5,11 +5,11 @@ ghost use Rattle.spec_tool.specs.Replies.{printed};
 ghost use Rattle.spec_picture.specs.Drawing as spec;
 
 use crate::playing::draw_reply;
-use bitml_command::{Judgement, judge_two};
 use bm_hash::Hash32;
 use spec_data::{Bytes, OutOfMemory};
 use spec_tool::Reply;
 use std::alloc::Global;
+use tool_command::{Judgement, judge_two};
 
 /// What is replied to the two texts.
 pub(crate) fn draw_texts<H: Hash32 + Drop>(

@@ -5,15 +5,13 @@ ghost use Rattle.spec_tool.specs.Commands.{plan, files_of as files_named};
 ghost use Rattle.spec_picture.specs.Drawing.{words_drawn, drawn_answer, read_drawn, title_of};
 ghost use Rattle.spec_tool.specs.Reads.{texts_read};
 ghost use Rattle.spec_tool.specs.Replies.{printed};
-ghost use Rattle.bitml_command.specs.Files.{reads_of, AsksFront};
-ghost use Rattle.bitml_command.specs.Logs.{LogsFront};
-ghost use Rattle.bitml_headline.specs.Headline.{around};
-ghost use Rattle.bitml_headline.specs.Replied.{standing, Replied};
+ghost use Rattle.tool_command.specs.Files.{reads_of, AsksFront};
+ghost use Rattle.tool_command.specs.Logs.{LogsFront};
+ghost use Rattle.tool_headline.specs.Headline.{around};
+ghost use Rattle.tool_headline.specs.Replied.{standing, Replied};
 ghost use Rattle.bitml_draw.specs.Drawn.{AnswersOrGivesUp, DrawsOrGivesUp};
 
 use crate::replying::draw_texts;
-use bitml_command::{Command, Reading, files_of, read_all};
-use bitml_headline::finish;
 use bm_hash::Hash32;
 use bm_io::{Files, Sink};
 use bm_text::put;
@@ -21,6 +19,8 @@ use spec_data::{Bytes, OutOfMemory};
 use spec_tool::Reply;
 use std::alloc::Global;
 use theory_picture::{answers_are_pictures, nothing_is_drawn_twice};
+use tool_command::{Command, Reading, files_of, read_all};
+use tool_headline::finish;
 
 /// The reply to what the reads of the two files gave.
 fn reply_to<H: Hash32 + Drop>(

@@ -3,7 +3,7 @@ use Rattle.std.proofs.Common.{◌≡◌, ◌≤◌, suc, ◌+◌, length, map, S
 use Rattle.std.proofs.lemmas.List.{length-map}
 use Rattle.spec_data.specs.Ranges.{most_contracts}
 use Rattle.spec_tool.specs.Commands.{Command, check, play, plan, make, psbt_of, psbt_shown, psbt_joined, weigh, audit, auto, files_of, contract_file}
-use Rattle.bitml_command.specs.Seen.{HasFew}
+use Rattle.tool_command.specs.Seen.{HasFew}
 
 pub few_files : (c : Command) → HasFew (Some c) → length (files_of c) ≤ most_contracts + 1
 few_files (check contract) h = omega arith

@@ -11,7 +11,7 @@ use Rattle.spec_tool.specs.Commands.{Command, check, play, plan, make, psbt_of, 
 use Rattle.spec_tool.specs.Answers.{ended, tool_reads}
 use Rattle.spec_next.specs.NextAnswer.{next_words, next_answer, next_texts, read_next}
 use Rattle.theory_tool.proofs.Statuses.{apart}
-use Rattle.bitml_headline.specs.Headline.{Around, GivesUp}
+use Rattle.tool_headline.specs.Headline.{Around, GivesUp}
 use Rattle.bitml_next.specs.Told.{Answers, AnswersOrGivesUp, CausedByTexts, Caused, Tells, TellsAll}
 use Rattle.bitml_next.proofs.Causes.{causes, known}
 use Rattle.bitml_next.proofs.Shown.{Theorems, shows}

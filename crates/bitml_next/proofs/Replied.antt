@@ -22,10 +22,10 @@ use Rattle.bm_world.specs.declared.halt.Halt.{Halt}
 use Rattle.bm_world.specs.declared.halt.Halt.TheVariants.{Collided, Guessed, Memory}
 use Rattle.bm_world.specs.Playing.{Played, setup_in}
 use Rattle.bm_translate_course.specs.Courses.{events_of}
-use Rattle.bitml_reply.specs.Halting.{halt_printed}
-use Rattle.bitml_reply.specs.Last.{IsWhole}
-use Rattle.bitml_reply.proofs.Ended.{whole_if}
-use Rattle.bitml_reply.proofs.Left.{last_is}
+use Rattle.tool_replies.specs.Halting.{halt_printed}
+use Rattle.tool_replies.specs.Last.{IsWhole}
+use Rattle.tool_replies.proofs.Ended.{whole_if}
+use Rattle.tool_replies.proofs.Left.{last_is}
 use Rattle.next_outlook.specs.Heard.{Clashes, Stopped}
 
 -- ---- what is told

@@ -5,7 +5,7 @@ use Rattle.spec_tool.specs.Reads.{Read, Text, texts_read}
 use Rattle.spec_tool.specs.Commands.{Command, Printed}
 use Rattle.spec_next.specs.NextAnswer.{next_answer, next_words}
 use Rattle.bm_io.specs.Counts.{RoseBy}
-use Rattle.bitml_headline.specs.Headline.{Around, AnswersBy, AnswersByOrGivesUp, GivesUp}
+use Rattle.tool_headline.specs.Headline.{Around, AnswersBy, AnswersByOrGivesUp, GivesUp}
 use Rattle.bitml_next.specs.Causes.{HasCauses}
 use Rattle.bitml_next.specs.Shown.{Shows}
 

@@ -2,9 +2,9 @@
 
 ghost use Rattle.std.specs.Prelude.{◌≡◌, map, string_bytes, option_map};
 ghost use Rattle.spec_next.specs.NextAnswer.{goes_on, next_words};
-ghost use Rattle.bitml_command.specs.Seen.{command, HasFew};
+ghost use Rattle.tool_command.specs.Seen.{command, HasFew};
 
-use bitml_command::Command;
+use tool_command::Command;
 
 /// The most contracts of a run.
 const MOST_CONTRACTS: usize = 16;

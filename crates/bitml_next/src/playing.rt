@@ -14,7 +14,6 @@ ghost use Rattle.spec_tool.specs.Replies.{printed};
 ghost use Rattle.bm_translate_course.specs.Courses.{events_of};
 ghost use Rattle.bm_world.specs.Playing.{setup_in};
 
-use bitml_reply::{halt_reply, let_go, play_to_end};
 use bm_calculus::Config;
 use bm_hash::Hash32;
 use bm_translate_course::translate;
@@ -27,6 +26,7 @@ use spec_next::Outlook;
 use spec_run::Run;
 use spec_tool::Reply;
 use std::alloc::Global;
+use tool_replies::{halt_reply, let_go, play_to_end};
 
 // The lines of what comes next.
 fn told_reply(alloc: Global, list: &[Outlook]) -> Result<Reply, OutOfMemory>

@@ -10,13 +10,13 @@ ghost use Rattle.spec_next.specs.NextAnswer as spec;
 ghost use Rattle.spec_tool.specs.Replies.{printed};
 
 use crate::playing::next_reply;
-use bitml_command::{JudgeError, Judgement, contract_in, contract_refused, judge_both};
 use bm_hash::Hash32;
 use bm_wellformed::Checked;
 use next_first::begin_text;
 use spec_data::{Bytes, OutOfMemory};
 use spec_tool::Reply;
 use std::alloc::{AllocError, Global};
+use tool_command::{JudgeError, Judgement, contract_in, contract_refused, judge_both};
 
 // The first lines of a run of a contract.
 fn begins(alloc: Global, contract: &Checked) -> Result<Reply, OutOfMemory>

@@ -5,24 +5,24 @@ ghost use Rattle.spec_data.specs.Ranges.{most_contracts};
 ghost use Rattle.spec_tool.specs.Commands.{files_of as files_named};
 ghost use Rattle.spec_tool.specs.Reads.{texts_read};
 ghost use Rattle.spec_next.specs.NextAnswer.{next_words, next_answer, read_next};
-ghost use Rattle.bitml_command.specs.Seen.{command};
+ghost use Rattle.tool_command.specs.Seen.{command};
 ghost use Rattle.spec_tool.specs.Replies.{printed};
-ghost use Rattle.bitml_command.specs.Files.{reads_of, AsksFront};
-ghost use Rattle.bitml_command.specs.Logs.{LogsFront};
-ghost use Rattle.bitml_headline.specs.Headline.{around};
-ghost use Rattle.bitml_headline.specs.Replied.{standing, Replied};
+ghost use Rattle.tool_command.specs.Files.{reads_of, AsksFront};
+ghost use Rattle.tool_command.specs.Logs.{LogsFront};
+ghost use Rattle.tool_headline.specs.Headline.{around};
+ghost use Rattle.tool_headline.specs.Replied.{standing, Replied};
 ghost use Rattle.bitml_next.specs.Told.{AnswersOrGivesUp, Tells};
 
 use crate::call::call_of;
 use crate::replying::next_texts;
 use crate::theorem::answers_tell_all;
-use bitml_command::{Command, Reading, files_of, read_all};
-use bitml_headline::finish;
 use bm_hash::{Hash32, hashes_bytes};
 use bm_io::{Files, Sink};
 use spec_data::{Bytes, OutOfMemory};
 use spec_tool::Reply;
 use std::alloc::Global;
+use tool_command::{Command, Reading, files_of, read_all};
+use tool_headline::finish;
 
 /// The reply to what the reads of the files gave.
 fn reply_to<H: Hash32 + Drop>(

@@ -3,4 +3,3 @@ pub mod Composed
 pub mod Hearing
 pub mod Saying
 pub mod Listing
-pub mod Replied

@@ -4,13 +4,13 @@ ghost use Rattle.std.specs.Prelude.{◌≡◌, ◌++◌, OnOk};
 ghost use Rattle.std.specs.List.{flat_map};
 ghost use Rattle.spec_tool.specs.AuditText as spec;
 
-use crate::name_text::put_which;
 use bm_keys::put_label;
 use bm_text::{put, put_decimal};
 use spec_bitcoin::Label;
 use spec_data::OutOfMemory;
 use spec_tool::Which;
 use std::alloc::Global;
+use tool_which::put_which;
 
 #[tactic(auto, using(std::proofs::Common::append_assoc))]
 fn put_absent(alloc: Global, out: &mut Vec<u8>, which: &Which) -> Result<(), OutOfMemory>

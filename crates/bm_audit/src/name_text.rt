@@ -5,21 +5,11 @@ ghost use Rattle.std.specs.List.{flat_map};
 ghost use Rattle.spec_tool.specs.Listed.{which_text};
 ghost use Rattle.spec_tool.specs.AuditText as spec;
 
-use bm_keys::put_path;
 use bm_text::put;
 use spec_data::OutOfMemory;
 use spec_tool::Which;
 use std::alloc::Global;
-
-/// `init` or the path.
-pub(crate) fn put_which(alloc: Global, out: &mut Vec<u8>, which: &Which) -> Result<(), OutOfMemory>
-    ensures { OnOk result (out.new.items ≡ out.old.items ++ which_text which.now) }
-{
-    match which {
-        Which::Init => put(out, b"init"),
-        Which::At(path) => put_path(alloc, out, path.steps()),
-    }
-}
+use tool_which::put_which;
 
 // A space and a name.
 #[tactic(auto, using(std::proofs::Common::append_assoc))]

@@ -5,7 +5,6 @@ ghost use Rattle.spec_tool.specs.declared.which.Which.TheVariants as names;
 ghost use Rattle.spec_run.specs.Setup.{Setup, contract_at};
 ghost use Rattle.spec_run.specs.World.{World};
 ghost use Rattle.spec_run.specs.Compiled.{compiled_instance};
-ghost use Rattle.spec_tool.specs.Listed.{which_text};
 ghost use Rattle.spec_tool.specs.Psbt.{is_psbt};
 ghost use Rattle.spec_tool.specs.PsbtText as spec;
 ghost use Rattle.bm_compile.specs.Numbered.{Numbered, numbered};
@@ -17,7 +16,6 @@ use crate::outputs::output_at;
 use bm_book::Book;
 use bm_compile::Compiled;
 use bm_hash::Hash32;
-use bm_keys::put_path;
 use bm_plan::position_of;
 use bm_psbt::{Psbt, encode};
 use bm_psbt_base64::base64_text;
@@ -30,6 +28,7 @@ use spec_data::OutOfMemory;
 use spec_terms::Path;
 use spec_tool::{PsbtInput, Which};
 use std::alloc::Global;
+use tool_which::put_which;
 
 // Whether the contract has the transaction.
 fn has_transaction(checked: &Checked, which: &Which) -> bool
@@ -38,16 +37,6 @@ fn has_transaction(checked: &Checked, which: &Which) -> bool
     match which {
         Which::Init => true,
         Which::At(path) => at(&checked.advert().root, path).is_some(),
-    }
-}
-
-// `init` or the path.
-fn put_which(alloc: Global, out: &mut Vec<u8>, which: &Which) -> Result<(), OutOfMemory>
-    ensures { OnOk result (out.new.items ≡ out.old.items ++ which_text which.now) }
-{
-    match which {
-        Which::Init => put(out, b"init"),
-        Which::At(path) => put_path(alloc, out, path.steps()),
     }
 }
 

@@ -3,7 +3,6 @@
 
 mod command;
 mod files;
-mod path_word;
 mod words;
 
 pub use command::DealCommand;

@@ -1,44 +1,13 @@
 //! The command that words are.
 
 ghost use Rattle.std.specs.Prelude.{◌≡◌, true, is_some, map, string_bytes, option_map, IfOk, OnErr};
-ghost use Rattle.spec_text.specs.Words.{path};
-ghost use Rattle.spec_tool.specs.Commands.{which_of as which_named};
 ghost use Rattle.spec_deal.specs.Commands as spec;
-ghost use Rattle.bitml_command.specs.Seen.{at_path};
 ghost use Rattle.deal_command.specs.Seen.{command};
 
 use crate::command::DealCommand;
-use crate::path_word::is_path;
-use bm_runfile::{WordError, read_path};
 use spec_data::OutOfMemory;
-use spec_tool::Which;
-use std::alloc::{AllocError, Global};
-
-/// The path of a word that is one.
-fn path_of(alloc: Global, word: &[u8]) -> Result<Option<Which>, OutOfMemory>
-    requires { is_some (path word.now) ≡ true }
-    ensures { IfOk result (λ which. which ≡ at_path (path word.now)) }
-{
-    match read_path(alloc, word) {
-        Ok(path) => Ok(Some(Which::At(path))),
-        Err(WordError::Bad) => Ok(None),
-        Err(WordError::Memory) => Err(AllocError),
-    }
-}
-
-/// The transaction that a word names. Of a word that names none no memory is asked.
-fn which_of(alloc: Global, word: &str) -> Result<Option<Which>, OutOfMemory>
-    ensures which { IfOk result (λ which. which ≡ which_named word.now) }
-    ensures memory { OnErr result (is_some (which_named word.now) ≡ true) }
-{
-    if word == "init" {
-        return Ok(Some(Which::Init));
-    }
-    if !is_path(word.as_bytes()) {
-        return Ok(None);
-    }
-    path_of(alloc, word.as_bytes())
-}
+use std::alloc::Global;
+use tool_which::which_of;
 
 fn keys_words(words: &[String]) -> Option<DealCommand<'_>>
     ensures { option_map command result ≡ spec.keys_words (map string_bytes words.now) }

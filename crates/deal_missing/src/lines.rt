@@ -3,28 +3,17 @@
 ghost use Rattle.std.specs.Prelude.{◌≡◌, ◌++◌, codes, option_map, OnOk};
 ghost use Rattle.std.specs.Fmt.{decimal};
 ghost use Rattle.spec_data.specs.Digits.{hex_text};
-ghost use Rattle.spec_tool.specs.Keyed.Listed.{which_text};
 ghost use Rattle.spec_deal.specs.DealText.{verb_text};
 ghost use Rattle.deal_missing.specs.Wanted as spec;
 
 use crate::looking::party_of;
 use crate::wants::Want;
-use bm_keys::{put_label, put_path};
+use bm_keys::put_label;
 use bm_text::{put, put_decimal, put_hex};
 use spec_data::{Bytes, OutOfMemory};
 use spec_deal::Verb;
-use spec_tool::Which;
 use std::alloc::Global;
-
-// `init` or the path.
-fn put_which(alloc: Global, out: &mut Vec<u8>, which: &Which) -> Result<(), OutOfMemory>
-    ensures { OnOk result (out.new.items ≡ out.old.items ++ which_text which.now) }
-{
-    match which {
-        Which::Init => put(out, b"init"),
-        Which::At(path) => put_path(alloc, out, path.steps()),
-    }
-}
+use tool_which::put_which;
 
 fn put_verb(out: &mut Vec<u8>, verb: Verb) -> Result<(), OutOfMemory>
     ensures { OnOk result (out.new.items ≡ out.old.items ++ verb_text verb) }

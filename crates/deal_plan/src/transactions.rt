@@ -15,6 +15,7 @@ use spec_deal::{Input, Signer, Transaction, Verb};
 use spec_terms::Path;
 use spec_tool::Which;
 use std::alloc::Global;
+use tool_which::put_which;
 
 // `script POSITION HEX`
 #[tactic(auto, using(std::proofs::Common::append_assoc))]
@@ -45,16 +46,6 @@ pub(crate) fn put_scripts(
         put_script(alloc, out, position, script)?;
     }
     Ok(())
-}
-
-// `init` or the path.
-fn put_which(alloc: Global, out: &mut Vec<u8>, which: &Which) -> Result<(), OutOfMemory>
-    ensures { OnOk result (out.new.items ≡ out.old.items ++ which_text which.now) }
-{
-    match which {
-        Which::Init => put(out, b"init"),
-        Which::At(path) => put_path(alloc, out, path.steps()),
-    }
 }
 
 fn put_verb(out: &mut Vec<u8>, verb: Verb) -> Result<(), OutOfMemory>

@@ -1,16 +1,16 @@
 //! Runs that are read and played, and the worlds that they leave.
 
 ghost use Rattle.std.specs.Prelude.{IfOk};
-ghost use Rattle.bitml_command.specs.Judges.{IsTaken, IsTakenIfAny};
+ghost use Rattle.tool_command.specs.Judges.{IsTaken, IsTakenIfAny};
 
-use bitml_command::{Judgement, judge_both};
-use bitml_play::play;
 use bm_hash::{Hash32, Sha};
 use bm_wellformed::Checked;
 use bm_world::{Halt, World};
 use spec_data::{Bytes, OutOfMemory};
 use spec_run::Run;
 use std::alloc::Global;
+use tool_command::{Judgement, judge_both};
+use tool_replies::play;
 
 /// A timed commitment: A's secret or the time decides to whom the deposit goes.
 pub const CONTRACT: &[u8] =

@@ -1,6 +1,6 @@
 use Rattle.std.proofs.Common.{map, ap, ◌∙◌}
-use Rattle.bitml_command.specs.Seen.{asked}
-use Rattle.bitml_headline.proofs.Ending.{wanted_after}
+use Rattle.tool_command.specs.Seen.{asked}
+use Rattle.tool_headline.proofs.Ending.{wanted_after}
 use Rattle.deal_command.specs.Seen.{command}
 use Rattle.bitml_deal.proofs.Ending.{replied}
 use Rattle.bitml_deal.proofs.tool.reply.Goals as goal

@@ -1,6 +1,6 @@
 use Rattle.std.proofs.Common.{refl, ◌∙◌}
 use Rattle.spec_deal.specs.Answers.{deal_read_answer}
-use Rattle.bitml_headline.proofs.Texts.{unread_reply, read_reply}
+use Rattle.tool_headline.proofs.Texts.{unread_reply, read_reply}
 use Rattle.deal_command.specs.Seen.{command}
 use Rattle.bitml_deal.proofs.tool.reply_to.Goals as goal
 

@@ -7,8 +7,8 @@ use Rattle.spec_picture.specs.Drawing.{draw_text}
 use Rattle.theory_picture.proofs.Endings.{unopened_answer}
 use Rattle.spec_tool.specs.Replies.{printed}
 use Rattle.bm_world.specs.Playing.{setup_in}
-use Rattle.bitml_play.specs.Whole.{IsLeft}
-use Rattle.bitml_reply.proofs.Left.{of_its_own, contracts_are}
+use Rattle.tool_replies.specs.Whole.{IsLeft}
+use Rattle.tool_replies.proofs.Left.{of_its_own, contracts_are}
 use Rattle.bitml_draw.proofs.Left.{only_one}
 use Rattle.bitml_draw.proofs.playing.draw_reply.Goals as goal
 

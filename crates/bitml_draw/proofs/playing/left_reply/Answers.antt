@@ -4,7 +4,7 @@ use Rattle.spec_tool.specs.Commands.{Printed}
 use Rattle.spec_picture.specs.Drawing.{last_of}
 use Rattle.spec_tool.specs.Replies.{printed}
 use Rattle.bm_world.specs.Playing.{setup_in}
-use Rattle.bitml_reply.proofs.Left.{last_is, steps_for_each}
+use Rattle.tool_replies.proofs.Left.{last_is, steps_for_each}
 use Rattle.bitml_draw.proofs.Left.{entries_same, drawn_is}
 use Rattle.bitml_draw.proofs.playing.left_reply.Goals as goal
 

@@ -1,6 +1,6 @@
 use Rattle.std.proofs.Common.{refl, sym}
 use Rattle.spec_picture.specs.Drawing.{drawn_answer}
-use Rattle.bitml_headline.proofs.Ending.{tells_usage}
+use Rattle.tool_headline.proofs.Ending.{tells_usage}
 use Rattle.bitml_draw.proofs.tool.answer_words.Goals as goal
 
 pub returns-in-None : goal.returns-in-None

@@ -3,10 +3,10 @@ use Rattle.std.specs.Prelude.{IfOk}
 use Rattle.spec_tool.specs.Reads.{texts_read}
 use Rattle.spec_tool.specs.Commands.{plan}
 use Rattle.spec_picture.specs.Drawing.{read_drawn, drawn_answer}
-use Rattle.bitml_command.specs.Seen.{asked}
+use Rattle.tool_command.specs.Seen.{asked}
 use Rattle.spec_tool.specs.Replies.{printed}
-use Rattle.bitml_command.specs.Files.{reads_of}
-use Rattle.bitml_headline.proofs.Ending.{replied}
+use Rattle.tool_command.specs.Files.{reads_of}
+use Rattle.tool_headline.proofs.Ending.{replied}
 use Rattle.bitml_draw.proofs.tool.reply.Goals as goal
 
 pub returns-clause-reply : goal.returns-clause-reply

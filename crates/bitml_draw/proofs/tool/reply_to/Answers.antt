@@ -1,6 +1,6 @@
 use Rattle.std.proofs.Common.{refl, ◌∙◌}
 use Rattle.spec_picture.specs.Drawing.{read_drawn}
-use Rattle.bitml_headline.proofs.Texts.{unread_reply, read_reply}
+use Rattle.tool_headline.proofs.Texts.{unread_reply, read_reply}
 use Rattle.bitml_draw.proofs.tool.reply_to.Goals as goal
 
 pub returns-then-reading : goal.returns-then-reading

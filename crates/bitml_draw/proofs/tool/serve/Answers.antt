@@ -2,7 +2,7 @@ use Rattle.std.proofs.Common.{ap, Some}
 use Rattle.spec_tool.specs.Commands.{plan, prints}
 use Rattle.spec_picture.specs.Drawing.{drawn_answer}
 use Rattle.spec_tool.specs.Replies.{printed}
-use Rattle.bitml_headline.proofs.Ending.{answers_reply}
+use Rattle.tool_headline.proofs.Ending.{answers_reply}
 use Rattle.bitml_draw.proofs.tool.serve.Goals as goal
 
 pub returns-in-Ok : goal.returns-in-Ok

@@ -4,9 +4,9 @@ use Rattle.spec_run.specs.Setup.{Setup}
 use Rattle.spec_tool.specs.Commands.{Printed, setup_of}
 use Rattle.spec_next.specs.Foreseen.{next_printed}
 use Rattle.spec_tool.specs.Replies.{printed}
-use Rattle.bitml_reply.specs.Last.{IsWhole}
-use Rattle.bitml_reply.proofs.Ended.{halted_if_whole}
-use Rattle.bitml_reply.proofs.Endings.{halted_told}
+use Rattle.tool_replies.specs.Last.{IsWhole}
+use Rattle.tool_replies.proofs.Ended.{halted_if_whole}
+use Rattle.tool_replies.proofs.Endings.{halted_told}
 use Rattle.bitml_next.proofs.Replied.{whole_next}
 use Rattle.bitml_next.proofs.playing.next_reply.Goals as goal
 

@@ -1,7 +1,7 @@
 use Rattle.std.proofs.Common.{map, ap, Some, ◌∙◌}
 use Rattle.spec_next.specs.NextAnswer.{next_answer}
-use Rattle.bitml_command.specs.Seen.{asked, command}
-use Rattle.bitml_headline.proofs.Ending.{replied, wanted_after}
+use Rattle.tool_command.specs.Seen.{asked, command}
+use Rattle.tool_headline.proofs.Ending.{replied, wanted_after}
 use Rattle.bitml_next.proofs.tool.reply.Goals as goal
 
 pub returns-clause-reply : goal.returns-clause-reply

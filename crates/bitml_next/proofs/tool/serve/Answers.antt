@@ -1,9 +1,9 @@
 use Rattle.std.proofs.Common.{ap, Some}
 use Rattle.spec_tool.specs.Commands.{prints}
 use Rattle.spec_next.specs.NextAnswer.{next_answer}
-use Rattle.bitml_command.specs.Seen.{command}
+use Rattle.tool_command.specs.Seen.{command}
 use Rattle.spec_tool.specs.Replies.{printed}
-use Rattle.bitml_headline.proofs.Ending.{answers_reply}
+use Rattle.tool_headline.proofs.Ending.{answers_reply}
 use Rattle.bitml_next.proofs.tool.serve.Goals as goal
 
 pub returns-in-Ok : goal.returns-in-Ok

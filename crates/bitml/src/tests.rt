@@ -1,8 +1,0 @@
-//! Tests of the whole program over files and a sink in memory, of what no contract says: that calls succeed where memory is
-//! ample, and worked texts where a read or a write fails or two messages have one digest. All other runs are played by the built
-//! program, as .ci/run says.
-
-mod calls;
-mod collisions;
-mod commands;
-mod failures;

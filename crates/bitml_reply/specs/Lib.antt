@@ -1,4 +1,0 @@
-pub mod Counted
-pub mod Halting
-pub mod Last
-pub mod Weighed

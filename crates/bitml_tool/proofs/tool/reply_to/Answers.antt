@@ -1,0 +1,15 @@
+use Rattle.std.proofs.Common.{refl, ◌∙◌}
+use Rattle.spec_tool.specs.Answers.{read_answer}
+use Rattle.tool_command.specs.Seen.{command}
+use Rattle.tool_headline.proofs.Texts.{unread_reply, read_reply}
+use Rattle.bitml_tool.proofs.tool.reply_to.Goals as goal
+
+pub returns-then-reading : goal.returns-then-reading
+returns-then-reading g c =
+    unread_reply (read_answer (g.H.Hash32.digest_of c.args.hash) (command c.args.call.now)) c.args.reading.now c.of.result refl c.if-reading.true
+    (c.of.ensures ∙ c.new.ensures.items)
+
+pub returns : goal.returns
+returns g c =
+    read_reply (read_answer (g.H.Hash32.digest_of c.args.hash) (command c.args.call.now)) c.args.reading.now c.as_slice.result.now c.text_reply.result
+    c.if-reading.false c.as_slice.ensures c.text_reply.ensures

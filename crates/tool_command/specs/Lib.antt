@@ -1,0 +1,4 @@
+pub mod Files
+pub mod Judges
+pub mod Logs
+pub mod Seen

@@ -1,0 +1,26 @@
+//! A call of the program: the command that its words are, the files that it reads, what is judged of the run and the contracts in
+//! them, and what it replies.
+#![tactic(auto)]
+
+mod both;
+mod command;
+mod contract;
+mod contracts;
+mod error;
+mod files;
+mod reading;
+mod refusal;
+mod replies;
+mod run;
+mod words;
+
+pub use both::{Judgement, judge_both, judge_two};
+pub use command::Command;
+pub use contract::contract_in;
+pub use contracts::contracts_in;
+pub use error::{ContractsError, JudgeError};
+pub use files::files_of;
+pub use reading::{Reading, read_all};
+pub use replies::{check_reply, contract_refused, run_refused};
+pub use run::run_in;
+pub use words::command_of;

@@ -1,0 +1,83 @@
+-- The headline of an answer, by the theorems on statuses and on runs.
+use Rattle.std.proofs.Common.{◌≡◌, ℕ, Bool, true, false, ◌==◌, cond, List, length, Option, Some, None, sym, ◌∙◌, inl, inr}
+use Rattle.spec_run.specs.Conditions.{HashesBytes}
+use Rattle.spec_tool.specs.Reads.{Read, texts_read}
+use Rattle.spec_tool.specs.Commands.{Command, Printed}
+use Rattle.spec_tool.specs.Answers.{tool_answer, ended}
+use Rattle.spec_tool.specs.Causes.{CausesTheorem}
+use Rattle.spec_tool.specs.Headline.{HeadlineTheorem}
+use Rattle.theory_tool.specs.Ended.{CallsEnd}
+use Rattle.theory_tool.specs.Kept.{RunsAreKept}
+use Rattle.theory_tool.specs.Statuses.{StatusesTheorem}
+use Rattle.theory_report.specs.Statements.{PlaysAreRead}
+use Rattle.theory_commands.specs.Causes.{CausesInFiles}
+use Rattle.theory_commands.specs.Commands.{CommandsShow}
+use Rattle.tool_command.specs.Seen.{HasFew}
+use Rattle.tool_headline.specs.Headline.{Around, Answers, GivesUp, AnswersOrGivesUp, Headline, HeadlineOfAnswers}
+use Rattle.tool_headline.proofs.Caused.{caused}
+use Rattle.tool_headline.proofs.Shown.{shows}
+
+-- ---- the status of an answer
+
+ended_without : (empty : Bool) (status n : ℕ) → (n ≡ 4 → ⊥) → n ≡ cond empty status 4 → status ≡ n
+ended_without true status n other e = sym e
+ended_without false status n other e = absurd (other e)
+
+-- where a call ends with another status than 4, it is that of the answer
+ended_with : (printed : Printed) (went : Bool) (n : ℕ) → (n ≡ 4 → ⊥) → n ≡ ended printed went → printed.status ≡ n
+ended_with printed true n other e = sym e
+ended_with printed false n other e = ended_without (length printed.text == 0) printed.status n other e
+
+-- the theorems that are cited
+pub record Theorems : Type 0 where
+  pub causes : CausesTheorem
+  pub statuses : StatusesTheorem
+  pub ends : CallsEnd
+  pub headline : HeadlineTheorem
+  pub kept : RunsAreKept
+  pub told : PlaysAreRead
+  pub commands : CommandsShow
+  pub files : CausesInFiles
+
+module _ (t : Theorems) (hash : List ℕ → List ℕ) (bytes : HashesBytes hash) (command : Option Command) (before now : Around) where
+  usage_is : (reads : List Read) → (tool_answer hash command reads).status ≡ 2 → command ≡ None
+  usage_is reads e = (t.causes.usage hash command reads).0 e
+
+  unread_is : (c : Option Command) (reads : List Read) → (tool_answer hash c reads).status ≡ 3 → texts_read reads ≡ None
+  unread_is None reads e = absurd (cc)
+  unread_is (Some c) reads e = (t.causes.unread hash c reads).0 e
+
+  unwritten_is : (reads : List Read) (went : Bool) → 4 ≡ ended (tool_answer hash command reads) went → went ≡ false
+  unwritten_is reads went e = ((t.ends.write_failed hash command reads went).0 (sym e)).0
+
+  never_five : (reads : List Read) (went : Bool) → 5 ≡ ended (tool_answer hash command reads) went → ⊥
+  never_five reads went e = absurd (let k = t.ends.known hash command reads went in cc)
+
+  of_answer : (status : ℕ) → HasFew command → Answers hash command before now status → Headline hash command before now status
+  of_answer status few a = record {
+    serves = inl (record {
+      answers = a;
+      caused = caused t.causes t.statuses t.files hash command a.reads;
+      shows = shows t.headline t.kept t.told t.commands hash bytes command a.reads few a.made;
+    });
+    usage = λ e. usage_is a.reads (ended_with (tool_answer hash command a.reads) a.ends.went 2 (λ f. absurd (cc)) (sym e ∙ a.ends.status_is));
+    unread = λ e. a.unread (unread_is command a.reads (ended_with (tool_answer hash command a.reads) a.ends.went 3 (λ f. absurd (cc)) (sym e ∙ a.ends.status_is)));
+    unwritten = λ e. a.ends.unwritten (unwritten_is a.reads a.ends.went (sym e ∙ a.ends.status_is));
+    memory = λ e. absurd (never_five a.reads a.ends.went (sym e ∙ a.ends.status_is));
+  }
+
+  of_none : (status : ℕ) → GivesUp command before now status → Headline hash command before now status
+  of_none status g = record {
+    serves = inr g;
+    usage = λ e. absurd (let f = g.status_is in cc);
+    unread = λ e. absurd (let f = g.status_is in cc);
+    unwritten = λ e. absurd (let f = g.status_is in cc);
+    memory = λ e. g.some;
+  }
+
+  pub headline_of : (status : ℕ) → HasFew command → AnswersOrGivesUp hash command before now status → Headline hash command before now status
+  headline_of status few (inl a) = of_answer status few a
+  headline_of status few (inr g) = of_none status g
+
+pub headlines : Theorems → HeadlineOfAnswers
+headlines t hash bytes command before now status few a = headline_of t hash bytes command before now status few a

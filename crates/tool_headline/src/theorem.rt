@@ -1,0 +1,54 @@
+//! What is known of answers.
+
+ghost use Rattle.spec_tool.specs.Causes.{CausesTheorem};
+ghost use Rattle.spec_tool.specs.Headline.{HeadlineTheorem};
+ghost use Rattle.theory_commands.specs.Causes.{CausesInFiles};
+ghost use Rattle.theory_commands.specs.Commands.{CommandsShow};
+ghost use Rattle.theory_report.specs.Statements.{PlaysAreRead};
+ghost use Rattle.theory_tool.specs.Ended.{CallsEnd};
+ghost use Rattle.theory_tool.specs.Kept.{RunsAreKept};
+ghost use Rattle.theory_tool.specs.Statuses.{StatusesTheorem};
+ghost use Rattle.tool_headline.specs.Headline.{HeadlineOfAnswers};
+ghost use Rattle.tool_headline.specs.Determined.{FilesDetermineAnswers};
+
+use theory_commands::{causes_are_in_files, commands_show};
+use theory_report::plays_are_read;
+use theory_tool::{
+    calls_end_by_causes, headline_theorem, runs_are_kept, statuses_have_causes,
+    statuses_have_exact_causes,
+};
+
+// A call that gives the defined answer or gives up has its headline, where the theorems hold.
+fn by_theorems()
+    requires causes { CausesTheorem }
+    requires statuses { StatusesTheorem }
+    requires ends { CallsEnd }
+    requires headline { HeadlineTheorem }
+    requires kept { RunsAreKept }
+    requires told { PlaysAreRead }
+    requires commands { CommandsShow }
+    requires files { CausesInFiles }
+    ensures { HeadlineOfAnswers }
+{}
+
+/// A call that gives the defined answer, or gives up for want of memory, has its headline: each status comes exactly by its cause;
+/// what `play` writes is a faithful run, which keeps what the theorems on runs say of money, refusals, deposits, beginnings and worlds,
+/// and is read as all that the run shows; and what every other command writes shows what its theorems say.
+pub fn answers_are_headlines()
+    ensures { HeadlineOfAnswers }
+{
+    statuses_have_causes();
+    statuses_have_exact_causes();
+    calls_end_by_causes();
+    headline_theorem();
+    runs_are_kept();
+    plays_are_read();
+    commands_show();
+    causes_are_in_files();
+    by_theorems();
+}
+
+/// Two answered calls with the same words over files that tell the same have one status and one text, unless a write failed.
+pub fn files_determine_answers()
+    ensures { FilesDetermineAnswers }
+{}

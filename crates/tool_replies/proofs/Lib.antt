@@ -1,0 +1,9 @@
+pub mod Again
+pub mod Contracts
+pub mod Courses
+pub mod Ended
+pub mod Endings
+pub mod Left
+pub mod OneByOne
+pub mod Recorded
+pub mod Reports

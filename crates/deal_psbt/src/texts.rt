@@ -12,8 +12,7 @@ ghost use Rattle.spec_deal.specs.Transactions.{transaction as transaction_of, tr
 ghost use Rattle.deal_compile.specs.Signable.{is_signable};
 ghost use Rattle.deal_psbt.specs.Parts as spec;
 
-use bm_psbt::{Psbt, encode};
-use bm_psbt_base64::base64_text;
+use bm_psbt::{Psbt, base64_text, encode};
 use bm_text::put;
 use spec_data::{OutOfMemory, Seq};
 use spec_deal::{Input, Transaction};

@@ -1,6 +1,6 @@
 use Rattle.std.proofs.Common.{arith}
-use Rattle.bm_psbt_base64.proofs.Standard.{text_of_standard}
-use Rattle.bm_psbt_base64.proofs.writing.base64_text.Goals as goal
+use Rattle.bm_psbt.proofs.StandardBase64.{text_of_standard}
+use Rattle.bm_psbt.proofs.base64_writing.base64_text.Goals as goal
 
 pub returns : goal.returns
 returns c =

@@ -1,6 +1,6 @@
 use Rattle.std.proofs.Common.{refl}
-use Rattle.bm_psbt_base64.proofs.Standard.{standard_reads, standard_refuses}
-use Rattle.bm_psbt_base64.proofs.reading.read_base64.Goals as goal
+use Rattle.bm_psbt.proofs.StandardBase64.{standard_reads, standard_refuses}
+use Rattle.bm_psbt.proofs.base64_reading.read_base64.Goals as goal
 
 pub returns-in-Ok-clause-ok : goal.returns-in-Ok-clause-ok
 returns-in-Ok-clause-ok c =

@@ -13,7 +13,7 @@ use crate::playing::next_reply;
 use bitml_command::{JudgeError, Judgement, contract_in, contract_refused, judge_both};
 use bm_hash::Hash32;
 use bm_wellformed::Checked;
-use next_first::begin_text;
+use next_text::begin_text;
 use spec_data::{Bytes, OutOfMemory};
 use spec_tool::Reply;
 use std::alloc::{AllocError, Global};

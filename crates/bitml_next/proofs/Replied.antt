@@ -26,7 +26,7 @@ use Rattle.bitml_reply.specs.Halting.{halt_printed}
 use Rattle.bitml_reply.specs.Last.{IsWhole}
 use Rattle.bitml_reply.proofs.Ended.{whole_if}
 use Rattle.bitml_reply.proofs.Left.{last_is}
-use Rattle.next_outlook.specs.Heard.{Clashes, Stopped}
+use Rattle.bm_world_heard.specs.Heard.{Clashes, Stopped}
 
 -- ---- what is told
 

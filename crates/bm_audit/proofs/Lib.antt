@@ -1,6 +1,5 @@
 pub mod Choices
 pub mod Composed
-pub mod Hearing
 pub mod Saying
 pub mod Listing
 pub mod Replied

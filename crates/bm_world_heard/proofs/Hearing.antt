@@ -4,20 +4,21 @@ use Rattle.std.specs.Prelude.{IsSome}
 use Rattle.std.specs.Option.{option_or}
 use Rattle.std.proofs.lemmas.Option.{none-some}
 use Rattle.spec_data.specs.Messages.{noted, noted_all, clash, collision}
+use Rattle.spec_bitcoin.specs.declared.tx.Tx.{Tx}
 use Rattle.spec_run.specs.declared.event.Event.{Event}
 use Rattle.spec_run.specs.World.{World}
 use Rattle.spec_run.specs.declared.outcome.Outcome.{Outcome}
 use Rattle.spec_run.specs.Event.{draft}
+use Rattle.spec_run.specs.Ledger.{strings_of}
 use Rattle.theory_run.proofs.Worlds.Hashed.{noted-append}
 use Rattle.bm_hash.specs.Messages.{evidence_of}
 use Rattle.bm_world.specs.declared.halt.Halt.{Halt}
 use Rattle.bm_world.specs.declared.halt.Halt.TheVariants.{Collided, Guessed, Memory}
-use Rattle.bm_world.specs.Playing.{Played, SameSetup, setup_in}
+use Rattle.bm_world.specs.Playing.{Played, SameSetup, setup_in, OnlyHears, StoppedJudging}
 use Rattle.bm_world.specs.Foreseeing.{Foresees, StoppedForeseeing}
 use Rattle.bm_world.specs.Halts.{IsAgain}
 use Rattle.bm_world.proofs.Stopped.{stopped_again, kept_halt}
-use Rattle.next_outlook.specs.Heard.{Hears, Stopped}
-use Rattle.next_outlook.specs.Seen.{Calm, Reaches}
+use Rattle.bm_world_heard.specs.Heard.{Hears, Stopped, Calm, Reaches}
 
 -- ---- collisions of more strings
 
@@ -75,19 +76,33 @@ module _ {H : Type 0} (digest : H → List ℕ → List ℕ) where
     trace = k.trace ∙ h.trace;
   }
 
+  -- of a run that goes on
+  pub hears_only : (old new : Played H) (hashed : List (List ℕ)) → OnlyHears old new hashed → Hears old new hashed
+  hears_only old new hashed h = record {
+    setup = h.setup;
+    halt = h.going.1 ∙ sym h.going.0;
+    world = h.world;
+    trace = h.trace;
+  }
+
+  -- ---- a transaction that was judged
+
+  pub judging_stopped : (old new : Played H) (tx : Tx) (halt : Halt) → StoppedJudging digest old new tx halt
+      → Stopped digest old new (strings_of (setup_in digest old) old.world tx) halt
+  judging_stopped old new tx halt h = record {
+    setup = h.setup;
+    kept = h.kept;
+    trace = h.trace;
+    halted = kept_halt old new halt _ h;
+    again = λ earlier q. (h.again earlier q).0;
+    cause = λ none. let why = h.cause none in record { collided = why.collided; shown = why.shown; unguessed = why.unguessed };
+  }
+
   -- ---- an event that was asked for
 
   pub foreseen_calm : (old new : Played H) (e : Event) (result : Option Outcome) → Foresees digest old new e result
       → Calm digest old new (draft (setup_in digest old) old.world e).hashes
-  foreseen_calm old new e result f = record {
-    hears = record {
-      setup = f.hears.setup;
-      halt = f.hears.going.1 ∙ sym f.hears.going.0;
-      world = f.hears.world;
-      trace = f.hears.trace;
-    };
-    calm = f.calm;
-  }
+  foreseen_calm old new e result f = record { hears = hears_only old new _ f.hears; calm = f.calm }
 
   pub foreseeing_stopped : (old new : Played H) (e : Event) (halt : Halt) → StoppedForeseeing digest old new e halt
       → Stopped digest old new (draft (setup_in digest old) old.world e).hashes halt

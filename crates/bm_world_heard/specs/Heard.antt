@@ -1,6 +1,6 @@
--- A world in which only more was hashed, and why an audit stops.
+-- A world in which only more was hashed, and why a call that asks what would be stops.
 use Rattle.std.specs.Prelude.{◌≡◌, ℕ, List, Some, None}
-use Rattle.spec_data.specs.Messages.{collision}
+use Rattle.spec_data.specs.Messages.{noted_all, collision}
 use Rattle.bm_hash.specs.Messages.{evidence_of}
 use Rattle.bm_world.specs.declared.halt.Halt.{Halt}
 use Rattle.bm_world.specs.declared.halt.Halt.TheVariants.{Collided, Guessed, Memory}
@@ -30,3 +30,14 @@ pub record Stopped {H : Type 0} (digest : H → List ℕ → List ℕ) (old new 
   -- the run was halted before by this
   pub again : (earlier : Halt) → old.halt ≡ Some earlier → IsAgain earlier halt
   pub cause : old.halt ≡ None → Clashes (digest old.hasher) old.world.hashed new.world.hashed strings halt
+
+-- these strings were hashed, and collide with none
+pub record Calm {H : Type 0} (digest : H → List ℕ → List ℕ) (old new : Played H) (strings : List (List ℕ)) : Type 0 where
+  pub hears : Hears old new (noted_all old.world.hashed strings)
+  pub calm : collision (digest old.hasher) old.world.hashed strings ≡ None
+
+-- some of all these strings were hashed, and these are left
+pub record Reaches {H : Type 0} (digest : H → List ℕ → List ℕ) (old now : Played H) (rest all : List (List ℕ)) : Type 0 where
+  pub hears : Hears old now now.world.hashed
+  pub hashed : noted_all now.world.hashed rest ≡ noted_all old.world.hashed all
+  pub calm : collision (digest old.hasher) now.world.hashed rest ≡ collision (digest old.hasher) old.world.hashed all

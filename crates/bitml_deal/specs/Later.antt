@@ -1,15 +1,19 @@
 -- What is answered of the further files of a command, once its deal is compiled.
-use Rattle.std.specs.Prelude.{◌≡◌, ℕ, List, Some, None, Result, Err}
+use Rattle.std.specs.Prelude.{◌≡◌, ℕ, List, [], Option, Some, None, Result, Err}
 use Rattle.spec_tool.specs.Answers.{unread}
 use Rattle.spec_tool.specs.Commands.{Printed, prints}
 use Rattle.spec_tool.specs.PsbtText.{psbt_line}
+use Rattle.spec_tool.specs.Keyed.Listed.{Listed}
 use Rattle.spec_tool.specs.Reads.{Text, text_at}
+use Rattle.spec_compiler.specs.Keyed.Instance.{Instance}
+use Rattle.spec_compiler.specs.Keyed.Keys.{Keys}
 use Rattle.spec_deal.specs.declared.entry.Shown.{Shown as Told}
 use Rattle.spec_deal.specs.declared.fault.SignatureFault.{SignatureFault}
 use Rattle.spec_deal.specs.declared.fault.SignatureFault.TheVariants as signature_faults
 use Rattle.spec_deal.specs.declared.signed.Signed.{Signed}
 use Rattle.spec_deal.specs.declared.transaction.Transaction.{Transaction}
-use Rattle.spec_deal.specs.Answers.{of_transaction, of_signatures, with_secrets, finish_answer, finish_with_answer}
+use Rattle.spec_deal.specs.Answers as answers
+use Rattle.spec_deal.specs.Answers.{of_transaction, of_signatures, with_signatures, with_secrets, finished_answer}
 use Rattle.spec_deal.specs.Commands as commands
 use Rattle.spec_deal.specs.Commands.{DealCommand}
 use Rattle.spec_deal.specs.DealText.{plan_text, psbts_text, unsigned_psbt, missing_text, held_text}
@@ -23,6 +27,17 @@ use Rattle.bitml_deal.specs.Opens.{Answer}
 use Rattle.bitml_deal.specs.declared.secrets.Shown.{Shown}
 use Rattle.bitml_deal.specs.declared.secrets.Shown.TheVariants.{Refused, Taken}
 
+-- the strings of a file of secrets; without one there are none
+abbrev pub strings_in : (List ℕ → List ℕ) → Keys → Instance → Option Text → SecretsRead
+strings_in hash keys s None = shows []
+strings_in hash keys s (Some text) = answers.secrets_in hash keys s text
+
+-- what is answered of a transaction to a file of signatures and one of secrets, or none
+abbrev pub finish_answer : (List ℕ → List ℕ) → Text → Option Text → Keys → Instance → Listed → Printed
+finish_answer hash signatures secrets keys s l =
+    with_signatures (λ given. with_secrets (λ strings. finished_answer hash keys s l given strings) (strings_in hash keys s secrets))
+    (answers.signatures_in hash keys s signatures)
+
 -- what a command answers of a deal; one that reads none answers nothing here
 abbrev pub later_answer : (List ℕ → List ℕ) → DealCommand → List Text → Answer
 later_answer hash (commands.keys contract) texts = λ keys s. unread
@@ -34,9 +49,9 @@ later_answer hash (commands.missing contract deal signatures) texts =
     of_signatures hash (λ keys s given. prints 0 (missing_text hash keys s given)) (text_at texts 2)
 later_answer hash (commands.held contract deal signatures) texts =
     of_signatures hash (λ keys s given. prints 0 (held_text hash keys s given)) (text_at texts 2)
-later_answer hash (commands.finish contract deal which signatures) texts = of_transaction hash which (finish_answer hash (text_at texts 2))
+later_answer hash (commands.finish contract deal which signatures) texts = of_transaction hash which (finish_answer hash (text_at texts 2) None)
 later_answer hash (commands.finish_with contract deal which signatures secrets) texts =
-    of_transaction hash which (finish_with_answer hash (text_at texts 2) (text_at texts 3))
+    of_transaction hash which (finish_answer hash (text_at texts 2) (Some (text_at texts 3)))
 
 -- the signatures that a file gives to these transactions
 abbrev pub given_in : List Transaction → Text → Result (List Signed) SignatureFault

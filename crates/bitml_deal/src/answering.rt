@@ -10,7 +10,7 @@ ghost use Rattle.theory_deal.specs.Causes.{reads_deal};
 ghost use Rattle.bitml_deal.specs.Later.{later_answer};
 ghost use Rattle.bitml_deal.specs.Opens.{answered, IsMade, HashedAll};
 
-use crate::finish::{finish_reply, finish_with_reply};
+use crate::finish::finish_reply;
 use crate::keys::keys_texts;
 use crate::opening::{Compiled, Opening, open};
 use crate::plan::plan_reply;
@@ -61,9 +61,12 @@ fn compiled_reply<H: Hash32 + Drop>(
         DealCommand::Psbt(_, _, which) => psbt_reply(alloc, transactions, which),
         DealCommand::Missing(_, _, _) => missing_reply(alloc, transactions, third(texts)),
         DealCommand::Held(_, _, _) => held_reply(alloc, transactions, third(texts)),
-        DealCommand::Finish(_, _, which, _) => finish_reply(alloc, compiled, which, third(texts)),
+        DealCommand::Finish(_, _, which, _) => {
+            finish_reply(alloc, trail, compiled, which, third(texts), None)
+        }
         DealCommand::FinishWith(_, _, which, _, _) => {
-            finish_with_reply(alloc, trail, compiled, which, third(texts), fourth(texts))
+            let secrets = Some(fourth(texts));
+            finish_reply(alloc, trail, compiled, which, third(texts), secrets)
         }
     }
 }

@@ -1,6 +1,6 @@
 //! What `finish` replies.
 
-ghost use Rattle.std.specs.Prelude.{◌≡◌, ◌++◌, ℕ, List, IfOk};
+ghost use Rattle.std.specs.Prelude.{◌≡◌, ◌++◌, ℕ, List, option_map, IfOk};
 ghost use Rattle.spec_data.specs.Digits.{hex_text};
 ghost use Rattle.spec_text.specs.RunText.{newline};
 ghost use Rattle.spec_tool.specs.Commands.{prints};
@@ -8,13 +8,14 @@ ghost use Rattle.spec_tool.specs.Keyed.Listed.{Listed};
 ghost use Rattle.spec_deal.specs.Answers as answers;
 ghost use Rattle.spec_deal.specs.RefusedText.{finish_refused_line};
 ghost use Rattle.spec_tool.specs.Replies.{printed};
+ghost use Rattle.bitml_deal.specs.Later as later;
 ghost use Rattle.bitml_deal.specs.Later.{IsUnfinished};
 ghost use Rattle.bitml_deal.specs.Named.{IsOne};
 ghost use Rattle.bitml_deal.specs.Opens.{answered, IsMade, HashedAll};
 
 use crate::naming::{named, no_path};
 use crate::opening::Compiled;
-use crate::secrets::{Shown, secrets_in};
+use crate::secrets::{Shown, strings_in};
 use crate::signatures::{signatures_in, signatures_refused};
 use bm_hash::{Hash32, Trail};
 use bm_text::{put, put_hex};
@@ -80,75 +81,42 @@ fn finish_by(
     }
 }
 
-// What is replied of this transaction to a file of signatures.
-fn finish_one(
-    alloc: Global,
-    compiled: &Compiled,
-    transaction: &Transaction,
-    signatures: &Option<Bytes>,
-) -> Result<Reply, OutOfMemory>
-    ensures { (hash : List ℕ → List ℕ) (l : Listed) → IsMade hash compiled.now → IsOne hash compiled.now transaction.now l
-        → IfOk result (λ reply. printed reply ≡ answered (λ keys s. answers.finish_answer hash signatures.now keys s l) compiled.now) }
-{
-    match signatures_in(alloc, compiled.made.transactions.as_slice(), signatures) {
-        Ok(given) => finish_by(alloc, compiled, transaction, &given, &Strings::new(alloc)),
-        Err(SignatureError::Refused(fault)) => signatures_refused(alloc, fault),
-        Err(SignatureError::Memory) => Err(AllocError),
-    }
-}
-
-/// What `finish` replies to a file of signatures; there are no secrets.
-pub(crate) fn finish_reply(
-    alloc: Global,
-    compiled: &Compiled,
-    which: &Which,
-    signatures: &Option<Bytes>,
-) -> Result<Reply, OutOfMemory>
-    ensures { (hash : List ℕ → List ℕ) → IsMade hash compiled.now
-        → IfOk result (λ reply. printed reply
-        ≡ answered (answers.of_transaction hash which.now (answers.finish_answer hash signatures.now)) compiled.now) }
-{
-    match named(compiled.made.transactions.as_slice(), which) {
-        None => no_path(alloc, which),
-        Some(transaction) => finish_one(alloc, compiled, transaction, signatures),
-    }
-}
-
-// What is replied to these signatures and a file of secrets.
+// What is replied to these signatures and a file of secrets, or none.
 fn finish_by_file<H: Hash32 + Drop>(
     alloc: Global,
     trail: &mut Trail<H>,
     compiled: &Compiled,
     transaction: &Transaction,
     given: &Given,
-    secrets: &Option<Bytes>,
+    secrets: Option<&Option<Bytes>>,
 ) -> Result<Reply, OutOfMemory>
     requires made { IsMade (H.digest_of trail.old.hasher) compiled.now }
     requires hashed { HashedAll (H.digest_of trail.old.hasher) trail.old.messages compiled.now }
     ensures { let hash = H.digest_of trail.old.hasher in (l : Listed) → IsOne hash compiled.now transaction.now l
         → IfOk result (λ reply. printed reply ≡ answered (λ keys s. answers.with_secrets
-        (λ strings. answers.finished_answer hash keys s l given.now strings) (answers.secrets_in hash keys s secrets.now)) compiled.now) }
+        (λ strings. answers.finished_answer hash keys s l given.now strings)
+        (later.strings_in hash keys s (option_map (λ text. text.now) secrets))) compiled.now) }
 {
-    match secrets_in(alloc, trail, compiled, secrets)? {
+    match strings_in(alloc, trail, compiled, secrets)? {
         Shown::Refused(reply) => Ok(reply),
         Shown::Taken(strings) => finish_by(alloc, compiled, transaction, given, &strings),
     }
 }
 
-// What is replied of this transaction to a file of signatures and one of secrets.
-fn finish_one_with<H: Hash32 + Drop>(
+// What is replied of this transaction to a file of signatures and one of secrets, or none.
+fn finish_one<H: Hash32 + Drop>(
     alloc: Global,
     trail: &mut Trail<H>,
     compiled: &Compiled,
     transaction: &Transaction,
     signatures: &Option<Bytes>,
-    secrets: &Option<Bytes>,
+    secrets: Option<&Option<Bytes>>,
 ) -> Result<Reply, OutOfMemory>
     requires made { IsMade (H.digest_of trail.old.hasher) compiled.now }
     requires hashed { HashedAll (H.digest_of trail.old.hasher) trail.old.messages compiled.now }
     ensures { let hash = H.digest_of trail.old.hasher in (l : Listed) → IsOne hash compiled.now transaction.now l
         → IfOk result (λ reply. printed reply
-        ≡ answered (λ keys s. answers.finish_with_answer hash signatures.now secrets.now keys s l) compiled.now) }
+        ≡ answered (λ keys s. later.finish_answer hash signatures.now (option_map (λ text. text.now) secrets) keys s l) compiled.now) }
 {
     match signatures_in(alloc, compiled.made.transactions.as_slice(), signatures) {
         Ok(given) => finish_by_file(alloc, trail, compiled, transaction, &given, secrets),
@@ -157,24 +125,23 @@ fn finish_one_with<H: Hash32 + Drop>(
     }
 }
 
-/// What `finish` replies to a file of signatures and one of secrets.
-pub(crate) fn finish_with_reply<H: Hash32 + Drop>(
+/// What `finish` replies to a file of signatures and, where the words name one, to a file of secrets.
+pub(crate) fn finish_reply<H: Hash32 + Drop>(
     alloc: Global,
     trail: &mut Trail<H>,
     compiled: &Compiled,
     which: &Which,
     signatures: &Option<Bytes>,
-    secrets: &Option<Bytes>,
+    secrets: Option<&Option<Bytes>>,
 ) -> Result<Reply, OutOfMemory>
     requires made { IsMade (H.digest_of trail.old.hasher) compiled.now }
     requires hashed { HashedAll (H.digest_of trail.old.hasher) trail.old.messages compiled.now }
     ensures { let hash = H.digest_of trail.old.hasher in IfOk result (λ reply. printed reply
-        ≡ answered (answers.of_transaction hash which.now (answers.finish_with_answer hash signatures.now secrets.now)) compiled.now) }
+        ≡ answered (answers.of_transaction hash which.now
+        (later.finish_answer hash signatures.now (option_map (λ text. text.now) secrets))) compiled.now) }
 {
     match named(compiled.made.transactions.as_slice(), which) {
         None => no_path(alloc, which),
-        Some(transaction) => {
-            finish_one_with(alloc, trail, compiled, transaction, signatures, secrets)
-        }
+        Some(transaction) => finish_one(alloc, trail, compiled, transaction, signatures, secrets),
     }
 }

@@ -15,7 +15,7 @@ ghost use Rattle.deal_compile.specs.Signable.{is_signable};
 ghost use Rattle.spec_tool.specs.Replies.{printed};
 
 use crate::naming::{named, no_path};
-use deal_psbt::{psbt_text, psbts_text};
+use deal_plan::{psbt_text, psbts_text};
 use spec_data::OutOfMemory;
 use spec_deal::Transaction;
 use spec_tool::{Reply, Which};

@@ -1,11 +1,12 @@
 //! The strings of a file of secrets.
 
-ghost use Rattle.std.specs.Prelude.{◌≡◌, Some, IfOk};
+ghost use Rattle.std.specs.Prelude.{◌≡◌, Some, option_map, IfOk};
 ghost use Rattle.spec_tool.specs.Commands.{prints};
 ghost use Rattle.spec_deal.specs.Answers as answers;
 ghost use Rattle.spec_deal.specs.RefusedText.{secrets_refused_line};
 ghost use Rattle.spec_deal.specs.Setting.{deal_keys, deal_instance};
 ghost use Rattle.spec_tool.specs.Replies.{printed};
+ghost use Rattle.bitml_deal.specs.Later as later;
 ghost use Rattle.bitml_deal.specs.Later.{Tells};
 ghost use Rattle.bitml_deal.specs.Opens.{HashedAll};
 
@@ -55,8 +56,8 @@ fn secrets_of<H: Hash32 + Drop>(
     }
 }
 
-/// The strings of a file, none of whose bytes are given where it is too long.
-pub(crate) fn secrets_in<H: Hash32 + Drop>(
+// The strings of a file, none of whose bytes are given where it is too long.
+fn secrets_in<H: Hash32 + Drop>(
     alloc: Global,
     trail: &mut Trail<H>,
     compiled: &Compiled,
@@ -69,5 +70,22 @@ pub(crate) fn secrets_in<H: Hash32 + Drop>(
     match text {
         None => Ok(Shown::Refused(secrets_refused(alloc, SecretFault::Size)?)),
         Some(bytes) => secrets_of(alloc, trail, compiled, bytes.as_slice()),
+    }
+}
+
+/// The strings of a file of secrets, where there is one; without one there are none.
+pub(crate) fn strings_in<H: Hash32 + Drop>(
+    alloc: Global,
+    trail: &mut Trail<H>,
+    compiled: &Compiled,
+    secrets: Option<&Option<Bytes>>,
+) -> Result<Shown, OutOfMemory>
+    requires { HashedAll (H.digest_of trail.old.hasher) trail.old.messages compiled.now }
+    ensures { let hash = H.digest_of trail.old.hasher in IfOk result (Tells (later.strings_in hash (deal_keys compiled.now.deal)
+        (deal_instance compiled.now.contract compiled.now.deal) (option_map (λ text. text.now) secrets))) }
+{
+    match secrets {
+        None => Ok(Shown::Taken(Strings::new(alloc))),
+        Some(text) => secrets_in(alloc, trail, compiled, text),
     }
 }

@@ -26,7 +26,7 @@ use Rattle.tool_replies.specs.Halting.{halt_printed}
 use Rattle.tool_replies.specs.Last.{IsWhole}
 use Rattle.tool_replies.proofs.Ended.{whole_if}
 use Rattle.tool_replies.proofs.Left.{last_is}
-use Rattle.next_outlook.specs.Heard.{Clashes, Stopped}
+use Rattle.bm_world_heard.specs.Heard.{Clashes, Stopped}
 
 -- ---- what is told
 

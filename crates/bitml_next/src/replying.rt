@@ -12,7 +12,7 @@ ghost use Rattle.spec_tool.specs.Replies.{printed};
 use crate::playing::next_reply;
 use bm_hash::Hash32;
 use bm_wellformed::Checked;
-use next_first::begin_text;
+use next_text::begin_text;
 use spec_data::{Bytes, OutOfMemory};
 use spec_tool::Reply;
 use std::alloc::{AllocError, Global};

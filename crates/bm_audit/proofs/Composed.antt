@@ -1,8 +1,8 @@
 -- Lines that are read one after another.
 use Rattle.std.proofs.Common.{◌≡◌, ℕ, suc, ◌+◌, List, [], ◌∷◌, ◌++◌, length, true, Option, Some, None, refl, sym, ap, subst, ◌∙◌, arith}
 use Rattle.std.proofs.Common.{append_assoc, append-nil}
-use Rattle.std.specs.Prelude.{IsSome, ◌==◌}
-use Rattle.spec_data.specs.Messages.{noted_all, collision}
+use Rattle.std.specs.Prelude.{◌==◌}
+use Rattle.spec_data.specs.Messages.{noted_all}
 use Rattle.spec_bitcoin.specs.declared.tx.Tx.{Tx}
 use Rattle.spec_bitcoin.specs.declared.verdict.Refusal.{Refusal}
 use Rattle.spec_bitcoin.specs.Verdict.{refusal_of}
@@ -14,15 +14,14 @@ use Rattle.spec_tool.specs.declared.finding.Kind.{Kind}
 use Rattle.spec_tool.specs.declared.finding.Kind.TheVariants as kinds
 use Rattle.spec_tool.specs.declared.finding.Finding.{Finding}
 use Rattle.spec_tool.specs.Audit.{Given, read, given_line, given_transactions, finding}
-use Rattle.bm_hash.specs.Messages.{evidence_of}
 use Rattle.bm_audit_listed.specs.declared.entries.Candidate.{Candidate}
 use Rattle.bm_audit_listed.specs.Parts.{names_of}
 use Rattle.bm_world.specs.declared.halt.Halt.{Halt}
 use Rattle.bm_world.specs.Playing.{Played, setup_in, Judged}
-use Rattle.bm_audit.specs.Heard.{Hears, Stopped}
+use Rattle.bm_world_heard.specs.Heard.{Hears, Stopped, Calm}
 use Rattle.bm_audit.specs.Found.{given_strings, lines_strings, text_strings, read_kind, kind_said, onto_found, found_from}
-use Rattle.bm_audit.specs.Found.{Calm, Reads, Takes, Adds, Finds, Midway}
-use Rattle.bm_audit.proofs.Hearing.{noted-append, collision-calm, collision-shown, hears_none, hears_own, hears_again, same_again, calm_none, judged_calm}
+use Rattle.bm_audit.specs.Found.{Reads, Takes, Adds, Finds, Midway}
+use Rattle.bm_world_heard.proofs.Hearing.{hears_only, calm_none, reach_none, reach_more, reach_stopped, reach_end}
 use Rattle.bm_audit.proofs.Saying.{refusal_later, now_later, kind_later, strings_later, onto_split}
 
 module _ {H : Type 0} (digest : H → List ℕ → List ℕ) where
@@ -72,7 +71,7 @@ module _ {H : Type 0} (digest : H → List ℕ → List ℕ) where
   -- ---- the lines of a text
 
   pub begin : (old : Played H) (cs : List Candidate) (text : List ℕ) → Midway digest old old cs text text 1 []
-  begin old cs text = record { hears = hears_none digest old; hashed = refl; calm = refl; found = refl }
+  begin old cs text = record { reach = reach_none digest old _; found = refl }
 
   module _ (old mid new : Played H) (cs : List Candidate) (text rest front more : List ℕ) (line : ℕ) (before : List Finding)
       (m : Midway digest old mid cs text rest line before) (cut : lines_of rest ≡ front ∷ lines_of more) where
@@ -91,10 +90,7 @@ module _ {H : Type 0} (digest : H → List ℕ → List ℕ) where
         ap (lines_strings s w) cut ∙ onto_split (strings_of s w) given (given_transactions (lines_of more))
 
     same_strings : given_strings (setup_in digest mid) mid.world given ≡ given_strings s w given
-    same_strings = strings_later digest old mid mid.world.hashed m.hears given
-
-    hash_same : digest mid.hasher ≡ digest old.hasher
-    hash_same = ap digest m.hears.setup.hasher
+    same_strings = strings_later digest old mid mid.world.hashed m.reach.hears given
 
     later_found : (o : Option Kind) (later : List Finding) → (before ++ onto_found line o []) ++ later ≡ before ++ onto_found line o later
     later_found None later = append_assoc before [] later
@@ -102,26 +98,9 @@ module _ {H : Type 0} (digest : H → List ℕ → List ℕ) where
 
     pub midway_more : (after : List Finding) → Adds digest mid new cs given line before after → Midway digest old new cs text more (line + 1) after
     midway_more after h =
-        let g = given_strings s w given in
-        let hears = hears_again digest old mid new mid.world.hashed (noted_all mid.world.hashed (given_strings (setup_in digest mid) mid.world given))
-        m.hears h.calm.hears in
-        let heard : new.world.hashed ≡ noted_all mid.world.hashed g =
-        ap (λ (x : World). x.hashed) h.calm.hears.world ∙ ap (noted_all mid.world.hashed) same_strings in
-        let none : collision (digest old.hasher) mid.world.hashed g ≡ None =
-        (λ i. collision (sym hash_same i) mid.world.hashed (sym same_strings i)) ∙ h.calm.calm in
-        let told = kind_later digest old mid mid.world.hashed m.hears cs given in
+        let told = kind_later digest old mid mid.world.hashed m.reach.hears cs given in
         record {
-          hears = hears_own digest old new _ hears;
-          hashed =
-              ap (λ (hs : List (List ℕ)). noted_all hs (text_strings s w more)) heard
-              ∙ sym (noted-append mid.world.hashed g (text_strings s w more))
-              ∙ ap (noted_all mid.world.hashed) (sym strings_cut)
-              ∙ m.hashed;
-          calm =
-              ap (λ (hs : List (List ℕ)). collision (digest old.hasher) hs (text_strings s w more)) heard
-              ∙ sym (collision-calm (digest old.hasher) mid.world.hashed g (text_strings s w more) none)
-              ∙ ap (collision (digest old.hasher) mid.world.hashed) (sym strings_cut)
-              ∙ m.calm;
+          reach = reach_more digest old mid new _ _ _ _ _ m.reach strings_cut same_strings h.calm;
           found =
               ap (λ (fs : List Finding). fs ++ found_from s w cs (line + 1) (lines_of more)) h.added
               ∙ later_found (kind_said (setup_in digest mid) mid.world cs given) (found_from s w cs (line + 1) (lines_of more))
@@ -132,31 +111,7 @@ module _ {H : Type 0} (digest : H → List ℕ → List ℕ) where
 
     pub stopped_midway : (halt : Halt) → Stopped digest mid new (given_strings (setup_in digest mid) mid.world given) halt
         → Stopped digest old new (text_strings s w text) halt
-    stopped_midway halt h = record {
-      setup = same_again digest old mid new m.hears.setup h.setup;
-      kept = h.kept ∙ ap (λ (x : World). record x { hashed = new.world.hashed }) m.hears.world;
-      trace = h.trace ∙ m.hears.trace;
-      halted = h.halted;
-      again = λ earlier e. h.again earlier (m.hears.halt ∙ e);
-      cause = λ none.
-          let why = h.cause (m.hears.halt ∙ none) in
-          record {
-            collided = λ earlier later e.
-                let same : collision (digest mid.hasher) mid.world.hashed (given_strings (setup_in digest mid) mid.world given)
-                ≡ collision (digest old.hasher) mid.world.hashed (given_strings s w given) =
-                (λ i. collision (hash_same i) mid.world.hashed (same_strings i)) in
-                let here : collision (digest old.hasher) mid.world.hashed (given_strings s w given) ≡ Some (earlier, later) =
-                sym same ∙ why.collided earlier later e in
-                let shown : IsSome (collision (digest old.hasher) mid.world.hashed (given_strings s w given)) = subst IsSome (sym here) refl in
-                sym m.calm
-                ∙ ap (collision (digest old.hasher) mid.world.hashed) strings_cut
-                ∙ collision-shown (digest old.hasher) mid.world.hashed (given_strings s w given) (text_strings s w more) shown
-                ∙ here;
-            shown = λ earlier later e.
-                ap (λ (hash : List ℕ → List ℕ). evidence_of hash new.world.hashed) (sym hash_same) ∙ why.shown earlier later e;
-            unguessed = why.unguessed;
-          };
-    }
+    stopped_midway halt h = reach_stopped digest old mid new _ _ _ _ _ m.reach strings_cut same_strings halt h
 
   -- after the last line
   pub ends : (old new : Played H) (cs : List Candidate) (text rest : List ℕ) (line : ℕ) (findings : List Finding) → rest ≡ []
@@ -166,10 +121,7 @@ module _ {H : Type 0} (digest : H → List ℕ → List ℕ) where
       let w = old.world in
       let n : Midway digest old new cs text [] line findings = subst (λ (x : List ℕ). Midway digest old new cs text x line findings) e m in
       record {
-        calm = record {
-          hears = subst (Hears old new) n.hashed n.hears;
-          calm = sym n.calm;
-        };
+        calm = reach_end digest old new _ n.reach;
         found = sym (append-nil findings) ∙ n.found;
       }
 
@@ -181,7 +133,7 @@ module _ {H : Type 0} (digest : H → List ℕ → List ℕ) (old new : Played H
   heard = noted_all old.world.hashed (strings_of (setup_in digest old) old.world tx)
 
   pub hears_judged : Hears old new heard
-  hears_judged = judged_calm digest old new tx heard judged.hears
+  hears_judged = hears_only digest old new heard judged.hears
 
   pub refusal_there : refusal
       ≡ refusal_of (setup_in digest new).hash new.world.book new.world.tip (live_from 0 new.world.outputs) tx

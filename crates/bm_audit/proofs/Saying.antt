@@ -17,9 +17,9 @@ use Rattle.spec_tool.specs.Audit.{Given, empty, not_hex, bad, read, onto_given, 
 use Rattle.bm_audit_listed.specs.declared.entries.Candidate.{Candidate}
 use Rattle.bm_audit_listed.specs.Parts.{names_of}
 use Rattle.bm_world.specs.Playing.{Played, setup_in}
-use Rattle.bm_audit.specs.Heard.{Hears}
+use Rattle.bm_world_heard.specs.Heard.{Hears}
 use Rattle.bm_audit.specs.Found.{kind_said, given_strings}
-use Rattle.bm_audit.proofs.Hearing.{setup_same}
+use Rattle.bm_world_heard.proofs.Hearing.{setup_same}
 
 now_hearing : (s : Setup) (w : World) (h : List (List ℕ)) (tx : Tx) → now_of s (record w { hashed = h }) tx ≡ now_of s w tx
 now_hearing s w h tx = refl

@@ -14,7 +14,7 @@ use Rattle.spec_tool.specs.Audit.{audit_report, audit_strings, audit_collision}
 use Rattle.theory_audit.specs.Audited.{IsAudit, IsCompiled}
 use Rattle.theory_audit.specs.Nothing.{IsGiven}
 use Rattle.bm_world.specs.Playing.{Played, setup_in}
-use Rattle.bm_audit.specs.Heard.{Hears}
+use Rattle.bm_world_heard.specs.Heard.{Hears}
 
 -- in a run that goes on exactly this was found, the strings of the judged transactions were hashed and no others, and nothing collided
 pub record Audited {H : Type 0} (digest : H → List ℕ → List ℕ) (old new : Played H) (k : ℕ) (text : List ℕ)

@@ -1,7 +1,6 @@
 -- What is found of lines, by the list of a contract's transactions.
 use Rattle.std.specs.Prelude.{◌≡◌, ℕ, ◌+◌, List, [], ◌∷◌, ◌++◌, Option, Some, None}
 use Rattle.std.specs.List.{flat_map}
-use Rattle.spec_data.specs.Messages.{noted_all, collision}
 use Rattle.spec_bitcoin.specs.declared.tx.Tx.{Tx}
 use Rattle.spec_run.specs.Setup.{Setup}
 use Rattle.spec_run.specs.World.{World}
@@ -14,7 +13,7 @@ use Rattle.spec_tool.specs.Audit.{Given, empty, not_hex, bad, read, onto_given, 
 use Rattle.bm_audit_listed.specs.declared.entries.Candidate.{Candidate}
 use Rattle.bm_audit_listed.specs.Parts.{names_of}
 use Rattle.bm_world.specs.Playing.{Played, setup_in}
-use Rattle.bm_audit.specs.Heard.{Hears}
+use Rattle.bm_world_heard.specs.Heard.{Calm, Reaches}
 
 -- ---- strings
 
@@ -52,11 +51,6 @@ found_from s w cs n (line ∷ lines) = onto_found n (kind_said s w cs (given_lin
 
 -- ---- what is found by a call
 
--- these strings were hashed, and collide with none
-pub record Calm {H : Type 0} (digest : H → List ℕ → List ℕ) (old new : Played H) (strings : List (List ℕ)) : Type 0 where
-  pub hears : Hears old new (noted_all old.world.hashed strings)
-  pub calm : collision (digest old.hasher) old.world.hashed strings ≡ None
-
 -- a transaction was judged
 pub record Reads {H : Type 0} (digest : H → List ℕ → List ℕ) (old new : Played H) (cs : List Candidate) (tx : Tx)
     (kind : Kind) : Type 0 where
@@ -84,10 +78,6 @@ pub record Finds {H : Type 0} (digest : H → List ℕ → List ℕ) (old new : 
 -- the lines before these were, and these are left
 pub record Midway {H : Type 0} (digest : H → List ℕ → List ℕ) (old now : Played H) (cs : List Candidate) (text rest : List ℕ) (line : ℕ)
     (findings : List Finding) : Type 0 where
-  pub hears : Hears old now now.world.hashed
-  pub hashed : noted_all now.world.hashed (text_strings (setup_in digest old) old.world rest)
-      ≡ noted_all old.world.hashed (text_strings (setup_in digest old) old.world text)
-  pub calm : collision (digest old.hasher) now.world.hashed (text_strings (setup_in digest old) old.world rest)
-      ≡ collision (digest old.hasher) old.world.hashed (text_strings (setup_in digest old) old.world text)
+  pub reach : Reaches digest old now (text_strings (setup_in digest old) old.world rest) (text_strings (setup_in digest old) old.world text)
   pub found : findings ++ found_from (setup_in digest old) old.world cs line (lines_of rest)
       ≡ found_from (setup_in digest old) old.world cs 1 (lines_of text)

@@ -1,4 +1,3 @@
 pub mod Audited
 pub mod Found
-pub mod Heard
 pub mod Lines

@@ -5,7 +5,7 @@ ghost use Rattle.spec_bitcoin.specs.Verdict.{refusal_of};
 ghost use Rattle.spec_run.specs.Ledger.{live_from, strings_of};
 ghost use Rattle.spec_tool.specs.Audit.{Given, read, given_line};
 ghost use Rattle.bm_world.specs.Playing.{setup_in, Judged};
-ghost use Rattle.bm_audit.specs.Heard.{Stopped};
+ghost use Rattle.bm_world_heard.specs.Heard.{Stopped};
 ghost use Rattle.bm_audit.specs.Lines.{given_of};
 ghost use Rattle.bm_audit.specs.Found.{read_kind, onto_found, Reads, Takes, Adds, Finds, given_strings, text_strings};
 

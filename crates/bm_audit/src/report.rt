@@ -7,7 +7,7 @@ ghost use Rattle.theory_audit.specs.Audited.{IsAudit};
 ghost use Rattle.bm_compile.specs.Numbered.{numbered};
 ghost use Rattle.bm_audit_listed.specs.Parts.{as_candidate};
 ghost use Rattle.bm_world.specs.Playing.{setup_in};
-ghost use Rattle.bm_audit.specs.Heard.{Stopped};
+ghost use Rattle.bm_world_heard.specs.Heard.{Stopped};
 ghost use Rattle.bm_audit.specs.Found.{text_strings};
 ghost use Rattle.bm_audit.specs.Audited.{Audited, Follows};
 

@@ -8,3 +8,4 @@ pub mod Written
 pub mod Merging
 pub mod InputTurns
 pub mod Combined
+pub mod StandardBase64

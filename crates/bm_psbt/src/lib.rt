@@ -1,6 +1,9 @@
-//! Partially signed transactions by BIP 174, in this project's subset: their bytes both ways, and two of them combined.
+//! Partially signed transactions by BIP 174, in this project's subset: their bytes both ways, and two of them combined; Base64, in which
+//! they are handed on, by RFC 4648, section 4.
 #![tactic(auto)]
 
+mod base64_reading;
+mod base64_writing;
 mod combining;
 mod fault;
 mod inputs;
@@ -12,6 +15,8 @@ mod same;
 mod signatures;
 mod writing;
 
+pub use base64_reading::{Base64Error, read_base64};
+pub use base64_writing::base64_text;
 pub use combining::combine;
 pub use fault::{CombineError, PsbtError};
 pub use psbt::Psbt;

@@ -4,8 +4,7 @@ ghost use Rattle.std.specs.Prelude.{◌≡◌, option_map, Option, Some, IfOk};
 ghost use Rattle.spec_tool.specs.PsbtText as spec;
 ghost use Rattle.bm_psbt_text.specs.Refusals.{judged};
 
-use bm_psbt::{Psbt, PsbtError, decode};
-use bm_psbt_base64::{Base64Error, read_base64};
+use bm_psbt::{Base64Error, Psbt, PsbtError, decode, read_base64};
 use spec_data::OutOfMemory;
 use std::alloc::{AllocError, Global};
 

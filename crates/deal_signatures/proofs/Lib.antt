@@ -2,3 +2,5 @@ pub mod InputLemmas
 pub mod KnownLemmas
 pub mod PlaceLemmas
 pub mod RefusalLemmas
+pub mod LowNumbers
+pub mod Shapes

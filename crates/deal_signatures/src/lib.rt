@@ -1,14 +1,17 @@
-//! Files of signatures: what wallets signed, read against the transactions of a deal, and why a file is refused.
+//! Files of signatures: what wallets signed, read against the transactions of a deal, and why a file is refused. A signature has the shape
+//! that nodes relay: strict DER by BIP 66, with the hash type ALL behind it and the low S of BIP 146.
 #![tactic(auto)]
 
 mod error;
 mod given;
 mod inputs;
 mod known;
+mod numbers;
 mod places;
 mod reading;
 mod refusals;
 mod same;
+mod shape;
 mod taking;
 
 pub use error::SignatureError;

@@ -19,10 +19,10 @@ use Rattle.spec_next.specs.Candidates.{candidates, candidates_from}
 use Rattle.spec_next.specs.Foreseen.{foreseen_strings}
 use Rattle.bm_world.specs.declared.halt.Halt.{Halt}
 use Rattle.bm_world.specs.Playing.{Played, setup_in, most_records}
-use Rattle.next_outlook.specs.Heard.{Stopped}
+use Rattle.bm_world_heard.specs.Heard.{Stopped}
 use Rattle.next_outlook.specs.Foretold.{foretold, all_foretold, foretold_outlook, foretold_outlooks}
 use Rattle.next_outlook.specs.Seen.{SeesOne, Sees, AddsContract, SeesContracts, Midway, MidwayContracts}
-use Rattle.next_outlook.proofs.Hearing.{setup_same, reach_none, reach_more, reach_stopped, reach_end}
+use Rattle.bm_world_heard.proofs.Hearing.{setup_same, reach_none, reach_more, reach_stopped, reach_end}
 use Rattle.next_outlook.proofs.Hashless.{hashes_later, foretold_later, candidates_later, strings_later, outlook_later}
 
 -- the first of what is left of a list

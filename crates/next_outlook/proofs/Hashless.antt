@@ -26,9 +26,9 @@ use Rattle.spec_next.specs.Foreseen.{foreseen_strings}
 use Rattle.theory_world.proofs.Bookless.{compiled_same}
 use Rattle.theory_run.proofs.Events.Hashless.{carried, draft_same}
 use Rattle.bm_world.specs.Playing.{Played, setup_in}
-use Rattle.next_outlook.specs.Heard.{Hears}
+use Rattle.bm_world_heard.specs.Heard.{Hears}
 use Rattle.next_outlook.specs.Foretold.{calm_ruling, told, foretold, all_foretold, foretold_outlook}
-use Rattle.next_outlook.proofs.Hearing.{setup_same}
+use Rattle.bm_world_heard.proofs.Hearing.{setup_same}
 
 -- nothing more is told
 pub nothing_told : (ps : List Prospect) → ps ++ [] ≡ ps

@@ -23,7 +23,7 @@ use Rattle.theory_world.proofs.Hashed.{all_more}
 use Rattle.bm_world.specs.Playing.{Played, setup_in}
 use Rattle.next_outlook.specs.Seen.{SeesContracts, Looked}
 use Rattle.next_outlook.specs.Foretold.{calm_ruling, told, foretold, all_foretold, foretold_outlooks}
-use Rattle.next_outlook.proofs.Hearing.{neither, collision-calm}
+use Rattle.bm_world_heard.proofs.Hearing.{neither, collision-calm}
 
 -- neither part collides, where both in turn don't
 first_calm : (hash : List ℕ → List ℕ) (ms xs ys : List (List ℕ)) → collision hash ms (xs ++ ys) ≡ None → collision hash ms xs ≡ None

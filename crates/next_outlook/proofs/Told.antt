@@ -13,7 +13,7 @@ use Rattle.spec_next.specs.Prospects.{ruling_of}
 use Rattle.bm_world.specs.Foreseeing.{outcome_in, Foresees}
 use Rattle.bm_world.specs.Playing.{Played, setup_in}
 use Rattle.next_outlook.specs.Foretold.{ruling_in, calm_ruling, told, foretold}
-use Rattle.next_outlook.proofs.Hearing.{foreseen_calm}
+use Rattle.bm_world_heard.proofs.Hearing.{foreseen_calm}
 use Rattle.next_outlook.proofs.Hashless.{told_later}
 
 ruling_seen : (a : Answer) → ruling_in (outcome_in a) ≡ ruling_of a

@@ -1,4 +1,3 @@
 pub mod Endorsed
 pub mod Foretold
-pub mod Heard
 pub mod Seen

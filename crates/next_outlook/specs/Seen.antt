@@ -1,7 +1,7 @@
 -- What calls that ask what would come leave.
 use Rattle.std.specs.Prelude.{◌≡◌, ℕ, List, [], ◌∷◌, ◌++◌, None}
 use Rattle.std.specs.List.{AllByRecursion}
-use Rattle.spec_data.specs.Messages.{noted_all, collision}
+use Rattle.spec_data.specs.Messages.{noted_all}
 use Rattle.spec_terms.specs.Advert.{Advert}
 use Rattle.spec_calculus.specs.Configuration.{Configuration}
 use Rattle.spec_run.specs.declared.event.Event.{Event}
@@ -13,13 +13,8 @@ use Rattle.spec_next.specs.Candidates.{candidates, candidates_from, all_candidat
 use Rattle.spec_next.specs.Prospects.{outlooks}
 use Rattle.spec_next.specs.Foreseen.{foreseen_strings, foreseen_collision}
 use Rattle.bm_world.specs.Playing.{Played, setup_in}
-use Rattle.next_outlook.specs.Heard.{Hears}
+use Rattle.bm_world_heard.specs.Heard.{Hears, Calm, Reaches}
 use Rattle.next_outlook.specs.Foretold.{foretold, all_foretold, foretold_outlook, foretold_outlooks}
-
--- these strings were hashed, and collide with none
-pub record Calm {H : Type 0} (digest : H → List ℕ → List ℕ) (old new : Played H) (strings : List (List ℕ)) : Type 0 where
-  pub hears : Hears old new (noted_all old.world.hashed strings)
-  pub calm : collision (digest old.hasher) old.world.hashed strings ≡ None
 
 -- what this event would come to was asked, and was told
 pub record SeesOne {H : Type 0} (digest : H → List ℕ → List ℕ) (old new : Played H) (g : Configuration) (e : Event)
@@ -53,12 +48,6 @@ pub record SeesContracts {H : Type 0} (digest : H → List ℕ → List ℕ) (ol
   pub told : outlooks ≡ foretold_outlooks (setup_in digest old) g old.world 0 all
 
 -- ---- underway
-
--- some of all these strings were hashed, and these are left
-pub record Reaches {H : Type 0} (digest : H → List ℕ → List ℕ) (old now : Played H) (rest all : List (List ℕ)) : Type 0 where
-  pub hears : Hears old now now.world.hashed
-  pub hashed : noted_all now.world.hashed rest ≡ noted_all old.world.hashed all
-  pub calm : collision (digest old.hasher) now.world.hashed rest ≡ collision (digest old.hasher) old.world.hashed all
 
 -- some of all these events were asked, and these are left
 pub record Midway {H : Type 0} (digest : H → List ℕ → List ℕ) (old now : Played H) (g : Configuration) (rest all : List Event)

@@ -9,7 +9,7 @@ ghost use Rattle.spec_next.specs.Candidates as spec;
 ghost use Rattle.spec_next.specs.Foreseen.{foreseen_strings};
 ghost use Rattle.spec_next.specs.Prospects.{outlook_by};
 ghost use Rattle.bm_world.specs.Playing.{most_records, setup_in};
-ghost use Rattle.next_outlook.specs.Heard.{Stopped};
+ghost use Rattle.bm_world_heard.specs.Heard.{Stopped};
 ghost use Rattle.next_outlook.specs.Seen.{SeesOne, Sees, SeesContract, AddsContract, SeesContracts, Looked};
 
 use crate::candidates::candidates;

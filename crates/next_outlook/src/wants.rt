@@ -18,7 +18,7 @@ use bm_calculus::Config;
 use bm_hash::Hash32;
 use bm_world::World;
 use bm_world_board::is_name_among;
-use next_wants::{
+use next_events::{
     put_agreed, put_begun, put_branch, put_digests, put_started, put_unbound, put_unless,
 };
 use spec_data::{Name, OutOfMemory, Seq};
@@ -66,7 +66,7 @@ fn is_honest<H: Hash32 + Drop>(world: &World<H>, party: &Name) -> bool
 }
 
 // What is wanting for a commitment.
-#[tactic(auto, using(std::proofs::Common::append_assoc, next_wants::proofs::Unmet::unmet_first))]
+#[tactic(auto, using(std::proofs::Common::append_assoc, next_events::proofs::Unmet::unmet_first))]
 fn put_committing<H: Hash32 + Drop>(
     wants: &mut Seq<Want>,
     world: &World<H>,
@@ -88,7 +88,7 @@ fn put_committing<H: Hash32 + Drop>(
 }
 
 // The endorsements of these people that are wanting for a contract that is compiled.
-#[tactic(auto, using(std::proofs::Common::append_assoc, next_wants::proofs::Unmet::unmet_first))]
+#[tactic(auto, using(std::proofs::Common::append_assoc, next_events::proofs::Unmet::unmet_first))]
 fn put_unendorsed<H: Hash32 + Drop>(
     alloc: Global,
     wants: &mut Seq<Want>,
@@ -111,7 +111,7 @@ fn put_unendorsed<H: Hash32 + Drop>(
 }
 
 // The endorsements that an honest party waits for.
-#[tactic(auto, using(next_wants::proofs::Unmet::nothing_more))]
+#[tactic(auto, using(next_events::proofs::Unmet::nothing_more))]
 fn put_waited<H: Hash32 + Drop>(
     alloc: Global,
     wants: &mut Seq<Want>,
@@ -135,7 +135,7 @@ fn put_waited<H: Hash32 + Drop>(
 }
 
 // What is wanting for a signature of the initial transaction.
-#[tactic(auto, using(std::proofs::Common::append_assoc, next_wants::proofs::Unmet::unmet_append))]
+#[tactic(auto, using(std::proofs::Common::append_assoc, next_events::proofs::Unmet::unmet_append))]
 fn put_starting<H: Hash32 + Drop>(
     alloc: Global,
     wants: &mut Seq<Want>,
@@ -159,7 +159,7 @@ fn put_starting<H: Hash32 + Drop>(
 }
 
 // What is wanting for a contract to begin.
-#[tactic(auto, using(std::proofs::Common::append_assoc, next_wants::proofs::Unmet::unmet_append))]
+#[tactic(auto, using(std::proofs::Common::append_assoc, next_events::proofs::Unmet::unmet_append))]
 fn put_beginning(wants: &mut Seq<Want>, config: &Config, contract: u32) -> Result<(), OutOfMemory>
     ensures { OnOk result (wants.new ≡ wants.old ++ spec.unmet (spec.agreed config.now contract
         ++ spec.started config.now contract (persistent (pre_of (beginning.contract_at config.now.contracts contract))))) }

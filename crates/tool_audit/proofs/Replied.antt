@@ -25,7 +25,7 @@ use Rattle.bm_world.specs.Playing.{Played, setup_in}
 use Rattle.tool_replies.specs.Halting.{halt_printed}
 use Rattle.tool_replies.specs.Last.{IsWhole}
 use Rattle.tool_replies.proofs.Ended.{whole_if}
-use Rattle.bm_audit.specs.Heard.{Clashes, Stopped}
+use Rattle.bm_world_heard.specs.Heard.{Clashes, Stopped}
 
 -- ---- compiled or not
 

@@ -1,6 +1,6 @@
 use Rattle.std.proofs.Common.{refl}
 use Rattle.bm_world.specs.declared.halt.Halt.TheVariants.{Memory}
-use Rattle.bm_audit.proofs.Hearing.{hears_none, wanting, judging_stopped}
+use Rattle.bm_world_heard.proofs.Hearing.{hears_none, wanting, judging_stopped}
 use Rattle.bm_audit.proofs.findings.ask.Goals as goal
 
 pub judge-requires : goal.judge-requires

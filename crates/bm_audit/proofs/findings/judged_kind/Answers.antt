@@ -1,6 +1,6 @@
 use Rattle.std.proofs.Common.{refl}
 use Rattle.bm_world.specs.declared.halt.Halt.TheVariants.{Memory}
-use Rattle.bm_audit.proofs.Hearing.{wanting}
+use Rattle.bm_world_heard.proofs.Hearing.{wanting}
 use Rattle.bm_audit.proofs.Composed.{hears_judged, refusal_there, reads_by}
 use Rattle.bm_audit.proofs.findings.judged_kind.Goals as goal
 

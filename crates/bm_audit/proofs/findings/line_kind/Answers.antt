@@ -3,9 +3,9 @@ use Rattle.std.specs.Prelude.{IfOk, IfErr}
 use Rattle.spec_tool.specs.Audit.{Given}
 use Rattle.bm_world.specs.Playing.{setup_in}
 use Rattle.bm_world.specs.declared.halt.Halt.TheVariants.{Memory}
-use Rattle.bm_audit.specs.Heard.{Stopped}
+use Rattle.bm_world_heard.specs.Heard.{Stopped}
 use Rattle.bm_audit.specs.Found.{Takes, given_strings}
-use Rattle.bm_audit.proofs.Hearing.{hears_none, wanting}
+use Rattle.bm_world_heard.proofs.Hearing.{hears_none, wanting}
 use Rattle.bm_audit.proofs.findings.line_kind.Goals as goal
 
 pub returns-in-Ok-clause-took : goal.returns-in-Ok-clause-took

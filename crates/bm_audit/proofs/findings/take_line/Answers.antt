@@ -2,7 +2,7 @@ use Rattle.std.proofs.Common.{Option, [], ◌++◌, refl, ap, ◌∙◌}
 use Rattle.spec_tool.specs.declared.finding.Kind.{Kind}
 use Rattle.bm_world.specs.declared.halt.Halt.TheVariants.{Memory}
 use Rattle.bm_audit.specs.Found.{onto_found}
-use Rattle.bm_audit.proofs.Hearing.{wanting}
+use Rattle.bm_world_heard.proofs.Hearing.{wanting}
 use Rattle.bm_audit.proofs.findings.take_line.Goals as goal
 
 pub returns-in-Ok-clause-took : goal.returns-in-Ok-clause-took

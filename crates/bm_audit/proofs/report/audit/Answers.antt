@@ -3,7 +3,7 @@ use Rattle.std.proofs.lemmas.Result.{err_from_is_err_and}
 use Rattle.bm_world.specs.Playing.{setup_in}
 use Rattle.bm_world.specs.declared.halt.Halt.TheVariants.{Memory}
 use Rattle.bm_audit_listed.specs.Parts.{absent_among}
-use Rattle.bm_audit.proofs.Hearing.{hears_none, halted_before, wanting}
+use Rattle.bm_world_heard.proofs.Hearing.{hears_none, halted_before, wanting}
 use Rattle.bm_audit.proofs.Listing.{audited_by, follows_from}
 use Rattle.bm_audit.proofs.report.audit.Goals as goal
 

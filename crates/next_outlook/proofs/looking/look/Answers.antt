@@ -4,7 +4,7 @@ use Rattle.spec_next.specs.declared.outlook.Prospect.{Prospect}
 use Rattle.std.proofs.Common.{List}
 use Rattle.bm_world.specs.declared.halt.Halt.TheVariants.{Memory}
 use Rattle.next_outlook.specs.Foretold.{ruling_in}
-use Rattle.next_outlook.proofs.Hearing.{foreseen_calm, foreseeing_stopped, wanting}
+use Rattle.bm_world_heard.proofs.Hearing.{foreseen_calm, foreseeing_stopped, wanting}
 use Rattle.next_outlook.proofs.Told.{told_there}
 use Rattle.next_outlook.proofs.looking.look.Goals as goal
 

@@ -9,10 +9,10 @@ use Rattle.spec_next.specs.Prospects.{outlook_by}
 use Rattle.bm_world.specs.declared.halt.Halt.TheVariants.{Memory}
 use Rattle.bm_world_board.specs.Drafts.{setup_of}
 use Rattle.bm_world.specs.Playing.{setup_in}
-use Rattle.next_outlook.specs.Seen.{Calm}
+use Rattle.bm_world_heard.specs.Heard.{Calm}
 use Rattle.next_outlook.specs.Foretold.{all_foretold}
 use Rattle.next_outlook.proofs.Events.{candidates_are}
-use Rattle.next_outlook.proofs.Hearing.{hears_none, wanting, stopped_same}
+use Rattle.bm_world_heard.proofs.Hearing.{hears_none, wanting, stopped_same}
 use Rattle.next_outlook.proofs.looking.look_contract.Goals as goal
 
 pub returns-in_err-events-clause-stopped : goal.returns-in_err-events-clause-stopped

@@ -1,7 +1,7 @@
 use Rattle.std.proofs.Common.{[], ◌∷◌, ◌++◌, refl, ap, ◌∙◌}
 use Rattle.spec_next.specs.declared.outlook.Outlook.{Outlook}
 use Rattle.bm_world.specs.declared.halt.Halt.TheVariants.{Memory}
-use Rattle.next_outlook.proofs.Hearing.{wanting}
+use Rattle.bm_world_heard.proofs.Hearing.{wanting}
 use Rattle.next_outlook.proofs.looking.look_next.Goals as goal
 
 pub returns-in-Ok-clause-sees : goal.returns-in-Ok-clause-sees

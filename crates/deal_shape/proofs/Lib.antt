@@ -1,2 +1,0 @@
-pub mod Lows
-pub mod Shapes

@@ -1,6 +1,0 @@
-use Rattle.spec_next.specs.FirstLines.{begin_text}
-use Rattle.next_first.proofs.text.begin_text.Goals as goal
-
-pub returns : goal.returns
-unfolding begin_text
-returns c = c.first_lines.ensures

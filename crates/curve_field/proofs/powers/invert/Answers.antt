@@ -1,0 +1,9 @@
+use Rattle.std.proofs.Common.{◌∙◌, ap}
+use Rattle.spec_curve.specs.Field.{field_prime, power, inverse}
+use Rattle.curve_field.specs.Value.{value}
+use Rattle.curve_field.proofs.Exponents.{inverse_exponent_is}
+use Rattle.curve_field.proofs.powers.invert.Goals as goal
+
+pub returns-clause-same : goal.returns-clause-same
+unfolding inverse
+returns-clause-same c = c.power.ensures.same ∙ ap (λ z. power 256 field_prime (value c.args.x) z) inverse_exponent_is

@@ -1,0 +1,9 @@
+//! Numbers modulo the order of the curve secp256k1: products, remainders and inverses, in four words.
+//! No memory is taken, and only public data are handled: the time that a call takes tells of its arguments.
+#![tactic(auto)]
+
+mod modular;
+mod powers;
+
+pub use modular::{is_scalar, multiply, remainder};
+pub use powers::invert;

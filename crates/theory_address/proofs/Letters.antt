@@ -1,0 +1,60 @@
+-- Values below 32 are had back from their letters, in either case.
+use Rattle.std.proofs.Common.{◌≡◌, ℕ, zero, suc, ◌+◌, ◌<◌, List, [], ◌∷◌, ◌++◌, map, refl, arith, inl, inr, Bool, true, subst}
+use Rattle.std.specs.Prelude.{◌==◌, ◌&&◌}
+use Rattle.std.specs.Char.{to_ascii_lowercase, to_ascii_uppercase}
+use Rattle.std.specs.List.{range_with_len}
+use Rattle.std.proofs.lemmas.Bool.{and_parts, cases_lt, eqb-true}
+use Rattle.spec_address.specs.Address.{letter_of, value_of}
+
+-- ---- values below 32
+
+abbrev pub AreSmall : List ℕ → Type 0
+AreSmall [] = Unit {0}
+AreSmall (v ∷ vs) = (v < 32) × AreSmall vs
+
+pub small_append : (xs ys : List ℕ) → AreSmall xs → AreSmall ys → AreSmall (xs ++ ys)
+small_append [] ys h k = k
+small_append (x ∷ xs) ys h k = (h.0, small_append xs ys h.1 k)
+
+pub small_map : (f : ℕ → ℕ) (a n : ℕ) → ((i : ℕ) → f i < 32) → AreSmall (map f (range_with_len a n))
+small_map f a zero h = tt
+small_map f a (suc n) h = (h a, small_map f (a + 1) n h)
+
+-- ---- what is computed for each of them
+
+abbrev all_below : (ℕ → Bool) → ℕ → Bool
+all_below test zero = true
+all_below test (suc n) = test n && all_below test n
+
+below_at : (test : ℕ → Bool) (n v : ℕ) → all_below test n ≡ true → v < n → test v ≡ true
+below_at test zero v h less = absurd (omega arith)
+below_at test (suc n) v h less =
+    let parts = and_parts (test n) (all_below test n) h in
+    elim (cases_lt v n) [
+      | inl lower ↦ below_at test n v (parts.1) lower
+      | inr top ↦ let e : n ≡ v = omega arith in subst (λ (k : ℕ). test k ≡ true) e (parts.0)
+    ]
+
+pub small_letter_back : (v : ℕ) → v < 32 → value_of (to_ascii_lowercase (letter_of v)) ≡ v
+small_letter_back v h =
+    eqb-true (value_of (to_ascii_lowercase (letter_of v))) v (below_at (λ n. value_of (to_ascii_lowercase (letter_of n)) == n) 32 v refl h)
+
+pub capital_back : (v : ℕ) → v < 32 → value_of (to_ascii_lowercase (to_ascii_uppercase (letter_of v))) ≡ v
+capital_back v h =
+    eqb-true (value_of (to_ascii_lowercase (to_ascii_uppercase (letter_of v)))) v
+    (below_at (λ n. value_of (to_ascii_lowercase (to_ascii_uppercase (letter_of n))) == n) 32 v refl h)
+
+pub letter_is_small : (v : ℕ) → v < 32 → to_ascii_lowercase (letter_of v) ≡ letter_of v
+letter_is_small v h =
+    eqb-true (to_ascii_lowercase (letter_of v)) (letter_of v) (below_at (λ n. to_ascii_lowercase (letter_of n) == letter_of n) 32 v refl h)
+
+-- ---- lists of them
+
+pub values_back : (f : ℕ → ℕ) (vs : List ℕ) → ((v : ℕ) → v < 32 → value_of (to_ascii_lowercase (f v)) ≡ v) → AreSmall vs
+    → map value_of (map to_ascii_lowercase (map f vs)) ≡ vs
+values_back f [] each small = refl
+values_back f (v ∷ vs) each small = λ j. each v (small.0) j ∷ values_back f vs each (small.1) j
+
+pub letters_are_small : (vs : List ℕ) → AreSmall vs → map to_ascii_lowercase (map letter_of vs) ≡ map letter_of vs
+letters_are_small [] small = refl
+letters_are_small (v ∷ vs) small = λ j. letter_is_small v (small.0) j ∷ letters_are_small vs (small.1) j

@@ -1,10 +1,8 @@
 //! Whether a refused event is still ahead of its contract.
 
 ghost use Rattle.std.specs.Prelude.{◌≡◌, option_map};
-ghost use Rattle.spec_data.specs.Lists.{is_among};
-ghost use Rattle.spec_run.specs.Setup.{held_among};
+ghost use Rattle.spec_run.specs.Setup.{held_among, held_secret};
 ghost use Rattle.spec_run.specs.World.{is_advertised};
-ghost use Rattle.spec_run.specs.Revealing.{own_secret};
 ghost use Rattle.spec_next.specs.Prospects as spec;
 ghost use Rattle.bm_world.specs.Playing.{setup_in};
 
@@ -26,13 +24,13 @@ fn held<'a>(secrets: &'a [HeldSecret], party: &Name, name: &Name) -> Option<&'a 
     None
 }
 
-// Whether the party's secret is posted.
+// Whether the party's secret is posted; one that the header lacks isn't.
 fn is_posted<H: Hash32 + Drop>(world: &World<H>, party: &Name, name: &Name) -> bool
-    ensures { result ≡ is_among (own_secret (setup_in H.digest_of world.now) party.now name.now) world.now.world.posted }
+    ensures { result ≡ spec.is_string_posted (held_secret (setup_in H.digest_of world.now) party.now name.now) world.now.world }
 {
     match held(world.header().secrets.as_slice(), party, name) {
         Some(bytes) => world.exchange().posted(bytes),
-        None => world.exchange().posted(&[]),
+        None => false,
     }
 }
 

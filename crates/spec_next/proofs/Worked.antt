@@ -1,7 +1,7 @@
 -- Worked values of what comes next in a run, at each stage of a contract.
 use Rattle.spec_terms.specs.Readable.{is_name}
-use Rattle.std.proofs.Common.{◌≡◌, [], ◌∷◌, refl, Some, None, replicate}
-use Rattle.std.specs.Prelude.{codes}
+use Rattle.std.proofs.Common.{◌≡◌, ℕ, List, [], ◌∷◌, refl, ap, Some, None, replicate}
+use Rattle.std.specs.Prelude.{codes, true, not}
 use Rattle.std.specs.Fmt.{digits}
 use Rattle.spec_bitcoin.specs.Keys.{label_text}
 use Rattle.spec_bitcoin.specs.Digests.{places_list, sequences_list, outputs_list, preimage}
@@ -10,6 +10,9 @@ use Rattle.spec_bitcoin.specs.Meaning.{script_meaning}
 use Rattle.spec_bitcoin.specs.Numbers.{number_of_item, signed_bytes, item_of_number}
 use Rattle.spec_bitcoin.specs.Scripts.{ops_of}
 use Rattle.spec_compiler.specs.Keyed.Instance.{position_script}
+use Rattle.spec_run.specs.Setup.{Setup, held_secret}
+use Rattle.spec_run.specs.World.{World}
+use Rattle.spec_run.specs.declared.event.Event.TheVariants as events
 use Rattle.spec_text.specs.Lexis.{word_front, number_front, symbol_front}
 use Rattle.spec_text.specs.ReadAdvert.{read_answer as read_contract, advert_of_all, advert_at, entries_at, entry_at, head_at, deposit_at}
 use Rattle.spec_text.specs.ReadAdvert.{secret_at, fee_at}
@@ -24,6 +27,7 @@ use Rattle.spec_tool.proofs.WorkedHash.{small_hash}
 use Rattle.spec_next.specs.OutlookText.{next_text}
 use Rattle.spec_next.specs.Foreseen.{next_printed}
 use Rattle.spec_next.specs.FirstLines.{begin_text}
+use Rattle.spec_next.specs.Prospects.{is_string_posted, is_ahead}
 use Rattle.spec_next.specs.NextAnswer.{next_words, next_answer}
 use Rattle.spec_next.proofs.WorkedRuns.{lines, commitment, commitment_header, commitment_opened, escrow, escrow_opened}
 
@@ -155,3 +159,10 @@ unfolding is_name word_front number_front symbol_front read_contract advert_of_a
     stripped marked compact places_list sequences_list outputs_list preimage position_script script_meaning ops_of number_of_item
     signed_bytes item_of_number play_text next_text next_printed begin_text
 escrow_waits = refl
+
+-- ---- secrets
+
+-- a secret that the header lacks is absent, whatever strings were posted
+pub absent_secret_is_ahead : (s : Setup) (w : World) (k : ℕ) (party name : List ℕ) → held_secret s party name ≡ None
+    → is_ahead s w (events.Reveal k party name) ≡ true
+absent_secret_is_ahead s w k party name absent = ap (λ secret. not (is_string_posted secret w)) absent

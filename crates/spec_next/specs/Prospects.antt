@@ -10,10 +10,9 @@ use Rattle.spec_run.specs.declared.event.Event.{Event}
 use Rattle.spec_run.specs.declared.event.Event.TheVariants as events
 use Rattle.spec_run.specs.declared.outcome.Outcome.{Outcome}
 use Rattle.spec_run.specs.declared.outcome.Outcome.TheVariants as outcomes
-use Rattle.spec_run.specs.Setup.{Setup}
+use Rattle.spec_run.specs.Setup.{Setup, held_secret}
 use Rattle.spec_run.specs.World.{World, is_advertised, has_promised}
 use Rattle.spec_run.specs.Draft.{Answer, Went, Halted}
-use Rattle.spec_run.specs.Revealing.{own_secret}
 use Rattle.spec_run.specs.Event.{event}
 use Rattle.spec_next.specs.declared.want.Want.{Want}
 use Rattle.spec_next.specs.declared.want.Want.TheVariants as wants
@@ -41,6 +40,11 @@ ruling s w e = ruling_of (event s w e)
 
 -- ---- which are shown
 
+-- whether a secret's string is posted; a secret that the header lacks has no string, so it isn't
+abbrev pub is_string_posted : Option (List ℕ) → World → Bool
+is_string_posted None w = false
+is_string_posted (Some bytes) w = is_among bytes w.posted
+
 -- whether a refused event is still ahead of its contract: what is advertised, committed, begun or revealed isn't
 abbrev pub is_ahead : Setup → World → Event → Bool
 is_ahead s w (events.Advertise k bindings) = not (is_advertised w k)
@@ -48,7 +52,7 @@ is_ahead s w (events.Commit k party digests) = not (has_promised w k party)
 is_ahead s w (events.Endorse k party) = not (has_number k w.begun)
 is_ahead s w (events.Init k party) = not (has_number k w.begun)
 is_ahead s w (events.FireInit k) = not (has_number k w.begun)
-is_ahead s w (events.Reveal k party secret) = not (is_among (own_secret s party secret) w.posted)
+is_ahead s w (events.Reveal k party secret) = not (is_string_posted (held_secret s party secret) w)
 is_ahead s w (events.Authorise party n i) = true
 is_ahead s w (events.Fire n i) = true
 is_ahead s w (events.Post bytes) = false

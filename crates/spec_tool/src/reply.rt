@@ -1,5 +1,7 @@
 //! What a call replies.
 
+ghost use Rattle.std.specs.Prelude.{◌≡◌};
+
 use spec_data::Bytes;
 
 /// A status, and the text that is to be written with it.

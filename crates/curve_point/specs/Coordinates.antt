@@ -1,7 +1,7 @@
 -- The points that coordinates in words stand for.
 use Rattle.std.specs.Prelude.{◌<◌, Option, Some, None}
 use Rattle.spec_curve.specs.Field.{field_prime}
-use Rattle.spec_curve.specs.Jacobian.{Triple}
+use Rattle.theory_curve.specs.Jacobian.{Triple}
 use Rattle.spec_curve.specs.Point.{Point, infinity, at}
 use Rattle.curve_field.specs.Value.{value}
 use Rattle.curve_point.specs.declared.coordinates.Affine.{Affine}

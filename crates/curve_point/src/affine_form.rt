@@ -2,7 +2,7 @@
 
 ghost use Rattle.std.specs.Prelude.{◌≡◌, IfSome};
 ghost use Rattle.spec_curve.specs.Field.{field_prime, times};
-ghost use Rattle.spec_curve.specs.Jacobian.{Stands};
+ghost use Rattle.theory_curve.specs.Jacobian.{Stands};
 ghost use Rattle.spec_curve.specs.Point.{Point};
 ghost use Rattle.curve_field.specs.Value.{value};
 ghost use Rattle.curve_point.specs.Coordinates.{IsAffine, triple_of, point_of};

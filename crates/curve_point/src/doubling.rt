@@ -1,7 +1,7 @@
 //! Twice a point.
 
 ghost use Rattle.std.specs.Prelude.{◌≡◌};
-ghost use Rattle.spec_curve.specs.Jacobian.{Stands, doubled};
+ghost use Rattle.theory_curve.specs.Jacobian.{Stands, doubled};
 ghost use Rattle.spec_curve.specs.Point.{Point, double};
 ghost use Rattle.curve_point.specs.Coordinates.{IsBelow, triple_of};
 

@@ -2,7 +2,7 @@
 
 ghost use Rattle.std.specs.Prelude.{◌≡◌, ◌<◌};
 ghost use Rattle.spec_curve.specs.Field.{field_prime};
-ghost use Rattle.spec_curve.specs.Jacobian.{Stands, run, rise, added};
+ghost use Rattle.theory_curve.specs.Jacobian.{Stands, run, rise, added};
 ghost use Rattle.spec_curve.specs.Point.{Point, add};
 ghost use Rattle.curve_field.specs.Value.{value};
 ghost use Rattle.curve_point.specs.Coordinates.{IsBelow, IsAffine, triple_of, place_of};

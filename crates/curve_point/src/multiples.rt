@@ -1,7 +1,7 @@
 //! Multiples of a point, by doubling and adding from the scalar's highest bit.
 
 ghost use Rattle.std.specs.Prelude.{◌≡◌, ℕ, ◌+◌, ◌*◌, ◌^◌, ◌<◌, IfSome};
-ghost use Rattle.spec_curve.specs.Jacobian.{Stands};
+ghost use Rattle.theory_curve.specs.Jacobian.{Stands};
 ghost use Rattle.spec_curve.specs.Point as spec;
 ghost use Rattle.curve_field.specs.Value.{value};
 ghost use Rattle.curve_point.specs.Coordinates.{IsBelow, IsAffine, triple_of, place_of, point_of};

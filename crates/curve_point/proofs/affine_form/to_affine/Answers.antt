@@ -1,6 +1,6 @@
 use Rattle.std.proofs.Common.{◌≡◌, ℕ, ◌<◌, ◌∙◌, arith, rules, ap, refl}
 use Rattle.spec_curve.specs.Field.{field_prime, times, inverse}
-use Rattle.spec_curve.specs.Jacobian.{Triple, Stands}
+use Rattle.theory_curve.specs.Jacobian.{Triple, Stands}
 use Rattle.spec_curve.specs.Point.{Point, infinity, at}
 use Rattle.theory_curve.proofs.Affine.{affine_first, affine_second}
 use Rattle.theory_curve.proofs.Inverts.{field_inverts}

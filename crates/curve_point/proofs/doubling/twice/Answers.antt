@@ -1,5 +1,5 @@
 use Rattle.std.proofs.Common.{sym, subst}
-use Rattle.spec_curve.specs.Jacobian.{Triple, Stands}
+use Rattle.theory_curve.specs.Jacobian.{Triple, Stands}
 use Rattle.spec_curve.specs.Point.{double}
 use Rattle.theory_curve.proofs.StandsAll.{doubled_stands}
 use Rattle.curve_point.specs.Coordinates.{triple_of}

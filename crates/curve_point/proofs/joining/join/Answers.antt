@@ -1,5 +1,5 @@
 use Rattle.std.proofs.Common.{◌≡◌, ℕ, ◌<◌, ◌∙◌, arith, rules, sym, subst}
-use Rattle.spec_curve.specs.Jacobian.{Triple, Stands, run, rise}
+use Rattle.theory_curve.specs.Jacobian.{Triple, Stands, run, rise}
 use Rattle.spec_curve.specs.Point.{at, add}
 use Rattle.theory_curve.proofs.StandsAll.{join_none, join_apart, join_twice, join_opposite}
 use Rattle.curve_field.specs.Value.{value}

@@ -1,5 +1,5 @@
 use Rattle.std.proofs.Common.{◌≡◌, ℕ, ◌+◌, ◌*◌, ◌^◌, arith, ap, sym, subst}
-use Rattle.spec_curve.specs.Jacobian.{Stands}
+use Rattle.theory_curve.specs.Jacobian.{Stands}
 use Rattle.spec_curve.specs.Point.{Point, infinity, multiple}
 use Rattle.curve_field.specs.Value.{value}
 use Rattle.curve_field.proofs.Values.{value_is}

@@ -1,5 +1,5 @@
 use Rattle.std.proofs.Common.{◌≡◌, suc, ◌+◌, ◌*◌, ◌∙◌, arith, rules, sym, subst}
-use Rattle.spec_curve.specs.Jacobian.{Stands}
+use Rattle.theory_curve.specs.Jacobian.{Stands}
 use Rattle.spec_curve.specs.Point.{Point, double, multiple}
 use Rattle.theory_curve.proofs.Bits.{multiple_even, multiple_odd}
 use Rattle.curve_point.specs.Coordinates.{triple_of, place_of}

@@ -1,5 +1,5 @@
 use Rattle.std.proofs.Common.{◌≡◌, ℕ, ◌+◌, ◌-◌, ◌*◌, ◌/◌, ◌^◌, ◌<◌, arith, rules, subst}
-use Rattle.spec_curve.specs.Jacobian.{Stands}
+use Rattle.theory_curve.specs.Jacobian.{Stands}
 use Rattle.spec_curve.specs.Point.{Point, multiple}
 use Rattle.curve_field.proofs.Bits.{next_bit, last_bit}
 use Rattle.curve_point.specs.Coordinates.{triple_of, place_of}

@@ -1,5 +1,5 @@
 use Rattle.std.proofs.Common.{ℕ, ◌+◌, ◌-◌, ◌*◌, ◌/◌, ◌^◌}
-use Rattle.spec_curve.specs.Jacobian.{Stands}
+use Rattle.theory_curve.specs.Jacobian.{Stands}
 use Rattle.spec_curve.specs.Point.{Point, multiple}
 use Rattle.curve_point.specs.Coordinates.{IsBelow, triple_of, place_of}
 use Rattle.curve_point.specs.declared.coordinates.Jacobian.{Jacobian}

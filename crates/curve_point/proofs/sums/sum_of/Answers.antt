@@ -1,5 +1,5 @@
 use Rattle.std.proofs.Common.{◌≡◌, sym, subst, refl}
-use Rattle.spec_curve.specs.Jacobian.{Triple, Stands}
+use Rattle.theory_curve.specs.Jacobian.{Triple, Stands}
 use Rattle.spec_curve.specs.Point.{Point, infinity, add}
 use Rattle.theory_curve.proofs.StandsAdd.{lifted}
 use Rattle.curve_field.specs.Value.{value}

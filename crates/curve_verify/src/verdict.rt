@@ -47,13 +47,11 @@ pub fn verify(key: &[u8], digest: &[u8; 32], signature: &[u8]) -> bool
     if !is_spelled(signature) {
         return false;
     }
+    let z = from_bytes(digest);
+    let r = r_bytes(signature);
+    let s = s_bytes(signature);
     match point_of_key(key) {
-        Some(point) => signs(
-            from_bytes(digest),
-            r_bytes(signature),
-            s_bytes(signature),
-            point,
-        ),
+        Some(point) => signs(z, r, s, point),
         None => false,
     }
 }

@@ -13,19 +13,19 @@ returns-then-not-is_spelled c =
 pub signs-requires-clause-r : goal.signs-requires-clause-r
 signs-requires-clause-r c =
     let told : c.is_spelled.result ≡ true = first_of (cc, search rules, grind arith) in
-    subst (λ (bytes : List ℕ). length bytes ≤ 33) (sym c.r_bytes.ensures) (r_length c.args.signature.now (sym c.is_spelled.ensures ∙ told))
+    subst (λ (bytes : List ℕ). length bytes ≤ 33) (sym c.r_bytes-r.ensures) (r_length c.args.signature.now (sym c.is_spelled.ensures ∙ told))
 
 pub signs-requires-clause-s : goal.signs-requires-clause-s
 signs-requires-clause-s c =
     let told : c.is_spelled.result ≡ true = first_of (cc, search rules, grind arith) in
-    subst (λ (bytes : List ℕ). length bytes ≤ 33) (sym c.s_bytes.ensures) (s_length c.args.signature.now (sym c.is_spelled.ensures ∙ told))
+    subst (λ (bytes : List ℕ). length bytes ≤ 33) (sym c.s_bytes-s.ensures) (s_length c.args.signature.now (sym c.is_spelled.ensures ∙ told))
 
 pub returns-in-Some : goal.returns-in-Some
 returns-in-Some c =
     let told : c.is_spelled.result ≡ true = first_of (cc, search rules, grind arith) in
     let q = place_of c.in-Some.point in
     c.signs.ensures
-    ∙ ((λ i. verifies (c.from_bytes.ensures i) (number_of (c.r_bytes.ensures i)) (number_of (c.s_bytes.ensures i)) q)
+    ∙ ((λ i. verifies (c.from_bytes-z.ensures i) (number_of (c.r_bytes-r.ensures i)) (number_of (c.s_bytes-s.ensures i)) q)
     ∙ sym (spelled_verifies c.args.key.now c.args.digest.now c.args.signature.now q (sym c.is_spelled.ensures ∙ told) (sym c.in-Some.ensures.same)))
 
 pub returns-in-None : goal.returns-in-None

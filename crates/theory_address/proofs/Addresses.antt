@@ -15,7 +15,7 @@ use Rattle.spec_address.specs.Address as spec
 use Rattle.spec_address.specs.Address.{operation_of, version_of, pushes_version, is_program_size, are_bytes, is_witness_output, letter_of, separator, text_of, short, address, spells, reads, value_of, values_of, script_of, read_address}
 use Rattle.theory_address.proofs.Groups.{bytes_back, length_groups}
 use Rattle.theory_address.proofs.Letters.{AreSmall, small_append, small_map, small_letter_back, capital_back, values_back, letters_are_small}
-use Rattle.theory_address.specs.Addresses.{AddressesAreReadBack, EachHasAddress, OneScript, ReadExactly, ReadIsShown}
+use Rattle.theory_address.specs.Addresses.{AddressesAreReadBack, EachHasAddress, OneScript, ReadExactly, ReadIsShort, ReadIsShown}
 
 -- ---- the values of an address
 
@@ -280,3 +280,26 @@ each_has_address hrp (operation ∷ size ∷ program) hrp_is h =
     let n = text_length hrp (version_of operation) (groups_of program) in
     let all : length (text_of hrp (version_of operation) (groups_of program)) ≤ 90 = omega (arith, n, count, o.sized, most, few) in
     ap is_some (address_of hrp (operation ∷ size ∷ program) h (le_true (length (text_of hrp (version_of operation) (groups_of program))) 90 all))
+
+-- ---- how long a word is that is read
+
+spelled_length : (word text : List ℕ) → (word ≡ text) ⊎ (word ≡ str_to_ascii_uppercase text) → length word ≡ length text
+spelled_length word text (inl e) = ap length e
+spelled_length word text (inr e) = ap length e ∙ length_map to_ascii_uppercase text
+
+address_is_short : (hrp script text : List ℕ) → address hrp script ≡ Some text → length text ≤ 90
+unfolding address
+address_is_short hrp script text h = by (is_witness_output script) (nat_le (length given) 90) refl h
+  where
+    given : List ℕ
+    given = text_of hrp (version_of (slice_index script 0)) (groups_of (drop 2 script))
+
+    by : (output few : Bool) → nat_le (length given) 90 ≡ few → (if output then (if few then Some given else None) else None) ≡ Some text → length text ≤ 90
+    by true true e h = let n = ap (length {A = ℕ}) (some_is given text h) in grind (arith, n, e)
+    by true false e h = absurd cc
+    by false few e h = absurd cc
+
+pub read_is_short : ReadIsShort
+read_is_short hrp word script h =
+    let is = spelled_is word (address hrp script) h in
+    subst (λ n. n ≤ 90) (sym (spelled_length word is.text is.either)) (address_is_short hrp script is.text is.is)

@@ -14,8 +14,8 @@ use Rattle.spec_address.specs.Groups.{group_at, groups_of, bytes_of}
 use Rattle.spec_address.specs.Address as spec
 use Rattle.spec_address.specs.Address.{operation_of, version_of, pushes_version, is_program_size, are_bytes, is_witness_output, letter_of, separator, text_of, short, address, spells, reads, value_of, values_of, script_of, read_address}
 use Rattle.theory_address.proofs.Groups.{bytes_back, length_groups}
-use Rattle.theory_address.proofs.Letters.{AreSmall, small_append, small_map, small_letter_back, capital_back, values_back, letters_are_small}
-use Rattle.theory_address.specs.Addresses.{AddressesAreReadBack, EachHasAddress, OneScript, ReadExactly, ReadIsShort, ReadIsShown}
+use Rattle.theory_address.proofs.Letters.{AreSmall, small_append, small_map, small_letter_back, capital_back, values_back, letters_are_small, HasNoSeparator, letters_have_none, before_last}
+use Rattle.theory_address.specs.Addresses.{AddressesAreReadBack, EachHasAddress, OneNetwork, OneScript, ReadExactly, ReadIsShort, ReadIsShown}
 
 -- ---- the values of an address
 
@@ -242,6 +242,28 @@ read_is_shown hrp word script hrp_is h =
       | inr e ↦ ap str_to_ascii_lowercase e ∙ small_of_capitals is.text ∙ small
     ] in
     is.is ∙ ap (λ (t : List ℕ). Some t) (sym lower)
+
+-- ---- one network
+
+record IsSplit (hrp text : List ℕ) : Type 0 where
+  letters : List ℕ
+  same : text ≡ hrp ++ separator ∷ letters
+  none : HasNoSeparator letters
+
+split_is : (hrp script text : List ℕ) → IsAddress hrp script text → IsSplit hrp text
+split_is hrp [] text a = absurd (let o = a.output in cc)
+split_is hrp (operation ∷ []) text a = absurd (let o = a.output in cc)
+split_is hrp (operation ∷ size ∷ program) text a =
+    let vs = values hrp (version_of operation) (groups_of program) in
+    let o = output_is operation size program a.output in
+    record { letters = map letter_of vs; same = a.same; none = letters_have_none vs (values_small hrp operation program o.pushes) }
+
+pub one_network : OneNetwork
+one_network one other word script script' h k reads_one reads_other =
+    let small = str_to_ascii_lowercase word in
+    let a = split_is one script small (address_is one script small (read_is_shown one word script h reads_one)) in
+    let b = split_is other script' small (address_is other script' small (read_is_shown other word script' k reads_other)) in
+    before_last one other a.letters b.letters a.none b.none (sym a.same ∙ b.same)
 
 -- ---- each script has one
 

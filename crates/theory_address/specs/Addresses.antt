@@ -26,3 +26,8 @@ ReadIsShown = (hrp word script : List ℕ) → is_hrp hrp ≡ true → reads hrp
 -- a word that is read has at most 90 characters
 abbrev pub ReadIsShort : Type 0
 ReadIsShort = (hrp word script : List ℕ) → reads hrp word script ≡ true → length word ≤ 90
+
+-- a word is an address of one network at most
+abbrev pub OneNetwork : Type 0
+OneNetwork = (one other word script script' : List ℕ) → is_hrp one ≡ true → is_hrp other ≡ true
+    → reads one word script ≡ true → reads other word script' ≡ true → one ≡ other

@@ -16,9 +16,14 @@ SIGNATURES = {
 }
 
 
+def comment_in(words):
+    """The number of the word that begins a comment, or None."""
+    return next((number for number, word in enumerate(words) if word[:1] == b'#'), None)
+
+
 def why_form(words):
     """Which word of a deal file's line is too few, too many or none, and why."""
-    comment = next((number for number, word in enumerate(words) if word[:1] == b'#'), None)
+    comment = comment_in(words)
     if comment is not None:
         return comment, 'a deal file has no comments: leave out what stands from here to the end of the line'
     if words[0] not in FORMS:
@@ -78,6 +83,9 @@ def why_signatures_line(line, reason, number):
 def why_secrets_line(words, reason, other):
     """The word at fault in a line of secrets, and why."""
     if reason == 'form':
+        comment = comment_in(words)
+        if comment is not None:
+            return comment, 'a file of secrets has no comments'
         return (0 if words[0] != b'secret' else min(len(words), 3)), 'the line is secret NAME HEX'
     name = words[1].decode('ascii', 'replace')
     return {
@@ -92,7 +100,7 @@ def why_secrets_line(words, reason, other):
 def why_not_finished(kind, rest):
     """Why a transaction isn't finished, in words."""
     if kind == 'endorsement':
-        return '%s has not endorsed %s: nobody signs the beginning before all have' % (rest[1], rest[0])
+        return '%s has not endorsed %s: nobody signs init before all have endorsed' % (rest[1], rest[0])
     if kind == 'signature':
         return 'the key of %s has not signed input %s' % (rest[1], rest[0])
     if kind == 'secret':

@@ -11,10 +11,11 @@ LIMITS = {'Size': 'a strategy has at most 1,048,576 bytes', 'Events': 'a strateg
 def fault(words, run):
     """The number of the word at fault in a rule, of as many as there are where one is missing, and why."""
     header = [line.split() for line in run.split(b'\n')]
+    for number, word in enumerate(words):
+        if word[:1] == b'#':
+            return number, 'a strategy has no comments'
     if [b'honest', words[0]] not in header:
         party = words[0].decode('utf-8', 'replace')
-        if words[0][:1] == b'#':
-            return 0, 'a strategy has no comments'
         return 0, '%s is not declared honest in the run file' % party if [b'party', words[0]] in header else 'no party %s' % party
     if len(words) == 1:
         return 1, 'a word is missing'

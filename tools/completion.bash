@@ -25,7 +25,7 @@ _bitml() {
         case $next in
         WHICH) choices+=(init r.0) ;;
         COMMAND) mapfile -t -O ${#choices[@]} choices < <(_bitml_next) ;;
-        NUMBER | SIZE) ;;
+        NUMBER | SIZE | PARTY) ;;
         [A-Z]*)
             compopt -o filenames 2>/dev/null
             mapfile -t -O ${#COMPREPLY[@]} COMPREPLY < <(compgen -f -- "$word")

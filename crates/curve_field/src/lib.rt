@@ -13,5 +13,5 @@ mod words;
 pub use bytes::from_bytes;
 pub use compare::{is_below, is_equal, is_odd, is_zero};
 pub use powers::{invert, power, root};
-pub use ring::{add, multiply, scale, subtract};
+pub use ring::{add, multiply, prime, scale, subtract};
 pub use words::{Row, Wide, Words, difference, lower, product, row_of, small};

@@ -9,7 +9,7 @@ use crate::words::{Words, difference, lower, product, row_of, small};
 
 /// The prime of the field (SEC 2, section 2.4.1).
 #[tactic(auto, using(crate::proofs::Values::prime_is))]
-fn prime() -> Words
+pub fn prime() -> Words
     ensures { value result ≡ field_prime }
 {
     Words {

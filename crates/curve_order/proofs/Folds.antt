@@ -3,6 +3,7 @@ use Rattle.std.proofs.Common.{◌≡◌, ℕ, ◌+◌, ◌-◌, ◌*◌, ◌%◌
 use Rattle.std.proofs.Math.Nat.{mod-eq_of_lt, add-mul-mod_self_left}
 use Rattle.curve_field.specs.Value.{value}
 use Rattle.spec_curve.specs.Field.{group_order}
+use Rattle.spec_curve.specs.Signature.{half_order}
 
 pub order_is : value (record { w0 = 0xBFD25E8CD0364141; w1 = 0xBAAEDCE6AF48A03B; w2 = 0xFFFFFFFFFFFFFFFE; w3 = 0xFFFFFFFFFFFFFFFF }) ≡ group_order
 unfolding value
@@ -11,6 +12,10 @@ order_is = refl
 pub more_is : value (record { w0 = 0x402DA1732FC9BEBF; w1 = 0x4551231950B75FC4; w2 = 1; w3 = 0 }) ≡ 2 ^ 256 - group_order
 unfolding value
 more_is = refl
+
+pub half_is : value (record { w0 = 0xDFE92F46681B20A0; w1 = 0x5D576E7357A4501D; w2 = 0xFFFFFFFFFFFFFFFF; w3 = 0x7FFFFFFFFFFFFFFF }) ≡ half_order
+unfolding value
+half_is = refl
 
 pub exponent_is : value (record { w0 = 0xBFD25E8CD036413F; w1 = 0xBAAEDCE6AF48A03B; w2 = 0xFFFFFFFFFFFFFFFE; w3 = 0xFFFFFFFFFFFFFFFF }) ≡ group_order - 2
 unfolding value

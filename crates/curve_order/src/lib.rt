@@ -5,5 +5,5 @@
 mod modular;
 mod powers;
 
-pub use modular::{is_scalar, multiply, remainder};
+pub use modular::{is_low, is_scalar, multiply, remainder};
 pub use powers::invert;

@@ -1,7 +1,8 @@
 //! Remainders modulo the order: what stands at 2^256 counts as often as 2^256 is more than the order.
 
-ghost use Rattle.std.specs.Prelude.{◌≡◌, ◌+◌, ◌-◌, ◌*◌, ◌%◌, ◌^◌, ◌<◌, ◌↔◌, IsTrue};
+ghost use Rattle.std.specs.Prelude.{◌≡◌, ◌+◌, ◌-◌, ◌*◌, ◌%◌, ◌^◌, ◌<◌, ◌↔◌, IsTrue, nat_le};
 ghost use Rattle.spec_curve.specs.Field.{group_order, times};
+ghost use Rattle.spec_curve.specs.Signature.{half_order};
 ghost use Rattle.curve_field.specs.Value.{value, wide_value};
 
 use curve_field::{Wide, Words, difference, is_below, is_zero, lower, product, row_of, small};
@@ -92,4 +93,23 @@ pub fn is_scalar(x: Words) -> bool
     ensures { IsTrue result ↔ (0 < value x × value x < group_order) }
 {
     !is_zero(x) && is_below(x, order())
+}
+
+// Half the order.
+fn half() -> Words
+    ensures { value result ≡ half_order }
+{
+    Words {
+        w0: 0xDFE9_2F46_681B_20A0,
+        w1: 0x5D57_6E73_57A4_501D,
+        w2: 0xFFFF_FFFF_FFFF_FFFF,
+        w3: 0x7FFF_FFFF_FFFF_FFFF,
+    }
+}
+
+/// Whether it is at most half the order, as the S of a signature that nodes relay (BIP 146).
+pub fn is_low(x: Words) -> bool
+    ensures { result ≡ nat_le (value x) half_order }
+{
+    !is_below(half(), x)
 }

@@ -26,12 +26,18 @@ point_at sign x =
     let y : ℕ = root field_prime (square_at x) in
     if times field_prime y y == square_at x then Some (at x (of_sign sign y)) else None
 
+-- 02 for an even second coordinate, 03 for an odd one
+abbrev pub is_sign : ℕ → Bool
+is_sign b = b == 2 || b == 3
+
+-- 32 bytes that spell a number of the field
+abbrev pub is_coordinate : List ℕ → Bool
+is_coordinate bytes = length bytes == 32 && nat_lt (number_of bytes) field_prime
+
 -- the point that a key spells
 unfoldable pub point : List ℕ → Option Point
 point [] = None
-point (sign ∷ bytes) =
-    if (sign == 2 || sign == 3) && (length bytes == 32 && nat_lt (number_of bytes) field_prime) then point_at sign (number_of bytes)
-    else None
+point (sign ∷ bytes) = if is_sign sign && is_coordinate bytes then point_at sign (number_of bytes) else None
 
 -- whether bytes are a key
 abbrev pub is_key : List ℕ → Bool

@@ -1,7 +1,5 @@
 pub mod Field
-pub mod Jacobian
 pub mod Key
 pub mod Point
-pub mod Prime
 pub mod Signature
 pub mod Verify

@@ -1,7 +1,7 @@
 -- The sum of a triple and a point stands for the sum, where the first coordinates differ.
 use Rattle.std.proofs.Common.{ℕ, ◌+◌, ◌*◌, ◌<◌, arith}
 use Rattle.spec_curve.specs.Field.{minus, times, inverse}
-use Rattle.spec_curve.specs.Jacobian.{Positive, Inverts}
+use Rattle.theory_curve.specs.Jacobian.{Positive, Inverts}
 use Rattle.theory_curve.proofs.Congruent.{Same, same_refl, same_of, same_trans, same_add, same_mul, times_is, minus_below, times_below}
 use Rattle.theory_curve.proofs.Nonzero.{undone}
 use Rattle.theory_curve.proofs.Doubling.{first_is, second_is}

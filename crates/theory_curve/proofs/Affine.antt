@@ -4,7 +4,7 @@ use Rattle.std.proofs.lemmas.Nat.{shr-shr}
 use Rattle.std.proofs.lemmas.Bool.{eq-eqb, ne_eqb}
 use Rattle.spec_curve.specs.Field.{field_prime, times, inverse}
 use Rattle.spec_curve.specs.Point.{Point, double, add, multiple}
-use Rattle.spec_curve.specs.Jacobian.{Triple, StandsAt, Inverts}
+use Rattle.theory_curve.specs.Jacobian.{Triple, StandsAt, Inverts}
 use Rattle.theory_curve.proofs.Congruent.{Same, same_refl, same_of, same_trans, same_mul, same_eq, times_is, times_below}
 use Rattle.theory_curve.proofs.Nonzero.{undone}
 use Rattle.theory_curve.proofs.Doubled.{times_more}

@@ -1,6 +1,6 @@
 -- The prime of the field is one: a chain of certificates.
 use Rattle.std.proofs.Common.{refl, lit<}
-use Rattle.spec_curve.specs.Prime.{Prime}
+use Rattle.theory_curve.specs.Prime.{Prime}
 use Rattle.spec_curve.specs.Field.{field_prime, times, power}
 use Rattle.theory_curve.proofs.Pocklington.{Witness, below_one, below_both, pocklington}
 use Rattle.theory_curve.proofs.Power.{witness_of}

@@ -1,7 +1,7 @@
 -- The doubled triple stands for the doubled point.
 use Rattle.std.proofs.Common.{ℕ, ◌+◌, ◌*◌, ◌<◌, arith}
 use Rattle.spec_curve.specs.Field.{minus, times, inverse}
-use Rattle.spec_curve.specs.Jacobian.{Positive, Inverts}
+use Rattle.theory_curve.specs.Jacobian.{Positive, Inverts}
 use Rattle.theory_curve.proofs.Congruent.{Same, same_refl, same_of, same_sym, same_trans, same_add, same_mul, times_is, minus_is, minus_below, times_below}
 use Rattle.theory_curve.proofs.Nonzero.{undone, positive_times}
 use Rattle.theory_curve.proofs.Doubling.{slope_is, middle_is, last_is, first_is, second_is}

@@ -1,7 +1,7 @@
 -- Fermat's theorem.
 use Rattle.std.proofs.Common.{◌≡◌, ℕ, zero, suc, ◌+◌, ◌*◌, ◌^◌, ◌<◌, arith, refl, ap, sym, ◌∙◌}
 use Rattle.std.proofs.Math.Nat.{pow-zero, pow-suc}
-use Rattle.spec_curve.specs.Prime.{Prime}
+use Rattle.theory_curve.specs.Prime.{Prime}
 use Rattle.theory_curve.proofs.Congruent.{Same, same_refl, same_of, same_trans, same_add, same_mul, same_more}
 use Rattle.theory_curve.proofs.Inverse.{inverse_of, same_undo}
 use Rattle.theory_curve.proofs.Choose.{choose, part, choose-zero, choose_self, absorbed, binomial}

@@ -1,7 +1,7 @@
 -- Modulo a prime each number but 0 has an inverse: by Euclid's remainders.
 use Rattle.std.proofs.Common.{◌≡◌, ℕ, zero, suc, ◌+◌, ◌-◌, ◌*◌, ◌/◌, ◌%◌, ◌<◌, ◌≤◌, arith, ap, ◌∙◌, inl, inr}
 use Rattle.std.proofs.Math.Nat.{eq-zero-or-pos, mod-lt, div-add-mod}
-use Rattle.spec_curve.specs.Prime.{Prime}
+use Rattle.theory_curve.specs.Prime.{Prime}
 use Rattle.theory_curve.proofs.Congruent.{Same, same_refl, same_of, same_sym, same_trans, same_add, same_mul, same_cancel, same_more}
 
 pub record Inverse (m a : ℕ) : Type 0 where

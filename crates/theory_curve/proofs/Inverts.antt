@@ -1,7 +1,7 @@
 -- Modulo the prime of the field the power m - 2 is the inverse.
 use Rattle.std.proofs.Common.{lit≤}
 use Rattle.spec_curve.specs.Field.{field_prime}
-use Rattle.spec_curve.specs.Jacobian.{Inverts}
+use Rattle.theory_curve.specs.Jacobian.{Inverts}
 use Rattle.theory_curve.proofs.Power.{inverts_at}
 use Rattle.theory_curve.proofs.Chain.{first}
 

@@ -2,7 +2,7 @@
 use Rattle.std.proofs.Common.{◌≡◌, ℕ, ◌*◌, ◌<◌, arith, ◌∙◌, inl, inr}
 use Rattle.std.proofs.Math.Nat.{eq-zero-or-pos}
 use Rattle.spec_curve.specs.Field.{times, inverse}
-use Rattle.spec_curve.specs.Jacobian.{Inverts, Positive}
+use Rattle.theory_curve.specs.Jacobian.{Inverts, Positive}
 use Rattle.theory_curve.proofs.Congruent.{Same, same_refl, same_of, same_sym, same_trans, same_mul, same_eq, times_is, times_below}
 
 pub undone : {m : ℕ} (i : Inverts m) (a : ℕ) → Positive m a → Same m (a * inverse m a) 1

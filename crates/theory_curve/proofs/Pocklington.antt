@@ -2,7 +2,7 @@
 use Rattle.std.proofs.Common.{◌≡◌, ℕ, zero, suc, ◌+◌, ◌-◌, ◌*◌, ◌/◌, ◌%◌, ◌^◌, ◌<◌, ◌≤◌, arith, ap, sym, ◌∙◌, inl, inr, ◌⊎◌}
 use Rattle.std.proofs.Math.Nat.{pow-zero, pow-suc, eq-zero-or-pos, mod-lt, div-add-mod, mod-add-div, mul-le-mul, mod-eq_of_lt, zero-mod}
 use Rattle.std.proofs.lemmas.Nat.{pow-add}
-use Rattle.spec_curve.specs.Prime.{Prime}
+use Rattle.theory_curve.specs.Prime.{Prime}
 use Rattle.theory_curve.proofs.Congruent.{Same, same_refl, same_of, same_sym, same_trans, same_add, same_mul, same_more, same_mod}
 use Rattle.theory_curve.proofs.Inverse.{Inverse, inverse_of, same_undo}
 use Rattle.theory_curve.proofs.Fermat.{fermat}

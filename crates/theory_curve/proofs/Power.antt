@@ -3,7 +3,7 @@ use Rattle.std.proofs.Common.{◌≡◌, ℕ, zero, suc, ◌+◌, ◌-◌, ◌*�
 use Rattle.std.proofs.Math.Nat.{pow-zero, pow-suc, mod-lt, div-add-mod, mod-eq_of_lt}
 use Rattle.std.proofs.lemmas.Nat.{pow-add}
 use Rattle.std.proofs.lemmas.Bool.{eq-eqb, ne_eqb, cases_eq}
-use Rattle.spec_curve.specs.Prime.{Prime}
+use Rattle.theory_curve.specs.Prime.{Prime}
 use Rattle.spec_curve.specs.Field.{times, power, inverse}
 use Rattle.theory_curve.proofs.Congruent.{Same, same_refl, same_of, same_sym, same_trans, same_add, same_mul, same_mod}
 use Rattle.theory_curve.proofs.Fermat.{fermat}

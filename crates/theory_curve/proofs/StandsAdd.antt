@@ -4,7 +4,7 @@ use Rattle.std.proofs.Math.Nat.{eq-zero-or-pos}
 use Rattle.std.proofs.lemmas.Bool.{eq-eqb, ne_eqb}
 use Rattle.spec_curve.specs.Field.{field_prime, minus, times, inverse}
 use Rattle.spec_curve.specs.Point.{infinity, at, double, add, third}
-use Rattle.spec_curve.specs.Jacobian.{Triple, Positive, StandsAt, Stands, Inverts, run, rise, added}
+use Rattle.theory_curve.specs.Jacobian.{Triple, Positive, StandsAt, Stands, Inverts, run, rise, added}
 use Rattle.theory_curve.proofs.Congruent.{Same, same_refl, same_of, same_sym, same_trans, same_mul, same_cancel, same_eq, times_is, minus_below, times_below}
 use Rattle.theory_curve.proofs.Nonzero.{same_divide, positive_times}
 use Rattle.theory_curve.proofs.Doubled.{minus_back, times_more}

@@ -3,7 +3,7 @@ use Rattle.std.proofs.Common.{◌≡◌, ℕ, ◌<◌, arith, sym, subst, inl, i
 use Rattle.std.proofs.Math.Nat.{eq-zero-or-pos}
 use Rattle.spec_curve.specs.Field.{field_prime}
 use Rattle.spec_curve.specs.Point.{Point, infinity, at, double, add}
-use Rattle.spec_curve.specs.Jacobian.{Triple, Stands, doubled, run, rise, added}
+use Rattle.theory_curve.specs.Jacobian.{Triple, Stands, doubled, run, rise, added}
 use Rattle.theory_curve.proofs.Inverts.{field_inverts}
 use Rattle.theory_curve.proofs.StandsDouble.{doubled_none, doubled_flat, doubled_some}
 use Rattle.theory_curve.proofs.StandsAdd.{added_apart, added_opposite, added_twice, lifted}

@@ -4,7 +4,7 @@ use Rattle.std.proofs.Math.Nat.{zero-mod}
 use Rattle.std.proofs.lemmas.Bool.{eq-eqb, ne_eqb}
 use Rattle.spec_curve.specs.Field.{field_prime, times, inverse}
 use Rattle.spec_curve.specs.Point.{infinity, at, double, third}
-use Rattle.spec_curve.specs.Jacobian.{Triple, Positive, StandsAt, Stands, Inverts, doubled}
+use Rattle.theory_curve.specs.Jacobian.{Triple, Positive, StandsAt, Stands, Inverts, doubled}
 use Rattle.theory_curve.proofs.Congruent.{Same, same_refl, same_of, same_sym, same_trans, same_mul, same_eq, times_is, minus_below, times_below}
 use Rattle.theory_curve.proofs.Nonzero.{positive_times}
 use Rattle.theory_curve.proofs.Doubled.{double_any}

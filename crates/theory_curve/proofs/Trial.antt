@@ -2,7 +2,7 @@
 use Rattle.std.proofs.Common.{◌≡◌, ℕ, zero, suc, ◌+◌, ◌-◌, ◌*◌, ◌%◌, ◌<◌, ◌≤◌, arith, refl, inl, inr, Bool, true, false, ltb}
 use Rattle.std.proofs.Math.Nat.{eq-zero-or-pos}
 use Rattle.std.proofs.lemmas.Bool.{ltb-true}
-use Rattle.spec_curve.specs.Prime.{Prime}
+use Rattle.theory_curve.specs.Prime.{Prime}
 use Rattle.theory_curve.proofs.Pocklington.{Small, small_of, root_below}
 
 -- no number from 2 up to k + 1 divides n

@@ -1,0 +1,3 @@
+pub mod Sizes
+pub mod Pieces
+pub mod Verdicts

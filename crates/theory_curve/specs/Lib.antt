@@ -1,0 +1,3 @@
+pub mod Jacobian
+pub mod Prime
+pub mod Standing

@@ -1,0 +1,5 @@
+pub mod Bytes
+pub mod Keys
+pub mod Multiples
+pub mod Published
+pub mod Vectors

@@ -1,32 +1,34 @@
 #!/usr/bin/env python3
 """Makes the deals that docs/costs.md has times of: make_deals.py PROGRAM FOLDER, with the built bitml_deal. Beside them it writes `words` as
-make_inputs.py does, and take_times.py measures these calls. Keys and signatures have the right form and are drawn by SHA-256: nobody can
-sign by such a key, and the program asks for no more than the form."""
+make_inputs.py does, and take_times.py measures these calls. Keys and signatures are those of test_signer.py, which takes a few minutes for
+the largest deal."""
+import functools
 import hashlib
 import os
 import subprocess
 import sys
 
 from make_inputs import contract, write
-from test_signer import N, number, with_signatures
+import test_signer
+from test_signer import with_signatures
 
 BRANCHES, PARTIES = 512, 16
 MEGABYTE = 1048576
 STRING = b"0123456789abcdef"
+SEED = "timed deal"
 
 
 def drawn(*words):
     return hashlib.sha256(" ".join(words).encode()).digest()
 
 
+@functools.cache
 def key_of(label):
-    return b"\2" + drawn("key", label)
+    return test_signer.key_of(SEED, label)
 
 
 def signature_of(label, digest):
-    r, s = (int.from_bytes(drawn(word, label, digest), "big") >> 1 for word in "rs")
-    both = b"".join(b"\2" + bytes([len(n)]) + n for n in (number(r), number(min(s, N - s))))
-    return b"\x30" + bytes([len(both)]) + both + b"\1"
+    return test_signer.sign(test_signer.secret_of(SEED, label), bytes.fromhex(digest))
 
 
 def filled(line):

@@ -6,6 +6,7 @@ use Rattle.spec_tool.specs.Reads.{Asked, texts_read, are_made}
 use Rattle.spec_tool.specs.Commands.{Printed, usage}
 use Rattle.spec_deal.specs.Answers.{deal_read_answer}
 use Rattle.spec_deal.specs.Commands.{DealCommand, deal_files}
+use Rattle.spec_deal.specs.Verifier.{secp256k1}
 use Rattle.bm_io.specs.Files.{Told}
 use Rattle.bm_io.specs.Logs.{Reply as Entry}
 use Rattle.spec_tool.specs.Replies.{printed}
@@ -25,7 +26,7 @@ pub replied : {E : Type 0} (hash : List ℕ → List ℕ) (command : DealCommand
     (reading : Reading) (r : Result Reply E)
     → files ≡ deal_files command → ReadsAll before.told now.told files (reads_of reading)
     → Logs before.log now.log before.taken now.taken files (reads_of reading) → RoseIfFailed before.faults now.faults reading
-    → IfOk r (λ reply. printed reply ≡ deal_read_answer hash command (texts_read (reads_of reading)))
+    → IfOk r (λ reply. printed reply ≡ deal_read_answer secp256k1 hash command (texts_read (reads_of reading)))
     → IfOk r (λ reply. Replied hash command before now (printed reply))
 replied hash command before now files reading (Err error) e all logs rose h = tt
 replied hash command before now files reading (Ok reply) e all logs rose h = record {

@@ -15,6 +15,7 @@ use Rattle.deal_finish.specs.declared.error.FinishError.{FinishError}
 use Rattle.deal_finish.specs.declared.error.FinishError.TheVariants as finishes
 use Rattle.deal_finish.specs.Finishes.{Refuses}
 use Rattle.spec_deal.specs.declared.fault.SignatureFault.{SignatureFault}
+use Rattle.spec_deal.specs.Verifier.{secp256k1}
 use Rattle.deal_signatures.specs.declared.error.SignatureError.{SignatureError}
 use Rattle.deal_signatures.specs.declared.error.SignatureError.TheVariants as files
 use Rattle.deal_signatures.specs.Gives as signatures
@@ -30,9 +31,9 @@ unfinished_is error why bytes (Err want) e h = tt
 
 -- the signatures of a file, by the transactions
 pub given_is : (hash : List ℕ → List ℕ) (keys : Keys) (s : Instance) (ts : List Transaction) (text : Text) → ts ≡ transactions hash keys s
-    → signatures_in hash keys s text ≡ given_in ts text
+    → signatures_in secp256k1 hash keys s text ≡ given_in ts text
 given_is hash keys s ts None same = refl
-given_is hash keys s ts (Some bytes) same = ap (λ x. read_given x bytes) (sym same)
+given_is hash keys s ts (Some bytes) same = ap (λ x. read_given secp256k1 x bytes) (sym same)
 
 -- why a file of signatures is refused
 pub refused_for : {Y : Type 0} (error : SignatureError) (fault : SignatureFault) (read : Result Y SignatureFault) → signatures.Refuses error read

@@ -14,8 +14,9 @@ use Rattle.spec_deal.specs.Answers.{deal_text_answer, deal_read_answer, deal_ans
 use Rattle.spec_deal.specs.Commands.{DealCommand}
 use Rattle.spec_deal.specs.DealFile.{read_deal}
 use Rattle.spec_deal.specs.Setting.{deal_keys, deal_instance}
+use Rattle.spec_deal.specs.Verifier.{secp256k1}
 use Rattle.theory_deal.specs.Causes.{deal_statuses, DealCausesTheorem}
-use Rattle.theory_deal.specs.Files.{DealsGiveAll, DealsAreSized}
+use Rattle.theory_deal.specs.Files.{DealsGiveAll, DealsAreSized, KeysArePoints, SignaturesVerify}
 use Rattle.theory_deal.specs.Finished.{FalseWithoutOne}
 use Rattle.theory_deal.specs.Plan.{PlanOfRuns}
 use Rattle.theory_deal.specs.Signatures.{MissingAndHeld, MayStart}
@@ -30,6 +31,8 @@ pub record Theorems : Type 0 where
   pub causes : DealCausesTheorem
   pub gives_all : DealsGiveAll
   pub sized : DealsAreSized
+  pub points : KeysArePoints
+  pub verified : SignaturesVerify
   pub planned : PlanOfRuns
   pub lists : MissingAndHeld
   pub starts : MayStart
@@ -67,45 +70,47 @@ or_known : (n : ℕ) → has_number n deal_statuses ≡ true → has_number n kn
 or_known n h = grind (arith, h)
 
 module _ (t : Theorems) (hash : List ℕ → List ℕ) where
-  read_known : (command : DealCommand) (o : Option (List Text)) → has_number (deal_read_answer hash command o).status known ≡ true
+  read_known : (command : DealCommand) (o : Option (List Text)) → has_number (deal_read_answer secp256k1 hash command o).status known ≡ true
   read_known command None = refl
-  read_known command (Some texts) = or_known (deal_text_answer hash command texts).status (t.causes.others hash command texts)
+  read_known command (Some texts) = or_known (deal_text_answer secp256k1 hash command texts).status (t.causes.others secp256k1 hash command texts)
 
-  answer_known : (command : Option DealCommand) (reads : List Read) → has_number (deal_answer hash command reads).status known ≡ true
+  answer_known : (command : Option DealCommand) (reads : List Read) → has_number (deal_answer secp256k1 hash command reads).status known ≡ true
   answer_known None reads = refl
   answer_known (Some command) reads = read_known command (texts_read reads)
 
   -- ---- causes
 
-  caused_by : (command : DealCommand) (o : Option (List Text)) → CausedByTexts hash command o (deal_read_answer hash command o)
+  caused_by : (command : DealCommand) (o : Option (List Text)) → CausedByTexts hash command o (deal_read_answer secp256k1 hash command o)
   caused_by command None = (refl, refl)
   caused_by command (Some texts) = record {
-    contract_refused = t.causes.contract_refused hash command texts;
-    deal_refused = t.causes.deal_refused hash command texts;
-    in_order = t.causes.in_order hash command texts;
+    contract_refused = t.causes.contract_refused secp256k1 hash command texts;
+    deal_refused = t.causes.deal_refused secp256k1 hash command texts;
+    in_order = t.causes.in_order secp256k1 hash command texts;
   }
 
-  caused : (command : Option DealCommand) (reads : List Read) → Caused hash command reads (deal_answer hash command reads)
+  caused : (command : Option DealCommand) (reads : List Read) → Caused hash command reads (deal_answer secp256k1 hash command reads)
   caused None reads = refl
   caused (Some command) reads = caused_by command (texts_read reads)
 
   -- ---- a deal that is taken
 
   keeps : (contract_text deal_text : List ℕ) (advert : Advert) (deal : Deal) → contract_of contract_text ≡ Ok advert
-      → read_deal advert deal_text ≡ Ok deal → Keeps hash advert deal
+      → read_deal secp256k1 advert deal_text ≡ Ok deal → Keeps hash advert deal
   keeps contract_text deal_text advert deal c d =
       let keys = deal_keys deal in
       let s = deal_instance advert deal in
       record {
-        gives_all = t.gives_all advert deal_text deal d;
-        sized = t.sized hash advert deal_text deal d;
+        gives_all = t.gives_all secp256k1 advert deal_text deal d;
+        sized = t.sized secp256k1 hash advert deal_text deal d;
+        points = t.points secp256k1 advert deal_text deal d;
+        verified = λ file given read. t.verified secp256k1 hash keys s file given read;
         planned = t.planned hash keys s;
         lists = λ given slot. t.lists hash keys s given slot;
         starts = λ given. t.starts hash keys s given;
         finishes = λ file given strings which l read shown there. record {
           exactly = t.exactly hash keys s given strings l;
           finished = λ none.
-              t.finished hash advert deal_text deal file given strings which l (well_formed contract_text advert c) d read shown there none;
+              t.finished secp256k1 hash advert deal_text deal file given strings which l (well_formed contract_text advert c) d read shown there none;
         };
         no_other_way = λ valid. t.no_other_way hash keys valid;
       }
@@ -119,17 +124,17 @@ module _ (t : Theorems) (hash : List ℕ → List ℕ) where
 
   -- ---- the whole
 
-  unread_is : (command : Option DealCommand) (reads : List Read) → (deal_answer hash command reads).status ≡ 3 → texts_read reads ≡ None
+  unread_is : (command : Option DealCommand) (reads : List Read) → (deal_answer secp256k1 hash command reads).status ≡ 3 → texts_read reads ≡ None
   unread_is None reads e = absurd (cc)
-  unread_is (Some c) reads e = (t.causes.unread hash c reads).0 e
+  unread_is (Some c) reads e = (t.causes.unread secp256k1 hash c reads).0 e
 
   module _ (command : Option DealCommand) (before now : Around) where
     of_answer : (status : ℕ) → Answers hash command before now status → Headline hash command before now status
     of_answer status a =
-        let printed = deal_answer hash command a.reads in
+        let printed = deal_answer secp256k1 hash command a.reads in
         record {
           serves = inl (record { answers = a; caused = caused command a.reads; keeps = keeps_texts (texts_read a.reads) });
-          usage = λ e. (t.causes.usage hash command a.reads).0 (ended_with printed a.ends.went 2 (λ f. absurd (cc)) (sym e ∙ a.ends.status_is));
+          usage = λ e. (t.causes.usage secp256k1 hash command a.reads).0 (ended_with printed a.ends.went 2 (λ f. absurd (cc)) (sym e ∙ a.ends.status_is));
           unread = λ e.
               a.unread (unread_is command a.reads (ended_with printed a.ends.went 3 (λ f. absurd (cc)) (sym e ∙ a.ends.status_is)));
           unwritten = λ e.

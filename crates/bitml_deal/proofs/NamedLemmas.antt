@@ -8,9 +8,7 @@ use Rattle.spec_terms.specs.PathSameness.{path_eq-Decides}
 use Rattle.spec_terms.specs.declared.path.PathStep.{PathStep}
 use Rattle.spec_compiler.specs.Keyed.Keys.{Keys}
 use Rattle.spec_compiler.specs.Keyed.Instance.{Instance}
-use Rattle.spec_compiler.specs.declared.prepared.Prepared.{Prepared}
 use Rattle.spec_compiler.specs.declared.unsigned.Unsigned.{Unsigned}
-use Rattle.spec_compiler.specs.Keyed.Transactions.{prepared}
 use Rattle.spec_compiler.specs.Keyed.Compilation.{path_transactions}
 use Rattle.spec_compiler.specs.Keyed.ByPath.{unsigned_at}
 use Rattle.spec_tool.specs.declared.which.Which.{Which}
@@ -21,55 +19,16 @@ use Rattle.spec_deal.specs.declared.transaction.Transaction.{Transaction}
 use Rattle.spec_deal.specs.Answers.{no_path, of_transaction, if_there}
 use Rattle.spec_deal.specs.Transactions.{transaction, transactions}
 use Rattle.theory_script.specs.Keyed.Listed.{at_path}
-use Rattle.theory_script.proofs.Keyed.Transactions.{AreRight, transactions_right, paths_are_listed}
+use Rattle.theory_deal.proofs.ByName.{none_mapped, listed_path}
 use Rattle.bitml_deal.specs.Named.{is_named, named}
 
 -- ---- lists by path
-
--- the first entry of a path is right
-right_at : {V : Type 0} (f : List PathStep → Option V) (path : List PathStep) (es : List (List PathStep × V)) (v : V) → AreRight f es
-    → at_path path es ≡ Some v → f path ≡ Some v
-right_at f path [] v right here = cc
-right_at f path (e ∷ es) v right here = by_test (path_eq e.0 path) refl here (right_at f path es v right.1)
-  where
-    by_test : (b : Bool) → path_eq e.0 path ≡ b → (if b then Some (e.1) else at_path path es) ≡ Some v
-        → (at_path path es ≡ Some v → f path ≡ Some v) → f path ≡ Some v
-    by_test true same k later = sym (ap f ((path_eq-Decides e.0 path).0 same)) ∙ (right.0 ∙ k)
-    by_test false same k later = later k
-
-none_mapped : {A B : Type 0} (f : A → B) (o : Option A) → option_map f o ≡ None → o ≡ None
-none_mapped f None e = refl
-none_mapped f (Some a) e = cc
 
 mapped_twice : {A B C : Type 0} (f : B → C) (g : A → B) (o : Option A) → option_map f (option_map g o) ≡ option_map (λ a. f (g a)) o
 mapped_twice f g None = refl
 mapped_twice f g (Some a) = refl
 
 module _ (hash : List ℕ → List ℕ) (keys : Keys) (s : Instance) where
-  at_prepared : (path : List PathStep) (es : List (List PathStep × Unsigned))
-      → at_path path (map {B = List PathStep × Prepared} (λ e. (e.0, prepared hash e.1)) es) ≡ option_map (prepared hash) (at_path path es)
-  at_prepared path [] = refl
-  at_prepared path (e ∷ es) = by_test (path_eq e.0 path) (at_prepared path es)
-    where
-      by_test : (b : Bool)
-          → at_path path (map {B = List PathStep × Prepared} (λ e. (e.0, prepared hash e.1)) es)
-          ≡ option_map (prepared hash) (at_path path es)
-          → (if b then Some (prepared hash e.1) else at_path path (map {B = List PathStep × Prepared} (λ e. (e.0, prepared hash e.1)) es))
-          ≡ option_map (prepared hash) (if b then Some (e.1) else at_path path es)
-      by_test true h = refl
-      by_test false h = h
-
-  -- the list has for each path its transaction
-  listed_path : (path : List PathStep) → at_path path (path_transactions hash keys s) ≡ unsigned_at hash keys s path
-  listed_path path = by_entry (at_path path (path_transactions hash keys s)) refl
-    where
-      by_entry : (o : Option Unsigned) → at_path path (path_transactions hash keys s) ≡ o → o ≡ unsigned_at hash keys s path
-      by_entry (Some d) e =
-          sym (right_at (unsigned_at hash keys s) path (path_transactions hash keys s) d (transactions_right hash keys s) e)
-      by_entry None e =
-          sym (none_mapped (prepared hash) (unsigned_at hash keys s path)
-          (sym (paths_are_listed hash keys s path) ∙ (at_prepared path (path_transactions hash keys s) ∙ ap (option_map (prepared hash)) e)))
-
   -- ---- by name
 
   abbrev of_path : List PathStep → Unsigned → Transaction
@@ -94,7 +53,7 @@ module _ (hash : List ℕ → List ℕ) (keys : Keys) (s : Instance) where
       → named which (transactions hash keys s) ≡ option_map (transaction hash keys s.advert) (listed_at hash keys s which)
   named_is names.Init = refl
   named_is (names.At path) =
-      find_path path (path_transactions hash keys s) ∙ ap (option_map (of_path path)) (listed_path path)
+      find_path path (path_transactions hash keys s) ∙ ap (option_map (of_path path)) (listed_path hash keys s path)
       ∙ sym (mapped_twice (transaction hash keys s.advert) (path_listed s path) (unsigned_at hash keys s path))
 
   -- ---- what is answered

@@ -10,6 +10,7 @@ use Rattle.spec_deal.specs.declared.fault.DealFault.{DealFault}
 use Rattle.spec_deal.specs.Answers.{collides, unless_collided, with_deal}
 use Rattle.spec_deal.specs.DealFile.{read_deal}
 use Rattle.spec_deal.specs.Needed.{needed_deposits}
+use Rattle.spec_deal.specs.Verifier.{secp256k1}
 use Rattle.theory_deal.specs.Files.{DealsGiveAll}
 use Rattle.bm_hash.specs.Messages.{evidence_of}
 use Rattle.bm_hash.specs.Trails.{Hashed, Stops}
@@ -57,9 +58,9 @@ collided_is hash here old new strings inner p error same empty clash stops e =
     by_pair (Some pair) k = cc
 
 -- a deal that is taken has a place for each deposit
-pub places_of : DealsGiveAll → (advert : Advert) (text : List ℕ) (r : Result Deal DealError) → Gives (λ d. d) r (read_deal advert text)
+pub places_of : DealsGiveAll → (advert : Advert) (text : List ℕ) (r : Result Deal DealError) → Gives (λ d. d) r (read_deal secp256k1 advert text)
     → IfOk r (λ d. names_of d.deposits ≡ needed_deposits advert)
-places_of all advert text (Ok deal) h = (all advert text deal h).deposits
+places_of all advert text (Ok deal) h = (all secp256k1 advert text deal h).deposits
 places_of all advert text (Err error) h = tt
 
 -- one that isn't taken

@@ -17,8 +17,9 @@ use Rattle.spec_deal.specs.Finished.{finish_refusal}
 use Rattle.spec_deal.specs.Setting.{deal_keys, deal_instance}
 use Rattle.spec_deal.specs.SignatureFile.{read_signatures}
 use Rattle.spec_deal.specs.Slots.{Slot}
+use Rattle.spec_deal.specs.Verifier.{secp256k1}
 use Rattle.theory_deal.specs.Causes.{reads_deal, is_deal_refused, causes, first_status}
-use Rattle.theory_deal.specs.Files.{GivesAll, IsSized}
+use Rattle.theory_deal.specs.Files.{GivesAll, IsSized, are_points, AreVerified}
 use Rattle.theory_deal.specs.Finished.{NoOtherWay}
 use Rattle.theory_deal.specs.Plan.{IsPlanOfRuns}
 use Rattle.theory_deal.specs.Signatures.{ListsExactly, StartsExactly}
@@ -45,7 +46,7 @@ pub record Answers (hash : List ℕ → List ℕ) (command : Option DealCommand)
   pub told : Tells before.told now.told (asked_by command) reads
   -- a read fails only where the count of faults rose
   pub unread : texts_read reads ≡ None → RoseBy 1 before.read_faults now.read_faults
-  pub ends : Ends (deal_answer hash command reads) before.written now.written before.write_faults now.write_faults status
+  pub ends : Ends (deal_answer secp256k1 hash command reads) before.written now.written before.write_faults now.write_faults status
 
 -- Memory was wanting: nothing is written, the status is 5, and at most a front of the files was asked for. Of words that are no
 -- command no memory is asked.
@@ -68,9 +69,9 @@ pub record HasCauses (hash : List ℕ → List ℕ) (command : DealCommand) (tex
   pub contract_refused : (status ≡ 1) ↔ (is_err (contract_in (text_at texts 0)) ≡ true)
   -- the deal file is refused, or it gives a deposit that the deal itself makes
   pub deal_refused : (status ≡ 13)
-      ↔ ((reads_deal command && is_deal_refused hash (contract_in (text_at texts 0)) (text_at texts 1)) ≡ true)
+      ↔ ((reads_deal command && is_deal_refused secp256k1 hash (contract_in (text_at texts 0)) (text_at texts 1)) ≡ true)
   -- the status is that of the first cause in their order, and 0 where there is none
-  pub in_order : status ≡ first_status (causes hash command texts)
+  pub in_order : status ≡ first_status (causes secp256k1 hash command texts)
 
 -- of what was read; a read that failed is answered by 3 and nothing
 abbrev pub CausedByTexts : (List ℕ → List ℕ) → DealCommand → Option (List Text) → Printed → Type 0
@@ -91,13 +92,13 @@ pub record Finishes (hash : List ℕ → List ℕ) (advert : Advert) (deal : Dea
   pub exactly : (finish_refusal hash (deal_keys deal) (deal_instance advert deal) given strings l ≡ None)
       ↔ IsComplete hash (deal_keys deal) (deal_instance advert deal) given strings l
   pub finished : finish_refusal hash (deal_keys deal) (deal_instance advert deal) given strings l ≡ None
-      → IsFinished hash (deal_keys deal) (deal_instance advert deal) given strings l
+      → IsFinished secp256k1 hash (deal_keys deal) (deal_instance advert deal) given strings l
 
 -- of files that are taken and a transaction that there is
 abbrev pub FinishesTaken : (List ℕ → List ℕ) → Advert → Deal → Type 0
 FinishesTaken hash advert deal =
     (file : List ℕ) (given : List Signed) (strings : List Shown) (which : Which) (l : Listed)
-    → read_signatures hash (deal_keys deal) (deal_instance advert deal) file ≡ Ok given
+    → read_signatures secp256k1 hash (deal_keys deal) (deal_instance advert deal) file ≡ Ok given
     → AreRead hash (deal_keys deal) (deal_instance advert deal) strings
     → listed_at hash (deal_keys deal) (deal_instance advert deal) which ≡ Some l
     → Finishes hash advert deal given strings l
@@ -106,6 +107,10 @@ FinishesTaken hash advert deal =
 pub record Keeps (hash : List ℕ → List ℕ) (advert : Advert) (deal : Deal) : Type 0 where
   pub gives_all : GivesAll advert deal
   pub sized : IsSized hash advert deal
+  pub points : are_points secp256k1 deal ≡ true
+  pub verified : (file : List ℕ) (given : List Signed)
+      → read_signatures secp256k1 hash (deal_keys deal) (deal_instance advert deal) file ≡ Ok given
+      → AreVerified secp256k1 hash (deal_keys deal) (deal_instance advert deal) given
   pub planned : IsPlanOfRuns hash (deal_keys deal) (deal_instance advert deal)
   pub lists : (given : List Signed) (slot : Slot) → ListsExactly hash (deal_keys deal) (deal_instance advert deal) given slot
   pub starts : (given : List Signed) → StartsExactly hash (deal_keys deal) (deal_instance advert deal) given
@@ -117,7 +122,7 @@ abbrev pub KeepsTaken : (List ℕ → List ℕ) → List Text → Type 0
 KeepsTaken hash texts =
     (contract_text deal_text : List ℕ) (advert : Advert) (deal : Deal)
     → text_at texts 0 ≡ Some contract_text → text_at texts 1 ≡ Some deal_text
-    → contract_of contract_text ≡ Ok advert → read_deal advert deal_text ≡ Ok deal → Keeps hash advert deal
+    → contract_of contract_text ≡ Ok advert → read_deal secp256k1 advert deal_text ≡ Ok deal → Keeps hash advert deal
 
 abbrev pub KeepsTexts : (List ℕ → List ℕ) → Option (List Text) → Type 0
 KeepsTexts hash None = Unit {0}
@@ -129,7 +134,7 @@ KeepsTexts hash (Some texts) = KeepsTaken hash texts
 pub record Serves (hash : List ℕ → List ℕ) (command : Option DealCommand) (before now : Around) (status : ℕ) : Type 0 where
   pub answers : Answers hash command before now status
   -- the answer's status comes exactly by its cause
-  pub caused : Caused hash command answers.reads (deal_answer hash command answers.reads)
+  pub caused : Caused hash command answers.reads (deal_answer secp256k1 hash command answers.reads)
   -- what it shows of a deal that is taken is as the theorems say
   pub keeps : KeepsTexts hash (texts_read answers.reads)
 

@@ -20,6 +20,7 @@ use Rattle.spec_deal.specs.DealText.{plan_text, psbts_text, unsigned_psbt, missi
 use Rattle.spec_deal.specs.RefusedText.{finish_refused_line}
 use Rattle.spec_deal.specs.SecretFile.{SecretsRead, shows}
 use Rattle.spec_deal.specs.SignatureFile.{read_given}
+use Rattle.spec_deal.specs.Verifier.{secp256k1}
 use Rattle.spec_tool.specs.Replies.{printed}
 use Rattle.deal_finish.specs.declared.error.FinishError.{FinishError}
 use Rattle.deal_finish.specs.declared.error.FinishError.TheVariants as finishes
@@ -36,7 +37,7 @@ strings_in hash keys s (Some text) = answers.secrets_in hash keys s text
 abbrev pub finish_answer : (List ℕ → List ℕ) → Text → Option Text → Keys → Instance → Listed → Printed
 finish_answer hash signatures secrets keys s l =
     with_signatures (λ given. with_secrets (λ strings. finished_answer hash keys s l given strings) (strings_in hash keys s secrets))
-    (answers.signatures_in hash keys s signatures)
+    (answers.signatures_in secp256k1 hash keys s signatures)
 
 -- what a command answers of a deal; one that reads none answers nothing here
 abbrev pub later_answer : (List ℕ → List ℕ) → DealCommand → List Text → Answer
@@ -46,9 +47,9 @@ later_answer hash (commands.psbts contract deal) texts = λ keys s. prints 0 (ps
 later_answer hash (commands.psbt contract deal which) texts =
     of_transaction hash which (λ keys s l. prints 0 (psbt_line (unsigned_psbt hash l)))
 later_answer hash (commands.missing contract deal signatures) texts =
-    of_signatures hash (λ keys s given. prints 0 (missing_text hash keys s given)) (text_at texts 2)
+    of_signatures secp256k1 hash (λ keys s given. prints 0 (missing_text hash keys s given)) (text_at texts 2)
 later_answer hash (commands.held contract deal signatures) texts =
-    of_signatures hash (λ keys s given. prints 0 (held_text hash keys s given)) (text_at texts 2)
+    of_signatures secp256k1 hash (λ keys s given. prints 0 (held_text hash keys s given)) (text_at texts 2)
 later_answer hash (commands.finish contract deal which signatures) texts = of_transaction hash which (finish_answer hash (text_at texts 2) None)
 later_answer hash (commands.finish_with contract deal which signatures secrets) texts =
     of_transaction hash which (finish_answer hash (text_at texts 2) (Some (text_at texts 3)))
@@ -56,7 +57,7 @@ later_answer hash (commands.finish_with contract deal which signatures secrets) 
 -- the signatures that a file gives to these transactions
 abbrev pub given_in : List Transaction → Text → Result (List Signed) SignatureFault
 given_in ts None = Err signature_faults.Size
-given_in ts (Some text) = read_given ts text
+given_in ts (Some text) = read_given secp256k1 ts text
 
 -- a file of secrets gives these strings, or whatever is answered of them, this is replied
 abbrev pub Tells : SecretsRead → Shown → Type 0

@@ -4,6 +4,7 @@ ghost use Rattle.std.specs.Prelude.{◌≡◌, ◌≤◌, true, length, IfOk};
 ghost use Rattle.spec_tool.specs.Reads.{text_at};
 ghost use Rattle.spec_deal.specs.Answers.{deal_text_answer};
 ghost use Rattle.spec_deal.specs.Commands.{deal_files};
+ghost use Rattle.spec_deal.specs.Verifier.{secp256k1};
 ghost use Rattle.spec_tool.specs.Replies.{printed};
 ghost use Rattle.deal_command.specs.Seen.{command};
 ghost use Rattle.theory_deal.specs.Causes.{reads_deal};
@@ -80,7 +81,7 @@ fn deal_reply<H: Hash32 + Drop>(
 ) -> Result<Reply, OutOfMemory>
     requires count { length texts.now ≡ length (deal_files (command call.now)) }
     requires deal { reads_deal (command call.now) ≡ true }
-    ensures { IfOk result (λ reply. printed reply ≡ deal_text_answer (H.digest_of hash) (command call.now) texts.now) }
+    ensures { IfOk result (λ reply. printed reply ≡ deal_text_answer secp256k1 (H.digest_of hash) (command call.now) texts.now) }
 {
     let mut trail = Trail::new(alloc, hash);
     match open(alloc, &mut trail, texts)? {
@@ -97,7 +98,7 @@ pub(crate) fn text_reply<H: Hash32 + Drop>(
     texts: &[Option<Bytes>],
 ) -> Result<Reply, OutOfMemory>
     requires { length texts.now ≡ length (deal_files (command call.now)) }
-    ensures { IfOk result (λ reply. printed reply ≡ deal_text_answer (H.digest_of hash) (command call.now) texts.now) }
+    ensures { IfOk result (λ reply. printed reply ≡ deal_text_answer secp256k1 (H.digest_of hash) (command call.now) texts.now) }
 {
     match call {
         DealCommand::Keys(_) => keys_texts(alloc, texts),

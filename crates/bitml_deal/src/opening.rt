@@ -5,6 +5,7 @@ ghost use Rattle.spec_terms.specs.Precondition.{names_of};
 ghost use Rattle.spec_deal.specs.Answers as answers;
 ghost use Rattle.spec_deal.specs.Needed.{needed_deposits};
 ghost use Rattle.spec_deal.specs.Setting.{deal_keys, deal_instance};
+ghost use Rattle.spec_deal.specs.Verifier.{secp256k1};
 ghost use Rattle.bm_hash.specs.Messages.{evidence_of};
 ghost use Rattle.spec_tool.specs.Replies.{printed};
 ghost use Rattle.deal_file.specs.Gives.{Gives};
@@ -68,7 +69,7 @@ pub(crate) fn clash_reply<H: Hash32 + Drop>(
 
 // The deal of a file, none of whose bytes are given where it is too long; or why it is refused.
 fn deal_in(alloc: Global, contract: &Checked, text: &Option<Bytes>) -> Result<Deal, DealError>
-    ensures gives { Gives (λ d. d) result (answers.deal_in contract.now text.now) }
+    ensures gives { Gives (λ d. d) result (answers.deal_in secp256k1 contract.now text.now) }
     ensures places { IfOk result (λ d. names_of d.deposits ≡ needed_deposits contract.now) }
 {
     deals_give_all();
@@ -140,7 +141,7 @@ fn open_taken<H: Hash32 + Drop>(
     requires new { trail.old.messages ≡ [] }
     ensures hasher { trail.new.hasher ≡ trail.old.hasher }
     ensures leads { let hash = H.digest_of trail.old.hasher in
-        IfOk result (Leads hash (λ answer. answers.with_deal hash answer contract (answers.deal_in contract text.now)) trail.new.messages) }
+        IfOk result (Leads hash (λ answer. answers.with_deal hash answer contract (answers.deal_in secp256k1 contract text.now)) trail.new.messages) }
 {
     match deal_in(alloc, &contract, text) {
         Ok(deal) => compile(alloc, trail, contract, deal),
@@ -158,7 +159,7 @@ pub(crate) fn open<H: Hash32 + Drop>(
     requires two { 2 ≤ length texts.now }
     ensures hasher { trail.new.hasher ≡ trail.old.hasher }
     ensures leads { let hash = H.digest_of trail.old.hasher in
-        IfOk result (Leads hash (λ answer. answers.of_deal hash answer texts.now) trail.new.messages) }
+        IfOk result (Leads hash (λ answer. answers.of_deal secp256k1 hash answer texts.now) trail.new.messages) }
 {
     match contract_in(alloc, &texts[0]) {
         Ok(contract) => open_taken(alloc, trail, contract, &texts[1]),

@@ -8,6 +8,7 @@ ghost use Rattle.spec_deal.specs.Answers as answers;
 ghost use Rattle.spec_deal.specs.DealText as shown;
 ghost use Rattle.spec_deal.specs.RefusedText.{signatures_refused_line};
 ghost use Rattle.spec_deal.specs.Transactions.{transactions as transactions_of};
+ghost use Rattle.spec_deal.specs.Verifier.{secp256k1};
 ghost use Rattle.spec_tool.specs.Replies.{printed};
 ghost use Rattle.deal_signatures.specs.Gives.{Gives};
 ghost use Rattle.bitml_deal.specs.Later.{given_in};
@@ -80,7 +81,7 @@ pub(crate) fn missing_reply(
 ) -> Result<Reply, OutOfMemory>
     ensures { (hash : List ℕ → List ℕ) (keys : Keys) (s : Instance) → transactions.now ≡ transactions_of hash keys s
         → IfOk result (λ reply. printed reply
-        ≡ answers.of_signatures hash (λ keys s given. prints 0 (shown.missing_text hash keys s given)) text.now keys s) }
+        ≡ answers.of_signatures secp256k1 hash (λ keys s given. prints 0 (shown.missing_text hash keys s given)) text.now keys s) }
 {
     match signatures_in(alloc, transactions, text) {
         Ok(given) => missing_given(alloc, transactions, &given),
@@ -97,7 +98,7 @@ pub(crate) fn held_reply(
 ) -> Result<Reply, OutOfMemory>
     ensures { (hash : List ℕ → List ℕ) (keys : Keys) (s : Instance) → transactions.now ≡ transactions_of hash keys s
         → IfOk result (λ reply. printed reply
-        ≡ answers.of_signatures hash (λ keys s given. prints 0 (shown.held_text hash keys s given)) text.now keys s) }
+        ≡ answers.of_signatures secp256k1 hash (λ keys s given. prints 0 (shown.held_text hash keys s given)) text.now keys s) }
 {
     match signatures_in(alloc, transactions, text) {
         Ok(given) => held_given(alloc, transactions, &given),

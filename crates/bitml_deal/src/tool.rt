@@ -3,6 +3,7 @@
 ghost use Rattle.std.specs.Prelude.{◌≡◌, Some, map, string_bytes, IfOk, OnErr};
 ghost use Rattle.spec_deal.specs.Answers.{deal_read_answer};
 ghost use Rattle.spec_deal.specs.Commands.{deal_files, deal_command_of};
+ghost use Rattle.spec_deal.specs.Verifier.{secp256k1};
 ghost use Rattle.spec_tool.specs.Reads.{texts_read};
 ghost use Rattle.spec_tool.specs.Replies.{printed};
 ghost use Rattle.tool_command.specs.Files.{reads_of, AsksFront, CountsAll};
@@ -22,7 +23,7 @@ use spec_tool::Reply;
 use std::alloc::Global;
 use theory_deal::{
     deal_statuses_have_causes, deals_are_sized, deals_give_all, false_without_one, finish_theorem,
-    finishes_exactly, may_start, missing_and_held, plan_of_runs,
+    finishes_exactly, keys_are_points, may_start, missing_and_held, plan_of_runs, signatures_verify,
 };
 use tool_command::{Reading, read_all};
 use tool_headline::finish;
@@ -36,7 +37,7 @@ fn reply_to<H: Hash32 + Drop>(
 ) -> Result<Reply, OutOfMemory>
     requires { CountsAll reading.now (deal_files (command call.now)) }
     ensures { IfOk result (λ reply. printed reply
-        ≡ deal_read_answer (H.digest_of hash) (command call.now) (texts_read (reads_of reading.now))) }
+        ≡ deal_read_answer secp256k1 (H.digest_of hash) (command call.now) (texts_read (reads_of reading.now))) }
 {
     if reading.failed {
         return Ok(Reply {
@@ -103,7 +104,7 @@ fn answer_words<H: Hash32 + Drop, F: Files, S: Sink>(
 }
 
 /// Runs the command that words are: reads its files, writes its text, and answers its status. Each status comes by its cause, and what is
-/// written of a deal that is taken is as the theorems on deals say.
+/// written of a deal that is taken is as the theorems on deals say, for ECDSA over secp256k1: its signatures verify.
 pub fn deal_tool<H: Hash32 + Drop, F: Files, S: Sink>(
     alloc: Global,
     words: &[String],
@@ -118,6 +119,8 @@ pub fn deal_tool<H: Hash32 + Drop, F: Files, S: Sink>(
     deal_statuses_have_causes();
     deals_give_all();
     deals_are_sized();
+    keys_are_points();
+    signatures_verify();
     plan_of_runs();
     missing_and_held();
     may_start();

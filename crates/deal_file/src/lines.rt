@@ -8,6 +8,7 @@ ghost use Rattle.spec_deal.specs.declared.entry.Entry.{Entry as SpecEntry};
 ghost use Rattle.spec_deal.specs.declared.entry.Value.{Value as SpecValue};
 ghost use Rattle.spec_deal.specs.Needed as spec_needs;
 ghost use Rattle.spec_deal.specs.DealFile as spec;
+ghost use Rattle.spec_deal.specs.Verifier.{secp256k1};
 ghost use Rattle.bm_runfile.specs.Gives.{Reads};
 ghost use Rattle.deal_file.specs.Keying as keys;
 ghost use Rattle.deal_file.specs.Entries.{needed_in, told, IsTied};
@@ -79,7 +80,7 @@ fn key_given(
     value: &[u8],
 ) -> Result<Entry, LineError>
     requires { map needed_in needs.now ≡ spec_needs.needed checked.now }
-    ensures leads { (entries : List SpecEntry) → Leads entries result (spec.key_line checked.now entries line (word.now ∷ value.now ∷ [])) }
+    ensures leads { (entries : List SpecEntry) → Leads entries result (spec.key_line secp256k1 checked.now entries line (word.now ∷ value.now ∷ [])) }
     ensures sized { IfOk result (λ e. keys.is_sized e.value ≡ true) }
 {
     match need_of(alloc, needs, b'K', word)? {
@@ -98,7 +99,7 @@ fn key_entry(
 ) -> Result<Entry, LineError>
     requires { map needed_in needs.now ≡ spec_needs.needed checked.now }
     ensures leads { (entries : List SpecEntry)
-        → Leads entries result (spec.key_line checked.now entries line (map (λ w. w.now) words.now)) }
+        → Leads entries result (spec.key_line secp256k1 checked.now entries line (map (λ w. w.now) words.now)) }
     ensures sized { IfOk result (λ e. keys.is_sized e.value ≡ true) }
 {
     match words {
@@ -193,7 +194,7 @@ fn entry_of(
     words: &[&[u8]],
 ) -> Result<Option<Entry>, LineError>
     requires { map needed_in needs.now ≡ spec_needs.needed checked.now }
-    ensures leads { (entries : List SpecEntry) → LeadsOn entries result (spec.line_says checked.now entries line (map (λ w. w.now) words.now)) }
+    ensures leads { (entries : List SpecEntry) → LeadsOn entries result (spec.line_says secp256k1 checked.now entries line (map (λ w. w.now) words.now)) }
     ensures sized { IfOk result (λ o. IfSome o (λ e. keys.is_sized e.value ≡ true)) }
 {
     let [word, rest @ ..] = words else {
@@ -241,7 +242,7 @@ pub(crate) fn take_line(
     requires needs { map needed_in needs.now ≡ spec_needs.needed checked.now }
     requires tied { IsTied entries.old }
     ensures takes { Takes (told entries.old) (told entries.new) result
-        (spec.line_says checked.now (told entries.old) number (words_of line.now)) }
+        (spec.line_says secp256k1 checked.now (told entries.old) number (words_of line.now)) }
     ensures tied { OnOk result (IsTied entries.new) }
 {
     let words = words_of(alloc, line)?;

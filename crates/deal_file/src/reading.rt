@@ -5,6 +5,7 @@ ghost use Rattle.spec_text.specs.Lines.{lines_of};
 ghost use Rattle.spec_deal.specs.Sizes.{most_deal_bytes};
 ghost use Rattle.spec_deal.specs.Needed as spec_needs;
 ghost use Rattle.spec_deal.specs.DealFile as spec;
+ghost use Rattle.spec_deal.specs.Verifier.{secp256k1};
 ghost use Rattle.deal_file.specs.Building as building;
 ghost use Rattle.deal_file.specs.Entries.{needed_in, told, IsTied};
 ghost use Rattle.deal_file.specs.Gives.{at_line, Gives};
@@ -64,7 +65,7 @@ fn read_entries(
 ) -> Result<Entries, DealError>
     requires needs { map needed_in needs.now ≡ spec_needs.needed checked.now }
     requires size { length text.now ≤ most_deal_bytes }
-    ensures gives { Gives told result (spec.read_entries checked.now [] 1 (lines_of text.now)) }
+    ensures gives { Gives told result (spec.read_entries secp256k1 checked.now [] 1 (lines_of text.now)) }
 {
     let mut entries = Entries::new(alloc);
     let mut rest = text;
@@ -178,7 +179,7 @@ fn whole_deal(alloc: Global, needs: &[Need], entries: &Entries) -> Result<Deal, 
 // The deal of a text that isn't too long.
 fn deal_of(alloc: Global, checked: &Checked, text: &[u8]) -> Result<Deal, DealError>
     requires { length text.now ≤ most_deal_bytes }
-    ensures { Gives (λ d. d) result (spec.deal_judged checked.now (spec.read_entries checked.now [] 1 (lines_of text.now))) }
+    ensures { Gives (λ d. d) result (spec.deal_judged checked.now (spec.read_entries secp256k1 checked.now [] 1 (lines_of text.now))) }
 {
     let needs = needs_of(alloc, checked)?;
     let entries = read_entries(alloc, checked, &needs, text)?;
@@ -187,7 +188,7 @@ fn deal_of(alloc: Global, checked: &Checked, text: &[u8]) -> Result<Deal, DealEr
 
 /// The deal that a text gives to a contract, or why it is refused before anything is compiled.
 pub fn read_deal(alloc: Global, checked: &Checked, text: &[u8]) -> Result<Deal, DealError>
-    ensures { Gives (λ d. d) result (spec.read_deal checked.now text.now) }
+    ensures { Gives (λ d. d) result (spec.read_deal secp256k1 checked.now text.now) }
 {
     if text.len() > MOST_DEAL_BYTES {
         return Err(DealError::Refused(DealFault::Size));

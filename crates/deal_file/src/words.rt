@@ -2,24 +2,33 @@
 
 ghost use Rattle.std.specs.Prelude.{◌≡◌, reverse, true, IfOk};
 ghost use Rattle.spec_deal.specs.DealFile as spec;
+ghost use Rattle.spec_deal.specs.Verifier.{secp256k1};
 ghost use Rattle.bm_runfile.specs.Gives.{Reads};
 ghost use Rattle.deal_file.specs.Keying.{is_sized};
 
 use bm_runfile::{WordError, digest, read_bytes, small};
+use curve_verify::is_key as is_point;
 use spec_bitcoin::OutPoint;
 use spec_deal::Value;
 use std::alloc::Global;
 
-// Whether it is a compressed public key, by its first byte.
-fn is_key(key: &[u8; 33]) -> bool
-    ensures { result ≡ spec.is_key key.now }
+// Whether it has the form of a compressed public key, by its first byte.
+fn is_compressed(key: &[u8; 33]) -> bool
+    ensures { result ≡ spec.is_compressed key.now }
 {
     key[0] == 2 || key[0] == 3
 }
 
-/// A compressed public key.
+// Whether it has that form and spells a point.
+fn is_key(key: &[u8; 33]) -> bool
+    ensures { result ≡ spec.is_key secp256k1 key.now }
+{
+    is_compressed(key) && is_point(key)
+}
+
+/// A compressed public key that is a point.
 pub(crate) fn key_of_word(alloc: Global, word: &[u8]) -> Result<Value, WordError>
-    ensures reads { Reads (λ v. v) result (spec.key_of_word word.now) }
+    ensures reads { Reads (λ v. v) result (spec.key_of_word secp256k1 word.now) }
     ensures sized { IfOk result (λ v. is_sized v ≡ true) }
 {
     let bytes = read_bytes(alloc, word)?;

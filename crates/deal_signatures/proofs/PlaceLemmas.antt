@@ -2,17 +2,17 @@
 use Rattle.std.proofs.Common.{◌≡◌, ℕ, ◌<◌, ◌^◌, List, ◌++◌, length, map, Bool, true, false, Option, Some, None}
 use Rattle.std.proofs.Common.{refl, sym, ap, ◌∙◌, arith}
 use Rattle.std.specs.Prelude.{◌&&◌, ◌==◌, nat_lt, option_map, is_some}
-use Rattle.std.specs.List.{find, list_all, list_any}
+use Rattle.std.specs.List.{find, list_all}
 use Rattle.std.specs.Cmp.Lexicographic.{nat_list_eq_equiv}
 use Rattle.std.specs.Str.{bytes_eq}
 use Rattle.std.proofs.lemmas.Bool.{and_parts}
 use Rattle.spec_deal.specs.declared.signed.Signed.{Signed}
-use Rattle.spec_deal.specs.Transactions.{is_at}
-use Rattle.deal_index.proofs.Finding.{find_by, find_map, any_found, same_numbered, same_behind}
+use Rattle.spec_deal.specs.Transactions.{Wanted, is_at}
+use Rattle.deal_index.proofs.Finding.{find_by, find_map, same_numbered, same_behind}
 use Rattle.deal_signatures.specs.declared.given.Entry.{Entry}
-use Rattle.deal_signatures.specs.declared.known.Place.{Place}
+use Rattle.deal_signatures.specs.declared.wanted.Place.{Place}
 use Rattle.deal_signatures.specs.Keying.{place_key, is_place, signed_key, is_sized}
-use Rattle.deal_signatures.specs.Seen.{signed_in, spot_in}
+use Rattle.deal_signatures.specs.Seen.{signed_in, wanted_in}
 
 -- ---- one place
 
@@ -74,17 +74,15 @@ is_at_turned : (tx other : List ℕ) (i j : ℕ) (key k : List ℕ)
 is_at_turned tx other i j key k =
     λ t. nat_list_eq_equiv.symm tx other t && (same_number i j t && nat_list_eq_equiv.symm key k t)
 
-pub wanted_found : (ps : List Place) (g : Signed) (found_by : List ℕ)
+pub place_found : (ps : List Place) (g : Signed) (found_by : List ℕ)
     → list_all (λ (p : Place). is_place p.input p.key) ps ≡ true → is_place g.input g.key ≡ true
     → found_by ≡ place_key g.tx g.input g.key
-    → is_some (find (λ (p : Place). bytes_eq (place_key p.tx p.input p.key) found_by) ps)
-    ≡ list_any (λ spot. is_at spot g) (map spot_in ps)
-wanted_found ps g found_by all sized here =
-    ap (λ q. is_some (find (λ (p : Place). bytes_eq (place_key p.tx p.input p.key) q) ps)) here
-    ∙ ap is_some
+    → option_map wanted_in (find (λ (p : Place). bytes_eq (place_key p.tx p.input p.key) found_by) ps)
+    ≡ find (λ (w : Wanted). is_at w.spot g) (map wanted_in ps)
+place_found ps g found_by all sized here =
+    ap (λ q. option_map wanted_in (find (λ (p : Place). bytes_eq (place_key p.tx p.input p.key) q) ps)) here
+    ∙ ap (option_map wanted_in)
     (find_by (λ (p : Place). bytes_eq (place_key p.tx p.input p.key) (place_key g.tx g.input g.key))
-    (λ (p : Place). is_at (spot_in p) g) (λ (p : Place). is_place p.input p.key)
+    (λ (p : Place). is_at (wanted_in p).spot g) (λ (p : Place). is_place p.input p.key)
     (λ p h. same_place_key p.tx g.tx p.input g.input p.key g.key h sized ∙ is_at_turned p.tx g.tx p.input g.input p.key g.key) ps all)
-    ∙ some_mapped spot_in (find (λ (p : Place). is_at (spot_in p) g) ps)
-    ∙ ap is_some (sym (find_map spot_in (λ spot. is_at spot g) ps))
-    ∙ sym (any_found (λ spot. is_at spot g) (map spot_in ps))
+    ∙ sym (find_map wanted_in (λ (w : Wanted). is_at w.spot g) ps)

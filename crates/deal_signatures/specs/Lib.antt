@@ -1,4 +1,5 @@
 pub mod Keying
+pub mod Agreeing
 pub mod Seen
 pub mod Gives
 pub mod Refusals

@@ -19,6 +19,7 @@ reason_text (reasons.Script k) = at_input (codes "script") k
 reason_text (reasons.Witness k) = at_input (codes "witness") k
 reason_text (reasons.Key k) = at_input (codes "key") k
 reason_text (reasons.Signature k) = at_input (codes "signature") k
+reason_text (reasons.Invalid k) = at_input (codes "invalid") k
 reason_text (reasons.Conflict k) = at_input (codes "conflict") k
 
 abbrev pub fault_text : SignatureFault → List ℕ

@@ -1,16 +1,15 @@
 //! The signatures of a transaction's inputs.
 
-ghost use Rattle.std.specs.Prelude.{◌≡◌, ◌++◌, map, option_map};
+ghost use Rattle.std.specs.Prelude.{◌≡◌, ◌++◌, option_map};
 ghost use Rattle.spec_deal.specs.SignatureFile as spec;
-ghost use Rattle.deal_signatures.specs.Seen.{spot_in};
+ghost use Rattle.spec_deal.specs.Verifier.{secp256k1};
 ghost use Rattle.deal_signatures.specs.Gives.{Takes, one_or_none};
 
 use crate::error::LineError;
 use crate::given::Given;
-use crate::known::{Place, narrow};
 use crate::same::{final_signature, script_fits, spent_fits};
 use crate::taking::{take_signature, take_signatures};
-use deal_index::Indexed;
+use crate::wanted::{Wanting, narrow};
 use spec_data::Bytes;
 use spec_deal::{Input, SignatureReason};
 use spec_tool::PsbtInput;
@@ -19,14 +18,14 @@ use std::alloc::Global;
 // The signature of a final witness, if there is one.
 fn take_final(
     alloc: Global,
-    wanted: &Indexed<Place>,
+    wanted: &Wanting,
     given: &mut Given,
     tx: &[u8],
     number: u32,
     last: Option<([u8; 33], &Bytes)>,
 ) -> Result<(), LineError>
     ensures { Takes given.old given.new result
-        (spec.take_signatures (map spot_in wanted.now) tx.now number given.old (one_or_none (option_map (λ p. (p.0, p.1.now)) last.entry))) }
+        (spec.take_signatures secp256k1 wanted.now tx.now number given.old (one_or_none (option_map (λ p. (p.0, p.1.now)) last.entry))) }
 {
     match last {
         Some(last) => {
@@ -40,14 +39,14 @@ fn take_final(
 // The signatures of an input's records, and then that of its final witness.
 fn take_fitting(
     alloc: Global,
-    wanted: &Indexed<Place>,
+    wanted: &Wanting,
     given: &mut Given,
     tx: &[u8],
     number: u32,
     pairs: &[([u8; 33], Bytes)],
     last: Option<([u8; 33], &Bytes)>,
 ) -> Result<(), LineError>
-    ensures { Takes given.old given.new result (spec.take_signatures (map spot_in wanted.now) tx.now number given.old
+    ensures { Takes given.old given.new result (spec.take_signatures secp256k1 wanted.now tx.now number given.old
         (pairs.now ++ one_or_none (option_map (λ p. (p.0, p.1.now)) last.entry))) }
 {
     match take_signatures(alloc, wanted, given, tx, number, pairs) {
@@ -59,7 +58,7 @@ fn take_fitting(
 // The signatures of an input, those of its records first.
 fn take_input(
     alloc: Global,
-    wanted: &Indexed<Place>,
+    wanted: &Wanting,
     given: &mut Given,
     tx: &[u8],
     number: u32,
@@ -67,7 +66,7 @@ fn take_input(
     said: &PsbtInput,
 ) -> Result<(), LineError>
     ensures { Takes given.old given.new result
-        (spec.take_input (map spot_in wanted.now) tx.now number given.old input.now said.now) }
+        (spec.take_input secp256k1 wanted.now tx.now number given.old input.now said.now) }
 {
     let script = input.spent.script.as_slice();
     if !spent_fits(&input.output, &said.spent) {
@@ -93,14 +92,14 @@ fn take_input(
 /// The signatures of the inputs in order, as far as something is said of them.
 pub(crate) fn take_inputs(
     alloc: Global,
-    wanted: &Indexed<Place>,
+    wanted: &Wanting,
     given: &mut Given,
     tx: &[u8],
     inputs: &[Input],
     said: &[PsbtInput],
 ) -> Result<(), LineError>
     ensures { Takes given.old given.new result
-        (spec.take_inputs (map spot_in wanted.now) tx.now 0 given.old inputs.now said.now) }
+        (spec.take_inputs secp256k1 wanted.now tx.now 0 given.old inputs.now said.now) }
 {
     let mut rest = said;
     for (number, input) in inputs.iter().enumerate() {

@@ -1,5 +1,5 @@
 //! Files of signatures: what wallets signed, read against the transactions of a deal, and why a file is refused. A signature has the shape
-//! that nodes relay: strict DER by BIP 66, with the hash type ALL behind it and the low S of BIP 146.
+//! that nodes relay, strict DER by BIP 66 with the hash type ALL behind it and the low S of BIP 146, and verifies under its key.
 #![tactic(auto)]
 
 mod error;
@@ -13,6 +13,7 @@ mod refusals;
 mod same;
 mod shape;
 mod taking;
+mod wanted;
 
 pub use error::SignatureError;
 pub use given::Given;

@@ -4,15 +4,17 @@ ghost use Rattle.std.specs.Prelude.{◌≡◌, ◌≤◌, [], length, map, optio
 ghost use Rattle.spec_text.specs.Lines.{lines_of, words_of};
 ghost use Rattle.spec_tool.specs.Base64.{base64_bytes};
 ghost use Rattle.spec_deal.specs.Sizes.{most_signature_bytes};
-ghost use Rattle.spec_deal.specs.Transactions.{spots};
+ghost use Rattle.spec_deal.specs.Transactions.{all_wanted};
 ghost use Rattle.spec_deal.specs.SignatureFile as spec;
-ghost use Rattle.deal_signatures.specs.Seen.{spot_in, known_in, numbered};
+ghost use Rattle.spec_deal.specs.Verifier.{secp256k1};
+ghost use Rattle.deal_signatures.specs.Seen.{known_in, numbered};
 ghost use Rattle.deal_signatures.specs.Gives.{Takes, Gives, at_line};
 
 use crate::error::{LineError, SignatureError};
 use crate::given::Given;
 use crate::inputs::take_inputs;
-use crate::known::{Known, Place, known_by, transaction_of, wanted_by};
+use crate::known::{Known, known_by, transaction_of};
+use crate::wanted::Wanting;
 use bm_psbt::{Base64Error, Psbt, PsbtError, decode, read_base64};
 use bm_runfile::{first_line, words_of};
 use bm_tx::encode_stripped;
@@ -28,13 +30,13 @@ fn take_psbt(
     alloc: Global,
     transactions: &[Transaction],
     known: &Indexed<Known>,
-    wanted: &Indexed<Place>,
+    wanted: &Wanting,
     given: &mut Given,
     psbt: &Psbt,
 ) -> Result<(), LineError>
     requires known { map known_in known.now ≡ numbered 0 transactions.now }
-    requires wanted { map spot_in wanted.now ≡ spots transactions.now }
-    ensures { Takes given.old given.new result (spec.take_psbt transactions.now given.old (Some psbt.now)) }
+    requires wanted { wanted.now ≡ all_wanted transactions.now }
+    ensures { Takes given.old given.new result (spec.take_psbt secp256k1 transactions.now given.old (Some psbt.now)) }
 {
     let bytes = encode_stripped(alloc, psbt.tx())?;
     match transaction_of(transactions, known, &bytes) {
@@ -55,13 +57,13 @@ fn take_bytes(
     alloc: Global,
     transactions: &[Transaction],
     known: &Indexed<Known>,
-    wanted: &Indexed<Place>,
+    wanted: &Wanting,
     given: &mut Given,
     bytes: &[u8],
 ) -> Result<(), LineError>
     requires known { map known_in known.now ≡ numbered 0 transactions.now }
-    requires wanted { map spot_in wanted.now ≡ spots transactions.now }
-    ensures { Takes given.old given.new result (spec.take_bytes transactions.now given.old (Some bytes.now)) }
+    requires wanted { wanted.now ≡ all_wanted transactions.now }
+    ensures { Takes given.old given.new result (spec.take_bytes secp256k1 transactions.now given.old (Some bytes.now)) }
 {
     match decode(alloc, bytes) {
         Ok(psbt) => take_psbt(alloc, transactions, known, wanted, given, &psbt),
@@ -75,13 +77,13 @@ fn take_word(
     alloc: Global,
     transactions: &[Transaction],
     known: &Indexed<Known>,
-    wanted: &Indexed<Place>,
+    wanted: &Wanting,
     given: &mut Given,
     word: &[u8],
 ) -> Result<(), LineError>
     requires known { map known_in known.now ≡ numbered 0 transactions.now }
-    requires wanted { map spot_in wanted.now ≡ spots transactions.now }
-    ensures { Takes given.old given.new result (spec.take_bytes transactions.now given.old (base64_bytes word.now)) }
+    requires wanted { wanted.now ≡ all_wanted transactions.now }
+    ensures { Takes given.old given.new result (spec.take_bytes secp256k1 transactions.now given.old (base64_bytes word.now)) }
 {
     match read_base64(alloc, word) {
         Ok(bytes) => take_bytes(alloc, transactions, known, wanted, given, &bytes),
@@ -95,13 +97,13 @@ fn take_line(
     alloc: Global,
     transactions: &[Transaction],
     known: &Indexed<Known>,
-    wanted: &Indexed<Place>,
+    wanted: &Wanting,
     given: &mut Given,
     line: &[u8],
 ) -> Result<(), LineError>
     requires known { map known_in known.now ≡ numbered 0 transactions.now }
-    requires wanted { map spot_in wanted.now ≡ spots transactions.now }
-    ensures { Takes given.old given.new result (spec.take_words transactions.now given.old (words_of line.now)) }
+    requires wanted { wanted.now ≡ all_wanted transactions.now }
+    ensures { Takes given.old given.new result (spec.take_words secp256k1 transactions.now given.old (words_of line.now)) }
 {
     let words = words_of(alloc, line)?;
     match words.as_slice() {
@@ -127,10 +129,10 @@ fn read_lines(
     text: &[u8],
 ) -> Result<Given, SignatureError>
     requires { length text.now ≤ most_signature_bytes }
-    ensures { Gives (λ given. given) result (spec.take_lines transactions.now [] 1 (lines_of text.now)) }
+    ensures { Gives (λ given. given) result (spec.take_lines secp256k1 transactions.now [] 1 (lines_of text.now)) }
 {
     let known = known_by(alloc, transactions)?;
-    let wanted = wanted_by(alloc, transactions)?;
+    let wanted = Wanting::by(alloc, transactions)?;
     let mut given = Given::new(alloc);
     let mut rest = text;
     let mut line = 1u32;
@@ -151,7 +153,7 @@ pub fn read_signatures(
     transactions: &[Transaction],
     text: &[u8],
 ) -> Result<Given, SignatureError>
-    ensures { Gives (λ given. given) result (spec.read_given transactions.now text.now) }
+    ensures { Gives (λ given. given) result (spec.read_given secp256k1 transactions.now text.now) }
 {
     if text.len() > MOST_SIGNATURE_BYTES {
         return Err(SignatureError::Refused(SignatureFault::Size));

@@ -39,6 +39,7 @@ fn put_reason(alloc: Global, out: &mut Vec<u8>, reason: SignatureReason) -> Resu
         SignatureReason::Witness(input) => put_at_input(alloc, out, b"witness", input),
         SignatureReason::Key(input) => put_at_input(alloc, out, b"key", input),
         SignatureReason::Signature(input) => put_at_input(alloc, out, b"signature", input),
+        SignatureReason::Invalid(input) => put_at_input(alloc, out, b"invalid", input),
         SignatureReason::Conflict(input) => put_at_input(alloc, out, b"conflict", input),
     }
 }

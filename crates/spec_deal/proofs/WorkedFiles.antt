@@ -1,8 +1,10 @@
 -- Worked values of deals, each by computation alone: what is needed, what deal files give, and why they are refused.
 use Rattle.std.proofs.Common.{◌≡◌, ℕ, List, [], ◌∷◌, ◌++◌, refl}
 use Rattle.std.specs.List.{flat_map}
-use Rattle.std.specs.Prelude.{codes, replicate, fold, ◌+◌, ◌*◌, ◌/◌, ◌%◌, Result, Ok, Err}
+use Rattle.std.specs.Prelude.{codes, replicate, fold, false, not, ◌+◌, ◌*◌, ◌/◌, ◌%◌, Result, Ok, Err}
 use Rattle.std.specs.Fmt.{digits}
+use Rattle.std.specs.Str.{bytes_eq}
+use Rattle.spec_data.specs.Digits.{read_hex}
 use Rattle.spec_terms.specs.Advert.{Advert}
 use Rattle.spec_terms.specs.Term.{constant, length_of, less, always, auth, after, put_reveal, withdraw, no_branch, branch}
 use Rattle.spec_terms.specs.declared.pre.Pre.TheVariants.{Persistent, Volatile, Secret}
@@ -11,7 +13,16 @@ use Rattle.spec_deal.specs.declared.deal.Deal.{Deal}
 use Rattle.spec_deal.specs.declared.fault.DealFault.{DealFault}
 use Rattle.spec_deal.specs.DealFile.{read_deal}
 use Rattle.spec_deal.specs.DealText.{keys_text}
+use Rattle.spec_deal.specs.Finished.{bytes_or_none}
+use Rattle.spec_deal.specs.Verifier.{Verifier, accepting}
 use Rattle.spec_deal.specs.RefusedText.{deal_refused_line}
+
+-- finds a point in all bytes but one key, and no signature good
+abbrev pub refusing : Verifier
+refusing = record {
+  is_point = λ key. not (bytes_eq key (bytes_or_none (read_hex (codes "03ba15c3d41f9a0004b4f0e9f93716dc85ab600a158e90d0639f364ab04c766f21"))));
+  is_signature = λ key digest signature. false;
+}
 
 -- a line feed
 abbrev pub line : List ℕ → List ℕ → List ℕ
@@ -169,14 +180,14 @@ or_no_deal (Err fault) = no_deal
 
 -- the deal of bet
 abbrev pub bet_deal : Deal
-bet_deal = or_no_deal (read_deal bet bet_file)
+bet_deal = or_no_deal (read_deal accepting bet bet_file)
 
 abbrev pub refusal : Result Deal DealFault → List ℕ
 refusal (Ok deal) = []
 refusal (Err fault) = deal_refused_line fault
 
 pub template_is_refused :
-    refusal (read_deal bet (file (codes "key D:A .." ∷ codes "key D:B .." ∷ codes "key B:0:r.0:A .." ∷ codes "key B:0:r.0:B .."
+    refusal (read_deal accepting bet (file (codes "key D:A .." ∷ codes "key D:B .." ∷ codes "key B:0:r.0:A .." ∷ codes "key B:0:r.0:B .."
     ∷ codes "key B:0:r.0.0:A .." ∷ codes "key B:0:r.0.0:B .." ∷ codes "key B:0:r.1:A .." ∷ codes "key B:0:r.1:B .."
     ∷ codes "deposit x .. .." ∷ codes "deposit y .. .." ∷ codes "hash a .." ∷ [])))
     ≡ line (codes "deal refused line 1 value") ([])
@@ -184,7 +195,7 @@ unfolding digits label_text
 template_is_refused = refl
 
 pub one_word_more_is_refused :
-    refusal (read_deal bet (file (line_1 ∷ line_2
+    refusal (read_deal accepting bet (file (line_1 ∷ line_2
     ∷ codes "key B:0:r.0:A 03880380f4fe91faca6db3387f5c981c02fee0dbae9278e8dcf2e0769b15457907 00" ∷ line_4 ∷ line_5 ∷ line_6
     ∷ line_7 ∷ line_8 ∷ line_9 ∷ line_10 ∷ line_11 ∷ [])))
     ≡ line (codes "deal refused line 3 form") ([])
@@ -192,14 +203,14 @@ unfolding digits label_text
 one_word_more_is_refused = refl
 
 pub no_kind_is_refused :
-    refusal (read_deal bet (file (codes "Key D:A 03913ffe7036ec1cefec5d4589d0c2e8e7b6a300c97e0a106cd9624f149bcda7f5" ∷ line_2
+    refusal (read_deal accepting bet (file (codes "Key D:A 03913ffe7036ec1cefec5d4589d0c2e8e7b6a300c97e0a106cd9624f149bcda7f5" ∷ line_2
     ∷ line_3 ∷ line_4 ∷ line_5 ∷ line_6 ∷ line_7 ∷ line_8 ∷ line_9 ∷ line_10 ∷ line_11 ∷ [])))
     ≡ line (codes "deal refused line 1 form") ([])
 unfolding digits label_text
 no_kind_is_refused = refl
 
 pub other_contract_is_refused :
-    refusal (read_deal bet (file (line_1 ∷ line_2
+    refusal (read_deal accepting bet (file (line_1 ∷ line_2
     ∷ codes "key B:1:r.0:A 03880380f4fe91faca6db3387f5c981c02fee0dbae9278e8dcf2e0769b15457907" ∷ line_4 ∷ line_5 ∷ line_6
     ∷ line_7 ∷ line_8 ∷ line_9 ∷ line_10 ∷ line_11 ∷ [])))
     ≡ line (codes "deal refused line 3 foreign") ([])
@@ -207,43 +218,47 @@ unfolding digits label_text
 other_contract_is_refused = refl
 
 pub foreign_before_value_is_refused :
-    refusal (read_deal bet (file (line_1 ∷ line_2 ∷ codes "key B:0:r.9:A .." ∷ line_4 ∷ line_5 ∷ line_6 ∷ line_7 ∷ line_8
+    refusal (read_deal accepting bet (file (line_1 ∷ line_2 ∷ codes "key B:0:r.9:A .." ∷ line_4 ∷ line_5 ∷ line_6 ∷ line_7 ∷ line_8
     ∷ line_9 ∷ line_10 ∷ line_11 ∷ [])))
     ≡ line (codes "deal refused line 3 foreign") ([])
 unfolding digits label_text
 foreign_before_value_is_refused = refl
 
 pub no_compressed_key_is_refused :
-    refusal (read_deal bet (file (codes "key D:A 04913ffe7036ec1cefec5d4589d0c2e8e7b6a300c97e0a106cd9624f149bcda7f5" ∷ line_2
+    refusal (read_deal accepting bet (file (codes "key D:A 04913ffe7036ec1cefec5d4589d0c2e8e7b6a300c97e0a106cd9624f149bcda7f5" ∷ line_2
     ∷ line_3 ∷ line_4 ∷ line_5 ∷ line_6 ∷ line_7 ∷ line_8 ∷ line_9 ∷ line_10 ∷ line_11 ∷ [])))
     ≡ line (codes "deal refused line 1 value") ([])
 unfolding digits label_text
 no_compressed_key_is_refused = refl
 
 pub key_too_short_is_refused :
-    refusal (read_deal bet (file (line_1 ∷ line_2 ∷ line_3
+    refusal (read_deal accepting bet (file (line_1 ∷ line_2 ∷ line_3
     ∷ codes "key B:0:r.0:B 023c24fce1010225fd96c5407ef8f06e3a5bae1e6b8f3449ef2085634b3e148b" ∷ line_5 ∷ line_6 ∷ line_7 ∷ line_8
     ∷ line_9 ∷ line_10 ∷ line_11 ∷ [])))
     ≡ line (codes "deal refused line 4 value") ([])
 unfolding digits label_text
 key_too_short_is_refused = refl
 
+pub no_point_is_refused : refusal (read_deal refusing bet bet_file) ≡ line (codes "deal refused line 2 value") ([])
+unfolding digits label_text
+no_point_is_refused = refl
+
 pub output_number_too_great_is_refused :
-    refusal (read_deal bet (file (line_1 ∷ line_2 ∷ line_3 ∷ line_4 ∷ line_5 ∷ line_6 ∷ line_7 ∷ line_8 ∷ line_9
+    refusal (read_deal accepting bet (file (line_1 ∷ line_2 ∷ line_3 ∷ line_4 ∷ line_5 ∷ line_6 ∷ line_7 ∷ line_8 ∷ line_9
     ∷ codes "deposit y 6b8fae22b3d8cef3f23d00741edc38e743d3830b33a353976f6a5fea9172aae2 4294967296" ∷ line_11 ∷ [])))
     ≡ line (codes "deal refused line 10 value") ([])
 unfolding digits label_text
 output_number_too_great_is_refused = refl
 
 pub repeated_is_refused :
-    refusal (read_deal bet (file (line_1 ∷ line_2 ∷ line_3 ∷ line_4 ∷ line_5 ∷ line_6 ∷ line_7 ∷ line_8 ∷ line_9 ∷ line_10
+    refusal (read_deal accepting bet (file (line_1 ∷ line_2 ∷ line_3 ∷ line_4 ∷ line_5 ∷ line_6 ∷ line_7 ∷ line_8 ∷ line_9 ∷ line_10
     ∷ line_11 ∷ line_2 ∷ [])))
     ≡ line (codes "deal refused line 12 repeated 2") ([])
 unfolding digits label_text
 repeated_is_refused = refl
 
 pub shared_key_is_refused :
-    refusal (read_deal bet (file (line_1 ∷ line_2 ∷ line_3 ∷ line_4 ∷ line_5
+    refusal (read_deal accepting bet (file (line_1 ∷ line_2 ∷ line_3 ∷ line_4 ∷ line_5
     ∷ codes "key B:0:r.0.0:B 03BA15C3D41F9A0004B4F0E9F93716DC85AB600A158E90D0639F364AB04C766F21" ∷ line_7 ∷ line_8 ∷ line_9
     ∷ line_10 ∷ line_11 ∷ [])))
     ≡ line (codes "deal refused line 6 shared 2") ([])
@@ -251,33 +266,33 @@ unfolding digits label_text
 shared_key_is_refused = refl
 
 pub shared_place_is_refused :
-    refusal (read_deal bet (file (line_1 ∷ line_2 ∷ line_3 ∷ line_4 ∷ line_5 ∷ line_6 ∷ line_7 ∷ line_8 ∷ line_9
+    refusal (read_deal accepting bet (file (line_1 ∷ line_2 ∷ line_3 ∷ line_4 ∷ line_5 ∷ line_6 ∷ line_7 ∷ line_8 ∷ line_9
     ∷ codes "deposit y c7d1ca1a29278ff9aa4d23bed0d2f777b570582f3a1ff735b4272fdeb4707691 0" ∷ line_11 ∷ [])))
     ≡ line (codes "deal refused line 10 shared 9") ([])
 unfolding digits label_text
 shared_place_is_refused = refl
 
 pub no_key_given_is_refused :
-    refusal (read_deal bet (file (line_1 ∷ line_2 ∷ line_3 ∷ line_4 ∷ line_6 ∷ line_7 ∷ line_8 ∷ line_9 ∷ line_10 ∷ line_11
+    refusal (read_deal accepting bet (file (line_1 ∷ line_2 ∷ line_3 ∷ line_4 ∷ line_6 ∷ line_7 ∷ line_8 ∷ line_9 ∷ line_10 ∷ line_11
     ∷ [])))
     ≡ line (codes "deal refused missing key B:0:r.0.0:A") ([])
 unfolding digits label_text
 no_key_given_is_refused = refl
 
 pub no_deposit_given_is_refused :
-    refusal (read_deal bet (file (line_1 ∷ line_2 ∷ line_3 ∷ line_4 ∷ line_5 ∷ line_6 ∷ line_7 ∷ line_8 ∷ line_9 ∷ [])))
+    refusal (read_deal accepting bet (file (line_1 ∷ line_2 ∷ line_3 ∷ line_4 ∷ line_5 ∷ line_6 ∷ line_7 ∷ line_8 ∷ line_9 ∷ [])))
     ≡ line (codes "deal refused missing deposit y") ([])
 unfolding digits label_text
 no_deposit_given_is_refused = refl
 
 pub no_hash_given_is_refused :
-    refusal (read_deal bet (file (line_1 ∷ line_2 ∷ line_3 ∷ line_4 ∷ line_5 ∷ line_6 ∷ line_7 ∷ line_8 ∷ line_9 ∷ line_10
+    refusal (read_deal accepting bet (file (line_1 ∷ line_2 ∷ line_3 ∷ line_4 ∷ line_5 ∷ line_6 ∷ line_7 ∷ line_8 ∷ line_9 ∷ line_10
     ∷ [])))
     ≡ line (codes "deal refused missing hash a") ([])
 unfolding digits label_text
 no_hash_given_is_refused = refl
 
-pub nothing_given_is_refused : refusal (read_deal bet (file ([])))
+pub nothing_given_is_refused : refusal (read_deal accepting bet (file ([])))
     ≡ line (codes "deal refused missing key D:A") ([])
 unfolding digits label_text
 nothing_given_is_refused = refl
@@ -304,6 +319,6 @@ turned =
     ∷ codes "03ba15c3d41f9a0004b4f0e9f93716dc85ab600a158e90d0639f364ab04c766f21 " ∷ (13 ∷ []) ∷ (10 ∷ [])
     ∷ codes "key D:A 03913FFE7036EC1CEFEC5D4589D0C2E8E7B6A300C97E0A106CD9624F149BCDA7F5" ∷ [])
 
-pub order_and_layout_are_free : read_deal bet turned ≡ read_deal bet bet_file
+pub order_and_layout_are_free : read_deal accepting bet turned ≡ read_deal accepting bet bet_file
 unfolding digits label_text
 order_and_layout_are_free = refl

@@ -1,7 +1,8 @@
 -- Worked files of signatures, each by computation alone: signatures of the least numbers, with the keys of no wallet.
 use Rattle.std.proofs.Common.{◌≡◌, ℕ, List, [], ◌∷◌, ◌++◌, refl}
-use Rattle.std.specs.Prelude.{codes, Some, None, Ok, Err}
+use Rattle.std.specs.Prelude.{codes, true, Some, None, Ok, Err}
 use Rattle.std.specs.Fmt.{digits}
+use Rattle.std.specs.Str.{bytes_eq}
 use Rattle.spec_bitcoin.specs.declared.label.Label.TheVariants as labels
 use Rattle.spec_bitcoin.specs.Keys.{label_text}
 use Rattle.spec_bitcoin.specs.Numbers.{item_of_number, signed_bytes}
@@ -21,7 +22,8 @@ use Rattle.spec_tool.specs.Keyed.Listed.{listed_at}
 use Rattle.spec_deal.specs.DealText.{unsigned_psbt}
 use Rattle.spec_deal.specs.RefusedText.{signatures_refused_line}
 use Rattle.spec_deal.specs.SignatureFile.{read_signatures}
-use Rattle.spec_deal.proofs.WorkedFiles.{line, weigh, twin, A}
+use Rattle.spec_deal.specs.Verifier.{Verifier, accepting}
+use Rattle.spec_deal.proofs.WorkedFiles.{refusing, line, weigh, twin, A}
 use Rattle.spec_deal.proofs.WorkedSignatures.{keys, setting, told}
 
 -- a signature of R and S 1, and one of S 2
@@ -58,7 +60,7 @@ signed_by key bytes = init_with (λ input. record input { partial = (key, bytes)
 
 -- what is missing behind a file, or why it is refused
 abbrev answered : List ℕ → List ℕ
-answered text = elim (read_signatures weigh keys (setting twin) text) [
+answered text = elim (read_signatures accepting weigh keys (setting twin) text) [
   | Ok given ↦ told twin given
   | Err fault ↦ signatures_refused_line fault
 ]
@@ -149,3 +151,37 @@ unfolding digits label_text stripped compact position_script item_of_number sign
     base64_text psbt_of psbt_bytes records_at maps_at many wide_at compact_at string_at input_at inputs_at output_at
     outputs_at witness_at witnesses_at plain_at marked_at transaction_at all_at
 other_value = refl
+
+-- ---- signatures that don't verify
+
+pub not_verified : answered_by refusing (signed_by own_key signature)
+    ≡
+    line (codes "signatures refused line 1 invalid 0") ([])
+unfolding digits label_text stripped compact position_script item_of_number signed_bytes base64_bytes
+    base64_text psbt_of psbt_bytes records_at maps_at many wide_at compact_at string_at input_at inputs_at output_at
+    outputs_at witness_at witnesses_at plain_at marked_at transaction_at all_at
+not_verified = refl
+
+pub not_verified_in_a_final_witness : answered_by refusing (init_with (λ input. record input { witness = Some (signature ∷ own_script ∷ []) }))
+    ≡
+    line (codes "signatures refused line 1 invalid 0") ([])
+unfolding digits label_text stripped compact position_script item_of_number signed_bytes base64_bytes
+    base64_text psbt_of psbt_bytes records_at maps_at many wide_at compact_at string_at input_at inputs_at output_at
+    outputs_at witness_at witnesses_at plain_at marked_at transaction_at all_at
+not_verified_in_a_final_witness = refl
+
+pub not_verified_before_conflict : answered_by choosing (signed_by own_key signature ++ 10 ∷ signed_by own_key other_signature)
+    ≡
+    line (codes "signatures refused line 3 invalid 0") ([])
+unfolding digits label_text stripped compact position_script item_of_number signed_bytes base64_bytes
+    base64_text psbt_of psbt_bytes records_at maps_at many wide_at compact_at string_at input_at inputs_at output_at
+    outputs_at witness_at witnesses_at plain_at marked_at transaction_at all_at
+not_verified_before_conflict = refl
+
+pub shape_before_not_verified : answered_by refusing (signed_by own_key [])
+    ≡
+    line (codes "signatures refused line 1 signature 0") ([])
+unfolding digits label_text stripped compact position_script item_of_number signed_bytes base64_bytes
+    base64_text psbt_of psbt_bytes records_at maps_at many wide_at compact_at string_at input_at inputs_at output_at
+    outputs_at witness_at witnesses_at plain_at marked_at transaction_at all_at
+shape_before_not_verified = refl

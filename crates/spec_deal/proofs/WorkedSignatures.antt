@@ -26,6 +26,7 @@ use Rattle.spec_deal.specs.declared.entry.Shown.{Shown}
 use Rattle.spec_terms.specs.declared.path.PathStep.TheVariants.{Branch as To}
 use Rattle.spec_deal.specs.RefusedText.{finish_refused_line, signatures_refused_line}
 use Rattle.spec_deal.specs.SignatureFile.{read_signatures}
+use Rattle.spec_deal.specs.Verifier.{accepting}
 use Rattle.spec_deal.specs.Slots.{Slot, slots, slot_bytes, slot_key}
 use Rattle.spec_deal.proofs.WorkedFiles.{line, weigh, bet, twin, put, pair, a, x, y, z}
 
@@ -217,7 +218,7 @@ init_before_the_other = refl
 
 -- why a file of signatures of bet is refused
 abbrev pub file_refusal : List ℕ → List ℕ
-file_refusal text = elim (read_signatures weigh keys (setting bet) text) [
+file_refusal text = elim (read_signatures accepting weigh keys (setting bet) text) [
   | Ok signed ↦ []
   | Err fault ↦ signatures_refused_line fault
 ]
@@ -234,7 +235,7 @@ pub cut_short : file_refusal (codes "cHNidP8")
 unfolding digits label_text stripped compact position_script item_of_number signed_bytes base64_bytes
 cut_short = refl
 
-pub empty_file : read_signatures weigh keys (setting bet) []
+pub empty_file : read_signatures accepting weigh keys (setting bet) []
     ≡
     Ok []
 unfolding digits label_text stripped compact position_script item_of_number signed_bytes base64_bytes
@@ -255,7 +256,7 @@ unfolding digits label_text stripped compact position_script item_of_number sign
     outputs_at witness_at witnesses_at plain_at marked_at transaction_at all_at
 front_alone = refl
 
-pub nothing_in_it : read_signatures weigh keys (setting twin) (one_line twin)
+pub nothing_in_it : read_signatures accepting weigh keys (setting twin) (one_line twin)
     ≡
     Ok []
 unfolding digits label_text stripped compact position_script item_of_number signed_bytes base64_bytes

@@ -57,6 +57,7 @@ use Rattle.spec_deal.specs.declared.entry.Shown.{Shown}
 use Rattle.spec_deal.specs.SecretFile.{SecretsRead, shows, refused, collided, read_secrets}
 use Rattle.spec_deal.specs.Setting.{deal_keys, deal_instance}
 use Rattle.spec_deal.specs.SignatureFile.{read_signatures}
+use Rattle.spec_deal.specs.Verifier.{Verifier}
 
 -- ---- the contract
 
@@ -98,14 +99,14 @@ with_deal hash answer advert (Err fault) = deal_refused fault
 with_deal hash answer advert (Ok deal) = compiled hash answer (deal_keys deal) (deal_instance advert deal)
 
 -- the deal of a file, or why it is refused before it is compiled
-abbrev pub deal_in : Advert → Text → Result Deal DealFault
-deal_in advert None = Err deal_faults.Size
-deal_in advert (Some text) = read_deal advert text
+abbrev pub deal_in : Verifier → Advert → Text → Result Deal DealFault
+deal_in v advert None = Err deal_faults.Size
+deal_in v advert (Some text) = read_deal v advert text
 
 -- what is answered of the contract of the first file and the deal of the second
-abbrev pub of_deal : (List ℕ → List ℕ) → (Keys → Instance → Printed) → List Text → Printed
-of_deal hash answer texts =
-    with_advert (λ advert. with_deal hash answer advert (deal_in advert (text_at texts 1))) (contract_in (text_at texts 0))
+abbrev pub of_deal : Verifier → (List ℕ → List ℕ) → (Keys → Instance → Printed) → List Text → Printed
+of_deal v hash answer texts =
+    with_advert (λ advert. with_deal hash answer advert (deal_in v advert (text_at texts 1))) (contract_in (text_at texts 0))
 
 -- ---- one of its transactions
 
@@ -127,13 +128,13 @@ with_signatures answer (Ok given) = answer given
 with_signatures answer (Err fault) = prints 14 (signatures_refused_line fault)
 
 -- the signatures of a file, or why it is refused
-abbrev pub signatures_in : (List ℕ → List ℕ) → Keys → Instance → Text → Result (List Signed) SignatureFault
-signatures_in hash keys s None = Err signature_faults.Size
-signatures_in hash keys s (Some text) = read_signatures hash keys s text
+abbrev pub signatures_in : Verifier → (List ℕ → List ℕ) → Keys → Instance → Text → Result (List Signed) SignatureFault
+signatures_in v hash keys s None = Err signature_faults.Size
+signatures_in v hash keys s (Some text) = read_signatures v hash keys s text
 
 -- what is answered of the signatures of a file
-abbrev pub of_signatures : (List ℕ → List ℕ) → (Keys → Instance → List Signed → Printed) → Text → Keys → Instance → Printed
-of_signatures hash answer text keys s = with_signatures (answer keys s) (signatures_in hash keys s text)
+abbrev pub of_signatures : Verifier → (List ℕ → List ℕ) → (Keys → Instance → List Signed → Printed) → Text → Keys → Instance → Printed
+of_signatures v hash answer text keys s = with_signatures (answer keys s) (signatures_in v hash keys s text)
 
 -- ---- secrets
 
@@ -159,43 +160,43 @@ finished_answer hash keys s l given strings =
     unless_refused (finish_refusal hash keys s given strings l) (spelling (finished hash keys s given strings l))
 
 -- without a file of secrets there are none
-abbrev pub finish_answer : (List ℕ → List ℕ) → Text → Keys → Instance → Listed → Printed
-finish_answer hash signatures keys s l =
-    with_signatures (λ given. finished_answer hash keys s l given []) (signatures_in hash keys s signatures)
+abbrev pub finish_answer : Verifier → (List ℕ → List ℕ) → Text → Keys → Instance → Listed → Printed
+finish_answer v hash signatures keys s l =
+    with_signatures (λ given. finished_answer hash keys s l given []) (signatures_in v hash keys s signatures)
 
-abbrev pub finish_with_answer : (List ℕ → List ℕ) → Text → Text → Keys → Instance → Listed → Printed
-finish_with_answer hash signatures secrets keys s l =
+abbrev pub finish_with_answer : Verifier → (List ℕ → List ℕ) → Text → Text → Keys → Instance → Listed → Printed
+finish_with_answer v hash signatures secrets keys s l =
     with_signatures (λ given. with_secrets (λ strings. finished_answer hash keys s l given strings) (secrets_in hash keys s secrets))
-    (signatures_in hash keys s signatures)
+    (signatures_in v hash keys s signatures)
 
 -- ---- all commands
 
 -- what a command answers to the texts of its files
-abbrev pub deal_text_answer : (List ℕ → List ℕ) → DealCommand → List Text → Printed
-deal_text_answer hash (commands.keys contract) texts = with_advert (λ advert. prints 0 (keys_text advert)) (contract_in (text_at texts 0))
-deal_text_answer hash (commands.plan contract deal) texts = of_deal hash (λ keys s. prints 0 (plan_text hash keys s)) texts
-deal_text_answer hash (commands.psbts contract deal) texts = of_deal hash (λ keys s. prints 0 (psbts_text hash keys s)) texts
-deal_text_answer hash (commands.psbt contract deal which) texts =
-    of_deal hash (of_transaction hash which (λ keys s l. prints 0 (psbt_line (unsigned_psbt hash l)))) texts
-deal_text_answer hash (commands.missing contract deal signatures) texts =
-    of_deal hash (of_signatures hash (λ keys s given. prints 0 (missing_text hash keys s given)) (text_at texts 2)) texts
-deal_text_answer hash (commands.held contract deal signatures) texts =
-    of_deal hash (of_signatures hash (λ keys s given. prints 0 (held_text hash keys s given)) (text_at texts 2)) texts
-deal_text_answer hash (commands.finish contract deal which signatures) texts =
-    of_deal hash (of_transaction hash which (finish_answer hash (text_at texts 2))) texts
-deal_text_answer hash (commands.finish_with contract deal which signatures secrets) texts =
-    of_deal hash (of_transaction hash which (finish_with_answer hash (text_at texts 2) (text_at texts 3))) texts
+abbrev pub deal_text_answer : Verifier → (List ℕ → List ℕ) → DealCommand → List Text → Printed
+deal_text_answer v hash (commands.keys contract) texts = with_advert (λ advert. prints 0 (keys_text advert)) (contract_in (text_at texts 0))
+deal_text_answer v hash (commands.plan contract deal) texts = of_deal v hash (λ keys s. prints 0 (plan_text hash keys s)) texts
+deal_text_answer v hash (commands.psbts contract deal) texts = of_deal v hash (λ keys s. prints 0 (psbts_text hash keys s)) texts
+deal_text_answer v hash (commands.psbt contract deal which) texts =
+    of_deal v hash (of_transaction hash which (λ keys s l. prints 0 (psbt_line (unsigned_psbt hash l)))) texts
+deal_text_answer v hash (commands.missing contract deal signatures) texts =
+    of_deal v hash (of_signatures v hash (λ keys s given. prints 0 (missing_text hash keys s given)) (text_at texts 2)) texts
+deal_text_answer v hash (commands.held contract deal signatures) texts =
+    of_deal v hash (of_signatures v hash (λ keys s given. prints 0 (held_text hash keys s given)) (text_at texts 2)) texts
+deal_text_answer v hash (commands.finish contract deal which signatures) texts =
+    of_deal v hash (of_transaction hash which (finish_answer v hash (text_at texts 2))) texts
+deal_text_answer v hash (commands.finish_with contract deal which signatures secrets) texts =
+    of_deal v hash (of_transaction hash which (finish_with_answer v hash (text_at texts 2) (text_at texts 3))) texts
 
-abbrev pub deal_read_answer : (List ℕ → List ℕ) → DealCommand → Option (List Text) → Printed
-deal_read_answer hash command None = unread
-deal_read_answer hash command (Some texts) = deal_text_answer hash command texts
+abbrev pub deal_read_answer : Verifier → (List ℕ → List ℕ) → DealCommand → Option (List Text) → Printed
+deal_read_answer v hash command None = unread
+deal_read_answer v hash command (Some texts) = deal_text_answer v hash command texts
 
 -- ---- the call
 
 -- what words answer to the reads of their files, in order up to the first that failed; those that are no command read nothing
-abbrev pub deal_answer : (List ℕ → List ℕ) → Option DealCommand → List Read → Printed
-deal_answer hash None reads = usage
-deal_answer hash (Some command) reads = deal_read_answer hash command (texts_read reads)
+abbrev pub deal_answer : Verifier → (List ℕ → List ℕ) → Option DealCommand → List Read → Printed
+deal_answer v hash None reads = usage
+deal_answer v hash (Some command) reads = deal_read_answer v hash command (texts_read reads)
 
 -- whether these are the reads of these words
 abbrev pub deal_reads : Option DealCommand → List Read → Bool

@@ -25,6 +25,7 @@ use Rattle.spec_deal.specs.declared.fault.DealFault.TheVariants as faults
 use Rattle.spec_deal.specs.Sizes.{most_deal_bytes}
 use Rattle.spec_deal.specs.Needed.{needed, needed_labels, needed_deposits, needed_secrets, same_needed}
 use Rattle.spec_deal.specs.Setting.{no_key}
+use Rattle.spec_deal.specs.Verifier.{Verifier}
 
 -- ---- what a line gives
 
@@ -41,13 +42,17 @@ same_value (hash a) (place b) = false
 
 -- ---- words
 
--- a compressed public key: 33 bytes, the first 02 or 03
-abbrev pub is_key : List ℕ → Bool
-is_key [] = false
-is_key (b ∷ bytes) = (b == 2 || b == 3) && (length (b ∷ bytes) == key_bytes)
+-- the form of a compressed public key: 33 bytes, the first 02 or 03
+abbrev pub is_compressed : List ℕ → Bool
+is_compressed [] = false
+is_compressed (b ∷ bytes) = (b == 2 || b == 3) && (length (b ∷ bytes) == key_bytes)
 
-abbrev pub key_of_word : List ℕ → Option Value
-key_of_word word = read_hex word >>= λ bytes. given (is_key bytes) (key bytes)
+-- a key has that form and spells a point
+abbrev pub is_key : Verifier → List ℕ → Bool
+is_key v bytes = is_compressed bytes && v.is_point bytes
+
+abbrev pub key_of_word : Verifier → List ℕ → Option Value
+key_of_word v word = read_hex word >>= λ bytes. given (is_key v bytes) (key bytes)
 
 -- a txid as wallets show it, with its bytes reversed, and the number of an output
 abbrev pub place_of_words : List ℕ → List ℕ → Option Value
@@ -89,10 +94,10 @@ abbrev pub with_needed : List Entry → ℕ → Option Needed → Option Value �
 with_needed entries n None value = bad reasons.Foreign
 with_needed entries n (Some what) value = with_value entries n what value
 
-abbrev pub key_line : Advert → List Entry → ℕ → List (List ℕ) → Line
-key_line advert entries n (word ∷ value ∷ []) =
-    with_needed entries n (option_map needs.Key (label_of_word advert word)) (key_of_word value)
-key_line advert entries n _ = bad reasons.Form
+abbrev pub key_line : Verifier → Advert → List Entry → ℕ → List (List ℕ) → Line
+key_line v advert entries n (word ∷ value ∷ []) =
+    with_needed entries n (option_map needs.Key (label_of_word advert word)) (key_of_word v value)
+key_line v advert entries n _ = bad reasons.Form
 
 abbrev pub deposit_line : Advert → List Entry → ℕ → List (List ℕ) → Line
 deposit_line advert entries n (word ∷ txid ∷ vout ∷ []) =
@@ -105,21 +110,21 @@ hash_line advert entries n (word ∷ value ∷ []) =
 hash_line advert entries n _ = bad reasons.Form
 
 -- what the words of line n say behind these entries
-abbrev pub line_says : Advert → List Entry → ℕ → List (List ℕ) → Line
-line_says advert entries n [] = empty
-line_says advert entries n (word ∷ words) =
-    if bytes_eq word (codes "key") then key_line advert entries n words
+abbrev pub line_says : Verifier → Advert → List Entry → ℕ → List (List ℕ) → Line
+line_says v advert entries n [] = empty
+line_says v advert entries n (word ∷ words) =
+    if bytes_eq word (codes "key") then key_line v advert entries n words
     else if bytes_eq word (codes "deposit") then deposit_line advert entries n words
     else if bytes_eq word (codes "hash") then hash_line advert entries n words
     else bad reasons.Form
 
 -- the entries of the lines from number n on, behind those that came before; or the first bad line
-abbrev pub read_entries : Advert → List Entry → ℕ → List (List ℕ) → Result (List Entry) DealFault
-read_entries advert entries n [] = Ok entries
-read_entries advert entries n (line ∷ lines) = elim (line_says advert entries n (words_of line)) [
-  | empty ↦ read_entries advert entries (n + 1) lines
+abbrev pub read_entries : Verifier → Advert → List Entry → ℕ → List (List ℕ) → Result (List Entry) DealFault
+read_entries v advert entries n [] = Ok entries
+read_entries v advert entries n (line ∷ lines) = elim (line_says v advert entries n (words_of line)) [
+  | empty ↦ read_entries v advert entries (n + 1) lines
   | bad reason ↦ Err (faults.Line n reason)
-  | gives e ↦ read_entries advert (entries ++ e ∷ []) (n + 1) lines
+  | gives e ↦ read_entries v advert (entries ++ e ∷ []) (n + 1) lines
 ]
 
 -- ---- the deal
@@ -177,6 +182,6 @@ deal_judged advert (Err fault) = Err fault
 deal_judged advert (Ok entries) = whole_deal advert entries (first_missing advert entries)
 
 -- the deal that a text gives to a contract, or why it is refused before anything is compiled
-abbrev pub read_deal : Advert → List ℕ → Result Deal DealFault
-read_deal advert text =
-    if nat_lt most_deal_bytes (length text) then Err faults.Size else deal_judged advert (read_entries advert [] 1 (lines_of text))
+abbrev pub read_deal : Verifier → Advert → List ℕ → Result Deal DealFault
+read_deal v advert text =
+    if nat_lt most_deal_bytes (length text) then Err faults.Size else deal_judged advert (read_entries v advert [] 1 (lines_of text))

@@ -1,4 +1,5 @@
 pub mod Sizes
+pub mod Verifier
 pub mod Needed
 pub mod Setting
 pub mod DealFile

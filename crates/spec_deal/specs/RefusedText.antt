@@ -51,6 +51,7 @@ signature_reason_words (signature_reasons.Script k) = codes "script" ∷ decimal
 signature_reason_words (signature_reasons.Witness k) = codes "witness" ∷ decimal k ∷ []
 signature_reason_words (signature_reasons.Key k) = codes "key" ∷ decimal k ∷ []
 signature_reason_words (signature_reasons.Signature k) = codes "signature" ∷ decimal k ∷ []
+signature_reason_words (signature_reasons.Invalid k) = codes "invalid" ∷ decimal k ∷ []
 signature_reason_words (signature_reasons.Conflict k) = codes "conflict" ∷ decimal k ∷ []
 
 abbrev pub signature_fault_words : SignatureFault → List (List ℕ)

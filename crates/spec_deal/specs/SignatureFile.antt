@@ -1,7 +1,7 @@
 -- Files of signatures: what wallets signed, as partially signed transactions by BIP 174, a line each; or why a file is refused.
-use Rattle.std.specs.Prelude.{ℕ, ◌+◌, List, [], ◌∷◌, ◌++◌, length, take, drop, Bool, true, false, not, ◌&&◌, ◌==◌, nat_lt}
+use Rattle.std.specs.Prelude.{ℕ, ◌+◌, List, [], ◌∷◌, ◌++◌, length, take, drop, Bool, true, false, not, ◌&&◌, ◌||◌, ◌==◌, nat_lt}
 use Rattle.std.specs.Prelude.{if◌then◌else◌, Option, Some, None, Result, Ok, Err}
-use Rattle.std.specs.List.{find, list_any}
+use Rattle.std.specs.List.{find, list_any, list_all}
 use Rattle.std.specs.Str.{bytes_eq}
 use Rattle.spec_bitcoin.specs.declared.tx.TxOut.{TxOut}
 use Rattle.spec_bitcoin.specs.Keys.{key_bytes, deposit_script}
@@ -23,7 +23,8 @@ use Rattle.spec_deal.specs.Sizes.{most_signature_bytes}
 use Rattle.spec_deal.specs.Shape.{is_strict}
 use Rattle.spec_deal.specs.declared.transaction.Input.{Input}
 use Rattle.spec_deal.specs.declared.transaction.Transaction.{Transaction}
-use Rattle.spec_deal.specs.Transactions.{Spot, spots, is_at, transactions}
+use Rattle.spec_deal.specs.Transactions.{Wanted, all_wanted, is_at, transactions}
+use Rattle.spec_deal.specs.Verifier.{Verifier}
 
 -- the signatures so far, or why a line is bad
 abbrev pub Taken : Type 0
@@ -35,24 +36,46 @@ Taken = Result (List Signed) SignatureReason
 abbrev pub same_place : Signed → Signed → Bool
 same_place a b = bytes_eq a.tx b.tx && (a.input == b.input && bytes_eq a.key b.key)
 
--- the same signature may come again
-abbrev pub taken_once : List Signed → Signed → Option Signed → Taken
-taken_once given g None = Ok (given ++ g ∷ [])
-taken_once given g (Some earlier) = if bytes_eq earlier.signature g.signature then Ok given else Err (reasons.Conflict g.input)
+-- whether a transaction with these bytes needs a signature there by this key
+abbrev pub is_wanted : List Wanted → Signed → Bool
+is_wanted wanted g = list_any (λ (w : Wanted). is_at w.spot g) wanted
 
--- one more signature: for a key that a transaction with these bytes needs there, of the right shape, and no other than an earlier one
-abbrev pub take_signature : List Spot → List Signed → Signed → Taken
-take_signature wanted given g =
-    if not (list_any (λ spot. is_at spot g) wanted) then Err (reasons.Key g.input)
+-- whether it verifies under its key for this digest, if it is wanted here
+abbrev pub verifies_if : Verifier → Signed → Wanted → Bool
+verifies_if v g w = not (is_at w.spot g) || v.is_signature g.key w.digest g.signature
+
+-- whether it verifies for the digest of each transaction that needs it there
+abbrev pub is_verified : Verifier → List Wanted → Signed → Bool
+is_verified v wanted g = list_all (verifies_if v g) wanted
+
+-- no signature of this place was given: it is taken where it verifies
+abbrev pub taken_first : Bool → List Signed → Signed → Taken
+taken_first verified given g = if verified then Ok (given ++ g ∷ []) else Err (reasons.Invalid g.input)
+
+-- another was given
+abbrev pub refused_second : Bool → Signed → Taken
+refused_second verified g = if verified then Err (reasons.Conflict g.input) else Err (reasons.Invalid g.input)
+
+-- the same signature may come again
+abbrev pub taken_once : Bool → List Signed → Signed → Option Signed → Taken
+taken_once verified given g None = taken_first verified given g
+taken_once verified given g (Some earlier) =
+    if bytes_eq earlier.signature g.signature then Ok given else refused_second verified g
+
+-- one more signature: for a key that a transaction with these bytes needs there, of the right shape, one that verifies, and no other than
+-- an earlier one
+abbrev pub take_signature : Verifier → List Wanted → List Signed → Signed → Taken
+take_signature v wanted given g =
+    if not (is_wanted wanted g) then Err (reasons.Key g.input)
     else if not (is_strict g.signature) then Err (reasons.Signature g.input)
-    else taken_once given g (find (λ earlier. same_place earlier g) given)
+    else taken_once (is_verified v wanted g) given g (find (λ earlier. same_place earlier g) given)
 
 -- the signatures of input k in order
-abbrev pub take_signatures : List Spot → List ℕ → ℕ → List Signed → List Pairing → Taken
-take_signatures wanted tx k given [] = Ok given
-take_signatures wanted tx k given (p ∷ ps) =
-    elim (take_signature wanted given (record { tx = tx; input = k; key = p.0; signature = p.1 })) [
-      | Ok more ↦ take_signatures wanted tx k more ps
+abbrev pub take_signatures : Verifier → List Wanted → List ℕ → ℕ → List Signed → List Pairing → Taken
+take_signatures v wanted tx k given [] = Ok given
+take_signatures v wanted tx k given (p ∷ ps) =
+    elim (take_signature v wanted given (record { tx = tx; input = k; key = p.0; signature = p.1 })) [
+      | Ok more ↦ take_signatures v wanted tx k more ps
       | Err reason ↦ Err reason
     ]
 
@@ -88,20 +111,20 @@ final_signature script (Some []) = []
 final_signature script (Some (signature ∷ items)) = (script_key script, signature) ∷ []
 
 -- an input: its records first, then its signatures in ascending order of their keys, then that of its final witness
-abbrev pub take_input : List Spot → List ℕ → ℕ → List Signed → Input → PsbtInput → Taken
-take_input wanted tx k given i input =
+abbrev pub take_input : Verifier → List Wanted → List ℕ → ℕ → List Signed → Input → PsbtInput → Taken
+take_input v wanted tx k given i input =
     if not (spent_fits i.output input.spent) then Err (reasons.Spent k)
     else if not (script_fits i.spent.script input.script) then Err (reasons.Script k)
     else if not (witness_fits i.spent.script input.witness) then Err (reasons.Witness k)
-    else take_signatures wanted tx k given (input.partial ++ final_signature i.spent.script input.witness)
+    else take_signatures v wanted tx k given (input.partial ++ final_signature i.spent.script input.witness)
 
 -- the inputs from number k on
-abbrev pub take_inputs : List Spot → List ℕ → ℕ → List Signed → List Input → List PsbtInput → Taken
-take_inputs wanted tx k given [] said = Ok given
-take_inputs wanted tx k given (i ∷ is) [] = Ok given
-take_inputs wanted tx k given (i ∷ is) (input ∷ said) =
-    elim (take_input wanted tx k given i input) [
-      | Ok more ↦ take_inputs wanted tx (k + 1) more is said
+abbrev pub take_inputs : Verifier → List Wanted → List ℕ → ℕ → List Signed → List Input → List PsbtInput → Taken
+take_inputs v wanted tx k given [] said = Ok given
+take_inputs v wanted tx k given (i ∷ is) [] = Ok given
+take_inputs v wanted tx k given (i ∷ is) (input ∷ said) =
+    elim (take_input v wanted tx k given i input) [
+      | Ok more ↦ take_inputs v wanted tx (k + 1) more is said
       | Err reason ↦ Err reason
     ]
 
@@ -111,38 +134,38 @@ take_inputs wanted tx k given (i ∷ is) (input ∷ said) =
 abbrev pub has_bytes : List ℕ → Transaction → Bool
 has_bytes bytes t = bytes_eq t.bytes bytes
 
-abbrev pub take_transaction : List Spot → List Signed → Psbt → Option Transaction → Taken
-take_transaction wanted given p None = Err reasons.Foreign
-take_transaction wanted given p (Some t) = take_inputs wanted (stripped p.tx) 0 given t.inputs p.inputs
+abbrev pub take_transaction : Verifier → List Wanted → List Signed → Psbt → Option Transaction → Taken
+take_transaction v wanted given p None = Err reasons.Foreign
+take_transaction v wanted given p (Some t) = take_inputs v wanted (stripped p.tx) 0 given t.inputs p.inputs
 
-abbrev pub take_psbt : List Transaction → List Signed → Option Psbt → Taken
-take_psbt ts given None = Err reasons.Form
-take_psbt ts given (Some p) = take_transaction (spots ts) given p (find (has_bytes (stripped p.tx)) ts)
+abbrev pub take_psbt : Verifier → List Transaction → List Signed → Option Psbt → Taken
+take_psbt v ts given None = Err reasons.Form
+take_psbt v ts given (Some p) = take_transaction v (all_wanted ts) given p (find (has_bytes (stripped p.tx)) ts)
 
-abbrev pub take_bytes : List Transaction → List Signed → Option (List ℕ) → Taken
-take_bytes ts given None = Err reasons.Base64
-take_bytes ts given (Some bytes) = take_psbt ts given (psbt_of bytes)
+abbrev pub take_bytes : Verifier → List Transaction → List Signed → Option (List ℕ) → Taken
+take_bytes v ts given None = Err reasons.Base64
+take_bytes v ts given (Some bytes) = take_psbt v ts given (psbt_of bytes)
 
 -- the words of a line; a line without words says nothing
-abbrev pub take_words : List Transaction → List Signed → List (List ℕ) → Taken
-take_words ts given [] = Ok given
-take_words ts given (word ∷ []) = take_bytes ts given (base64_bytes word)
-take_words ts given (word ∷ (next ∷ words)) = Err reasons.Base64
+abbrev pub take_words : Verifier → List Transaction → List Signed → List (List ℕ) → Taken
+take_words v ts given [] = Ok given
+take_words v ts given (word ∷ []) = take_bytes v ts given (base64_bytes word)
+take_words v ts given (word ∷ (next ∷ words)) = Err reasons.Base64
 
 -- ---- a file
 
 -- the lines from number n on
-abbrev pub take_lines : List Transaction → List Signed → ℕ → List (List ℕ) → Result (List Signed) SignatureFault
-take_lines ts given n [] = Ok given
-take_lines ts given n (line ∷ lines) = elim (take_words ts given (words_of line)) [
-  | Ok more ↦ take_lines ts more (n + 1) lines
+abbrev pub take_lines : Verifier → List Transaction → List Signed → ℕ → List (List ℕ) → Result (List Signed) SignatureFault
+take_lines v ts given n [] = Ok given
+take_lines v ts given n (line ∷ lines) = elim (take_words v ts given (words_of line)) [
+  | Ok more ↦ take_lines v ts more (n + 1) lines
   | Err reason ↦ Err (faults.Line n reason)
 ]
 
 -- the signatures that a file gives to these transactions, or why it is refused
-abbrev pub read_given : List Transaction → List ℕ → Result (List Signed) SignatureFault
-read_given ts text = if nat_lt most_signature_bytes (length text) then Err faults.Size else take_lines ts [] 1 (lines_of text)
+abbrev pub read_given : Verifier → List Transaction → List ℕ → Result (List Signed) SignatureFault
+read_given v ts text = if nat_lt most_signature_bytes (length text) then Err faults.Size else take_lines v ts [] 1 (lines_of text)
 
 -- those that it gives to a deal
-abbrev pub read_signatures : (List ℕ → List ℕ) → Keys → Instance → List ℕ → Result (List Signed) SignatureFault
-read_signatures hash keys s text = read_given (transactions hash keys s) text
+abbrev pub read_signatures : Verifier → (List ℕ → List ℕ) → Keys → Instance → List ℕ → Result (List Signed) SignatureFault
+read_signatures v hash keys s text = read_given v (transactions hash keys s) text

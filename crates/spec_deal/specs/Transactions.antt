@@ -59,21 +59,27 @@ pub record Spot : Type 0 where
   pub input : ℕ
   pub key : List ℕ
 
+-- and of this digest. Two paths may have one transaction, and want a signature by one key of it.
+pub record Wanted : Type 0 where
+  pub spot : Spot
+  pub digest : List ℕ
+
 -- of input k
-abbrev pub input_spots : List ℕ → ℕ → Input → List Spot
-input_spots tx k i = map (λ (s : Signer). record { tx = tx; input = k; key = s.key }) i.signers
+abbrev pub input_wanted : List ℕ → ℕ → Input → List Wanted
+input_wanted tx k i =
+    map (λ (s : Signer). record { spot = record { tx = tx; input = k; key = s.key }; digest = i.digest }) i.signers
 
 -- of the inputs from number k on
-abbrev pub inputs_spots : List ℕ → ℕ → List Input → List Spot
-inputs_spots tx k [] = []
-inputs_spots tx k (i ∷ is) = input_spots tx k i ++ inputs_spots tx (k + 1) is
+abbrev pub inputs_wanted : List ℕ → ℕ → List Input → List Wanted
+inputs_wanted tx k [] = []
+inputs_wanted tx k (i ∷ is) = input_wanted tx k i ++ inputs_wanted tx (k + 1) is
 
-abbrev pub transaction_spots : Transaction → List Spot
-transaction_spots t = inputs_spots t.bytes 0 t.inputs
+abbrev pub transaction_wanted : Transaction → List Wanted
+transaction_wanted t = inputs_wanted t.bytes 0 t.inputs
 
 -- of all transactions, in order
-abbrev pub spots : List Transaction → List Spot
-spots ts = flat_map transaction_spots ts
+abbrev pub all_wanted : List Transaction → List Wanted
+all_wanted ts = flat_map transaction_wanted ts
 
 -- whether a signature is there
 abbrev pub is_at : Spot → Signed → Bool

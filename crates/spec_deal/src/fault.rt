@@ -13,7 +13,7 @@ pub enum DealReason {
     Form,
     /// The contract needs no such label, deposit or secret.
     Foreign,
-    /// The words behind it spell no key, place or hash.
+    /// The words behind it spell no key that is a point, no place or no hash.
     Value,
     /// This line has given the same label, deposit or secret.
     Repeated(u32),
@@ -77,6 +77,8 @@ pub enum SignatureReason {
     Key(u32),
     /// A signature of this input hasn't the right shape.
     Signature(u32),
+    /// A signature of this input doesn't verify under its key.
+    Invalid(u32),
     /// An earlier signature of this input by the same key has other bytes.
     Conflict(u32),
 }

@@ -35,6 +35,7 @@ use Rattle.spec_deal.specs.Hashed.{deal_strings}
 use Rattle.spec_deal.specs.declared.entry.Shown.{Shown}
 use Rattle.spec_deal.specs.SecretFile.{SecretsRead, shows, refused, collided}
 use Rattle.spec_deal.specs.Setting.{deal_keys, deal_instance}
+use Rattle.spec_deal.specs.Verifier.{Verifier}
 use Rattle.theory_deal.proofs.InOrder.{in_order}
 use Rattle.theory_deal.specs.Causes.{deal_statuses, reads_deal, is_refused, is_deal_refused, DealCausesTheorem}
 
@@ -91,7 +92,7 @@ by_circular (Some pair) o printed h = taken_deal (unless_collided (Some pair) (u
 by_circular None None printed h = taken_deal printed h
 by_circular None (Some name) printed h = record { thirteen = (λ e. refl, λ e. refl); any = refl }
 
-module _ (hash : List ℕ → List ℕ) where
+module _ (v : Verifier) (hash : List ℕ → List ℕ) where
   deal_later : (answer : Keys → Instance → Printed) (advert : Advert) (r : Result Deal DealFault)
       → ((keys : Keys) (s : Instance) → IsLater (answer keys s)) → OfDeal (with_deal hash answer advert r) (is_refused hash advert r)
   deal_later answer advert (Err fault) h = record { thirteen = (λ e. refl, λ e. refl); any = refl }
@@ -105,16 +106,16 @@ module _ (hash : List ℕ → List ℕ) where
   finished_later keys s l given strings =
       refusal_later (finish_refusal hash keys s given strings l) (spelling (finished hash keys s given strings l))
 
-  finish_later : (text : Text) (keys : Keys) (s : Instance) (l : Listed) → IsLater (finish_answer hash text keys s l)
-  finish_later text keys s l = signatures_later (λ given. finished_answer hash keys s l given []) (signatures_in hash keys s text)
+  finish_later : (text : Text) (keys : Keys) (s : Instance) (l : Listed) → IsLater (finish_answer v hash text keys s l)
+  finish_later text keys s l = signatures_later (λ given. finished_answer hash keys s l given []) (signatures_in v hash keys s text)
       (λ given. finished_later keys s l given [])
 
   finish_with_later : (text secrets : Text) (keys : Keys) (s : Instance) (l : Listed)
-      → IsLater (finish_with_answer hash text secrets keys s l)
+      → IsLater (finish_with_answer v hash text secrets keys s l)
   finish_with_later text secrets keys s l =
       signatures_later
       (λ given. with_secrets (λ strings. finished_answer hash keys s l given strings) (secrets_in hash keys s secrets))
-      (signatures_in hash keys s text)
+      (signatures_in v hash keys s text)
       (λ given.
       secrets_later (λ strings. finished_answer hash keys s l given strings) (secrets_in hash keys s secrets)
       (λ strings. finished_later keys s l given strings))
@@ -145,7 +146,7 @@ module _ (hash : List ℕ → List ℕ) where
   }
 
   same_refusal : (r : Judged Advert) (text : Text)
-      → is_deal_refused hash r text ≡ elim r [ Ok advert ↦ is_refused hash advert (deal_in advert text) | Err why ↦ false ]
+      → is_deal_refused v hash r text ≡ elim r [ Ok advert ↦ is_refused hash advert (deal_in v advert text) | Err why ↦ false ]
   same_refusal (Ok advert) text = refl
   same_refusal (Err why) text = refl
 
@@ -154,18 +155,18 @@ module _ (hash : List ℕ → List ℕ) where
   none_refused (Err why) = refl
 
   of_deal_begins : (answer : Keys → Instance → Printed) (texts : List Text) → ((keys : Keys) (s : Instance) → IsLater (answer keys s))
-      → Begins (of_deal hash answer texts) (contract_in (text_at texts 0))
-      (is_deal_refused hash (contract_in (text_at texts 0)) (text_at texts 1))
+      → Begins (of_deal v hash answer texts) (contract_in (text_at texts 0))
+      (is_deal_refused v hash (contract_in (text_at texts 0)) (text_at texts 1))
   of_deal_begins answer texts h =
-      begins (λ advert. with_deal hash answer advert (deal_in advert (text_at texts 1)))
-      (λ advert. is_refused hash advert (deal_in advert (text_at texts 1)))
-      (contract_in (text_at texts 0)) (is_deal_refused hash (contract_in (text_at texts 0)) (text_at texts 1))
-      (λ advert. deal_later answer advert (deal_in advert (text_at texts 1)) h)
+      begins (λ advert. with_deal hash answer advert (deal_in v advert (text_at texts 1)))
+      (λ advert. is_refused hash advert (deal_in v advert (text_at texts 1)))
+      (contract_in (text_at texts 0)) (is_deal_refused v hash (contract_in (text_at texts 0)) (text_at texts 1))
+      (λ advert. deal_later answer advert (deal_in v advert (text_at texts 1)) h)
       (same_refusal (contract_in (text_at texts 0)) (text_at texts 1))
 
   text_begins : (command : DealCommand) (texts : List Text)
-      → Begins (deal_text_answer hash command texts) (contract_in (text_at texts 0))
-      (reads_deal command && is_deal_refused hash (contract_in (text_at texts 0)) (text_at texts 1))
+      → Begins (deal_text_answer v hash command texts) (contract_in (text_at texts 0))
+      (reads_deal command && is_deal_refused v hash (contract_in (text_at texts 0)) (text_at texts 1))
   text_begins (commands.keys contract) texts =
       begins (λ advert. prints 0 (keys_text advert)) (λ advert. false) (contract_in (text_at texts 0)) false
       (λ advert. taken_deal (prints 0 (keys_text advert)) refl) (none_refused (contract_in (text_at texts 0)))
@@ -177,47 +178,47 @@ module _ (hash : List ℕ → List ℕ) where
       (λ keys s. there_later (one keys s) which (listed_at hash keys s which) (λ l. refl))
   text_begins (commands.missing contract deal signatures) texts =
       let one : Keys → Instance → List Signed → Printed = λ keys s given. prints 0 (missing_text hash keys s given) in
-      of_deal_begins (of_signatures hash one (text_at texts 2)) texts
-      (λ keys s. signatures_later (one keys s) (signatures_in hash keys s (text_at texts 2)) (λ given. refl))
+      of_deal_begins (of_signatures v hash one (text_at texts 2)) texts
+      (λ keys s. signatures_later (one keys s) (signatures_in v hash keys s (text_at texts 2)) (λ given. refl))
   text_begins (commands.held contract deal signatures) texts =
       let one : Keys → Instance → List Signed → Printed = λ keys s given. prints 0 (held_text hash keys s given) in
-      of_deal_begins (of_signatures hash one (text_at texts 2)) texts
-      (λ keys s. signatures_later (one keys s) (signatures_in hash keys s (text_at texts 2)) (λ given. refl))
+      of_deal_begins (of_signatures v hash one (text_at texts 2)) texts
+      (λ keys s. signatures_later (one keys s) (signatures_in v hash keys s (text_at texts 2)) (λ given. refl))
   text_begins (commands.finish contract deal which signatures) texts =
-      let one = finish_answer hash (text_at texts 2) in
+      let one = finish_answer v hash (text_at texts 2) in
       of_deal_begins (of_transaction hash which one) texts
       (λ keys s. there_later (one keys s) which (listed_at hash keys s which) (finish_later (text_at texts 2) keys s))
   text_begins (commands.finish_with contract deal which signatures secrets) texts =
-      let one = finish_with_answer hash (text_at texts 2) (text_at texts 3) in
+      let one = finish_with_answer v hash (text_at texts 2) (text_at texts 3) in
       of_deal_begins (of_transaction hash which one) texts
       (λ keys s. there_later (one keys s) which (listed_at hash keys s which) (finish_with_later (text_at texts 2)
       (text_at texts 3) keys s))
 
   -- ---- reads and words
 
-  unread_by : (command : DealCommand) (o : Option (List Text)) → ((deal_read_answer hash command o).status ≡ 3) ↔ (o ≡ None)
+  unread_by : (command : DealCommand) (o : Option (List Text)) → ((deal_read_answer v hash command o).status ≡ 3) ↔ (o ≡ None)
   unread_by command None = (λ e. refl, λ e. refl)
   unread_by command (Some texts) = (
     λ e. absurd (false≢true (subst (λ (n : ℕ). has_number n deal_statuses ≡ true) e (text_begins command texts).any)),
     λ e. cc,
   )
 
-  no_usage : (command : DealCommand) (o : Option (List Text)) → (deal_read_answer hash command o).status ≡ 2 → ⊥
+  no_usage : (command : DealCommand) (o : Option (List Text)) → (deal_read_answer v hash command o).status ≡ 2 → ⊥
   no_usage command None e = absurd (omega (arith, e))
   no_usage command (Some texts) e =
       false≢true (subst (λ (n : ℕ). has_number n deal_statuses ≡ true) e (text_begins command texts).any)
 
-by_command : (hash : List ℕ → List ℕ) (command : Option DealCommand) (reads : List Read)
-    → ((deal_answer hash command reads).status ≡ 2) ↔ (command ≡ None)
-by_command hash None reads = (λ e. refl, λ e. refl)
-by_command hash (Some command) reads = (λ e. absurd (no_usage hash command (texts_read reads) e), λ e. cc)
+by_command : (v : Verifier) (hash : List ℕ → List ℕ) (command : Option DealCommand) (reads : List Read)
+    → ((deal_answer v hash command reads).status ≡ 2) ↔ (command ≡ None)
+by_command v hash None reads = (λ e. refl, λ e. refl)
+by_command v hash (Some command) reads = (λ e. absurd (no_usage v hash command (texts_read reads) e), λ e. cc)
 
 pub deal_causes : DealCausesTheorem
 deal_causes = record {
-  usage = λ hash command reads. by_command hash command reads;
-  unread = λ hash command reads. unread_by hash command (texts_read reads);
-  contract_refused = λ hash command texts. (text_begins hash command texts).one;
-  deal_refused = λ hash command texts. (text_begins hash command texts).thirteen;
+  usage = λ v hash command reads. by_command v hash command reads;
+  unread = λ v hash command reads. unread_by v hash command (texts_read reads);
+  contract_refused = λ v hash command texts. (text_begins v hash command texts).one;
+  deal_refused = λ v hash command texts. (text_begins v hash command texts).thirteen;
   in_order = in_order;
-  others = λ hash command texts. (text_begins hash command texts).any;
+  others = λ v hash command texts. (text_begins v hash command texts).any;
 }

@@ -117,7 +117,7 @@ module _ (hash : List ℕ → List ℕ) (s : Instance) (strings : List Shown) (f
 -- ---- signatures
 
 -- what the input needs by the key of this label
-abbrev slot_of : Advert → Listed → ℕ → Spent → Label → Slot
+abbrev pub slot_of : Advert → Listed → ℕ → Spent → Label → Slot
 slot_of advert l k spent label =
     record { which = l.which; draft = l.draft; input = k; spent = spent; label = label; verb = verb_of advert l.which label }
 

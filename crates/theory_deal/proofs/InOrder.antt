@@ -29,6 +29,7 @@ use Rattle.spec_deal.specs.Finished.{finished, finish_refusal}
 use Rattle.spec_deal.specs.Hashed.{deal_strings}
 use Rattle.spec_deal.specs.SecretFile.{SecretsRead, shows, refused, collided}
 use Rattle.spec_deal.specs.Setting.{deal_keys, deal_instance}
+use Rattle.spec_deal.specs.Verifier.{Verifier}
 use Rattle.theory_deal.specs.Causes.{if_read, if_taken, is_unread, later_causes, deal_causes, causes, first_status, given_of, strings_of}
 use Rattle.theory_deal.specs.Causes.{are_bad, are_clashing, is_unfinished}
 
@@ -37,9 +38,9 @@ unfinished : (o : Option FinishRefusal) (bytes : List ℕ) → (unless_refused o
 unfinished None bytes = refl
 unfinished (Some refusal) bytes = refl
 
-module _ (hash : List ℕ → List ℕ) (texts : List Text) (keys : Keys) (s : Instance) where
+module _ (v : Verifier) (hash : List ℕ → List ℕ) (texts : List Text) (keys : Keys) (s : Instance) where
   abbrev signatures : Result (List Signed) SignatureFault
-  signatures = signatures_in hash keys s (text_at texts 2)
+  signatures = signatures_in v hash keys s (text_at texts 2)
 
   abbrev secrets : SecretsRead
   secrets = secrets_in hash keys s (text_at texts 3)
@@ -77,13 +78,13 @@ module _ (hash : List ℕ → List ℕ) (texts : List Text) (keys : Keys) (s : I
   signed_first answer (Err fault) = refl
 
   finish_there : (which : Which) (o : Option Listed)
-      → (if_there (finish_answer hash (text_at texts 2) keys s) which o).status
+      → (if_there (finish_answer v hash (text_at texts 2) keys s) which o).status
       ≡ first_status ((is_none o, 16) ∷ (is_err signatures, 14) ∷ (is_unfinished hash keys s (given_of signatures) [] o, 16) ∷ [])
   finish_there which None = refl
   finish_there which (Some l) = finish_first l signatures
 
   finish_with_there : (which : Which) (o : Option Listed)
-      → (if_there (finish_with_answer hash (text_at texts 2) (text_at texts 3) keys s) which o).status
+      → (if_there (finish_with_answer v hash (text_at texts 2) (text_at texts 3) keys s) which o).status
       ≡ first_status ((is_none o, 16) ∷ (is_err signatures, 14) ∷ (are_bad secrets, 15) ∷ (are_clashing secrets, 8)
       ∷ (is_unfinished hash keys s (given_of signatures) (strings_of secrets) o, 16) ∷ [])
   finish_with_there which None = refl
@@ -91,21 +92,21 @@ module _ (hash : List ℕ → List ℕ) (texts : List Text) (keys : Keys) (s : I
 
 -- ---- the deal
 
-module _ (hash : List ℕ → List ℕ) (command : DealCommand) (texts : List Text) where
+module _ (v : Verifier) (hash : List ℕ → List ℕ) (command : DealCommand) (texts : List Text) where
   by_circle : (c : Option (List ℕ × List ℕ)) (o : Option (List ℕ)) (printed : Printed) (so : (Keys → Instance → Bool) → Bool)
-      → printed.status ≡ first_status (later_causes hash command texts so)
+      → printed.status ≡ first_status (later_causes v hash command texts so)
       → (unless_collided c (unless_circular o printed)).status
-      ≡ first_status ((is_some c, 8) ∷ (is_some o, 13) ∷ later_causes hash command texts so)
+      ≡ first_status ((is_some c, 8) ∷ (is_some o, 13) ∷ later_causes v hash command texts so)
   by_circle (Some pair) o printed so h = refl
   by_circle None (Some name) printed so h = refl
   by_circle None None printed so h = h
 
   -- where the command reads a deal, and answers this of one that is taken
   module _ (answer : Keys → Instance → Printed) (all : (keys : Keys) (s : Instance)
-      → (answer keys s).status ≡ first_status (later_causes hash command texts (λ test. test keys s))) where
+      → (answer keys s).status ≡ first_status (later_causes v hash command texts (λ test. test keys s))) where
     by_read : (advert : Advert) (r : Result Deal DealFault)
         → (with_deal hash answer advert r).status
-        ≡ first_status ((is_err r, 13) ∷ deal_causes hash command texts (λ test. if_read test advert r))
+        ≡ first_status ((is_err r, 13) ∷ deal_causes v hash command texts (λ test. if_read test advert r))
     by_read advert (Err fault) = refl
     by_read advert (Ok deal) =
         let keys = deal_keys deal in
@@ -113,9 +114,9 @@ module _ (hash : List ℕ → List ℕ) (command : DealCommand) (texts : List Te
         by_circle (collision hash [] (deal_strings hash keys s)) (circular hash keys s) (answer keys s) (λ test. test keys s) (all keys s)
 
     by_both : (r : Judged Advert) (text : Text)
-        → (with_advert (λ advert. with_deal hash answer advert (deal_in advert text)) r).status
-        ≡ first_status ((is_err r, 1) ∷ (is_unread r text, 13) ∷ deal_causes hash command texts (λ test. if_taken test r text))
-    by_both (Ok advert) text = by_read advert (deal_in advert text)
+        → (with_advert (λ advert. with_deal hash answer advert (deal_in v advert text)) r).status
+        ≡ first_status ((is_err r, 1) ∷ (is_unread v r text, 13) ∷ deal_causes v hash command texts (λ test. if_taken v test r text))
+    by_both (Ok advert) text = by_read advert (deal_in v advert text)
     by_both (Err why) text = refl
 
 -- ---- all commands
@@ -124,34 +125,34 @@ keys_first : (r : Judged Advert) → (with_advert (λ advert. prints 0 (keys_tex
 keys_first (Ok advert) = refl
 keys_first (Err why) = refl
 
-pub in_order : (hash : List ℕ → List ℕ) (command : DealCommand) (texts : List Text)
-    → (deal_text_answer hash command texts).status ≡ first_status (causes hash command texts)
-in_order hash (commands.keys contract) texts = keys_first (contract_in (text_at texts 0))
-in_order hash (commands.plan contract deal) texts =
-    by_both hash (commands.plan contract deal) texts (λ keys s. prints 0 (plan_text hash keys s)) (λ keys s. refl)
+pub in_order : (v : Verifier) (hash : List ℕ → List ℕ) (command : DealCommand) (texts : List Text)
+    → (deal_text_answer v hash command texts).status ≡ first_status (causes v hash command texts)
+in_order v hash (commands.keys contract) texts = keys_first (contract_in (text_at texts 0))
+in_order v hash (commands.plan contract deal) texts =
+    by_both v hash (commands.plan contract deal) texts (λ keys s. prints 0 (plan_text hash keys s)) (λ keys s. refl)
     (contract_in (text_at texts 0)) (text_at texts 1)
-in_order hash (commands.psbts contract deal) texts =
-    by_both hash (commands.psbts contract deal) texts (λ keys s. prints 0 (psbts_text hash keys s)) (λ keys s. refl)
+in_order v hash (commands.psbts contract deal) texts =
+    by_both v hash (commands.psbts contract deal) texts (λ keys s. prints 0 (psbts_text hash keys s)) (λ keys s. refl)
     (contract_in (text_at texts 0)) (text_at texts 1)
-in_order hash (commands.psbt contract deal which) texts =
-    by_both hash (commands.psbt contract deal which) texts
+in_order v hash (commands.psbt contract deal which) texts =
+    by_both v hash (commands.psbt contract deal which) texts
     (of_transaction hash which (λ keys s l. prints 0 (psbt_line (unsigned_psbt hash l))))
-    (λ keys s. psbt_there hash texts keys s which (listed_at hash keys s which))
+    (λ keys s. psbt_there v hash texts keys s which (listed_at hash keys s which))
     (contract_in (text_at texts 0)) (text_at texts 1)
-in_order hash (commands.missing contract deal signatures) texts =
-    by_both hash (commands.missing contract deal signatures) texts
-    (of_signatures hash (λ keys s given. prints 0 (missing_text hash keys s given)) (text_at texts 2))
-    (λ keys s. signed_first hash texts keys s (missing_text hash keys s) (signatures_in hash keys s (text_at texts 2)))
+in_order v hash (commands.missing contract deal signatures) texts =
+    by_both v hash (commands.missing contract deal signatures) texts
+    (of_signatures v hash (λ keys s given. prints 0 (missing_text hash keys s given)) (text_at texts 2))
+    (λ keys s. signed_first v hash texts keys s (missing_text hash keys s) (signatures_in v hash keys s (text_at texts 2)))
     (contract_in (text_at texts 0)) (text_at texts 1)
-in_order hash (commands.held contract deal signatures) texts =
-    by_both hash (commands.held contract deal signatures) texts
-    (of_signatures hash (λ keys s given. prints 0 (held_text hash keys s given)) (text_at texts 2))
-    (λ keys s. signed_first hash texts keys s (held_text hash keys s) (signatures_in hash keys s (text_at texts 2)))
+in_order v hash (commands.held contract deal signatures) texts =
+    by_both v hash (commands.held contract deal signatures) texts
+    (of_signatures v hash (λ keys s given. prints 0 (held_text hash keys s given)) (text_at texts 2))
+    (λ keys s. signed_first v hash texts keys s (held_text hash keys s) (signatures_in v hash keys s (text_at texts 2)))
     (contract_in (text_at texts 0)) (text_at texts 1)
-in_order hash (commands.finish contract deal which signatures) texts =
-    by_both hash (commands.finish contract deal which signatures) texts (of_transaction hash which (finish_answer hash (text_at texts 2)))
-    (λ keys s. finish_there hash texts keys s which (listed_at hash keys s which)) (contract_in (text_at texts 0)) (text_at texts 1)
-in_order hash (commands.finish_with contract deal which signatures secrets) texts =
-    by_both hash (commands.finish_with contract deal which signatures secrets) texts
-    (of_transaction hash which (finish_with_answer hash (text_at texts 2) (text_at texts 3)))
-    (λ keys s. finish_with_there hash texts keys s which (listed_at hash keys s which)) (contract_in (text_at texts 0)) (text_at texts 1)
+in_order v hash (commands.finish contract deal which signatures) texts =
+    by_both v hash (commands.finish contract deal which signatures) texts (of_transaction hash which (finish_answer v hash (text_at texts 2)))
+    (λ keys s. finish_there v hash texts keys s which (listed_at hash keys s which)) (contract_in (text_at texts 0)) (text_at texts 1)
+in_order v hash (commands.finish_with contract deal which signatures secrets) texts =
+    by_both v hash (commands.finish_with contract deal which signatures secrets) texts
+    (of_transaction hash which (finish_with_answer v hash (text_at texts 2) (text_at texts 3)))
+    (λ keys s. finish_with_there v hash texts keys s which (listed_at hash keys s which)) (contract_in (text_at texts 0)) (text_at texts 1)

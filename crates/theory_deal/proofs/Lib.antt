@@ -1,4 +1,5 @@
 pub mod Branches
+pub mod ByName
 mod Causes
 mod FinishedOpens
 mod InOrder
@@ -10,5 +11,6 @@ mod ReadSecrets
 mod ReadSignatures
 mod Shapes
 mod Unsigned
+mod Verified
 mod Whole
 mod WholeDeals

@@ -13,14 +13,14 @@ use Rattle.spec_tool.specs.Keyed.Listed.{Listed}
 use Rattle.spec_deal.specs.declared.signed.Signed.{Signed}
 use Rattle.spec_deal.specs.declared.finish.FinishRefusal.TheVariants as refusals
 use Rattle.spec_deal.specs.Answers.{unless_refused}
-use Rattle.spec_deal.specs.Finished.{finished, unendorsed_refusal, endorsement_refusal, signature_refusal, which_branch, secret_refusal}
+use Rattle.spec_deal.specs.Finished.{witnesses, finished, unendorsed_refusal, endorsement_refusal, signature_refusal, which_branch, secret_refusal}
 use Rattle.spec_deal.specs.Finished.{predicate_refusal, finish_refusal}
 use Rattle.spec_deal.specs.Given.{has, endorsements, may_start, first_unendorsed}
 use Rattle.spec_deal.specs.declared.entry.Shown.{Shown}
 use Rattle.spec_deal.specs.SecretFile.{string_for}
 use Rattle.spec_deal.specs.Setting.{deal_keys, deal_instance}
 use Rattle.spec_deal.specs.Slots.{Slot, listed_slots}
-use Rattle.theory_deal.specs.Finished.{do_fit}
+use Rattle.theory_deal.specs.Finished.{Judge, accepts, judge_by, do_fit, AllOpen}
 use Rattle.theory_deal.specs.Whole.{IsComplete, FinishesExactly, AreRead, FinishTheorem}
 use Rattle.theory_deal.proofs.FinishedOpens.{first_none, second_none, map_none, finished_opens}
 use Rattle.theory_deal.proofs.Listed.{all_pass, none_fails}
@@ -28,6 +28,7 @@ use Rattle.theory_deal.proofs.Planned.{finished_is_planned}
 use Rattle.theory_deal.proofs.ReadDeals.{deals_are_sized}
 use Rattle.theory_deal.proofs.ReadSecrets.{secrets_fit}
 use Rattle.theory_deal.proofs.ReadSignatures.{signatures_are_shaped}
+use Rattle.theory_deal.proofs.Verified.{accepts_read, agrees_accepts}
 
 both_none : {R : Type 0} (a b : Option R) → a ≡ None → b ≡ None → or_else a b ≡ None
 both_none None b h k = k
@@ -84,16 +85,23 @@ strings_fit hash keys s strings (inl e) = ap (do_fit hash s) e
 strings_fit hash keys s strings (inr r) = secrets_fit hash keys s r.0 strings r.1
 
 pub finish_theorem : FinishTheorem
-finish_theorem hash advert deal_text deal file given strings which l checked deal_read given_read strings_read there refusal =
+finish_theorem v hash advert deal_text deal file given strings which l checked deal_read given_read strings_read there refusal =
     let keys = deal_keys deal in
     let s = deal_instance advert deal in
-    let sized = deals_are_sized hash advert deal_text deal deal_read in
-    let shaped = signatures_are_shaped hash keys s file given given_read in
+    let sized = deals_are_sized v hash advert deal_text deal deal_read in
+    let shaped = signatures_are_shaped v hash keys s file given given_read in
+    let complete = complete_if hash keys s given strings l refusal in
+    let opens : (judge : Judge) → accepts hash keys s given judge l ≡ true
+    → AllOpen hash judge 0 l.draft.spends (witnesses hash keys s given strings l l.which) =
+    λ judge accepted.
+    finished_opens hash keys s given strings which l judge sized.are_keys (sized.settled checked) shaped.short
+    (strings_fit hash keys s strings strings_read) there refusal accepted in
+    let accepted = accepts_read v hash keys s given file which l given_read there complete.signed in
     record {
       printed = ap (λ r. unless_refused r (spelling (finished hash keys s given strings l))) refusal;
       planned = finished_is_planned hash keys s given strings l;
-      opens = λ judge accepted.
-          finished_opens hash keys s given strings which l judge sized.are_keys (sized.settled checked) shaped.short
-          (strings_fit hash keys s strings strings_read) there refusal accepted;
-      endorsed = (complete_if hash keys s given strings l refusal).endorsed;
+      opens = opens;
+      verified = opens (judge_by v hash l) accepted;
+      agreed = λ judge agrees. opens judge (agrees_accepts v hash keys s given l judge agrees accepted);
+      endorsed = complete.endorsed;
     }

@@ -30,7 +30,7 @@ entries_give advert entries = record {
 }
 
 pub deals_give_all : DealsGiveAll
-deals_give_all advert text deal e = by_size (nat_lt most_deal_bytes (length text)) e
+deals_give_all v advert text deal e = by_size (nat_lt most_deal_bytes (length text)) e
   where
     by_missing : (entries : List Entry) (o : Option Needed) → whole_deal advert entries o ≡ Ok deal → GivesAll advert deal
     by_missing entries (Some what) k = cc
@@ -42,7 +42,7 @@ deals_give_all advert text deal e = by_size (nat_lt most_deal_bytes (length text
     by_entries (Err fault) k = cc
     by_entries (Ok entries) k = by_missing entries (first_missing advert entries) k
 
-    by_size : (b : Bool) → cond b (Err faults.Size) (deal_judged advert (read_entries advert [] 1 (lines_of text))) ≡ Ok deal
+    by_size : (b : Bool) → cond b (Err faults.Size) (deal_judged advert (read_entries v advert [] 1 (lines_of text))) ≡ Ok deal
         → GivesAll advert deal
     by_size true k = cc
-    by_size false k = by_entries (read_entries advert [] 1 (lines_of text)) k
+    by_size false k = by_entries (read_entries v advert [] 1 (lines_of text)) k

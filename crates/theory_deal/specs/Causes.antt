@@ -23,6 +23,7 @@ use Rattle.spec_deal.specs.Finished.{finish_refusal}
 use Rattle.spec_deal.specs.Hashed.{deal_strings}
 use Rattle.spec_deal.specs.SecretFile.{SecretsRead, shows, refused, collided}
 use Rattle.spec_deal.specs.Setting.{deal_keys, deal_instance}
+use Rattle.spec_deal.specs.Verifier.{Verifier}
 
 -- the statuses that the texts of files are answered with, those of a refused contract and a refused deal before the others
 abbrev pub deal_statuses : List ℕ
@@ -47,9 +48,9 @@ is_refused hash advert (Ok deal) =
     && is_some (circular hash (deal_keys deal) (deal_instance advert deal))
 
 -- whether the contract is taken and the deal of this text is refused
-abbrev pub is_deal_refused : (List ℕ → List ℕ) → Judged Advert → Text → Bool
-is_deal_refused hash (Err why) text = false
-is_deal_refused hash (Ok advert) text = is_refused hash advert (deal_in advert text)
+abbrev pub is_deal_refused : Verifier → (List ℕ → List ℕ) → Judged Advert → Text → Bool
+is_deal_refused v hash (Err why) text = false
+is_deal_refused v hash (Ok advert) text = is_refused hash advert (deal_in v advert text)
 
 -- ---- all causes in their order
 
@@ -59,13 +60,13 @@ if_read test advert (Err fault) = false
 if_read test advert (Ok deal) = test (deal_keys deal) (deal_instance advert deal)
 
 -- and the contract, too
-abbrev pub if_taken : (Keys → Instance → Bool) → Judged Advert → Text → Bool
-if_taken test (Err why) text = false
-if_taken test (Ok advert) text = if_read test advert (deal_in advert text)
+abbrev pub if_taken : Verifier → (Keys → Instance → Bool) → Judged Advert → Text → Bool
+if_taken v test (Err why) text = false
+if_taken v test (Ok advert) text = if_read test advert (deal_in v advert text)
 
-abbrev pub is_unread : Judged Advert → Text → Bool
-is_unread (Err why) text = false
-is_unread (Ok advert) text = is_err (deal_in advert text)
+abbrev pub is_unread : Verifier → Judged Advert → Text → Bool
+is_unread v (Err why) text = false
+is_unread v (Ok advert) text = is_err (deal_in v advert text)
 
 -- whether two strings of the compiled deal collide
 abbrev pub do_collide : (List ℕ → List ℕ) → Keys → Instance → Bool
@@ -155,31 +156,31 @@ abbrev pub Cause : Type 0
 Cause = Bool × ℕ
 
 -- those of a deal that is taken: no such path, a bad file of signatures, a bad file of secrets, whose strings collide, something missing
-abbrev pub later_causes : (List ℕ → List ℕ) → DealCommand → List Text → ((Keys → Instance → Bool) → Bool) → List Cause
-later_causes hash command texts so =
+abbrev pub later_causes : Verifier → (List ℕ → List ℕ) → DealCommand → List Text → ((Keys → Instance → Bool) → Bool) → List Cause
+later_causes v hash command texts so =
     (so (is_absent hash (named_by command)), 16)
-    ∷ (so (λ keys s. reads_signatures command && is_err (signatures_in hash keys s (text_at texts 2))), 14)
+    ∷ (so (λ keys s. reads_signatures command && is_err (signatures_in v hash keys s (text_at texts 2))), 14)
     ∷ (so (λ keys s. reads_secrets command && are_bad (secrets_in hash keys s (text_at texts 3))), 15)
     ∷ (so (λ keys s. reads_secrets command && are_clashing (secrets_in hash keys s (text_at texts 3))), 8)
     ∷ (
       so (λ keys s.
-          is_unfinished hash keys s (given_of (signatures_in hash keys s (text_at texts 2))) (strings_by hash command (text_at texts 3) keys s)
+          is_unfinished hash keys s (given_of (signatures_in v hash keys s (text_at texts 2))) (strings_by hash command (text_at texts 3) keys s)
           (to_finish hash command keys s)),
       16,
     )
     ∷ []
 
 -- of a deal: strings that collide, and a deposit that the deal itself makes
-abbrev pub deal_causes : (List ℕ → List ℕ) → DealCommand → List Text → ((Keys → Instance → Bool) → Bool) → List Cause
-deal_causes hash command texts so = (so (do_collide hash), 8) ∷ (so (is_circular hash), 13) ∷ later_causes hash command texts so
+abbrev pub deal_causes : Verifier → (List ℕ → List ℕ) → DealCommand → List Text → ((Keys → Instance → Bool) → Bool) → List Cause
+deal_causes v hash command texts so = (so (do_collide hash), 8) ∷ (so (is_circular hash), 13) ∷ later_causes v hash command texts so
 
 -- all of them: a refused contract, a refused deal file, and those of the deal
-abbrev pub causes : (List ℕ → List ℕ) → DealCommand → List Text → List Cause
-causes hash command texts =
+abbrev pub causes : Verifier → (List ℕ → List ℕ) → DealCommand → List Text → List Cause
+causes v hash command texts =
     (is_err (contract_in (text_at texts 0)), 1)
-    ∷ (reads_deal command && is_unread (contract_in (text_at texts 0)) (text_at texts 1), 13)
-    ∷ deal_causes hash command texts
-    (λ test. reads_deal command && if_taken test (contract_in (text_at texts 0)) (text_at texts 1))
+    ∷ (reads_deal command && is_unread v (contract_in (text_at texts 0)) (text_at texts 1), 13)
+    ∷ deal_causes v hash command texts
+    (λ test. reads_deal command && if_taken v test (contract_in (text_at texts 0)) (text_at texts 1))
 
 -- the status of the first that is so; 0 where none is
 abbrev pub first_status : List Cause → ℕ
@@ -188,21 +189,21 @@ first_status (c ∷ cs) = if c.0 then c.1 else first_status cs
 
 pub record DealCausesTheorem : Type 0 where
   -- 2 is answered exactly where the words are no command
-  pub usage : (hash : List ℕ → List ℕ) (command : Option DealCommand) (reads : List Read)
-      → ((deal_answer hash command reads).status ≡ 2) ↔ (command ≡ None)
+  pub usage : (v : Verifier) (hash : List ℕ → List ℕ) (command : Option DealCommand) (reads : List Read)
+      → ((deal_answer v hash command reads).status ≡ 2) ↔ (command ≡ None)
   -- 3 is answered exactly where a read failed
-  pub unread : (hash : List ℕ → List ℕ) (command : DealCommand) (reads : List Read)
-      → ((deal_answer hash (Some command) reads).status ≡ 3) ↔ (texts_read reads ≡ None)
+  pub unread : (v : Verifier) (hash : List ℕ → List ℕ) (command : DealCommand) (reads : List Read)
+      → ((deal_answer v hash (Some command) reads).status ≡ 3) ↔ (texts_read reads ≡ None)
   -- 1 is answered exactly where the contract is refused
-  pub contract_refused : (hash : List ℕ → List ℕ) (command : DealCommand) (texts : List Text)
-      → ((deal_text_answer hash command texts).status ≡ 1) ↔ (is_err (contract_in (text_at texts 0)) ≡ true)
+  pub contract_refused : (v : Verifier) (hash : List ℕ → List ℕ) (command : DealCommand) (texts : List Text)
+      → ((deal_text_answer v hash command texts).status ≡ 1) ↔ (is_err (contract_in (text_at texts 0)) ≡ true)
   -- 13 is answered exactly where the deal is refused
-  pub deal_refused : (hash : List ℕ → List ℕ) (command : DealCommand) (texts : List Text)
-      → ((deal_text_answer hash command texts).status ≡ 13)
-      ↔ ((reads_deal command && is_deal_refused hash (contract_in (text_at texts 0)) (text_at texts 1)) ≡ true)
+  pub deal_refused : (v : Verifier) (hash : List ℕ → List ℕ) (command : DealCommand) (texts : List Text)
+      → ((deal_text_answer v hash command texts).status ≡ 13)
+      ↔ ((reads_deal command && is_deal_refused v hash (contract_in (text_at texts 0)) (text_at texts 1)) ≡ true)
   -- the status is that of the first cause in their order
-  pub in_order : (hash : List ℕ → List ℕ) (command : DealCommand) (texts : List Text)
-      → (deal_text_answer hash command texts).status ≡ first_status (causes hash command texts)
+  pub in_order : (v : Verifier) (hash : List ℕ → List ℕ) (command : DealCommand) (texts : List Text)
+      → (deal_text_answer v hash command texts).status ≡ first_status (causes v hash command texts)
   -- no other is answered to the texts
-  pub others : (hash : List ℕ → List ℕ) (command : DealCommand) (texts : List Text)
-      → has_number (deal_text_answer hash command texts).status deal_statuses ≡ true
+  pub others : (v : Verifier) (hash : List ℕ → List ℕ) (command : DealCommand) (texts : List Text)
+      → has_number (deal_text_answer v hash command texts).status deal_statuses ≡ true

@@ -15,16 +15,18 @@ use Rattle.spec_compiler.specs.Scripts.{digest_of}
 use Rattle.spec_compiler.specs.Keyed.Keys.{Keys, key_in}
 use Rattle.spec_compiler.specs.Keyed.Instance.{Instance, people, branch_path, branch_label, position_script}
 use Rattle.spec_compiler.specs.declared.unsigned.Spent.{Spent}
-use Rattle.spec_compiler.specs.Keyed.Transactions.{tx_of}
+use Rattle.spec_compiler.specs.Keyed.Transactions.{tx_of, digest_of_spent}
 use Rattle.spec_compiler.specs.Keyed.Statements.{AreKeys, IsCompiled, has_size, is_short, is_secret}
 use Rattle.spec_tool.specs.declared.which.Which.{Which}
 use Rattle.spec_tool.specs.Keyed.Listed.{Listed, listed_at}
 use Rattle.spec_deal.specs.declared.signed.Signed.{Signed}
 use Rattle.spec_deal.specs.Slots.{Slot, listed_slots, slot_key}
 use Rattle.spec_deal.specs.Given.{signature_for}
+use Rattle.spec_deal.specs.Verifier.{Verifier}
 use Rattle.spec_deal.specs.declared.entry.Shown.{Shown}
 use Rattle.spec_deal.specs.Finished.{bytes_or_none, witnesses, finished, finish_refusal}
-use Rattle.std.specs.Prelude.{length}
+use Rattle.std.specs.Prelude.{length, slice_get}
+use Rattle.std.specs.Option.{option_map_or}
 
 -- ---- judges
 
@@ -40,6 +42,18 @@ accepts_one hash keys given judge slot =
 -- whether it accepts all that are given for a transaction
 abbrev pub accepts : (List ℕ → List ℕ) → Keys → Instance → List Signed → Judge → Listed → Bool
 accepts hash keys s given judge l = list_all (accepts_one hash keys given judge) (listed_slots s.advert l)
+
+-- the digest that signatures of input k are of
+abbrev pub digest_at : (List ℕ → List ℕ) → Listed → ℕ → List ℕ
+digest_at hash l k = option_map_or (digest_of_spent hash (tx_of l.draft)) (slice_get l.draft.spends k) []
+
+-- the judge that finds valid what a verifier finds good for the digest of the input
+abbrev pub judge_by : Verifier → (List ℕ → List ℕ) → Listed → Judge
+judge_by v hash l = λ k signature key. v.is_signature key (digest_at hash l k) signature
+
+-- a judge agrees with a verifier where it accepts all that the verifier finds good
+abbrev pub Agrees : Verifier → (List ℕ → List ℕ) → Listed → Judge → Type 0
+Agrees v hash l judge = (k : ℕ) (signature key : List ℕ) → judge_by v hash l k signature key ≡ true → judge k signature key ≡ true
 
 -- ---- what is given
 

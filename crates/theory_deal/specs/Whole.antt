@@ -25,7 +25,8 @@ use Rattle.spec_deal.specs.SecretFile.{shows, string_for, read_secrets}
 use Rattle.spec_deal.specs.Setting.{deal_keys, deal_instance}
 use Rattle.spec_deal.specs.SignatureFile.{read_signatures}
 use Rattle.spec_deal.specs.Slots.{listed_slots}
-use Rattle.theory_deal.specs.Finished.{Judge, accepts, AllOpen}
+use Rattle.spec_deal.specs.Verifier.{Verifier}
+use Rattle.theory_deal.specs.Finished.{Judge, accepts, judge_by, Agrees, AllOpen}
 
 -- ---- refusals
 
@@ -54,24 +55,29 @@ abbrev pub AreRead : (List ℕ → List ℕ) → Keys → Instance → List Show
 AreRead hash keys s strings = (strings ≡ []) ⊎ ((text : List ℕ) × (read_secrets hash keys s text ≡ shows strings))
 
 -- what is printed is the plan's transaction with witnesses on which every input's script is true, for every judge that accepts the given
--- signatures; the initial one is printed only where every endorsement is there
-pub record IsFinished (hash : List ℕ → List ℕ) (keys : Keys) (s : Instance) (given : List Signed) (strings : List Shown)
+-- signatures, and so for the verifier that read them; the initial one is printed only where every endorsement is there
+pub record IsFinished (v : Verifier) (hash : List ℕ → List ℕ) (keys : Keys) (s : Instance) (given : List Signed) (strings : List Shown)
     (l : Listed) : Type 0 where
   pub printed : finished_answer hash keys s l given strings
       ≡ prints 0 (hex_text (spelling (finished hash keys s given strings l)) ++ newline)
   pub planned : stripped (finished hash keys s given strings l) ≡ stripped (tx_of l.draft)
   pub opens : (judge : Judge) → accepts hash keys s given judge l ≡ true
       → AllOpen hash judge 0 l.draft.spends (witnesses hash keys s given strings l l.which)
+  -- by the verifier itself, with nothing asked of it
+  pub verified : AllOpen hash (judge_by v hash l) 0 l.draft.spends (witnesses hash keys s given strings l l.which)
+  -- and by every judge that takes what it finds good
+  pub agreed : (judge : Judge) → Agrees v hash l judge
+      → AllOpen hash judge 0 l.draft.spends (witnesses hash keys s given strings l l.which)
   pub endorsed : l.which ≡ names.Init → may_start hash keys s given ≡ true
 
 -- of every well-formed contract and all files that are taken
 abbrev pub FinishTheorem : Type 0
 FinishTheorem =
-    (hash : List ℕ → List ℕ) (advert : Advert) (deal_text : List ℕ) (deal : Deal) (file : List ℕ) (given : List Signed)
+    (v : Verifier) (hash : List ℕ → List ℕ) (advert : Advert) (deal_text : List ℕ) (deal : Deal) (file : List ℕ) (given : List Signed)
     (strings : List Shown) (which : Which) (l : Listed)
-    → IsWellFormed advert → read_deal advert deal_text ≡ Ok deal
-    → read_signatures hash (deal_keys deal) (deal_instance advert deal) file ≡ Ok given
+    → IsWellFormed advert → read_deal v advert deal_text ≡ Ok deal
+    → read_signatures v hash (deal_keys deal) (deal_instance advert deal) file ≡ Ok given
     → AreRead hash (deal_keys deal) (deal_instance advert deal) strings
     → listed_at hash (deal_keys deal) (deal_instance advert deal) which ≡ Some l
     → finish_refusal hash (deal_keys deal) (deal_instance advert deal) given strings l ≡ None
-    → IsFinished hash (deal_keys deal) (deal_instance advert deal) given strings l
+    → IsFinished v hash (deal_keys deal) (deal_instance advert deal) given strings l

@@ -2,7 +2,7 @@
 #![tactic(auto)]
 
 ghost use Rattle.theory_deal.specs.Causes.{DealCausesTheorem};
-ghost use Rattle.theory_deal.specs.Files.{DealsAreSized, DealsGiveAll, SecretsFit, SignaturesAreShaped};
+ghost use Rattle.theory_deal.specs.Files.{DealsAreSized, DealsGiveAll, KeysArePoints, SecretsFit, SignaturesAreShaped, SignaturesVerify};
 ghost use Rattle.theory_deal.specs.Finished.{FinishedOpens, FinishedIsPlanned, FalseWithoutOne};
 ghost use Rattle.theory_deal.specs.Plan.{PlanOfRuns};
 ghost use Rattle.theory_deal.specs.Shapes.{ShapeExactly, ShapeIsShort};
@@ -54,6 +54,12 @@ pub fn signatures_are_shaped()
     ensures { SignaturesAreShaped }
 {}
 
+/// Each signature of a file that is taken verifies under its key, for the digest of its input; so the initial transaction may be signed
+/// exactly where every endorsement is there and verifies.
+pub fn signatures_verify()
+    ensures { SignaturesVerify }
+{}
+
 /// Each string of a file of secrets that is taken fits its secret.
 pub fn secrets_fit()
     ensures { SecretsFit }
@@ -67,6 +73,11 @@ pub fn deals_give_all()
 /// The keys and hashes of a deal that is taken have their sizes.
 pub fn deals_are_sized()
     ensures { DealsAreSized }
+{}
+
+/// The keys of a deal that is taken are points.
+pub fn keys_are_points()
+    ensures { KeysArePoints }
 {}
 
 /// A transaction is finished exactly where nothing is missing that it needs.

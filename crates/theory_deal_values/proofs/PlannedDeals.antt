@@ -22,6 +22,7 @@ use Rattle.spec_tool.specs.Commands.{prints}
 use Rattle.spec_tool.specs.Base64.{base64_text, base64_bytes}
 use Rattle.spec_tool.specs.PsbtBytes.{psbt_of, psbt_bytes, records_at, maps_at}
 use Rattle.spec_tool.specs.PsbtText.{psbt_text}
+use Rattle.spec_deal.specs.Verifier.{accepting}
 use Rattle.theory_values.specs.Replies.{lines, sha_of}
 use Rattle.theory_deal_values.specs.Replies.{deal_replies}
 
@@ -65,7 +66,7 @@ one_deposit_is_planned_hashes =
 
 -- A txid is shown with its bytes reversed, and a deposit's script is the hash of its owner's.
 one_deposit_is_planned :
-    deal_replies (sha_of one_deposit_is_planned_hashes) (codes "plan" ∷ codes "one.bitml" ∷ codes "one.deal" ∷ [])
+    deal_replies accepting (sha_of one_deposit_is_planned_hashes) (codes "plan" ∷ codes "one.bitml" ∷ codes "one.deal" ∷ [])
     ((codes "one.bitml", one_bitml) ∷ (codes "one.deal", one_deal) ∷ [])
     ≡ prints 0 (lines (
     codes "contract 0 compiled" ∷
@@ -161,7 +162,7 @@ two_branches_are_planned_hashes =
 
 -- Who signs which input, and what for: one that is asked authorises.
 two_branches_are_planned :
-    deal_replies (sha_of two_branches_are_planned_hashes) (codes "plan" ∷ codes "two.bitml" ∷ codes "two.deal" ∷ [])
+    deal_replies accepting (sha_of two_branches_are_planned_hashes) (codes "plan" ∷ codes "two.bitml" ∷ codes "two.deal" ∷ [])
     ((codes "two.bitml", two_bitml) ∷ (codes "two.deal", two_deal) ∷ [])
     ≡ prints 0 (lines (
     codes "contract 0 compiled" ∷
@@ -238,7 +239,7 @@ all_are_for_signers_hashes =
 
 -- All transactions, a line each.
 all_are_for_signers :
-    deal_replies (sha_of all_are_for_signers_hashes) (codes "psbt" ∷ codes "one.bitml" ∷ codes "one.deal" ∷ [])
+    deal_replies accepting (sha_of all_are_for_signers_hashes) (codes "psbt" ∷ codes "one.bitml" ∷ codes "one.deal" ∷ [])
     ((codes "one.bitml", one_bitml) ∷ (codes "one.deal", one_deal) ∷ [])
     ≡ prints 0 (lines (
     (codes "cHNidP8BAF4CAAAAAZF2cLTeLye0NfcfOi9YcLV399LQviNNqvmPJykaytHHAAAAAAD+////AbiCAQAAAAAAIgAg3g3RyrY3KRUf" ++

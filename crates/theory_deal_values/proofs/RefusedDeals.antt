@@ -22,6 +22,7 @@ use Rattle.spec_tool.specs.Commands.{prints}
 use Rattle.spec_tool.specs.Base64.{base64_text, base64_bytes}
 use Rattle.spec_tool.specs.PsbtBytes.{psbt_of, psbt_bytes, records_at, maps_at}
 use Rattle.spec_tool.specs.PsbtText.{psbt_text}
+use Rattle.spec_deal.specs.Verifier.{accepting}
 use Rattle.theory_values.specs.Replies.{lines, sha_of}
 use Rattle.theory_deal_values.specs.Replies.{deal_replies}
 
@@ -97,7 +98,7 @@ deposit_of_the_deal_itself_hashes =
 
 -- A deposit that one of the deal's own transactions would make.
 deposit_of_the_deal_itself :
-    deal_replies (sha_of deposit_of_the_deal_itself_hashes) (codes "plan" ∷ codes "circle.bitml" ∷ codes "circle.deal" ∷ [])
+    deal_replies accepting (sha_of deposit_of_the_deal_itself_hashes) (codes "plan" ∷ codes "circle.bitml" ∷ codes "circle.deal" ∷ [])
     ((codes "circle.bitml", circle_bitml) ∷ (codes "circle.deal", circle_deal) ∷ [])
     ≡ prints 13 (lines (
     codes "deal refused circular z" ∷
@@ -200,7 +201,7 @@ another_signature_for_one_key_hashes =
 
 -- Two signatures for one key of one input.
 another_signature_for_one_key :
-    deal_replies (sha_of another_signature_for_one_key_hashes) (codes "missing" ∷ codes "conflict.bitml" ∷ codes "conflict.deal" ∷ codes "conflict.signatures" ∷ [])
+    deal_replies accepting (sha_of another_signature_for_one_key_hashes) (codes "missing" ∷ codes "conflict.bitml" ∷ codes "conflict.deal" ∷ codes "conflict.signatures" ∷ [])
     ((codes "conflict.bitml", conflict_bitml) ∷ (codes "conflict.deal", conflict_deal) ∷ (codes "conflict.signatures", conflict_signatures) ∷ [])
     ≡ prints 14 (lines (
     codes "signatures refused line 3 conflict 0" ∷
@@ -302,7 +303,7 @@ string_of_another_hash_hashes =
 
 -- A string whose hash isn't the secret's.
 string_of_another_hash :
-    deal_replies (sha_of string_of_another_hash_hashes) (codes "finish" ∷ codes "wrong.bitml" ∷ codes "wrong.deal" ∷ codes "r.0" ∷ codes "wrong.signatures" ∷ codes "wrong.secrets" ∷ [])
+    deal_replies accepting (sha_of string_of_another_hash_hashes) (codes "finish" ∷ codes "wrong.bitml" ∷ codes "wrong.deal" ∷ codes "r.0" ∷ codes "wrong.signatures" ∷ codes "wrong.secrets" ∷ [])
     ((codes "wrong.bitml", conflict_bitml) ∷ (codes "wrong.deal", conflict_deal) ∷ (codes "wrong.signatures", wrong_signatures) ∷ (codes "wrong.secrets", wrong_secrets) ∷ [])
     ≡ prints 15 (lines (
     codes "secrets refused line 1 hash" ∷
@@ -375,7 +376,7 @@ init_is_not_endorsed_hashes =
 
 -- The initial transaction isn't finished before each endorsement is there.
 init_is_not_endorsed :
-    deal_replies (sha_of init_is_not_endorsed_hashes) (codes "finish" ∷ codes "early.bitml" ∷ codes "early.deal" ∷ codes "init" ∷ codes "early.signatures" ∷ [])
+    deal_replies accepting (sha_of init_is_not_endorsed_hashes) (codes "finish" ∷ codes "early.bitml" ∷ codes "early.deal" ∷ codes "init" ∷ codes "early.signatures" ∷ [])
     ((codes "early.bitml", conflict_bitml) ∷ (codes "early.deal", conflict_deal) ∷ (codes "early.signatures", early_signatures) ∷ [])
     ≡ prints 16 (lines (
     codes "refused endorsement r.0 A" ∷

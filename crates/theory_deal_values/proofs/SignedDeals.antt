@@ -22,6 +22,7 @@ use Rattle.spec_tool.specs.Commands.{prints}
 use Rattle.spec_tool.specs.Base64.{base64_text, base64_bytes}
 use Rattle.spec_tool.specs.PsbtBytes.{psbt_of, psbt_bytes, records_at, maps_at}
 use Rattle.spec_tool.specs.PsbtText.{psbt_text}
+use Rattle.spec_deal.specs.Verifier.{accepting}
 use Rattle.theory_values.specs.Replies.{lines, sha_of}
 use Rattle.theory_deal_values.specs.Replies.{deal_replies}
 
@@ -112,7 +113,7 @@ endorsements_are_held_hashes =
 
 -- Each signature that is there, with its key and digest.
 endorsements_are_held :
-    deal_replies (sha_of endorsements_are_held_hashes) (codes "held" ∷ codes "swap.bitml" ∷ codes "swap.deal" ∷ codes "swap.signatures" ∷ [])
+    deal_replies accepting (sha_of endorsements_are_held_hashes) (codes "held" ∷ codes "swap.bitml" ∷ codes "swap.deal" ∷ codes "swap.signatures" ∷ [])
     ((codes "swap.bitml", held_bitml) ∷ (codes "swap.deal", held_deal) ∷ (codes "swap.signatures", held_signatures) ∷ [])
     ≡ prints 0 (lines (
     (codes "held init 0 D:A init 03913ffe7036ec1cefec5d4589d0c2e8e7b6a300c97e0a106cd9624f149bcda7f5 ffcb34ea52b0" ++
@@ -208,7 +209,7 @@ endorsement_of_a_put_is_missing_hashes =
 
 -- The owner of a deposit that is put endorses it.
 endorsement_of_a_put_is_missing :
-    deal_replies (sha_of endorsement_of_a_put_is_missing_hashes) (codes "missing" ∷ codes "put.bitml" ∷ codes "put.deal" ∷ codes "put.signatures" ∷ [])
+    deal_replies accepting (sha_of endorsement_of_a_put_is_missing_hashes) (codes "missing" ∷ codes "put.bitml" ∷ codes "put.deal" ∷ codes "put.signatures" ∷ [])
     ((codes "put.bitml", put_bitml) ∷ (codes "put.deal", put_deal) ∷ (codes "put.signatures", put_signatures) ∷ [])
     ≡ prints 0 (lines (
     codes "missing init 0 D:A init" ∷

@@ -1,6 +1,7 @@
 -- A deal that is finished: its contract, deal file, signatures and secrets, and what `finish` prints of them.
 use Rattle.std.specs.Prelude.{◌≡◌, ℕ, List, [], ◌∷◌, ◌++◌, codes}
 use Rattle.spec_tool.specs.Commands.{prints}
+use Rattle.spec_deal.specs.Verifier.{accepting}
 use Rattle.theory_values.specs.Replies.{lines, sha_of}
 use Rattle.theory_deal_values.specs.Replies.{deal_replies}
 
@@ -130,7 +131,7 @@ pair_hashes =
 -- first, the selector and the script; the signature and script of what is put.
 abbrev pub FinishedDealExists : Type 0
 FinishedDealExists =
-    deal_replies (sha_of pair_hashes) (codes "finish" ∷ codes "pair.bitml" ∷ codes "pair.deal" ∷ codes "r.0" ∷ codes "pair.signatures" ∷ codes "pair.secrets" ∷ [])
+    deal_replies accepting (sha_of pair_hashes) (codes "finish" ∷ codes "pair.bitml" ∷ codes "pair.deal" ∷ codes "r.0" ∷ codes "pair.signatures" ∷ codes "pair.secrets" ∷ [])
     ((codes "pair.bitml", pair_bitml) ∷ (codes "pair.deal", pair_deal) ∷ (codes "pair.signatures", pair_signatures) ∷ (codes "pair.secrets", pair_secrets) ∷ [])
     ≡ prints 0 (lines (
     (codes "02000000000102d656c9f0b2a05775cf59834d644071cb3119c400761ab2a2c9b24807292ceaac0000000000feffffff2741" ++

@@ -1,9 +1,9 @@
-use Rattle.std.proofs.Common.{◌≡◌, map, drop}
+use Rattle.std.proofs.Common.{◌≡◌, drop}
 use Rattle.spec_deal.specs.SignatureFile.{take_inputs}
-use Rattle.deal_signatures.specs.Seen.{spot_in}
+use Rattle.spec_deal.specs.Verifier.{secp256k1}
 use Rattle.deal_signatures.proofs.inputs.take_inputs.Given as goal
 
 abbrev pub invariant-loop-number : goal.invariant-loop-number
 invariant-loop-number l =
-    take_inputs (map spot_in l.wanted) l.tx l.number l.given (drop l.number l.inputs) l.rest
-    ≡ take_inputs (map spot_in l.wanted) l.tx 0 l.fn.given l.inputs l.said
+    take_inputs secp256k1 l.wanted l.tx l.number l.given (drop l.number l.inputs) l.rest
+    ≡ take_inputs secp256k1 l.wanted l.tx 0 l.fn.given l.inputs l.said

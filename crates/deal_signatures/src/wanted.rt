@@ -1,12 +1,12 @@
 //! Where signatures are wanted, and of which digests.
 
-ghost use Rattle.std.specs.Prelude.{◌≡◌, ◌++◌, ◌∷◌, [], List, ℕ, map, option_map, IfOk, OnOk};
+ghost use Rattle.std.specs.Prelude.{◌≡◌, ◌++◌, ◌∷◌, [], List, ℕ, true, map, option_map, IfOk, OnOk};
 ghost use Rattle.std.specs.List.{find};
 ghost use Rattle.spec_deal.specs.SignatureFile as file;
 ghost use Rattle.spec_deal.specs.Transactions as spec;
 ghost use Rattle.spec_deal.specs.Transactions.{Wanted};
 ghost use Rattle.spec_deal.specs.Verifier.{secp256k1};
-ghost use Rattle.deal_signatures.specs.Agreeing.{do_agree, is_as_first};
+ghost use Rattle.deal_signatures.specs.Agreeing as agreeing;
 ghost use Rattle.deal_signatures.specs.Keying.{signed_by, wanted_at};
 ghost use Rattle.deal_signatures.specs.Seen.{wanted_in};
 
@@ -188,24 +188,32 @@ fn is_at(
 
 // ---- verified
 
-// Whether a signature of this place is of the same digest as the first that is wanted there.
+// Whether a place is wanted for the digest of the first, if there is one.
+fn is_same(place: &Place, first: Option<&Place>) -> bool
+    ensures { result ≡ agreeing.is_same (wanted_in place.now) (option_map wanted_in (option_map (λ p. p.now) first.entry)) }
+{
+    match first {
+        Some(first) => first.digest == place.digest,
+        None => true,
+    }
+}
+
+// Whether it is wanted for the digest of the first that is wanted there.
 fn is_as_first(
     alloc: Global,
     places: &Indexed<Place>,
     place: &Place,
 ) -> Result<bool, OutOfMemory>
-    ensures { IfOk result (λ b. b ≡ is_as_first (map wanted_in places.now) (wanted_in place.now)) }
+    ensures { IfOk result (λ b. b ≡ agreeing.is_as_first (map wanted_in places.now) (wanted_in place.now)) }
 {
-    let first = first_at(alloc, places, place.tx.as_slice(), place.input, &place.key)?;
-    match first {
-        Some(first) => Ok(first.digest == place.digest),
-        None => Ok(true),
-    }
+    let tx = place.tx.as_slice();
+    let first = first_at(alloc, places, tx, place.input, &place.key)?;
+    Ok(is_same(place, first))
 }
 
 // Whether all that are wanted at one place are of one digest.
 fn do_agree(alloc: Global, places: &Indexed<Place>) -> Result<bool, OutOfMemory>
-    ensures { IfOk result (λ b. b ≡ do_agree (map wanted_in places.now)) }
+    ensures { IfOk result (λ b. b ≡ agreeing.do_agree (map wanted_in places.now)) }
 {
     for place in places.as_slice() {
         if !is_as_first(alloc, places, place)? {
@@ -215,17 +223,22 @@ fn do_agree(alloc: Global, places: &Indexed<Place>) -> Result<bool, OutOfMemory>
     Ok(true)
 }
 
+// Whether this is the place of a signature.
+fn is_here(place: &Place, tx: &[u8], input: u32, key: &[u8; 33]) -> bool
+    ensures { (signature : List ℕ) → result ≡ spec.is_at (wanted_in place.now).spot (signed_by tx.now input key.now signature) }
+{
+    tx == place.tx.as_slice() && (input == place.input && *key == place.key)
+}
+
 // Whether a signature verifies, if it is at this place.
 fn verifies_at(place: &Place, tx: &[u8], input: u32, key: &[u8; 33], signature: &[u8]) -> bool
     ensures { result ≡ file.verifies_if secp256k1 (signed_by tx.now input key.now signature.now) (wanted_in place.now) }
 {
-    if place.tx.as_slice() != tx {
-        return true;
+    if is_here(place, tx, input, key) {
+        verify(key, &place.digest, signature)
+    } else {
+        true
     }
-    if place.input != input || place.key != *key {
-        return true;
-    }
-    verify(key, &place.digest, signature)
 }
 
 // Whether a signature verifies wherever it is wanted, place by place.
@@ -255,7 +268,7 @@ fn verifies_once(
     key: &[u8; 33],
     signature: &[u8],
 ) -> Result<bool, OutOfMemory>
-    requires { do_agree (map wanted_in places.now) ≡ true }
+    requires { agreeing.do_agree (map wanted_in places.now) ≡ true }
     ensures { IfOk result (λ b. b
         ≡ file.is_verified secp256k1 (map wanted_in places.now) (signed_by tx.now input key.now signature.now)) }
 {

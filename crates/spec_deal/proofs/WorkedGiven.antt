@@ -59,11 +59,18 @@ abbrev signed_by : List ℕ → List ℕ → List ℕ
 signed_by key bytes = init_with (λ input. record input { partial = (key, bytes) ∷ [] })
 
 -- what is missing behind a file, or why it is refused
-abbrev answered : List ℕ → List ℕ
-answered text = elim (read_signatures accepting weigh keys (setting twin) text) [
+abbrev answered_by : Verifier → List ℕ → List ℕ
+answered_by v text = elim (read_signatures v weigh keys (setting twin) text) [
   | Ok given ↦ told twin given
   | Err fault ↦ signatures_refused_line fault
 ]
+
+abbrev answered : List ℕ → List ℕ
+answered text = answered_by accepting text
+
+-- finds no signature good but the first of those above
+abbrev choosing : Verifier
+choosing = record { is_point = λ key. true; is_signature = λ key digest bytes. bytes_eq bytes signature }
 
 pub signed : answered (signed_by own_key signature)
     ≡

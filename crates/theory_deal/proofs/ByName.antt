@@ -15,7 +15,7 @@ use Rattle.spec_compiler.specs.Keyed.ByPath.{unsigned_at}
 use Rattle.spec_tool.specs.declared.which.Which.{Which}
 use Rattle.spec_tool.specs.declared.which.Which.TheVariants as names
 use Rattle.spec_tool.specs.Keyed.Listed.{Listed, path_listed, listed, listed_at}
-use Rattle.theory_calculus.proofs.Members.{Is_in}
+use Rattle.theory_calculus.specs.Members.{Is_in}
 use Rattle.theory_script.specs.Keyed.Listed.{at_path}
 use Rattle.theory_script.proofs.Keyed.Transactions.{AreRight, transactions_right, paths_are_listed}
 

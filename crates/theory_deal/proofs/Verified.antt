@@ -23,7 +23,8 @@ use Rattle.spec_deal.specs.Slots.{Slot, input_slots, slots_from, listed_slots, s
 use Rattle.spec_deal.specs.Transactions.{Wanted, input_wanted, inputs_wanted, all_wanted}
 use Rattle.spec_deal.specs.Transactions.{input, inputs, transaction, transactions}
 use Rattle.spec_deal.specs.Verifier.{Verifier}
-use Rattle.theory_calculus.proofs.Members.{Is_in, in_left, in_right, in_from_contains, contains_from_in, all_in, all_map, found}
+use Rattle.theory_calculus.specs.Members.{Is_in}
+use Rattle.theory_calculus.proofs.Members.{in_left, in_right, in_from_contains, contains_from_in, all_in, all_map, found}
 use Rattle.theory_calculus.proofs.Names.{bytes-true}
 use Rattle.theory_deal.proofs.ByName.{listed_in}
 use Rattle.theory_deal.proofs.FinishedOpens.{slot_of}

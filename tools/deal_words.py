@@ -1,7 +1,7 @@
 """Which word of a line of a deal file, of signatures or of secrets is at fault, and why; and why a transaction isn't finished."""
 import re
 
-HEX32, HEX33 = rb'[0-9A-Fa-f]{64}', rb'[0-9A-Fa-f]{66}'
+HEX32 = rb'[0-9A-Fa-f]{64}'
 FORMS = {b'key': 'key LABEL HEX', b'deposit': 'deposit NAME TXID NUMBER', b'hash': 'hash NAME HEX'}
 SIZES = {'deal': '8,388,608', 'signatures': '8,388,608', 'secrets': '1,048,576'}
 # What is said of a line of signatures, with the number of the input.
@@ -12,6 +12,7 @@ SIGNATURES = {
     'witness': 'input %s has a final witness, which is taken only of a signature and the script of one key',
     'key': 'a signature on input %s is by a key that is not needed there',
     'signature': 'a signature on input %s has not the shape that nodes relay: DER with a low S, and 01 behind it',
+    'invalid': "a signature on input %s does not verify for its key and the input's digest",
     'conflict': 'an earlier line has another signature on input %s by the same key',
 }
 
@@ -28,7 +29,7 @@ def why_form(words):
         return comment, 'a deal file has no comments: leave out what stands from here to the end of the line'
     if words[0] not in FORMS:
         small = words[0].lower()
-        return 0, 'write %s' % small.decode() if small in FORMS else 'a line begins with key, deposit or hash'
+        return 0, 'verbs have small letters: %s' % small.decode() if small in FORMS else 'a line begins with key, deposit or hash'
     form = FORMS[words[0]].split()
     outpoint = words[2] if words[0] == b'deposit' and len(words) == 3 else b''
     if re.fullmatch(HEX32 + rb'[:,/]\d+', outpoint):
@@ -43,6 +44,8 @@ def why_value(words):
     if word == b'..':
         wanted = {b'key': 'the key', b'hash': 'the hash', b'deposit': 'the txid' if at == 2 else 'the number of the output'}[words[0]]
         return at, '.. stands for %s, which is wanted here' % wanted
+    if words[0] == b'key' and re.fullmatch(rb'0[23][0-9A-Fa-f]{64}', word):
+        return at, "this is no point of the curve secp256k1, so it is nobody's key"
     if words[0] == b'key':
         uncompressed = re.fullmatch(rb'04[0-9A-Fa-f]{128}', word)
         return at, 'a key has 33 bytes, 66 hexadecimal digits, and begins with 02 or 03' + (': this is the long form' if uncompressed else '')

@@ -23,7 +23,8 @@ use spec_tool::Reply;
 use std::alloc::Global;
 use theory_deal::{
     deal_statuses_have_causes, deals_are_sized, deals_give_all, false_without_one, finish_theorem,
-    finishes_exactly, keys_are_points, may_start, missing_and_held, plan_of_runs, signatures_verify,
+    finishes_exactly, keys_are_points, may_start, missing_and_held, plan_of_runs,
+    signatures_verify,
 };
 use tool_command::{Reading, read_all};
 use tool_headline::finish;

@@ -141,10 +141,7 @@ fn put_inputs(
 
 // Those of all transactions.
 #[tactic(auto, using(std::proofs::Common::append_assoc))]
-fn places_of(
-    alloc: Global,
-    transactions: &[Transaction],
-) -> Result<Indexed<Place>, OutOfMemory>
+fn places_of(alloc: Global, transactions: &[Transaction]) -> Result<Indexed<Place>, OutOfMemory>
     ensures { IfOk result (λ places. map wanted_in places ≡ spec.all_wanted transactions.now) }
 {
     let mut places = Indexed::new(alloc);
@@ -199,11 +196,7 @@ fn is_same(place: &Place, first: Option<&Place>) -> bool
 }
 
 // Whether it is wanted for the digest of the first that is wanted there.
-fn is_as_first(
-    alloc: Global,
-    places: &Indexed<Place>,
-    place: &Place,
-) -> Result<bool, OutOfMemory>
+fn is_as_first(alloc: Global, places: &Indexed<Place>, place: &Place) -> Result<bool, OutOfMemory>
     ensures { IfOk result (λ b. b ≡ agreeing.is_as_first (map wanted_in places.now) (wanted_in place.now)) }
 {
     let tx = place.tx.as_slice();

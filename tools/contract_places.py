@@ -16,6 +16,8 @@ class Places:
         self.names = {}
         # by path: what the parts of a split and the fee sum to, and the balance that they divide
         self.splits = {}
+        # by position: the static balance
+        self.balances = {}
         self.fee = 0
         self.skip()
         while self.word() != b'}':
@@ -45,7 +47,7 @@ class Places:
             self.skip()
 
     def choice(self, position, balance):
-        self.positions[position] = self.here()
+        self.positions[position], self.balances[position] = self.here(), balance
         if self.word() != b'(':
             return self.branch(position + '.0', balance)
         number = 0

@@ -1,109 +1,209 @@
 #!/usr/bin/env python3
-"""hints.py ANSWER WORD..: what is said beside an answer of the program, on standard error.
+"""hints.py ANSWER WORD..: what is said beside an answer of a program, on standard error.
 
-ANSWER is the program's text, WORD.. are the words that it was given. Where a file was refused, its
-line is shown with a mark under the place, and what is wrong there as far as the answer tells it.
-The variable COPIED has lines of a copy, a tab and what the file is called.
+ANSWER is the program's text or its beginning, WORD.. are the words of the command as help.txt has
+them. Where a file was refused, its line is shown with a mark under the place, and what is wrong
+there as far as it can be told. The variable COPIED has lines of a copy, a tab and what the file is
+called.
 """
 import os
 import re
 import sys
 
-from show_place import place_in, show, show_line
+from forms import kinds_of
+from show_place import show, show_word
 
 
-def called(file):
-    """What a file was called, of which this may be a copy."""
-    return dict(line.split('\t', 1) for line in os.environ.get('COPIED', '').splitlines()).get(file, file)
+BINARY = 'is in the binary form: base64 -w0 %s writes the one that is read'
 
 
-def hint(answer, file, text):
-    """What is wrong with the file as a whole, where that can be told."""
+class Asked:
+    """The words of a command by what they are."""
+
+    def __init__(self, words):
+        self.kinds, self.words = kinds_of(words), words
+        self.called = dict(line.split('\t', 1) for line in os.environ.get('COPIED', '').splitlines())
+
+    def file(self, kind, number=0):
+        """The file of a kind, by number: what it is called, and its text."""
+        files = [word for word, its in zip(self.words, self.kinds) if its == kind]
+        with open(files[number], 'rb') as file:
+            return self.called.get(files[number], files[number]), file.read()
+
+    def name(self, kind, number=0):
+        return self.file(kind, number)[0]
+
+
+def say(name, why):
+    if why:
+        print('%s: %s' % (name, why))
+
+
+def is_run(text):
+    return b'--' in text.split()
+
+
+def say_of_contract(asked, number, reason):
+    from contract_words import place_in
+    name, text = asked.file('CONTRACT', number)
+    if is_run(text):
+        say(name, 'looks like a run file, which is the first word' +
+            (': ./bitml next RUN CONTRACT' if asked.words[0] == 'next' and len(asked.words) == 2 else ''))
     if text.startswith(b'\xef\xbb\xbf'):
-        return 'begins with a byte order mark, which is no part of the text'
-    if answer.startswith('psbt'):
-        if text.startswith(b'psbt\xff'):
-            return 'is in the binary form: base64 -w0 %s writes the one that is read' % file
-        if re.search(rb'\s', text.removesuffix(b'\n')):
-            return "has line breaks or blanks: tr -d ' \\r\\n' <%s writes it without" % file
-    elif answer.startswith('run') and text.lstrip()[:1] == b'{':
-        return 'looks like a contract: the run file is the first word'
-    elif answer.startswith('contract') and b'--' in text.split():
-        return 'looks like a run file, which is the first word'
-    return None
-
-
-def say_beside(answer, command, files):
-    """What must be known of transactions before they are used."""
-    if len(files) < 2 or files[1].endswith('.psbt'):
+        say(name, 'begins with a byte order mark, which is no part of the text')
         return
-    if answer.startswith('contract 0 not compiled') or '"transactions":[]' in answer:
-        print('bitml: not all participants have committed by the end of the run, so nothing is compiled')
-    elif command != 'weigh':
-        print("bitml: the keys are a model's: pay nothing to these scripts (docs/limits.md)")
+    place, why = place_in(text, reason)
+    if place is not None:
+        show(name, text, place, is_public=text.lstrip()[:1] == b'{')
+    say(name, None if is_run(text) else why)
 
 
-# Which word of a line of a deal file, or of secrets, is at fault; the others are the name's.
-AT_WORD = {'form': 0, 'value': 2, 'shared': 2, 'length': 2, 'hash': 2}
+def say_of_run(asked, limit, number):
+    from run_words import LIMITS, why_line
+    name, text = asked.file('RUN')
+    if text.lstrip()[:1] == b'{':
+        say(name, 'looks like a contract: the run file is the first word')
+    elif text.startswith(b'\xef\xbb\xbf'):
+        say(name, 'begins with a byte order mark, which is no part of the text')
+    if limit:
+        return say(name, LIMITS[limit])
+    at, why = why_line(text, number)
+    if at is None:
+        show(name, text, len(text))
+    else:
+        show_word(name, text, number, at)
+    say(name, why if text.lstrip()[:1] != b'{' else None)
 
 
-def say_of_deal(answer, command, *files):
+def say_of_strategy(asked, limit, number):
+    from strategy_words import LIMITS, fault
+    name, text = asked.file('RULES')
+    if limit:
+        return say(name, LIMITS[limit])
+    at, why = fault(text.split(b'\n')[number - 1].split(), asked.file('RUN')[1])
+    show_word(name, text, number, at)
+    say(name, why)
+
+
+def paths_of(text):
+    """The paths of a contract that isn't refused, in the order of its text."""
+    from contract_places import Places
+    return list(Places(text).branches)
+
+
+def some(paths):
+    return ', '.join(paths[:12]) + (' and %d more' % (len(paths) - 12) if len(paths) > 12 else '')
+
+
+def say_of_path(asked, path):
+    name, text = asked.file('CONTRACT')
+    say(name, 'no path %s; what it has: %s' % (path, some(['init', *paths_of(text)])))
+
+
+def say_of_rules(asked):
+    """Which rules of a strategy are of paths that the contract hasn't: they never have an event."""
+    from strategy_words import absent_paths
+    name, rules = asked.file('RULES')
+    contract, text = asked.file('CONTRACT')
+    paths = paths_of(text)
+    for number, path in absent_paths(rules, paths):
+        say('%s:%d' % (name, number), '%s has no path %s; what it has: %s' % (contract, path, some(paths)))
+
+
+def say_of_psbt(asked, which, reason):
+    if not which:
+        return say('bitml', 'the two are of different transactions' if reason == 'other' else
+                   'both have a signature by one key on input %s, and they differ' % reason.split()[1])
+    name, text = asked.file('FILE', int(which))
+    if text.startswith(b'psbt\xff'):
+        why = BINARY % name
+    elif len(text.split()) > 1 and all(word.startswith(b'cHNidP') for word in text.split()):
+        why = 'has several of them; here one is read, and ./bitml deal takes a file with one in each line'
+    elif re.search(rb'\s', text.removesuffix(b'\n')):
+        why = "has line breaks or blanks: tr -d ' \\r\\n' <%s writes it without" % name
+    else:
+        why = {'size': 'has more than 8,388,608 bytes', 'base64': 'is no Base64 with padding, or not all of it',
+               'form': 'is no partially signed transaction that can be read here (BIP 174)'}[reason]
+    say(name, why)
+
+
+def say_of_deal(asked, kind, line, reason, other):
     """Shows the line at which a file of a deal was refused, with a mark under the word."""
-    refused = re.match(r'(deal|signatures|secrets) refused line (\d+) (\w+)', answer)
-    if not refused:
-        return
-    kind, line, reason = refused.groups()
-    number = {'deal': 1, 'signatures': 3 if command == 'finish' else 2, 'secrets': 4}[kind]
-    with open(files[number], 'rb') as file:
-        text = file.read()
-    words = list(re.finditer(rb'[^ \t\r]+', text.split(b'\n')[int(line) - 1]))
-    at = 0 if kind == 'signatures' else AT_WORD.get(reason, 1)
-    if reason == 'value' and len(words) == 4 and re.fullmatch(rb'[0-9A-Fa-f]{64}', words[2].group()):
-        # The txid of this deposit is one, so the number of its output is none.
-        at = 3
-    before = sum(len(x) + 1 for x in text.split(b'\n')[:int(line) - 1])
-    show(called(files[number]), text, before + words[min(at, len(words) - 1)].start())
+    import deal_words
+    name, text = asked.file({'deal': 'DEAL', 'signatures': 'FILE', 'secrets': 'SECRETS'}[kind])
+    bare = text.split(b'\n')[line - 1]
+    words = bare.split()
+    if kind == 'signatures' and text.startswith(b'psbt\xff'):
+        return say(name, BINARY % name)
+    if kind == 'signatures':
+        at, why = 0, deal_words.why_signatures_line(bare, reason, other)
+    elif kind == 'deal':
+        at, why = deal_words.why_deal_line(words, reason, other)
+    else:
+        at, why = deal_words.why_secrets_line(words, reason, other)
+    show_word(name, text, line, at, is_public=bare.startswith(b'cHNidP'))
+    say(name, why)
+
+
+def say_of_whole_deal(asked, kind, reason, rest):
+    import deal_words
+    name = asked.name({'deal': 'DEAL', 'signatures': 'FILE', 'secrets': 'SECRETS'}[kind])
+    if reason == 'size':
+        say(name, 'has more than %s bytes' % deal_words.SIZES[kind])
+    elif reason == 'missing':
+        say(name, 'no line begins with: %s' % rest)
+    else:
+        say(name, "deposit %s is an output of the deal's own transactions" % rest)
+
+
+def say_of_refused(_, kind, rest):
+    """Why a transaction of a deal isn't finished."""
+    from deal_words import why_not_finished
+    say('bitml', why_not_finished(kind, rest.split()))
+
+
+def say_of_lengths(asked):
+    """Which secrets of a header can't be committed, by their lengths."""
+    name, text = asked.file('RUN')
+    for number, line in enumerate(text.split(b'\n'), 1):
+        words = line.split()
+        if words == [b'--']:
+            return
+        if len(words) == 4 and words[0] == b'secret' and not 32 <= len(words[3]) <= 1040:
+            say('%s:%d' % (name, number), 'secret %s has %d bytes, and what is committed has 16 to 520' % (words[2].decode(), len(words[3]) // 2))
+
+
+# What is said to answers, by how they begin.
+ANSWERS = (
+    (r'contract (\d+) refused (.*)', lambda asked, number, reason: say_of_contract(asked, int(number), reason)),
+    (r'contract 0 no path (\S+)', say_of_path),
+    (r'run refused (?:limit (\w+) )?line (\d+)', lambda asked, limit, number: say_of_run(asked, limit, int(number))),
+    (r'strategy refused (?:limit (\w+)|line (\d+))', lambda asked, limit, number: say_of_strategy(asked, limit, int(number or 0))),
+    (r'psbt refused (?:(\d) )?(.*)', say_of_psbt),
+    (r'audit refused', lambda asked: say(asked.name('FILE'), 'has more than 8,388,608 bytes')),
+    (r'(deal|signatures|secrets) refused line (\d+) (\w+)(?: (\d+))?',
+     lambda asked, kind, line, reason, other: say_of_deal(asked, kind, int(line), reason, other)),
+    (r'(deal|signatures|secrets) refused (\w+) ?(.*)', say_of_whole_deal),
+    (r'refused path (\S+)', say_of_path),
+    (r'refused (\w+) ?(.*)', say_of_refused),
+    (r'rules', say_of_rules),
+    (r'lengths', say_of_lengths),
+)
 
 
 def main():
-    answer, command, *files = sys.argv[1:]
-    if command in ('plan', 'psbt', 'weigh') and not re.match(r'\w+ refused|contract \d+ (refused|no path)', answer):
-        return say_beside(answer, command, files)
-    contract = re.match(r'contract (\d+) refused (.*)', answer)
-    other = re.match(r'(run|strategy) refused (?:limit \w+ )?line (\d+)', answer)
-    if contract:
-        number = int(contract.group(1)) + (command != 'check')
-    elif other:
-        number = 0 if other.group(1) == 'run' else 2
-    elif command == 'deal':
-        return say_of_deal(answer, *files)
-    elif re.match(r'psbt refused (\d)', answer):
-        number = int(re.match(r'psbt refused (\d)', answer).group(1))
-    else:
-        return
-    with open(files[number], 'rb') as file:
-        text = file.read()
-    name = called(files[number])
-    why = hint(answer, name, text)
-    if why:
-        print('%s: %s' % (name, why))
-    if not contract and not other:
-        return
-    said = None
-    if contract:
-        place, said = place_in(text, contract.group(2))
-        if place is not None:
-            show(name, text, place)
-    elif int(other.group(2)) > 0:
-        said = show_line(name, text, int(other.group(2)))
-    if said:
-        print('%s: %s' % (name, said))
+    answer, *words = sys.argv[1:]
+    asked = Asked(words)
+    for pattern, said in ANSWERS:
+        match = re.match(pattern, answer)
+        if match:
+            return said(asked, *match.groups())
 
 
 if __name__ == '__main__':
     sys.setrecursionlimit(10_000)
     try:
         main()
-    except (OSError, ValueError, IndexError, KeyError):
+    except (OSError, ValueError, IndexError, KeyError, TypeError, AttributeError):
         # What can't be shown is left out: the program's own answer stands.
         pass

@@ -1,81 +1,54 @@
-"""Shows a line of a file with a mark under the place where it was refused."""
+"""Shows a line of a file with a mark under a place."""
 import re
+import unicodedata
 
-from contract_places import Places
-from run_words import fault
-
-# The limits whose place is a byte; those of whole positions; the others tell a number.
-AT_A_BYTE = {'Name', 'Number', 'Depth', 'Branches', 'Choice', 'Split', 'Deposits', 'Secrets'}
-AT_A_POSITION = {'Balance', 'Script'}
-# What is said of the name that stands at a fault.
-NAMES = {
-    'NameRepeated': '%s stands in an earlier entry too',
-    'UnknownDeposit': 'no entry has a deposit ? .. @ %s',
-    'UnknownSecret': 'no entry has a secret %s',
-    'PrefixRepeated': '%s stands twice',
-    'PredicateSecret': '%s is no secret of this reveal',
-}
-# The verbs whose long words everybody may see, and those that have secrets. Elsewhere a long word with a digit may be one.
-PUBLIC, SECRET = ([b'commit'], [b'sign'], [b'append'], [b'key'], [b'deposit'], [b'hash']), ([b'secret'], [b'post'])
+# The verbs of run files and deal files whose words everybody may see, and those of lines that hold a secret.
+PUBLIC = 'party honest deposit advertise commit endorse init authorise reveal sign append give fire mine key hash'.split()
+SECRET = 'secret post'.split()
 WIDTH = 100
 
 
-def place_in(text, reason):
-    """The byte that a refusal of a contract names, and what is to be said of it; None where there is none."""
-    kind, *rest = reason.split(' ')
-    if kind in ('byte', 'syntax'):
-        return int(rest[0]), None
-    if kind == 'limit' and rest[0] in AT_A_BYTE:
-        return int(rest[1]), None
-    if kind == 'limit' and rest[0] in ('Text', 'Participants'):
-        return None, None
-    where, places = rest[-1], Places(text)
-    if rest[1] in NAMES:
-        name, at = places.named(rest[1], where)
-        return at, NAMES[rest[1]] % name.decode()
-    if where == 'r' or where.startswith('r.'):
-        both = [places.positions, places.branches]
-        first, second = both if rest[0] in AT_A_POSITION else reversed(both)
-        said = None
-        if rest[1] == 'SplitSum':
-            said = 'the parts and the fee sum to %d, the balance is %d' % places.splits[where]
-        return first.get(where, second.get(where)), said
-    return places.party(where), None
-
-
-def shown(text):
-    """Text with each byte in one column. What may be a secret isn't shown: its verb may be misspelt too."""
+def masked(text):
+    """A line without what may be a secret: long words in a line of secrets, and elsewhere those that look like hexadecimal."""
     verb = text.split()[:1]
-    if verb not in PUBLIC:
-        long = rb'[0-9A-Za-z]{16,}' if verb in SECRET else rb'(?=[A-Za-z]*\d)[0-9A-Za-z]{16,}'
-        text = re.sub(long, lambda m: b'.' * len(m.group()), text)
-    return ''.join(chr(b) if 32 <= b < 127 else ' ' if b == 9 else '?' for b in text)
+    if verb and verb[0] in PUBLIC:
+        return text
+    long = '[0-9A-Za-z]{16,}' if verb and verb[0] in SECRET else r'(?=[A-Za-z]*\d)[0-9A-Za-z]{16,}'
+    return re.sub(long, lambda match: '.' * len(match.group()), text)
 
 
-def show(file, text, place):
+def width(letter):
+    """How many columns a letter takes where it is shown."""
+    return 0 if unicodedata.combining(letter) else 2 if unicodedata.east_asian_width(letter) in 'WF' else 1
+
+
+def letters(text):
+    """Bytes as letters that can be shown, a byte that is part of none as `?`."""
+    shown = text.decode('utf-8', 'surrogateescape').replace('\t', ' ')
+    return ''.join(letter if letter.isprintable() else '?' for letter in shown)
+
+
+def show(file, text, place, is_public=False):
+    """Prints the line of a place, counted in bytes, and a mark under it. Only where a file is public all of the line is shown."""
     place = min(place, len(text))
     begin = text.rfind(b'\n', 0, place) + 1
     if begin == len(text) > 0:
         # The end of a text with a line feed is shown behind its last line.
         begin = text.rfind(b'\n', 0, len(text) - 1) + 1
-    number, column = text.count(b'\n', 0, begin) + 1, place - begin
-    line = shown(text[begin:].split(b'\n')[0].rstrip(b'\r'))
-    column = min(column, len(line))
-    left = max(0, column - WIDTH // 2)
-    head = '%s:%d: %s' % (file, number, '... ' if left else '')
+    line = text[begin:].split(b'\n')[0].rstrip(b'\r')
+    at = len(letters(line[:place - begin]))
+    line = letters(line) if is_public else masked(letters(line))
+    at = min(at, len(line))
+    left = max(0, at - WIDTH // 2)
+    head = '%s:%d: %s' % (file, text.count(b'\n', 0, begin) + 1, '... ' if left else '')
     print(head + line[left:left + WIDTH] + (' ...' if left + WIDTH < len(line) else ''))
-    print(' ' * (len(head) + column - left) + '^')
+    print(' ' * (len(head) + sum(map(width, line[left:at]))) + '^')
 
 
-def show_line(file, text, number):
-    """Marks the word at fault in a line, or the end of the text where there is no such line, and gives what is to be said of it."""
+def show_word(file, text, number, at, is_public=False):
+    """Prints a line, counted from 1, with the mark under a word of it, or behind it where it has no such word."""
     lines = text.split(b'\n')
-    if number > len(lines) or number == len(lines) and not lines[-1]:
-        show(file, text, len(text))
-        return 'the line -- that ends the header is missing' if b'--' not in [line.strip() for line in lines] else None
-    line = lines[number - 1]
-    before = sum(len(x) + 1 for x in lines[:number - 1])
-    words = [(m.group(), m.start()) for m in re.finditer(rb'[^ \t\r]+', line)]
-    at, said = fault([word for word, _ in words], lines[:number - 1]) if words else (0, None)
-    show(file, text, before + (words[at][1] if at < len(words) else len(line.rstrip())))
-    return said
+    before = sum(len(line) + 1 for line in lines[:number - 1])
+    line = lines[number - 1].rstrip()
+    places = [match.start() for match in re.finditer(rb'[^ \t\r]+', line)]
+    show(file, text, before + (places[at] if at < len(places) else len(line)), is_public)

@@ -3,3 +3,4 @@ pub mod Choosing
 pub mod Inputs
 pub mod Reasons
 pub mod Witnessed
+pub mod FewChoices

@@ -14,10 +14,10 @@ ghost use Rattle.bm_syntax.specs.View.{guarded};
 ghost use Rattle.deal_finish.specs.Filled as filled;
 ghost use Rattle.deal_finish.specs.Finishes.{Allows};
 
-use crate::branches::{branch_of, reveals_of};
+use crate::branches::branch_of;
 use crate::error::FinishError;
 use crate::secrets::{do_fit, first_hidden};
-use bm_syntax::Guarded;
+use bm_syntax::{Guarded, reveals};
 use bm_wellformed::Checked;
 use deal_missing::{first_unendorsed, first_unsigned};
 use deal_secrets::Strings;
@@ -71,7 +71,7 @@ fn shown(branch: Option<&Guarded>, strings: &Strings) -> Result<(), FinishError>
     let Some(branch) = branch else {
         return Ok(());
     };
-    match first_hidden(strings, reveals_of(branch)) {
+    match first_hidden(strings, reveals(branch)) {
         Some(name) => Err(FinishError::Refused(FinishRefusal::Secret(name))),
         None => Ok(()),
     }

@@ -1,18 +1,18 @@
 //! The witnesses of a transaction's inputs.
 
-ghost use Rattle.std.specs.Prelude.{◌≡◌, ◌<◌, ◌+◌, ◌++◌, Some, length, slice_get, option_map, IfOk, IfSome, OnOk};
+ghost use Rattle.std.specs.Prelude.{◌≡◌, ◌<◌, ◌+◌, ◌^◌, ◌++◌, Some, length, slice_get, option_map, IfOk, IfSome, OnOk};
 ghost use Rattle.std.specs.Option.{option_copied};
+ghost use Rattle.spec_terms.specs.Faults.{IsWellFormed};
 ghost use Rattle.spec_terms.specs.Paths.{contract_under};
 ghost use Rattle.spec_terms.specs.Term.{branches};
 ghost use Rattle.bm_syntax.specs.View.{contract, guarded};
 ghost use Rattle.deal_finish.specs.Filled as spec;
 
-use crate::branches::reveals_of;
 use crate::secrets::strings_of;
 use crate::signatures::{put_items, put_reversed, signatures_of};
 use bm_branch::witness;
 use bm_plan::{last_branch, position_of};
-use bm_syntax::{Contract, Guarded, Path, choice_at};
+use bm_syntax::{Contract, Guarded, Path, choice_at, reveals};
 use bm_wellformed::Checked;
 use deal_secrets::Strings;
 use deal_signatures::Given;
@@ -69,16 +69,6 @@ fn put_deposits(
 
 // ---- the output of a position
 
-// A number of 32 bits; a greater one is taken for want of memory.
-fn narrow(number: usize) -> Result<u32, OutOfMemory>
-    ensures { IfOk result (λ n. n ≡ number) }
-{
-    if number > u32::MAX as usize {
-        return Err(AllocError);
-    }
-    Ok(number as u32)
-}
-
 // The branch of this number among these.
 fn item_at(branches: &[Guarded], number: u32) -> Option<&Guarded>
     ensures { option_copied result ≡ slice_get branches.now number }
@@ -95,10 +85,11 @@ fn branch_in(choice: &Contract, number: u32) -> Option<&Guarded>
 }
 
 // How many branches a choice has.
-fn count_of(choice: &Contract) -> Result<u32, OutOfMemory>
-    ensures { IfOk result (λ n. n ≡ length (branches (contract choice.now))) }
+fn count_of(choice: &Contract) -> u32
+    requires { length choice.now.branches.items < 2 ^ 32 }
+    ensures { result ≡ length (branches (contract choice.now)) }
 {
-    narrow(choice.branches.as_slice().len())
+    choice.branches.as_slice().len() as u32
 }
 
 // What stands behind the signatures where this branch of a choice is taken.
@@ -109,22 +100,31 @@ fn choice_items(
     number: u32,
     script: &[u8],
 ) -> Result<Vec<Bytes>, OutOfMemory>
+    requires { length choice.now.branches.items < 2 ^ 32 }
     ensures { IfOk result (λ items. items.items ≡ spec.choice_items strings.now number script.now (Some (contract choice.now))) }
 {
     match branch_in(choice, number) {
         Some(branch) => {
-            let secrets = strings_of(alloc, strings, reveals_of(branch))?;
-            let count = count_of(choice)?;
-            witness(alloc, &[], &secrets, number, count, script)
+            let secrets = strings_of(alloc, strings, reveals(branch))?;
+            witness(alloc, &[], &secrets, number, count_of(choice), script)
         }
         None => Ok(Vec::new(alloc)),
     }
 }
 
-fn choice_under<'a>(checked: &'a Checked, position: &Path) -> Option<&'a Contract>
-    ensures { option_map (λ c. contract c.now) result ≡ contract_under checked.now.root position.now }
+fn choice_in<'a>(checked: &'a Checked, position: &Path) -> Option<&'a Contract>
+    ensures choice { option_map (λ c. contract c.now) result ≡ contract_under checked.now.root position.now }
+    ensures well_formed { IsWellFormed checked.now }
 {
     choice_at(&checked.advert().root, position)
+}
+
+// The choice at a position of a contract, which has few branches, since the contract is checked.
+fn choice_under<'a>(checked: &'a Checked, position: &Path) -> Option<&'a Contract>
+    ensures choice { option_map (λ c. contract c.now) result ≡ contract_under checked.now.root position.now }
+    ensures few { IfSome result (λ c. length c.now.branches.items < 2 ^ 32) }
+{
+    choice_in(checked, position)
 }
 
 // What stands behind the signatures where the branch at a path is taken.

@@ -2,7 +2,7 @@
 
 ghost use Rattle.std.specs.Prelude.{◌≡◌, ◌++◌, OnOk, Some};
 ghost use Rattle.spec_data.specs.Lists.{look_up};
-ghost use Rattle.spec_terms.specs.Core.{core as core_of, asks, puts_of, reveals_of};
+ghost use Rattle.spec_terms.specs.Core.{core as core_of, asks};
 ghost use Rattle.spec_terms.specs.Precondition.{secrets};
 ghost use Rattle.spec_calculus.specs.Beginning.{contract_at};
 ghost use Rattle.spec_calculus.specs.Branches.{active_at};
@@ -13,7 +13,7 @@ ghost use Rattle.bm_calculus.specs.Answers.{shown, parts_of};
 
 use crate::wanting::put_unless;
 use bm_calculus::{Active, Config};
-use bm_syntax::{Guarded, branch_at as branch_under, core, lock};
+use bm_syntax::{Guarded, branch_at as branch_under, lock, puts, reveals};
 use bm_wellformed::Checked;
 use spec_data::{Name, OutOfMemory, Seq};
 use spec_next::Want;
@@ -110,26 +110,6 @@ fn put_unrevealed(
     Ok(())
 }
 
-// The names of the deposits that a core puts in.
-fn puts_in(core: &Guarded) -> &[Name]
-    ensures { result.now ≡ puts_of (guarded core.now) }
-{
-    match core {
-        Guarded::PutReveal { puts, .. } => puts,
-        _ => &[],
-    }
-}
-
-// The names of the secrets that a core reveals.
-fn reveals_in(core: &Guarded) -> &[Name]
-    ensures { result.now ≡ reveals_of (guarded core.now) }
-{
-    match core {
-        Guarded::PutReveal { reveals, .. } => reveals,
-        _ => &[],
-    }
-}
-
 // What is wanting for a branch of an active contract of this contract, which has this precondition, where the predicate may hold or
 // doesn't.
 #[tactic(auto, using(std::proofs::Common::append_assoc, crate::proofs::Unmet::unmet_first, crate::proofs::Unmet::unmet_append))]
@@ -147,12 +127,11 @@ fn put_asked(
     ensures { OnOk result (wants.new ≡ wants.old
         ++ spec.unmet (spec.asked_for config.now output branch contract pre.now (guarded taken.now))) }
 {
-    let core = core(taken);
     let height = lock(taken);
     put_unless(wants, height <= config.time(), Want::Height(height))?;
     put_unauthorised(wants, config, output, branch, taken)?;
-    put_gone(wants, config, contract, puts_in(core))?;
-    put_unrevealed(wants, config, contract, pre, reveals_in(core))?;
+    put_gone(wants, config, contract, puts(taken))?;
+    put_unrevealed(wants, config, contract, pre, reveals(taken))?;
     put_unless(wants, held, Want::Predicate)
 }
 

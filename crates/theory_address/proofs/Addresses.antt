@@ -14,8 +14,8 @@ use Rattle.spec_address.specs.Groups.{group_at, groups_of, bytes_of}
 use Rattle.spec_address.specs.Address as spec
 use Rattle.spec_address.specs.Address.{operation_of, version_of, pushes_version, is_program_size, are_bytes, is_witness_output, letter_of, separator, text_of, short, address, spells, reads, value_of, values_of, script_of, read_address}
 use Rattle.theory_address.proofs.Groups.{bytes_back, length_groups}
-use Rattle.theory_address.proofs.Letters.{AreSmall, small_append, small_map, small_letter_back, capital_back, values_back, letters_are_small}
-use Rattle.theory_address.specs.Addresses.{AddressesAreReadBack, EachHasAddress, OneScript, ReadExactly, ReadIsShown}
+use Rattle.theory_address.proofs.Letters.{AreSmall, small_append, small_map, small_letter_back, capital_back, values_back, letters_are_small, HasNoSeparator, letters_have_none, before_last}
+use Rattle.theory_address.specs.Addresses.{AddressesAreReadBack, EachHasAddress, OneNetwork, OneScript, ReadExactly, ReadIsShort, ReadIsShown}
 
 -- ---- the values of an address
 
@@ -243,6 +243,28 @@ read_is_shown hrp word script hrp_is h =
     ] in
     is.is ∙ ap (λ (t : List ℕ). Some t) (sym lower)
 
+-- ---- one network
+
+record IsSplit (hrp text : List ℕ) : Type 0 where
+  letters : List ℕ
+  same : text ≡ hrp ++ separator ∷ letters
+  none : HasNoSeparator letters
+
+split_is : (hrp script text : List ℕ) → IsAddress hrp script text → IsSplit hrp text
+split_is hrp [] text a = absurd (let o = a.output in cc)
+split_is hrp (operation ∷ []) text a = absurd (let o = a.output in cc)
+split_is hrp (operation ∷ size ∷ program) text a =
+    let vs = values hrp (version_of operation) (groups_of program) in
+    let o = output_is operation size program a.output in
+    record { letters = map letter_of vs; same = a.same; none = letters_have_none vs (values_small hrp operation program o.pushes) }
+
+pub one_network : OneNetwork
+one_network one other word script script' h k reads_one reads_other =
+    let small = str_to_ascii_lowercase word in
+    let a = split_is one script small (address_is one script small (read_is_shown one word script h reads_one)) in
+    let b = split_is other script' small (address_is other script' small (read_is_shown other word script' k reads_other)) in
+    before_last one other a.letters b.letters a.none b.none (sym a.same ∙ b.same)
+
 -- ---- each script has one
 
 program_length : (version size : ℕ) → is_program_size version size ≡ true → size ≤ 40
@@ -280,3 +302,26 @@ each_has_address hrp (operation ∷ size ∷ program) hrp_is h =
     let n = text_length hrp (version_of operation) (groups_of program) in
     let all : length (text_of hrp (version_of operation) (groups_of program)) ≤ 90 = omega (arith, n, count, o.sized, most, few) in
     ap is_some (address_of hrp (operation ∷ size ∷ program) h (le_true (length (text_of hrp (version_of operation) (groups_of program))) 90 all))
+
+-- ---- how long a word is that is read
+
+spelled_length : (word text : List ℕ) → (word ≡ text) ⊎ (word ≡ str_to_ascii_uppercase text) → length word ≡ length text
+spelled_length word text (inl e) = ap length e
+spelled_length word text (inr e) = ap length e ∙ length_map to_ascii_uppercase text
+
+address_is_short : (hrp script text : List ℕ) → address hrp script ≡ Some text → length text ≤ 90
+unfolding address
+address_is_short hrp script text h = by (is_witness_output script) (nat_le (length given) 90) refl h
+  where
+    given : List ℕ
+    given = text_of hrp (version_of (slice_index script 0)) (groups_of (drop 2 script))
+
+    by : (output few : Bool) → nat_le (length given) 90 ≡ few → (if output then (if few then Some given else None) else None) ≡ Some text → length text ≤ 90
+    by true true e h = let n = ap (length {A = ℕ}) (some_is given text h) in grind (arith, n, e)
+    by true false e h = absurd cc
+    by false few e h = absurd cc
+
+pub read_is_short : ReadIsShort
+read_is_short hrp word script h =
+    let is = spelled_is word (address hrp script) h in
+    subst (λ n. n ≤ 90) (sym (spelled_length word is.text is.either)) (address_is_short hrp script is.text is.is)

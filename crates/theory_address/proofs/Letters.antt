@@ -1,10 +1,11 @@
 -- Values below 32 are had back from their letters, in either case.
-use Rattle.std.proofs.Common.{◌≡◌, ℕ, zero, suc, ◌+◌, ◌<◌, List, [], ◌∷◌, ◌++◌, map, refl, arith, inl, inr, Bool, true, subst}
-use Rattle.std.specs.Prelude.{◌==◌, ◌&&◌}
+use Rattle.std.proofs.Common.{◌≡◌, ℕ, zero, suc, ◌+◌, ◌<◌, List, [], ◌∷◌, ◌++◌, map, refl, arith, inl, inr, Bool, true, false, subst}
+use Rattle.std.specs.Prelude.{◌==◌, ◌&&◌, not}
 use Rattle.std.specs.Char.{to_ascii_lowercase, to_ascii_uppercase}
 use Rattle.std.specs.List.{range_with_len}
+use Rattle.std.proofs.Common.{eq-eqb, sym}
 use Rattle.std.proofs.lemmas.Bool.{and_parts, cases_lt, eqb-true}
-use Rattle.spec_address.specs.Address.{letter_of, value_of}
+use Rattle.spec_address.specs.Address.{letter_of, separator, value_of}
 
 -- ---- values below 32
 
@@ -48,6 +49,15 @@ pub letter_is_small : (v : ℕ) → v < 32 → to_ascii_lowercase (letter_of v) 
 letter_is_small v h =
     eqb-true (to_ascii_lowercase (letter_of v)) (letter_of v) (below_at (λ n. to_ascii_lowercase (letter_of n) == letter_of n) 32 v refl h)
 
+no_separator : (v : ℕ) → v < 32 → letter_of v ≡ separator → ⊥
+no_separator v h e =
+    let other : not (letter_of v == separator) ≡ true = below_at (λ n. not (letter_of n == separator)) 32 v refl h in
+    not_both (letter_of v == separator) other (eq-eqb (letter_of v) separator e)
+  where
+    not_both : (t : Bool) → not t ≡ true → t ≡ true → ⊥
+    not_both true h k = absurd cc
+    not_both false h k = absurd cc
+
 -- ---- lists of them
 
 pub values_back : (f : ℕ → ℕ) (vs : List ℕ) → ((v : ℕ) → v < 32 → value_of (to_ascii_lowercase (f v)) ≡ v) → AreSmall vs
@@ -58,3 +68,28 @@ values_back f (v ∷ vs) each small = λ j. each v (small.0) j ∷ values_back f
 pub letters_are_small : (vs : List ℕ) → AreSmall vs → map to_ascii_lowercase (map letter_of vs) ≡ map letter_of vs
 letters_are_small [] small = refl
 letters_are_small (v ∷ vs) small = λ j. letter_is_small v (small.0) j ∷ letters_are_small vs (small.1) j
+
+-- ---- the last separator
+
+-- none of them is the separator
+abbrev pub HasNoSeparator : List ℕ → Type 0
+HasNoSeparator [] = Unit {0}
+HasNoSeparator (x ∷ xs) = (x ≡ separator → ⊥) × HasNoSeparator xs
+
+pub letters_have_none : (vs : List ℕ) → AreSmall vs → HasNoSeparator (map letter_of vs)
+letters_have_none [] small = tt
+letters_have_none (v ∷ vs) small = (no_separator v (small.0), letters_have_none vs (small.1))
+
+has_one : (xs us : List ℕ) → HasNoSeparator (xs ++ separator ∷ us) → ⊥
+has_one [] us h = h.0 refl
+has_one (x ∷ xs) us h = has_one xs us (h.1)
+
+-- what stands before the last separator is known
+pub before_last : (xs ys us vs : List ℕ) → HasNoSeparator us → HasNoSeparator vs → xs ++ separator ∷ us ≡ ys ++ separator ∷ vs → xs ≡ ys
+before_last [] [] us vs h k e = refl
+before_last [] (y ∷ ys) us vs h k e = let rest : us ≡ ys ++ separator ∷ vs = cc in absurd (has_one ys vs (subst HasNoSeparator rest h))
+before_last (x ∷ xs) [] us vs h k e = let rest : xs ++ separator ∷ us ≡ vs = cc in absurd (has_one xs us (subst HasNoSeparator (sym rest) k))
+before_last (x ∷ xs) (y ∷ ys) us vs h k e =
+    let first : x ≡ y = cc in
+    let rest : xs ++ separator ∷ us ≡ ys ++ separator ∷ vs = cc in
+    λ j. first j ∷ before_last xs ys us vs h k rest j

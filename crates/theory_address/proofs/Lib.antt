@@ -1,3 +1,3 @@
 mod Groups
 mod Letters
-mod Addresses
+pub mod Addresses

@@ -1,7 +1,7 @@
 //! What follows of addresses: each theorem is the contract of a function that does nothing.
 #![tactic(auto)]
 
-ghost use Rattle.theory_address.specs.Addresses.{AddressesAreReadBack, EachHasAddress, OneScript, ReadExactly, ReadIsShown};
+ghost use Rattle.theory_address.specs.Addresses.{AddressesAreReadBack, EachHasAddress, OneNetwork, OneScript, ReadExactly, ReadIsShort, ReadIsShown};
 
 /// Each witness output script has an address, for every human-readable part of at most 18 characters.
 pub fn each_has_address()
@@ -26,4 +26,14 @@ pub fn one_script()
 /// The address of a script that was read is the word in small letters.
 pub fn read_is_shown()
     ensures { ReadIsShown }
+{}
+
+/// A word that is read has at most 90 characters.
+pub fn read_is_short()
+    ensures { ReadIsShort }
+{}
+
+/// A word is an address of one network at most.
+pub fn one_network()
+    ensures { OneNetwork }
 {}

@@ -1,6 +1,6 @@
 use Rattle.std.proofs.Common.{sym, ap, ◌∙◌}
 use Rattle.std.specs.Prelude.{option_map}
-use Rattle.next_outlook.proofs.Hearing.{halted_before}
+use Rattle.bm_world_heard.proofs.Hearing.{halted_before}
 use Rattle.next_outlook.proofs.Looked.{looked_if}
 use Rattle.next_outlook.proofs.looking.outlooks.Goals as goal
 

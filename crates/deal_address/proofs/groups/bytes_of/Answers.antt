@@ -1,0 +1,9 @@
+use Rattle.std.proofs.Common.{◌++◌, ◌∷◌, [], sym, ◌∙◌, arith}
+use Rattle.std.proofs.lemmas.List.FromFn.{map-range_with_len_more}
+use Rattle.spec_address.specs.Groups.{byte_at}
+use Rattle.deal_address.proofs.groups.bytes_of.Goals as goal
+
+pub loop-i-preserved : goal.loop-i-preserved
+loop-i-preserved c =
+    c.in_ok-push.ensures.items ∙ (λ j. c.loop-i.invariant j ++ c.byte_at.ensures j ∷ [])
+    ∙ sym (map-range_with_len_more (byte_at c.args.groups.now) 0 c.loop-i.i c.loop-i.i (omega arith))

@@ -1,0 +1,113 @@
+"""Which word of a line of a deal file, of signatures or of secrets is at fault, and why; and why a transaction isn't finished."""
+import re
+
+HEX32 = rb'[0-9A-Fa-f]{64}'
+FORMS = {b'key': 'key LABEL HEX', b'deposit': 'deposit NAME TXID NUMBER', b'hash': 'hash NAME HEX'}
+SIZES = {'deal': '8,388,608', 'signatures': '8,388,608', 'secrets': '1,048,576'}
+# What is said of a line of signatures, with the number of the input.
+SIGNATURES = {
+    'foreign': "its transaction is none of this contract with this deal file",
+    'spent': 'input %s spends an output of another value or script',
+    'script': 'the script of input %s is another',
+    'witness': 'input %s has a final witness, which is taken only of a signature and the script of one key',
+    'key': 'a signature on input %s is by a key that is not needed there',
+    'signature': 'a signature on input %s has not the shape that nodes relay: DER with a low S, and 01 behind it',
+    'invalid': "a signature on input %s does not verify for its key and the input's digest",
+    'conflict': 'an earlier line has another signature on input %s by the same key',
+}
+
+
+def comment_in(words):
+    """The number of the word that begins a comment, or None."""
+    return next((number for number, word in enumerate(words) if word[:1] == b'#'), None)
+
+
+def why_form(words):
+    """Which word of a deal file's line is too few, too many or none, and why."""
+    comment = comment_in(words)
+    if comment is not None:
+        return comment, 'a deal file has no comments: leave out what stands from here to the end of the line'
+    if words[0] not in FORMS:
+        small = words[0].lower()
+        return 0, 'verbs have small letters: %s' % small.decode() if small in FORMS else 'a line begins with key, deposit or hash'
+    form = FORMS[words[0]].split()
+    outpoint = words[2] if words[0] == b'deposit' and len(words) == 3 else b''
+    if re.fullmatch(HEX32 + rb'[:,/]\d+', outpoint):
+        return 2, 'the transaction and the number of its output are two words: %s.. %s' % (outpoint[:8].decode(), outpoint[65:].decode())
+    return min(len(words), len(form)), 'the line is %s' % ' '.join(form)
+
+
+def why_value(words):
+    """Which word behind a label or a name is wrong, and why."""
+    at = 3 if words[0] == b'deposit' and re.fullmatch(HEX32, words[2]) else 2
+    word = words[at]
+    if word == b'..':
+        wanted = {b'key': 'the key', b'hash': 'the hash', b'deposit': 'the txid' if at == 2 else 'the number of the output'}[words[0]]
+        return at, '.. stands for %s, which is wanted here' % wanted
+    if words[0] == b'key' and re.fullmatch(rb'0[23][0-9A-Fa-f]{64}', word):
+        return at, "this is no point of the curve secp256k1, so it is nobody's key"
+    if words[0] == b'key':
+        uncompressed = re.fullmatch(rb'04[0-9A-Fa-f]{128}', word)
+        return at, 'a key has 33 bytes, 66 hexadecimal digits, and begins with 02 or 03' + (': this is the long form' if uncompressed else '')
+    if at == 3:
+        return at, "the number of the transaction's output is a decimal below 4,294,967,296"
+    return at, 'a %s has 64 hexadecimal digits' % ('txid' if words[0] == b'deposit' else 'hash')
+
+
+def why_deal_line(words, reason, other):
+    """The word at fault in a line of a deal file, and why."""
+    if reason == 'form':
+        return why_form(words)
+    if reason == 'value':
+        return why_value(words)
+    if reason == 'foreign':
+        what = {b'key': 'such label', b'deposit': 'deposit %s' % words[1].decode('ascii', 'replace'), b'hash': 'secret %s' % words[1].decode('ascii', 'replace')}
+        return 1, 'the contract has no %s: ./bitml deal keys lists its lines' % what[words[0]]
+    if reason == 'repeated':
+        return 1, 'line %s has given it before' % other
+    return 2, 'line %s has the same %s, and each stands for one thing' % (other, {b'key': 'key', b'hash': 'hash'}.get(words[0], 'output'))
+
+
+def why_signatures_line(line, reason, number):
+    """Why a line of signatures is refused."""
+    if reason == 'base64':
+        if line.split()[:1] == [b'secret']:
+            return 'looks like a file of secrets, which is the last word'
+        if len(line.split()) > 1 or re.search(rb'=[^=]', line) or line.count(b'cHNidP') > 1:
+            return 'each partially signed transaction stands on a line of its own'
+        if re.fullmatch(rb'[0-9A-Fa-f]+', line.strip()):
+            return 'these are hexadecimal digits, and Base64 is wanted'
+        return 'this is no Base64 with padding, or not all of it'
+    if reason == 'form':
+        return 'these bytes are no partially signed transaction (BIP 174)'
+    return SIGNATURES[reason] % number if '%s' in SIGNATURES[reason] else SIGNATURES[reason]
+
+
+def why_secrets_line(words, reason, other):
+    """The word at fault in a line of secrets, and why."""
+    if reason == 'form':
+        comment = comment_in(words)
+        if comment is not None:
+            return comment, 'a file of secrets has no comments'
+        return (0 if words[0] != b'secret' else min(len(words), 3)), 'the line is secret NAME HEX'
+    name = words[1].decode('ascii', 'replace')
+    return {
+        'foreign': (1, 'the contract has no secret %s' % name),
+        'value': (2, 'an even number of hexadecimal digits is wanted here'),
+        'repeated': (1, 'line %s has given %s before' % (other, name)),
+        'length': (2, 'a secret has 16 to 520 bytes, and this has %d' % (len(words[2]) // 2)),
+        'hash': (2, "its SHA-256 is not the deal file's hash of %s" % name),
+    }[reason]
+
+
+def why_not_finished(kind, rest):
+    """Why a transaction isn't finished, in words."""
+    if kind == 'endorsement':
+        return '%s has not endorsed %s: nobody signs init before all have endorsed' % (rest[1], rest[0])
+    if kind == 'signature':
+        return 'the key of %s has not signed input %s' % (rest[1], rest[0])
+    if kind == 'secret':
+        return 'the branch reveals %s, which no file of secrets gives' % rest[0]
+    if kind == 'predicate':
+        return "the branch's condition is false of the secrets' lengths, which are their bytes less 16"
+    return None

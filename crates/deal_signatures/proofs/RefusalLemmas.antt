@@ -32,6 +32,7 @@ by_reason n (reasons.Script k) = ends n (at_input (codes "script") k)
 by_reason n (reasons.Witness k) = ends n (at_input (codes "witness") k)
 by_reason n (reasons.Key k) = ends n (at_input (codes "key") k)
 by_reason n (reasons.Signature k) = ends n (at_input (codes "signature") k)
+by_reason n (reasons.Invalid k) = ends n (at_input (codes "invalid") k)
 by_reason n (reasons.Conflict k) = ends n (at_input (codes "conflict") k)
 
 pub line_is : (fault : SignatureFault) → refused_text fault ≡ signatures_refused_line fault

@@ -14,4 +14,4 @@ returns c =
     ∙ ap (is_same (wanted_in place))
     (c.in_ok-first.ensures []
     ∙ ap (λ tx. find (λ (w : Wanted). is_at w.spot (signed_by tx place.input place.key [])) (map wanted_in c.args.places.now))
-    c.as_slice.ensures)
+    c.as_slice-tx.ensures)

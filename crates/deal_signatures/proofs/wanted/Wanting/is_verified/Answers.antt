@@ -8,19 +8,19 @@ use Rattle.deal_signatures.specs.Seen.{wanted_in}
 use Rattle.deal_signatures.proofs.wanted.Wanting.is_verified.Goals as goal
 
 -- all agree where the field says so
-pub requires-verifies_once : goal.requires-verifies_once
-requires-verifies_once c = sym c.self.invariant ∙ c.if-self.true
+pub verifies_once-requires : goal.verifies_once-requires
+verifies_once-requires c = sym c.self.invariant ∙ c.if-self.true
 
-pub returns-then : goal.returns-then
-returns-then c =
+pub returns-then-self : goal.returns-then-self
+returns-then-self c =
     subst
     (λ (ws : List Wanted).
     IfOk c.verifies_once.result
     (λ b. b ≡ is_verified secp256k1 ws (signed_by c.args.tx.now c.args.input c.args.key.now c.args.signature.now)))
     c.self.view_is c.verifies_once.ensures
 
-pub returns-else : goal.returns-else
-returns-else c =
+pub returns-else-self : goal.returns-else-self
+returns-else-self c =
     c.verifies_everywhere.ensures
     ∙ ap (λ ws. is_verified secp256k1 ws (signed_by c.args.tx.now c.args.input c.args.key.now c.args.signature.now))
-    (ap (map wanted_in) c.as_slice.ensures ∙ c.self.view_is)
+    (ap (map wanted_in) c.as_slice-places.ensures ∙ c.self.view_is)

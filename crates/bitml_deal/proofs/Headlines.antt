@@ -1,7 +1,7 @@
 -- What a call promises, by the theorems on deals.
 use Rattle.std.proofs.Common.{◌≡◌, ℕ, Bool, true, false, ◌==◌, cond, List, ◌∷◌, length, Option, Some, None, refl, sym, subst, ◌∙◌}
 use Rattle.std.proofs.Common.{inl, inr, arith}
-use Rattle.std.specs.Prelude.{Ok}
+use Rattle.std.specs.Prelude.{Ok, option_map}
 use Rattle.std.proofs.lemmas.Bool.{false≢true}
 use Rattle.spec_data.specs.Lists.{has_number}
 use Rattle.spec_terms.specs.Advert.{Advert}
@@ -11,7 +11,7 @@ use Rattle.spec_tool.specs.Commands.{Printed}
 use Rattle.spec_tool.specs.Reads.{Read, Text, texts_read}
 use Rattle.spec_deal.specs.declared.deal.Deal.{Deal}
 use Rattle.spec_deal.specs.Answers.{deal_text_answer, deal_read_answer, deal_answer}
-use Rattle.spec_deal.specs.Commands.{DealCommand}
+use Rattle.spec_deal.specs.Commands.{DealCommand, deal_files}
 use Rattle.spec_deal.specs.DealFile.{read_deal}
 use Rattle.spec_deal.specs.Setting.{deal_keys, deal_instance}
 use Rattle.spec_deal.specs.Verifier.{secp256k1}
@@ -21,8 +21,11 @@ use Rattle.theory_deal.specs.Finished.{FalseWithoutOne}
 use Rattle.theory_deal.specs.Plan.{PlanOfRuns}
 use Rattle.theory_deal.specs.Signatures.{MissingAndHeld, MayStart}
 use Rattle.theory_deal.specs.Whole.{FinishesExactly, FinishTheorem}
-use Rattle.tool_headline.specs.Headline.{Around}
-use Rattle.bitml_deal.specs.Dealt.{Answers, GivesUp, AnswersOrGivesUp, CausedByTexts, Caused, Keeps, KeepsTaken}
+use Rattle.tool_shell.specs.Around.{Around}
+use Rattle.tool_shell.specs.Answered.{GivesUp}
+use Rattle.tool_shell.proofs.Ended.{ended_with}
+use Rattle.tool_shell.proofs.Seen.{some_command}
+use Rattle.bitml_deal.specs.Dealt.{Answers, AnswersOrGivesUp, CausedByTexts, Caused, Keeps, KeepsTaken}
 use Rattle.bitml_deal.specs.Dealt.{KeepsTexts, Headline}
 use Rattle.bitml_deal.proofs.WellFormed.{well_formed}
 
@@ -45,15 +48,6 @@ pub record Theorems : Type 0 where
 -- the statuses of answers
 abbrev known : List ℕ
 known = 2 ∷ 3 ∷ deal_statuses
-
-ended_without : (empty : Bool) (status n : ℕ) → (n ≡ 4 → ⊥) → n ≡ cond empty status 4 → status ≡ n
-ended_without true status n other e = sym e
-ended_without false status n other e = absurd (other e)
-
--- where a call ends with another status than 4, it is that of the answer
-ended_with : (printed : Printed) (went : Bool) (n : ℕ) → (n ≡ 4 → ⊥) → n ≡ ended printed went → printed.status ≡ n
-ended_with printed true n other e = sym e
-ended_with printed false n other e = ended_without (length printed.text == 0) printed.status n other e
 
 -- a status that is none of these isn't answered
 never : (status n : ℕ) → has_number n known ≡ false → has_number status known ≡ true → status ≡ n → ⊥
@@ -142,13 +136,13 @@ module _ (t : Theorems) (hash : List ℕ → List ℕ) where
           memory = λ e. absurd (five_by printed a.ends.went (answer_known command a.reads) (sym e ∙ a.ends.status_is));
         }
 
-    of_none : (status : ℕ) → GivesUp command before now status → Headline hash command before now status
+    of_none : (status : ℕ) → GivesUp (option_map deal_files command) before now status → Headline hash command before now status
     of_none status g = record {
       serves = inr g;
       usage = λ e. absurd (let f = g.status_is in cc);
       unread = λ e. absurd (let f = g.status_is in cc);
       unwritten = λ e. absurd (let f = g.status_is in cc);
-      memory = λ e. g.some;
+      memory = λ e. some_command deal_files command g.some;
     }
 
     pub headline_of : (status : ℕ) → AnswersOrGivesUp hash command before now status → Headline hash command before now status

@@ -1,6 +1,0 @@
-mod Ending
-mod FinishLemmas
-mod Headlines
-mod NamedLemmas
-mod OpeningLemmas
-mod WellFormed

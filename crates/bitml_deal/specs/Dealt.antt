@@ -1,16 +1,16 @@
 -- What the program for deals promises, from its words to its status.
-use Rattle.std.specs.Prelude.{◌≡◌, ℕ, List, [], Bool, true, ◌⊎◌, ◌↔◌, ◌&&◌, Option, Some, None, is_some, is_err, Ok}
+use Rattle.std.specs.Prelude.{◌≡◌, ℕ, List, [], Bool, true, ◌⊎◌, ◌↔◌, ◌&&◌, Option, Some, None, is_some, option_map, is_err, Ok}
 use Rattle.spec_terms.specs.Advert.{Advert}
 use Rattle.spec_text.specs.Refusals.{contract_of}
 use Rattle.spec_tool.specs.Answers.{contract_in}
 use Rattle.spec_tool.specs.Commands.{Printed}
 use Rattle.spec_tool.specs.declared.which.Which.{Which}
 use Rattle.spec_tool.specs.Keyed.Listed.{Listed, listed_at}
-use Rattle.spec_tool.specs.Reads.{Asked, Read, Text, text_at, texts_read}
+use Rattle.spec_tool.specs.Reads.{Read, Text, text_at, texts_read}
 use Rattle.spec_deal.specs.declared.deal.Deal.{Deal}
 use Rattle.spec_deal.specs.declared.entry.Shown.{Shown}
 use Rattle.spec_deal.specs.declared.signed.Signed.{Signed}
-use Rattle.spec_deal.specs.Answers.{deal_answer, deal_reads}
+use Rattle.spec_deal.specs.Answers.{deal_answer}
 use Rattle.spec_deal.specs.Commands.{DealCommand, deal_files}
 use Rattle.spec_deal.specs.DealFile.{read_deal}
 use Rattle.spec_deal.specs.Finished.{finish_refusal}
@@ -25,41 +25,27 @@ use Rattle.theory_deal.specs.Plan.{IsPlanOfRuns}
 use Rattle.theory_deal.specs.Signatures.{ListsExactly, StartsExactly}
 use Rattle.theory_deal.specs.Whole.{AreRead, IsComplete, IsFinished}
 use Rattle.bm_io.specs.Counts.{RoseBy}
-use Rattle.tool_command.specs.Files.{Tells, AsksFront}
-use Rattle.tool_command.specs.Logs.{Logs, LogsFront}
-use Rattle.tool_headline.specs.Headline.{Around, Ends}
+use Rattle.tool_shell.specs.Around.{Around}
+use Rattle.tool_shell.specs.Answered.{AnswersBy, AnswersByOrGivesUp, GivesUp}
+use Rattle.deal_command.specs.Seen.{command}
+use Rattle.bitml_deal.specs.declared.tool.DealCall.{DealCall}
 
--- the files that a command asks for; words that are none ask for no file
-abbrev pub asked_by : Option DealCommand → List Asked
-asked_by None = []
-asked_by (Some command) = deal_files command
+-- ---- the call
+
+-- the command that is served
+abbrev pub seen : DealCall → DealCommand
+seen call = command call.command
 
 -- ---- answers
 
--- The files that the words name are read in order, up to the first read that fails, and no other: these reads are the new entries of
--- the log. What is written is the defined answer to the reads.
-pub record Answers (hash : List ℕ → List ℕ) (command : Option DealCommand) (before now : Around) (status : ℕ) : Type 0 where
-  pub reads : List Read
-  pub made : deal_reads command reads ≡ true
-  pub logged : Logs before.log now.log before.taken now.taken (asked_by command) reads
-  -- where files tell their content, it fixes the reads, and which names were asked for
-  pub told : Tells before.told now.told (asked_by command) reads
-  -- a read fails only where the count of faults rose
-  pub unread : texts_read reads ≡ None → RoseBy 1 before.read_faults now.read_faults
-  pub ends : Ends (deal_answer secp256k1 hash command reads) before.written now.written before.write_faults now.write_faults status
-
--- Memory was wanting: nothing is written, the status is 5, and at most a front of the files was asked for. Of words that are no
--- command no memory is asked.
-pub record GivesUp (command : Option DealCommand) (before now : Around) (status : ℕ) : Type 0 where
-  pub some : is_some command ≡ true
-  pub status_is : status ≡ 5
-  pub written : now.written ≡ before.written
-  pub logged : LogsFront before.log now.log (asked_by command)
-  pub told : AsksFront before.told now.told (asked_by command)
+-- the answers are those of the definition
+abbrev pub Answers : (List ℕ → List ℕ) → Option DealCommand → Around → Around → ℕ → Type 0
+Answers hash command before now status = AnswersBy (deal_answer secp256k1 hash command) (option_map deal_files command) before now status
 
 -- the same, or want of memory
 abbrev pub AnswersOrGivesUp : (List ℕ → List ℕ) → Option DealCommand → Around → Around → ℕ → Type 0
-AnswersOrGivesUp hash command before now status = Answers hash command before now status ⊎ GivesUp command before now status
+AnswersOrGivesUp hash command before now status =
+    AnswersByOrGivesUp (deal_answer secp256k1 hash command) (option_map deal_files command) before now status
 
 -- ---- causes
 
@@ -140,7 +126,7 @@ pub record Serves (hash : List ℕ → List ℕ) (command : Option DealCommand) 
 
 -- what a call with this command does to what stands around it, and its status
 pub record Headline (hash : List ℕ → List ℕ) (command : Option DealCommand) (before now : Around) (status : ℕ) : Type 0 where
-  pub serves : Serves hash command before now status ⊎ GivesUp command before now status
+  pub serves : Serves hash command before now status ⊎ GivesUp (option_map deal_files command) before now status
   -- the usage answers nothing but words that are no command
   pub usage : status ≡ 2 → command ≡ None
   -- a fault of the files is answered only where their count rose

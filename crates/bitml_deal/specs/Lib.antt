@@ -1,5 +1,0 @@
-pub mod Opens
-pub mod Named
-pub mod Later
-pub mod Replied
-pub mod Dealt

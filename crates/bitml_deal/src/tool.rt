@@ -1,18 +1,13 @@
 //! The whole program, over files and a sink that are handed in.
 
-ghost use Rattle.std.specs.Prelude.{◌≡◌, Some, map, string_bytes, IfOk, OnErr};
+ghost use Rattle.std.specs.Prelude.{◌≡◌, ℕ, List, length, Some, map, string_bytes, refl, Unit, is_some, true, option_map, IfOk, OnErr};
+ghost use Rattle.spec_tool.specs.Replies.{printed};
 ghost use Rattle.spec_deal.specs.Answers.{deal_read_answer};
 ghost use Rattle.spec_deal.specs.Commands.{deal_files, deal_command_of};
 ghost use Rattle.spec_deal.specs.Verifier.{secp256k1};
-ghost use Rattle.spec_tool.specs.Reads.{texts_read};
-ghost use Rattle.spec_tool.specs.Replies.{printed};
-ghost use Rattle.tool_command.specs.Files.{reads_of, AsksFront, CountsAll};
-ghost use Rattle.tool_command.specs.Logs.{LogsFront};
-ghost use Rattle.tool_headline.specs.Headline.{around};
-ghost use Rattle.tool_headline.specs.Replied.{standing};
-ghost use Rattle.deal_command.specs.Seen.{command};
-ghost use Rattle.bitml_deal.specs.Replied.{Replied};
-ghost use Rattle.bitml_deal.specs.Dealt.{AnswersOrGivesUp, Headline};
+ghost use Rattle.tool_shell.specs.Around.{around};
+ghost use Rattle.tool_shell.specs.Asked.{asked};
+ghost use Rattle.bitml_deal.specs.Dealt.{seen, Headline};
 
 use crate::answering::text_reply;
 use bm_hash::Hash32;
@@ -26,81 +21,51 @@ use theory_deal::{
     finishes_exactly, keys_are_points, may_start, missing_and_held, plan_of_runs,
     signatures_verify,
 };
-use tool_command::{Reading, read_all};
-use tool_headline::finish;
+use tool_shell::{Call, serve};
 
-/// The reply to what the reads of a command's files gave.
-fn reply_to<H: Hash32 + Drop>(
-    alloc: Global,
-    hash: H,
-    call: &DealCommand,
-    reading: &Reading,
-) -> Result<Reply, OutOfMemory>
-    requires { CountsAll reading.now (deal_files (command call.now)) }
-    ensures { IfOk result (λ reply. printed reply
-        ≡ deal_read_answer secp256k1 (H.digest_of hash) (command call.now) (texts_read (reads_of reading.now))) }
-{
-    if reading.failed {
-        return Ok(Reply {
-            status: 3,
-            text: Bytes::of(Vec::new(alloc)),
-        });
+/// A command on a deal, as it is served.
+#[derive(Drop)]
+pub(crate) struct DealCall<'a> {
+    command: DealCommand<'a>,
+}
+
+impl Call for DealCall<'_> {
+    ghost is_served = { λ call. Unit {0} };
+
+    ghost asks = { λ call. deal_files (seen call) };
+
+    ghost answers = { λ hash call. deal_read_answer secp256k1 hash (seen call) };
+
+    ghost unread = { λ hash call. refl };
+
+    fn files(&self, alloc: Global) -> Result<Vec<(&str, usize)>, OutOfMemory>
+        ensures { IfOk result (λ v. map asked v.items ≡ deal_files (seen self.now)) }
+    {
+        files_of(alloc, &self.command)
     }
-    text_reply(alloc, hash, call, reading.texts.as_slice())
-}
 
-/// Reads the files of a command, and replies to them.
-fn reply<H: Hash32 + Drop, F: Files>(
-    alloc: Global,
-    hash: H,
-    call: &DealCommand,
-    files: &mut F,
-) -> Result<Reply, OutOfMemory>
-    ensures reply { IfOk result (λ reply. Replied (H.digest_of hash) (command call.now)
-        (standing (F.told files.old) (F.log files.old) (F.taken files.old) (F.faults files.old))
-        (standing (F.told files.new) (F.log files.new) (F.taken files.new) (F.faults files.new)) (printed reply)) }
-    ensures memory { OnErr result (AsksFront (F.told files.old) (F.told files.new) (deal_files (command call.now))) }
-    ensures wanted { OnErr result (LogsFront (F.log files.old) (F.log files.new) (deal_files (command call.now))) }
-{
-    let list = files_of(alloc, call)?;
-    let reading = read_all(alloc, files, list.as_slice())?;
-    reply_to(alloc, hash, call, &reading)
-}
-
-/// Does what a command says.
-fn serve<H: Hash32 + Drop, F: Files, S: Sink>(
-    alloc: Global,
-    hash: H,
-    call: &DealCommand,
-    files: &mut F,
-    out: &mut S,
-) -> u8
-    ensures { AnswersOrGivesUp (H.digest_of hash) (Some (command call.now))
-        (around (F.told files.old) (F.log files.old) (F.taken files.old) (F.faults files.old) (S.pieces out.old) (S.faults out.old))
-        (around (F.told files.new) (F.log files.new) (F.taken files.new) (F.faults files.new) (S.pieces out.new) (S.faults out.new)) result }
-{
-    match reply(alloc, hash, call, files) {
-        Ok(reply) => finish(out, reply.status, reply.text.as_slice()),
-        Err(_) => 5,
+    fn reply<H: Hash32 + Drop>(
+        &self,
+        alloc: Global,
+        hash: H,
+        texts: &[Option<Bytes>],
+    ) -> Result<Reply, OutOfMemory>
+        requires count { length texts.now ≡ length (deal_files (seen self.now)) }
+        ensures { IfOk result (λ reply. printed reply
+            ≡ deal_read_answer secp256k1 (H.digest_of hash) (seen self.now) (Some texts.now)) }
+    {
+        text_reply(alloc, hash, &self.command, texts)
     }
 }
 
-/// Does what words say. Nothing is read, and no memory asked, of words that are no command.
-fn answer_words<H: Hash32 + Drop, F: Files, S: Sink>(
-    alloc: Global,
-    words: &[String],
-    hash: H,
-    files: &mut F,
-    out: &mut S,
-) -> u8
-    ensures { AnswersOrGivesUp (H.digest_of hash) (deal_command_of (map string_bytes words.now))
-        (around (F.told files.old) (F.log files.old) (F.taken files.old) (F.faults files.old) (S.pieces out.old) (S.faults out.old))
-        (around (F.told files.new) (F.log files.new) (F.taken files.new) (F.faults files.new) (S.pieces out.new) (S.faults out.new)) result }
+/// The command that words are, if they are one. Of words that are none no memory is asked.
+fn call_of(alloc: Global, words: &[String]) -> Result<Option<DealCall<'_>>, OutOfMemory>
+    ensures command { IfOk result (λ call. option_map seen call ≡ deal_command_of (map string_bytes words.now)) }
+    ensures memory { OnErr result (is_some (deal_command_of (map string_bytes words.now)) ≡ true) }
 {
-    match command_of(alloc, words) {
-        Ok(None) => finish(out, 2, b"usage\n"),
-        Ok(Some(call)) => serve(alloc, hash, &call, files, out),
-        Err(_) => 5,
+    match command_of(alloc, words)? {
+        None => Ok(None),
+        Some(command) => Ok(Some(DealCall { command })),
     }
 }
 
@@ -128,5 +93,5 @@ pub fn deal_tool<H: Hash32 + Drop, F: Files, S: Sink>(
     finishes_exactly();
     finish_theorem();
     false_without_one();
-    answer_words(alloc, words, hash, files, out)
+    serve(alloc, hash, call_of(alloc, words), files, out)
 }

@@ -9,7 +9,7 @@ use Rattle.spec_tool.specs.Reads.{Read, Text, texts_read}
 use Rattle.spec_tool.specs.Commands.{Command, files_of, setup_of}
 use Rattle.spec_picture.specs.Drawing.{AnswersArePictures, drawn_of, last_of, draw_texts, read_drawn, title_of, drawn_answer}
 use Rattle.spec_picture.specs.Statements.{DrawsOnce}
-use Rattle.tool_headline.specs.Headline.{Around}
+use Rattle.tool_shell.specs.Around.{Around}
 use Rattle.tool_command.proofs.FewEvents.{few_events}
 use Rattle.bitml_draw.specs.Drawn.{AnswersOrGivesUp, DrawsOrGivesUp, ShowsRun, ShowsTaken, ShowsTexts, Shows}
 use Rattle.bitml_draw.proofs.Taken.{well_formed, few_drawn}

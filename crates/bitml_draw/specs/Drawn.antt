@@ -1,5 +1,5 @@
 -- What the program that draws promises, from its words to its status.
-use Rattle.std.specs.Prelude.{◌≡◌, ℕ, List, [], ◌∷◌, true, ◌⊎◌, Option, Some, None, Ok}
+use Rattle.std.specs.Prelude.{◌≡◌, ℕ, List, [], ◌∷◌, true, ◌⊎◌, Option, Some, None, option_map, Ok}
 use Rattle.spec_data.specs.Lists.{are_different}
 use Rattle.spec_terms.specs.Advert.{Advert}
 use Rattle.spec_run.specs.declared.event.Event.{Event}
@@ -9,21 +9,30 @@ use Rattle.spec_text.specs.declared.entry.Entry.{Entry}
 use Rattle.spec_text.specs.Played.{entries, ending}
 use Rattle.spec_text.specs.Refusals.{contract_of, run_of}
 use Rattle.spec_tool.specs.Reads.{Read, Text, texts_read}
-use Rattle.spec_tool.specs.Commands.{Command, Printed, setup_of}
+use Rattle.spec_tool.specs.Commands.{Command, Printed, plan, files_of, setup_of}
 use Rattle.spec_picture.specs.declared.last.Last.{Last}
 use Rattle.spec_picture.specs.Drawing.{drawn_answer, drawn_of, last_of}
 use Rattle.spec_picture.specs.Statements.{IsPictureOf, drawn}
-use Rattle.tool_headline.specs.Headline.{Around, AnswersBy, AnswersByOrGivesUp, GivesUp}
+use Rattle.tool_shell.specs.Around.{Around}
+use Rattle.tool_shell.specs.Answered.{AnswersBy, AnswersByOrGivesUp, GivesUp}
+use Rattle.bitml_draw.specs.declared.tool.Drawing.{Drawing}
+
+-- ---- the call
+
+-- the command that has the same files
+abbrev pub seen : Drawing → Command
+seen drawing = plan drawing.run.now drawing.contract.now
 
 -- ---- answers
 
 -- the answers are pictures of what the two files hold
 abbrev pub Answers : (List ℕ → List ℕ) → Option Command → Around → Around → ℕ → Type 0
-Answers hash command before now status = AnswersBy (drawn_answer hash command) command before now status
+Answers hash command before now status = AnswersBy (drawn_answer hash command) (option_map files_of command) before now status
 
 -- the same, or want of memory
 abbrev pub AnswersOrGivesUp : (List ℕ → List ℕ) → Option Command → Around → Around → ℕ → Type 0
-AnswersOrGivesUp hash command before now status = AnswersByOrGivesUp (drawn_answer hash command) command before now status
+AnswersOrGivesUp hash command before now status =
+    AnswersByOrGivesUp (drawn_answer hash command) (option_map files_of command) before now status
 
 -- ---- pictures
 
@@ -51,7 +60,7 @@ abbrev pub Shows : (List ℕ → List ℕ) → Option Command → List Read → 
 Shows hash None reads printed = Unit {0}
 Shows hash (Some command) reads printed = ShowsTexts hash (texts_read reads) printed
 
--- ---- the whole call
+-- ---- the whole
 
 -- an answer; of a run and a contract that are taken it is their picture, in which nothing stands twice
 pub record Draws (hash : List ℕ → List ℕ) (command : Option Command) (before now : Around) (status : ℕ) : Type 0 where
@@ -59,4 +68,4 @@ pub record Draws (hash : List ℕ → List ℕ) (command : Option Command) (befo
   pub shows : Shows hash command answers.reads (drawn_answer hash command answers.reads)
 
 abbrev pub DrawsOrGivesUp : (List ℕ → List ℕ) → Option Command → Around → Around → ℕ → Type 0
-DrawsOrGivesUp hash command before now status = Draws hash command before now status ⊎ GivesUp command before now status
+DrawsOrGivesUp hash command before now status = Draws hash command before now status ⊎ GivesUp (option_map files_of command) before now status

@@ -1,5 +1,5 @@
 -- An answer has its causes.
-use Rattle.std.proofs.Common.{◌≡◌, ℕ, Bool, true, false, ◌==◌, cond, List, [], ◌∷◌, Option, Some, None, refl, sym, inl, inr, ◌∙◌, length, map, arith}
+use Rattle.std.proofs.Common.{◌≡◌, ℕ, Bool, true, false, List, [], ◌∷◌, Option, Some, None, refl, sym, inl, inr, ◌∙◌, length, map, option_map, arith}
 use Rattle.std.specs.Prelude.{nat_le}
 use Rattle.std.proofs.lemmas.Bool.{false≢true}
 use Rattle.spec_data.specs.Digits.{onto}
@@ -7,11 +7,15 @@ use Rattle.spec_data.specs.Ranges.{most_contracts}
 use Rattle.spec_text.specs.Words.{given}
 use Rattle.spec_run.specs.Conditions.{HashesBytes}
 use Rattle.spec_tool.specs.Reads.{Asked, Read, Text, text_read, texts_read, are_made}
-use Rattle.spec_tool.specs.Commands.{Command, check, play, plan, make, psbt_of, psbt_shown, psbt_joined, weigh, audit, auto, Printed, contract_file, run_file}
-use Rattle.spec_tool.specs.Answers.{ended, tool_reads}
+use Rattle.spec_tool.specs.Commands.{Command, check, play, plan, make, psbt_of, psbt_shown, psbt_joined, weigh, audit, auto, files_of, contract_file, run_file}
+use Rattle.spec_tool.specs.Answers.{tool_reads}
 use Rattle.spec_next.specs.NextAnswer.{next_words, next_answer, next_texts, read_next}
 use Rattle.theory_tool.proofs.Statuses.{apart}
-use Rattle.tool_headline.specs.Headline.{Around, GivesUp}
+use Rattle.tool_shell.specs.Around.{Around}
+use Rattle.tool_shell.specs.Answered.{GivesUp}
+use Rattle.tool_shell.specs.Asked.{are_reads}
+use Rattle.tool_shell.proofs.Ended.{ended_with, write_failed}
+use Rattle.tool_shell.proofs.Seen.{some_command}
 use Rattle.bitml_next.specs.Told.{Answers, AnswersOrGivesUp, CausedByTexts, Caused, Tells, TellsAll}
 use Rattle.bitml_next.proofs.Causes.{causes, known}
 use Rattle.bitml_next.proofs.Shown.{Theorems, shows}
@@ -116,19 +120,11 @@ caused : (hash : List ℕ → List ℕ) (command : Option Command) (reads : List
 caused hash None reads = refl
 caused hash (Some command) reads = caused_by hash (texts_read reads)
 
-ended_without : (empty : Bool) (status n : ℕ) → (n ≡ 4 → ⊥) → n ≡ cond empty status 4 → status ≡ n
-ended_without true status n other e = sym e
-ended_without false status n other e = absurd (other e)
-
--- where a call ends with another status than 4, it is that of the answer
-ended_with : (printed : Printed) (went : Bool) (n : ℕ) → (n ≡ 4 → ⊥) → n ≡ ended printed went → printed.status ≡ n
-ended_with printed true n other e = sym e
-ended_with printed false n other e = ended_without (length printed.text == 0) printed.status n other e
-
--- where a call ends with 4, and the answer's status isn't 4, the write failed
-write_failed : (printed : Printed) (went : Bool) → (printed.status ≡ 4 → ⊥) → 4 ≡ ended printed went → went ≡ false
-write_failed printed true other e = absurd (other (sym e))
-write_failed printed false other e = refl
+-- the reads of a command's files
+made_of : (command : Option Command) (reads : List Read) → are_reads (option_map files_of command) reads ≡ true
+    → tool_reads command reads ≡ true
+made_of None reads e = e
+made_of (Some command) reads e = e
 
 -- ---- the call
 
@@ -136,7 +132,7 @@ module _ (t : Theorems) (hash : List ℕ → List ℕ) (bytes : HashesBytes hash
   of_answer : Answers hash (next_words words) before now status → Tells hash words before now status
   of_answer a =
       let printed = next_answer hash (next_words words) a.reads in
-      let s : Status (next_words words) a.reads printed.status = of_reads hash (next_words words) a.reads (reads_files words) a.made in
+      let s : Status (next_words words) a.reads printed.status = of_reads hash (next_words words) a.reads (reads_files words) (made_of (next_words words) a.reads a.made) in
       record {
         serves = inl (record {
           answers = a;
@@ -149,13 +145,13 @@ module _ (t : Theorems) (hash : List ℕ → List ℕ) (bytes : HashesBytes hash
         memory = λ e. absurd (s.memory (ended_with printed a.ends.went 5 (λ f. absurd (cc)) (sym e ∙ a.ends.status_is)));
       }
 
-  of_none : GivesUp (next_words words) before now status → Tells hash words before now status
+  of_none : GivesUp (option_map files_of (next_words words)) before now status → Tells hash words before now status
   of_none g = record {
     serves = inr g;
     usage = λ e. absurd (let f = g.status_is in cc);
     unread = λ e. absurd (let f = g.status_is in cc);
     unwritten = λ e. absurd (let f = g.status_is in cc);
-    memory = λ e. g.some;
+    memory = λ e. some_command files_of (next_words words) g.some;
   }
 
   tells : AnswersOrGivesUp hash (next_words words) before now status → Tells hash words before now status

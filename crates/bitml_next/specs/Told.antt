@@ -1,23 +1,33 @@
 -- What the program that says what comes next promises, from its words to its status.
-use Rattle.std.specs.Prelude.{◌≡◌, ℕ, List, [], true, ◌⊎◌, Option, Some, None, is_some}
+use Rattle.std.specs.Prelude.{◌≡◌, ℕ, List, [], true, ◌⊎◌, Option, Some, None, is_some, option_map}
 use Rattle.spec_run.specs.Conditions.{HashesBytes}
 use Rattle.spec_tool.specs.Reads.{Read, Text, texts_read}
-use Rattle.spec_tool.specs.Commands.{Command, Printed}
+use Rattle.spec_tool.specs.Commands.{Command, Printed, files_of}
 use Rattle.spec_next.specs.NextAnswer.{next_answer, next_words}
 use Rattle.bm_io.specs.Counts.{RoseBy}
-use Rattle.tool_headline.specs.Headline.{Around, AnswersBy, AnswersByOrGivesUp, GivesUp}
+use Rattle.tool_shell.specs.Around.{Around}
+use Rattle.tool_shell.specs.Answered.{AnswersBy, AnswersByOrGivesUp, GivesUp}
+use Rattle.tool_command.specs.Seen.{command}
+use Rattle.bitml_next.specs.declared.call.NextCall.{NextCall}
 use Rattle.bitml_next.specs.Causes.{HasCauses}
 use Rattle.bitml_next.specs.Shown.{Shows}
+
+-- ---- the call
+
+-- the command that has the same files
+abbrev pub seen : NextCall → Command
+seen call = command call.command
 
 -- ---- answers
 
 -- the answers are those of the definition
 abbrev pub Answers : (List ℕ → List ℕ) → Option Command → Around → Around → ℕ → Type 0
-Answers hash command before now status = AnswersBy (next_answer hash command) command before now status
+Answers hash command before now status = AnswersBy (next_answer hash command) (option_map files_of command) before now status
 
 -- the same, or want of memory
 abbrev pub AnswersOrGivesUp : (List ℕ → List ℕ) → Option Command → Around → Around → ℕ → Type 0
-AnswersOrGivesUp hash command before now status = AnswersByOrGivesUp (next_answer hash command) command before now status
+AnswersOrGivesUp hash command before now status =
+    AnswersByOrGivesUp (next_answer hash command) (option_map files_of command) before now status
 
 -- ---- causes
 
@@ -31,7 +41,7 @@ abbrev pub Caused : (List ℕ → List ℕ) → Option Command → List Read →
 Caused hash None reads printed = printed.status ≡ 2
 Caused hash (Some command) reads printed = CausedByTexts hash (texts_read reads) printed
 
--- ---- the whole call
+-- ---- the whole
 
 -- an answer with what is known of it
 pub record Serves (hash : List ℕ → List ℕ) (command : Option Command) (before now : Around) (status : ℕ) : Type 0 where
@@ -43,7 +53,7 @@ pub record Serves (hash : List ℕ → List ℕ) (command : Option Command) (bef
 
 -- what a call with these words does to what stands around it, and its status
 pub record Tells (hash : List ℕ → List ℕ) (words : List (List ℕ)) (before now : Around) (status : ℕ) : Type 0 where
-  pub serves : Serves hash (next_words words) before now status ⊎ GivesUp (next_words words) before now status
+  pub serves : Serves hash (next_words words) before now status ⊎ GivesUp (option_map files_of (next_words words)) before now status
   -- the usage answers nothing but words that are no command
   pub usage : status ≡ 2 → next_words words ≡ None
   -- a fault of the files is answered only where their count rose

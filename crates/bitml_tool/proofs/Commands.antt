@@ -1,6 +1,6 @@
 -- Words that are a command.
-use Rattle.std.proofs.Common.{◌≡◌, ◌≤◌, ℕ, List, [], ◌∷◌, length, Bool, true, false, ◌&&◌, nat_le, Option, Some, None, refl, sym, ap, subst, ◌∙◌, option_map, arith}
-use Rattle.std.specs.Prelude.{codes, if◌then◌else◌}
+use Rattle.std.proofs.Common.{◌≡◌, ◌≤◌, ℕ, List, [], ◌∷◌, length, Bool, true, false, ◌&&◌, nat_le, Option, Some, None, Result, Ok, Err, refl, sym, subst, option_map, arith}
+use Rattle.std.specs.Prelude.{codes, if◌then◌else◌, IfOk}
 use Rattle.std.specs.Str.{bytes_eq}
 use Rattle.spec_data.specs.Digits.{read_decimal}
 use Rattle.spec_data.specs.Ranges.{most_contracts}
@@ -8,9 +8,10 @@ use Rattle.spec_text.specs.Words.{◌>>=◌, given}
 use Rattle.spec_tool.specs.declared.which.Which.{Which}
 use Rattle.spec_tool.specs.Commands.{Command, check, play, plan, make, psbt_of, psbt_shown, psbt_joined, weigh, audit, auto, most_size, command_of, which_of}
 use Rattle.spec_tool.specs.Commands.{check_words, play_words, plan_words, make_words, psbt_words, weigh_words, audit_words, auto_words}
-use Rattle.tool_command.specs.Seen.{command, HasFew}
-use Rattle.tool_command.specs.declared.command.Command.{Command as Call}
-use Rattle.bitml_tool.specs.Served.{IsServed}
+use Rattle.tool_shell.specs.Answered.{IfCall}
+use Rattle.tool_command.specs.Seen.{HasFew}
+use Rattle.bitml_tool.specs.Served.{seen, IsServed}
+use Rattle.bitml_tool.specs.declared.tool.ToolCall.{ToolCall}
 
 if_served : (b : Bool) (x y : Option Command) → IsServed x → IsServed y → IsServed (if b then x else y)
 if_served true x y hx hy = hx
@@ -124,9 +125,8 @@ few_of (Some (audit run contract file)) h = tt
 few_of (Some (auto run contract strategy)) h = tt
 
 -- what the code has of the words
-pub served_call : (words : List (List ℕ)) (o : Option Call) (call : Call) → option_map command o ≡ command_of words → o ≡ Some call
-    → IsServed (Some (command call))
-served_call words o call h e = subst IsServed (sym h ∙ ap (option_map command) e) (served words)
-
-pub no_call : (words : List (List ℕ)) (o : Option Call) → option_map command o ≡ command_of words → o ≡ None → command_of words ≡ None
-no_call words o h e = sym h ∙ ap (option_map command) e
+pub served_call : {E : Type 0} (words : List (List ℕ)) (parsed : Result (Option ToolCall) E)
+    → IfOk parsed (λ call. option_map seen call ≡ command_of words) → IfCall (λ call. IsServed (Some (seen call))) parsed
+served_call words (Err error) h = tt
+served_call words (Ok None) h = tt
+served_call words (Ok (Some call)) h = subst IsServed (sym h) (served words)

@@ -2,7 +2,7 @@
 
 ghost use Rattle.std.specs.Prelude.{◌≡◌, map, IfOk};
 ghost use Rattle.spec_deal.specs.Commands as spec;
-ghost use Rattle.tool_command.specs.Seen.{asked};
+ghost use Rattle.tool_shell.specs.Asked.{asked};
 ghost use Rattle.deal_command.specs.Seen.{command};
 
 use crate::command::DealCommand;

@@ -1,6 +1,4 @@
 mod JudgedTwo
 pub mod FewEvents
 pub mod InOrder
-pub mod Logged
 pub mod Taken
-pub mod Told

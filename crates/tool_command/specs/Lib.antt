@@ -1,4 +1,2 @@
-pub mod Files
 pub mod Judges
-pub mod Logs
 pub mod Seen

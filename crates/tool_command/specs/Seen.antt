@@ -1,10 +1,8 @@
 -- Commands and replies of the code, as the definitions have them.
 use Rattle.std.specs.Prelude.{ℕ, ◌≤◌, List, length, map, ◌&&◌, nat_le, Option, Some, None, string_bytes}
-use Rattle.std.specs.Borrow.{Bor}
 use Rattle.spec_data.specs.Ranges.{most_contracts}
 use Rattle.spec_text.specs.Words.{given}
 use Rattle.spec_tool.specs.Commands as spec
-use Rattle.spec_tool.specs.Reads.{Asked}
 use Rattle.tool_command.specs.declared.command.Command.{Command}
 use Rattle.tool_command.specs.declared.command.Command.TheVariants as commands
 
@@ -23,10 +21,6 @@ command (commands.Auto run contract strategy) = spec.auto run.now contract.now s
 -- the command `make` of these numbers, where the size is one of its sizes
 abbrev pub made_of : ℕ → ℕ → Option spec.Command
 made_of n s = given (nat_le 1 s && nat_le s spec.most_size) (spec.make n s)
-
--- a file that is asked for
-abbrev pub asked : Bor (List ℕ) × ℕ → Asked
-asked file = ((file.0).now, file.1)
 
 -- a run is played with no more contracts than it may have
 abbrev pub HasFew : Option spec.Command → Type 0

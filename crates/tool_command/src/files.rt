@@ -2,7 +2,8 @@
 
 ghost use Rattle.std.specs.Prelude.{◌≡◌, map, string_bytes, IfOk};
 ghost use Rattle.spec_tool.specs.Commands as spec;
-ghost use Rattle.tool_command.specs.Seen.{command, asked};
+ghost use Rattle.tool_shell.specs.Asked.{asked};
+ghost use Rattle.tool_command.specs.Seen.{command};
 
 use crate::command::Command;
 use spec_data::{MOST_RUN_BYTES, MOST_TEXT_BYTES, OutOfMemory};

@@ -1,9 +1,9 @@
 -- The headline of an answer, by the theorems on statuses and on runs.
-use Rattle.std.proofs.Common.{◌≡◌, ℕ, Bool, true, false, ◌==◌, cond, List, length, Option, Some, None, sym, ◌∙◌, inl, inr}
+use Rattle.std.proofs.Common.{◌≡◌, ℕ, Bool, true, false, List, Option, Some, None, sym, ◌∙◌, inl, inr, option_map}
 use Rattle.spec_run.specs.Conditions.{HashesBytes}
 use Rattle.spec_tool.specs.Reads.{Read, texts_read}
-use Rattle.spec_tool.specs.Commands.{Command, Printed}
-use Rattle.spec_tool.specs.Answers.{tool_answer, ended}
+use Rattle.spec_tool.specs.Commands.{Command, files_of}
+use Rattle.spec_tool.specs.Answers.{tool_answer, tool_reads, ended}
 use Rattle.spec_tool.specs.Causes.{CausesTheorem}
 use Rattle.spec_tool.specs.Headline.{HeadlineTheorem}
 use Rattle.theory_tool.specs.Ended.{CallsEnd}
@@ -12,21 +12,15 @@ use Rattle.theory_tool.specs.Statuses.{StatusesTheorem}
 use Rattle.theory_report.specs.Statements.{PlaysAreRead}
 use Rattle.theory_commands.specs.Causes.{CausesInFiles}
 use Rattle.theory_commands.specs.Commands.{CommandsShow}
+use Rattle.tool_shell.specs.Around.{Around}
+use Rattle.tool_shell.specs.Answered.{GivesUp}
+use Rattle.tool_shell.specs.Asked.{are_reads}
+use Rattle.tool_shell.proofs.Ended.{ended_with}
+use Rattle.tool_shell.proofs.Seen.{some_command}
 use Rattle.tool_command.specs.Seen.{HasFew}
-use Rattle.tool_headline.specs.Headline.{Around, Answers, GivesUp, AnswersOrGivesUp, Headline, HeadlineOfAnswers}
+use Rattle.tool_headline.specs.Headline.{Answers, AnswersOrGivesUp, Headline, HeadlineOfAnswers}
 use Rattle.tool_headline.proofs.Caused.{caused}
 use Rattle.tool_headline.proofs.Shown.{shows}
-
--- ---- the status of an answer
-
-ended_without : (empty : Bool) (status n : ℕ) → (n ≡ 4 → ⊥) → n ≡ cond empty status 4 → status ≡ n
-ended_without true status n other e = sym e
-ended_without false status n other e = absurd (other e)
-
--- where a call ends with another status than 4, it is that of the answer
-ended_with : (printed : Printed) (went : Bool) (n : ℕ) → (n ≡ 4 → ⊥) → n ≡ ended printed went → printed.status ≡ n
-ended_with printed true n other e = sym e
-ended_with printed false n other e = ended_without (length printed.text == 0) printed.status n other e
 
 -- the theorems that are cited
 pub record Theorems : Type 0 where
@@ -38,6 +32,12 @@ pub record Theorems : Type 0 where
   pub told : PlaysAreRead
   pub commands : CommandsShow
   pub files : CausesInFiles
+
+-- the reads of a command's files
+made_of : (command : Option Command) (reads : List Read) → are_reads (option_map files_of command) reads ≡ true
+    → tool_reads command reads ≡ true
+made_of None reads e = e
+made_of (Some command) reads e = e
 
 module _ (t : Theorems) (hash : List ℕ → List ℕ) (bytes : HashesBytes hash) (command : Option Command) (before now : Around) where
   usage_is : (reads : List Read) → (tool_answer hash command reads).status ≡ 2 → command ≡ None
@@ -58,7 +58,7 @@ module _ (t : Theorems) (hash : List ℕ → List ℕ) (bytes : HashesBytes hash
     serves = inl (record {
       answers = a;
       caused = caused t.causes t.statuses t.files hash command a.reads;
-      shows = shows t.headline t.kept t.told t.commands hash bytes command a.reads few a.made;
+      shows = shows t.headline t.kept t.told t.commands hash bytes command a.reads few (made_of command a.reads a.made);
     });
     usage = λ e. usage_is a.reads (ended_with (tool_answer hash command a.reads) a.ends.went 2 (λ f. absurd (cc)) (sym e ∙ a.ends.status_is));
     unread = λ e. a.unread (unread_is command a.reads (ended_with (tool_answer hash command a.reads) a.ends.went 3 (λ f. absurd (cc)) (sym e ∙ a.ends.status_is)));
@@ -66,13 +66,13 @@ module _ (t : Theorems) (hash : List ℕ → List ℕ) (bytes : HashesBytes hash
     memory = λ e. absurd (never_five a.reads a.ends.went (sym e ∙ a.ends.status_is));
   }
 
-  of_none : (status : ℕ) → GivesUp command before now status → Headline hash command before now status
+  of_none : (status : ℕ) → GivesUp (option_map files_of command) before now status → Headline hash command before now status
   of_none status g = record {
     serves = inr g;
     usage = λ e. absurd (let f = g.status_is in cc);
     unread = λ e. absurd (let f = g.status_is in cc);
     unwritten = λ e. absurd (let f = g.status_is in cc);
-    memory = λ e. g.some;
+    memory = λ e. some_command files_of command g.some;
   }
 
   pub headline_of : (status : ℕ) → HasFew command → AnswersOrGivesUp hash command before now status → Headline hash command before now status

@@ -1,3 +1,1 @@
 pub mod Headline
-pub mod Replied
-pub mod Determined

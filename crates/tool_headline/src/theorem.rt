@@ -9,7 +9,6 @@ ghost use Rattle.theory_tool.specs.Ended.{CallsEnd};
 ghost use Rattle.theory_tool.specs.Kept.{RunsAreKept};
 ghost use Rattle.theory_tool.specs.Statuses.{StatusesTheorem};
 ghost use Rattle.tool_headline.specs.Headline.{HeadlineOfAnswers};
-ghost use Rattle.tool_headline.specs.Determined.{FilesDetermineAnswers};
 
 use theory_commands::{causes_are_in_files, commands_show};
 use theory_report::plays_are_read;
@@ -47,8 +46,3 @@ pub fn answers_are_headlines()
     causes_are_in_files();
     by_theorems();
 }
-
-/// Two answered calls with the same words over files that tell the same have one status and one text, unless a write failed.
-pub fn files_determine_answers()
-    ensures { FilesDetermineAnswers }
-{}

@@ -1,3 +1,9 @@
+use Rattle.std.proofs.Common.{refl}
+use Rattle.spec_deal.specs.Answers.{deal_read_answer, deal_answer}
+use Rattle.spec_deal.specs.Commands.{deal_files}
+use Rattle.spec_deal.specs.Verifier.{secp256k1}
+use Rattle.tool_shell.proofs.Seen.{seen as seen_as}
+use Rattle.bitml_deal.specs.Dealt.{seen}
 use Rattle.bitml_deal.proofs.Headlines.{headline_of}
 use Rattle.bitml_deal.proofs.tool.deal_tool.Goals as goal
 
@@ -15,4 +21,7 @@ returns g c =
       exactly = c.finishes_exactly.ensures;
       finished = c.finish_theorem.ensures;
       no_other_way = c.false_without_one.ensures;
-    }) (g.H.Hash32.digest_of c.args.hash) _ _ _ c.answer_words.result c.answer_words.ensures
+    }) (g.H.Hash32.digest_of c.args.hash) _ _ _ c.serve.result
+    (seen_as seen deal_files (deal_answer secp256k1 (g.H.Hash32.digest_of c.args.hash)) (λ call. deal_files (seen call))
+    (λ call. deal_read_answer secp256k1 (g.H.Hash32.digest_of c.args.hash) (seen call)) (λ reads. refl) (λ call. refl)
+    (λ call reads. refl) _ c.call_of.result _ _ c.serve.result c.call_of.ensures.command c.call_of.ensures.memory c.serve.ensures)

@@ -1,7 +1,7 @@
 use Rattle.std.proofs.Common.{◌≡◌, ◌∷◌, map, take}
 use Rattle.std.specs.Prelude.{string_bytes}
 use Rattle.spec_tool.specs.Commands.{run_file, contract_file}
-use Rattle.tool_command.specs.Seen.{asked}
+use Rattle.tool_shell.specs.Asked.{asked}
 use Rattle.tool_command.proofs.files.play_files.Given as goal
 
 abbrev pub invariant-loop-contract : goal.invariant-loop-contract

@@ -1,0 +1,7 @@
+mod Determined
+pub mod Ended
+mod Ending
+mod Logged
+pub mod Seen
+mod Texts
+mod Told

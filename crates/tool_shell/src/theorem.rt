@@ -1,0 +1,8 @@
+//! What is known of two calls.
+
+ghost use Rattle.tool_shell.specs.Determined.{FilesDetermineAnswers};
+
+/// Two answered calls with the same words over files that tell the same have one status and one text, unless a write failed.
+pub fn files_determine_answers()
+    ensures { FilesDetermineAnswers }
+{}

@@ -1,0 +1,6 @@
+mod FinishLemmas
+mod Headlines
+mod LaterLemmas
+mod NamedLemmas
+mod OpeningLemmas
+mod WellFormed

@@ -1,6 +1,6 @@
 //! The whole program, over files and a sink that are handed in.
 
-ghost use Rattle.std.specs.Prelude.{◌≡◌, ℕ, List, length, Some, map, string_bytes, refl, Unit, is_some, true, option_map, IfOk, OnErr};
+ghost use Rattle.std.specs.Prelude.{◌≡◌, ℕ, List, length, Some, map, string_bytes, refl, is_some, true, option_map, IfOk, OnErr};
 ghost use Rattle.spec_tool.specs.Replies.{printed};
 ghost use Rattle.spec_deal.specs.Answers.{deal_read_answer};
 ghost use Rattle.spec_deal.specs.Commands.{deal_files, deal_command_of};

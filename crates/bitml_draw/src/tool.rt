@@ -1,6 +1,6 @@
 //! The whole program, over files and a sink that are handed in.
 
-ghost use Rattle.std.specs.Prelude.{◌≡◌, ℕ, List, length, Some, map, string_bytes, refl, Unit, option_map, IfOk};
+ghost use Rattle.std.specs.Prelude.{◌≡◌, ℕ, List, length, Some, map, string_bytes, refl, option_map, IfOk};
 ghost use Rattle.spec_tool.specs.Commands.{files_of as files_named};
 ghost use Rattle.spec_tool.specs.Replies.{printed};
 ghost use Rattle.spec_picture.specs.Drawing.{words_drawn, read_drawn, title_of};

@@ -1,5 +1,5 @@
 -- What is drawn of a run that left a world, or whose opening collides.
-use Rattle.std.proofs.Common.{◌≡◌, ℕ, List, [], ◌∷◌, length, map, get_or, Option, Some, None, sym, ap, ◌∙◌, arith}
+use Rattle.std.proofs.Common.{◌≡◌, ℕ, List, [], ◌∷◌, length, map, get_or, Option, sym, ap, ◌∙◌, arith}
 use Rattle.spec_terms.specs.Advert.{Advert}
 use Rattle.spec_calculus.specs.declared.step.Step.{Step}
 use Rattle.spec_run.specs.declared.event.Event.{Event}

@@ -11,7 +11,7 @@ use Rattle.spec_text.specs.Limits.{most_events, most_run_bytes}
 use Rattle.spec_text.specs.Lines.{lines_of, words_of}
 use Rattle.spec_text.specs.EventLines.{event_of}
 use Rattle.spec_text.specs.RunFile.{Line, bad, over, empty, rule, says, spelled_within, is_long, no_header, Headed, read_header, event_within, event_words, event_of_line, counted, event_step, read_events, with_header, read_rest, read_run}
-use Rattle.spec_text.specs.Refusals.{Judged, judged_run, run_of}
+use Rattle.spec_text.specs.Refusals.{Judged, judged_run}
 use Rattle.spec_tool.specs.Reads.{Text}
 use Rattle.spec_tool.specs.Answers.{run_in}
 

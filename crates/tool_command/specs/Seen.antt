@@ -1,5 +1,5 @@
 -- Commands and replies of the code, as the definitions have them.
-use Rattle.std.specs.Prelude.{ℕ, ◌≤◌, List, length, map, ◌&&◌, nat_le, Option, Some, None, string_bytes}
+use Rattle.std.specs.Prelude.{ℕ, ◌≤◌, length, map, ◌&&◌, nat_le, Option, Some, string_bytes}
 use Rattle.spec_data.specs.Ranges.{most_contracts}
 use Rattle.spec_text.specs.Words.{given}
 use Rattle.spec_tool.specs.Commands as spec

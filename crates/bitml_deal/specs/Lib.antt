@@ -1,0 +1,4 @@
+pub mod Opens
+pub mod Named
+pub mod Later
+pub mod Dealt

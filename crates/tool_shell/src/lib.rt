@@ -10,4 +10,4 @@ mod theorem;
 
 pub use call::Call;
 pub use serving::serve;
-pub use theorem::files_determine_answers;
+pub use theorem::{files_determine_answers, logs_determine_answers};

@@ -5,3 +5,4 @@ pub mod Shapes
 pub mod Files
 pub mod Whole
 pub mod Causes
+pub mod Accepted

@@ -1,6 +1,7 @@
 //! What follows of deals: each theorem is the contract of a function that does nothing.
 #![tactic(auto)]
 
+ghost use Rattle.theory_deal.specs.Accepted.{VerdictByBook, AcceptedTheorem};
 ghost use Rattle.theory_deal.specs.Causes.{DealCausesTheorem};
 ghost use Rattle.theory_deal.specs.Files.{DealsAreSized, DealsGiveAll, KeysArePoints, SecretsFit, SignaturesAreShaped, SignaturesVerify};
 ghost use Rattle.theory_deal.specs.Finished.{FinishedOpens, FinishedIsPlanned, FalseWithoutOne};
@@ -88,6 +89,16 @@ pub fn finishes_exactly()
 /// What `finish` prints of files that are taken is the plan's transaction, with witnesses that make all its scripts true.
 pub fn finish_theorem()
     ensures { FinishTheorem }
+{}
+
+/// By the book of ideal signatures, the verdict by a judge is that of the ledger.
+pub fn verdict_by_book()
+    ensures { VerdictByBook }
+{}
+
+/// What `finish` prints of files that are taken is accepted by each ledger on which what it spends is live, from its lock on and not before.
+pub fn finished_accepted()
+    ensures { AcceptedTheorem }
 {}
 
 /// Each status of the program for deals comes by its cause, the first of them in their order.

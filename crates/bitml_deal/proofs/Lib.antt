@@ -3,4 +3,3 @@ mod FinishLemmas
 mod Headlines
 mod NamedLemmas
 mod OpeningLemmas
-mod WellFormed

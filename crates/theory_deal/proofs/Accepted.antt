@@ -18,11 +18,13 @@ use Rattle.theory_world.proofs.Ledger.Acceptable.{with-bare}
 use Rattle.theory_world.proofs.Ledger.Bare.{same_preimage}
 use Rattle.theory_deal.specs.Finished.{Judge, judge_by, Agrees, AllOpen}
 use Rattle.theory_deal.specs.Accepted.{judge_on, AreLive, AcceptedTheorem}
-use Rattle.theory_deal.proofs.Balanced.{whole_at}
+use Rattle.theory_deal.proofs.ByBook.{verdict_by_book}
+use Rattle.theory_deal.proofs.DifferentOutputs.{apart_at}
+use Rattle.theory_deal.proofs.Funded.{funded_at}
 use Rattle.theory_deal.proofs.PlacesApart.{places_apart}
 use Rattle.theory_deal.proofs.ReadSignatures.{signatures_are_shaped}
 use Rattle.theory_deal.proofs.ShortItems.{witnesses_short}
-use Rattle.theory_deal.proofs.Verdicts.{Lie, lies, one_worth, lie_of, accepts_open, refuses_early}
+use Rattle.theory_deal.proofs.Verdicts.{IsWhole, Lie, lies, one_worth, lie_of, accepts_open, refuses_early}
 use Rattle.theory_deal.proofs.Whole.{strings_fit, finish_theorem}
 use Rattle.theory_deal.proofs.WholeDeals.{deals_give_all}
 
@@ -67,16 +69,20 @@ finished_accepted v hash advert deal_text deal file given strings which l size c
     let s : Instance = deal_instance advert deal in
     let done = finish_theorem v hash advert deal_text deal file given strings which l checked deal_read given_read strings_read there refusal in
     let ws = witnesses hash keys s given strings l l.which in
-    let whole = whole_at hash keys s checked
-    (record {
-      bound = (deals_give_all v advert deal_text deal deal_read).deposits;
-      apart = places_apart v advert deal_text deal deal_read;
-      unmade = unmade;
-    }) which l there in
+    let whole : IsWhole l.draft = record {
+      funded = funded_at hash keys s checked which l there;
+      apart = apart_at hash keys s checked
+          (record {
+            bound = (deals_give_all v advert deal_text deal deal_read).deposits;
+            apart = places_apart v advert deal_text deal deal_read;
+            unmade = unmade;
+          }) which l there;
+    } in
     let short =
     witnesses_short hash keys s given strings (signatures_are_shaped v hash keys s file given given_read).short
     (strings_fit hash keys s strings strings_read) l l.which in
     record {
+      by_book = λ book chain. verdict_by_book hash book chain (with_witnesses (tx_of l.draft) ws);
       judged = λ judge chain accepted live reached.
           accepts_open hash judge chain l.draft ws whole live size reached (done.opens judge accepted) short;
       agreed = λ judge chain agrees live reached.

@@ -23,22 +23,27 @@ use Rattle.spec_deal.specs.declared.entry.Shown.{Shown}
 use Rattle.spec_deal.specs.declared.signed.Signed.{Signed}
 use Rattle.spec_deal.specs.Finished.{bytes_or_none, input_signatures, deposit_witnesses, choices_at, strings_of, branch_witness}
 use Rattle.spec_deal.specs.Finished.{path_witnesses, witnesses}
+use Rattle.theory_calculus.specs.Members.{Is_in}
 use Rattle.theory_calculus.proofs.Members.{all_in, found}
 use Rattle.theory_script.proofs.Keyed.Witnesses.{stack_short}
 use Rattle.theory_deal.specs.Finished.{are_short, do_fit}
 use Rattle.theory_deal.proofs.FinishedOpens.{items_before, input_short}
 use Rattle.theory_deal.proofs.Verdicts.{AllShort}
 
+-- a string that fits its secret is no longer than an item may be
+pub string_short : (hash : List ℕ → List ℕ) (s : Instance) (strings : List Shown) → do_fit hash s strings ≡ true → (x : Shown)
+    → Is_in x strings → is_short x.bytes ≡ true
+string_short hash s strings fit x there =
+    let p = all_in (λ (y : Shown). is_secret hash y.bytes (digest_of s.hashes y.name)) strings x fit there in
+    (and_parts (nat_le 16 (length x.bytes)) (nat_le (length x.bytes) 520)
+    (and_parts (nat_le 16 (length x.bytes) && nat_le (length x.bytes) 520) _ p).0).1
+
 module _ (hash : List ℕ → List ℕ) (keys : Keys) (s : Instance) (given : List Signed) (strings : List Shown)
     (short : are_short given ≡ true) (fit : do_fit hash s strings ≡ true) where
   one_string : (name : List ℕ) (o : Option Shown) → find (λ (x : Shown). bytes_eq x.name name) strings ≡ o
       → is_short (bytes_or_none (option_map (λ (x : Shown). x.bytes) o)) ≡ true
   one_string name None e = refl
-  one_string name (Some x) e =
-      let r = found (λ (y : Shown). bytes_eq y.name name) strings x e in
-      let p = all_in (λ (y : Shown). is_secret hash y.bytes (digest_of s.hashes y.name)) strings x fit r.0 in
-      (and_parts (nat_le 16 (length x.bytes)) (nat_le (length x.bytes) 520)
-      (and_parts (nat_le 16 (length x.bytes) && nat_le (length x.bytes) 520) _ p).0).1
+  one_string name (Some x) e = string_short hash s strings fit x (found (λ (y : Shown). bytes_eq y.name name) strings x e).0
 
   strings_short : (wanted : List (List ℕ)) → list_all is_short (strings_of strings wanted) ≡ true
   strings_short [] = refl

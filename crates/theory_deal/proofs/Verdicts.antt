@@ -193,14 +193,18 @@ many xs ws = as_many (map input_of xs) ws ∙ all xs
 
 -- ---- the whole
 
--- what the conditions on the whole transaction ask
-pub record IsWhole (d : Unsigned) : Type 0 where
+-- it spends and makes something, pays no more than it spends and than there is, and its lock is a height
+pub record IsFunded (d : Unsigned) : Type 0 where
   pub some : 0 < length d.spends
   pub makes : 0 < length d.outputs
-  pub apart : has_repeat (map input_of d.spends) ≡ false
   pub enough : total_of d.outputs ≤ sum_by (λ x. x.value) d.spends
   pub money : total_of d.outputs ≤ max_money
   pub height : d.lock ≤ last_height
+
+-- what the conditions on the whole transaction ask
+pub record IsWhole (d : Unsigned) : Type 0 where
+  pub funded : IsFunded d
+  pub apart : has_repeat (map input_of d.spends) ≡ false
 
 not_less : (m n : ℕ) → n ≤ m → nat_lt m n ≡ false
 not_less m n h = grind (arith, nat_tests, h)
@@ -220,10 +224,10 @@ module _ (hash : List ℕ → List ℕ) (judge : Judge) (chain : Chain) (d : Uns
   is = witnessed (map input_of d.spends) ws
 
   some_input : (length is == 0) ≡ false
-  some_input = let n = many d.spends ws in ne_eqb (length is) 0 (λ e. let z = w.some in omega (arith, n, z, e))
+  some_input = let n = many d.spends ws in ne_eqb (length is) 0 (λ e. let z = w.funded.some in omega (arith, n, z, e))
 
   some_output : (length d.outputs == 0) ≡ false
-  some_output = ne_eqb (length d.outputs) 0 (λ e. let z = w.makes in omega (arith, z, e))
+  some_output = ne_eqb (length d.outputs) 0 (λ e. let z = w.funded.makes in omega (arith, z, e))
 
   none_twice : has_repeat is ≡ false
   none_twice = same_repeat (map input_of d.spends) ws ∙ w.apart
@@ -232,12 +236,12 @@ module _ (hash : List ℕ → List ℕ) (judge : Judge) (chain : Chain) (d : Uns
   all_there = ap is_some (none_missing hash chain.live 0 d.spends ws there)
 
   not_much : nat_lt max_money (total_of d.outputs) ≡ false
-  not_much = not_less max_money (total_of d.outputs) w.money
+  not_much = not_less max_money (total_of d.outputs) w.funded.money
 
   paid : nat_lt (spent_total chain.live is) (total_of d.outputs) ≡ false
   paid =
       let t = spent_worth hash chain.live d.spends ws there in
-      let e = w.enough in
+      let e = w.funded.enough in
       not_less (spent_total chain.live is) (total_of d.outputs) (omega (arith, t, e))
 
   -- from the lock on, the verdict accepts what opens
@@ -247,7 +251,7 @@ module _ (hash : List ℕ → List ℕ) (judge : Judge) (chain : Chain) (d : Uns
       let tx = with_witnesses (tx_of d) ws in
       let final : is_not_final chain.tip tx ≡ false =
       by_tests (heeds_lock is) (not (d.lock == 0)) (nat_lt chain.tip d.lock) (nat_lt last_height d.lock)
-      (not_less chain.tip d.lock reached) (not_less last_height d.lock w.height) in
+      (not_less chain.tip d.lock reached) (not_less last_height d.lock w.funded.height) in
       let whole = none_reason (whole_row chain.tip chain.live tx)
       (some_input, (some_output, (none_twice, (all_there, (not_much, (paid, (final, tt))))))) in
       let inputs = inputs_fine hash chain.live size judge 0 d.spends ws there opens short in
@@ -261,7 +265,7 @@ module _ (hash : List ℕ → List ℕ) (judge : Judge) (chain : Chain) (d : Uns
       let tx = with_witnesses (tx_of d) ws in
       let locked : not (d.lock == 0) ≡ true = ap not (ne_eqb d.lock 0 (λ e. omega (arith, early, e))) in
       let less = is_less chain.tip d.lock early in
-      let binds = heeds d.spends ws w.some in
+      let binds = heeds d.spends ws w.funded.some in
       let bound : is_not_final chain.tip tx ≡ true = rw (binds, locked, less) refl in
       let row : first_reason (whole_row chain.tip chain.live tx) ≡ Some NotFinal =
       rw (some_input, some_output, none_twice, all_there, not_much, paid, bound) refl in

@@ -111,6 +111,11 @@ accepted_on chain tx = Accepted (map (spent_number chain.live) tx.inputs) (numbe
 -- on each ledger on which what it spends is live, and at each height from its lock on, the verdict accepts it
 pub record IsAccepted (v : Verifier) (hash : List ℕ → List ℕ) (keys : Keys) (s : Instance) (given : List Signed) (strings : List Shown)
     (l : Listed) : Type 0 where
+  -- this verdict is the ledger's, with a judge in the place of the book of ideal signatures
+  pub by_book : (book : List Pair) (chain : Chain)
+      → judged_verdict hash (judge_on (is_valid book) hash chain.live (finished hash keys s given strings l)) chain
+      (finished hash keys s given strings l)
+      ≡ verdict hash book chain (finished hash keys s given strings l)
   -- by every judge that accepts the given signatures
   pub judged : (judge : Judge) (chain : Chain) → accepts hash keys s given judge l ≡ true → AreLive hash chain.live l.draft.spends
       → l.draft.lock ≤ chain.tip

@@ -6,3 +6,5 @@ pub mod Files
 pub mod Whole
 pub mod Causes
 pub mod Accepted
+pub mod Printed
+pub mod FinishAnswers

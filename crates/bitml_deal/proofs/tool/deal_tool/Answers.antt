@@ -14,5 +14,6 @@ returns g c =
       starts = c.may_start.ensures;
       exactly = c.finishes_exactly.ensures;
       finished = c.finish_theorem.ensures;
+      answers = c.finish_answers.ensures;
       no_other_way = c.false_without_one.ensures;
-    }) (g.H.Hash32.digest_of c.args.hash) _ _ _ c.answer_words.result c.answer_words.ensures
+    }) (g.H.Hash32.digest_of c.args.hash) c.hashes_bytes.ensures _ _ _ c.answer_words.result c.answer_words.ensures

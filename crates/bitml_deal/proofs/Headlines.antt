@@ -3,6 +3,7 @@ use Rattle.std.proofs.Common.{◌≡◌, ℕ, Bool, true, false, ◌==◌, cond,
 use Rattle.std.proofs.Common.{inl, inr, arith}
 use Rattle.std.specs.Prelude.{Ok, option_map}
 use Rattle.std.proofs.lemmas.Bool.{false≢true}
+use Rattle.spec_data.specs.Hashes.{HashesBytes}
 use Rattle.spec_data.specs.Lists.{has_number}
 use Rattle.spec_terms.specs.Advert.{Advert}
 use Rattle.spec_text.specs.Refusals.{contract_of}
@@ -17,17 +18,18 @@ use Rattle.spec_deal.specs.Setting.{deal_keys, deal_instance}
 use Rattle.spec_deal.specs.Verifier.{secp256k1}
 use Rattle.theory_deal.specs.Causes.{deal_statuses, DealCausesTheorem}
 use Rattle.theory_deal.specs.Files.{DealsGiveAll, DealsAreSized, KeysArePoints, SignaturesVerify}
+use Rattle.theory_deal.specs.FinishAnswers.{FinishAnswers}
 use Rattle.theory_deal.specs.Finished.{FalseWithoutOne}
 use Rattle.theory_deal.specs.Plan.{PlanOfRuns}
 use Rattle.theory_deal.specs.Signatures.{MissingAndHeld, MayStart}
 use Rattle.theory_deal.specs.Whole.{FinishesExactly, FinishTheorem}
+use Rattle.theory_deal.proofs.WellFormed.{well_formed}
 use Rattle.tool_shell.specs.Around.{Around}
 use Rattle.tool_shell.specs.Answered.{GivesUp}
 use Rattle.tool_shell.proofs.Ended.{ended_with}
 use Rattle.tool_shell.proofs.Seen.{some_command}
 use Rattle.bitml_deal.specs.Dealt.{Answers, AnswersOrGivesUp, CausedByTexts, Caused, Keeps, KeepsTaken}
-use Rattle.bitml_deal.specs.Dealt.{KeepsTexts, Headline}
-use Rattle.bitml_deal.proofs.WellFormed.{well_formed}
+use Rattle.bitml_deal.specs.Dealt.{KeepsTexts, IfFinished, Headline}
 
 -- the theorems that are cited
 pub record Theorems : Type 0 where
@@ -41,6 +43,7 @@ pub record Theorems : Type 0 where
   pub starts : MayStart
   pub exactly : FinishesExactly
   pub finished : FinishTheorem
+  pub answers : FinishAnswers
   pub no_other_way : FalseWithoutOne
 
 -- ---- the status of an answer
@@ -63,7 +66,7 @@ five_by printed went there e = never printed.status 5 refl there (ended_with pri
 or_known : (n : ℕ) → has_number n deal_statuses ≡ true → has_number n known ≡ true
 or_known n h = grind (arith, h)
 
-module _ (t : Theorems) (hash : List ℕ → List ℕ) where
+module _ (t : Theorems) (hash : List ℕ → List ℕ) (bytes : HashesBytes hash) where
   read_known : (command : DealCommand) (o : Option (List Text)) → has_number (deal_read_answer secp256k1 hash command o).status known ≡ true
   read_known command None = refl
   read_known command (Some texts) = or_known (deal_text_answer secp256k1 hash command texts).status (t.causes.others secp256k1 hash command texts)
@@ -116,6 +119,17 @@ module _ (t : Theorems) (hash : List ℕ → List ℕ) where
   keeps_texts None = tt
   keeps_texts (Some texts) = keeps_taken texts
 
+  -- ---- a transaction that is finished
+
+  finished_by : (command : DealCommand) (o : Option (List Text)) → IfFinished hash (Some command) o (deal_read_answer secp256k1 hash command o)
+  finished_by command None = tt
+  finished_by command (Some texts) = λ which e zero_status. t.answers secp256k1 hash command texts which bytes e zero_status
+
+  finished : (command : Option DealCommand) (reads : List Read)
+      → IfFinished hash command (texts_read reads) (deal_answer secp256k1 hash command reads)
+  finished None reads = tt
+  finished (Some command) reads = finished_by command (texts_read reads)
+
   -- ---- the whole
 
   unread_is : (command : Option DealCommand) (reads : List Read) → (deal_answer secp256k1 hash command reads).status ≡ 3 → texts_read reads ≡ None
@@ -127,7 +141,12 @@ module _ (t : Theorems) (hash : List ℕ → List ℕ) where
     of_answer status a =
         let printed = deal_answer secp256k1 hash command a.reads in
         record {
-          serves = inl (record { answers = a; caused = caused command a.reads; keeps = keeps_texts (texts_read a.reads) });
+          serves = inl (record {
+            answers = a;
+            caused = caused command a.reads;
+            keeps = keeps_texts (texts_read a.reads);
+            finished = finished command a.reads;
+          });
           usage = λ e. (t.causes.usage secp256k1 hash command a.reads).0 (ended_with printed a.ends.went 2 (λ f. absurd (cc)) (sym e ∙ a.ends.status_is));
           unread = λ e.
               a.unread (unread_is command a.reads (ended_with printed a.ends.went 3 (λ f. absurd (cc)) (sym e ∙ a.ends.status_is)));

@@ -3,4 +3,3 @@ mod Headlines
 mod LaterLemmas
 mod NamedLemmas
 mod OpeningLemmas
-mod WellFormed

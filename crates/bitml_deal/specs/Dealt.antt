@@ -20,6 +20,7 @@ use Rattle.spec_deal.specs.Slots.{Slot}
 use Rattle.spec_deal.specs.Verifier.{secp256k1}
 use Rattle.theory_deal.specs.Causes.{reads_deal, is_deal_refused, causes, first_status}
 use Rattle.theory_deal.specs.Files.{GivesAll, IsSized, are_points, AreVerified}
+use Rattle.theory_deal.specs.FinishAnswers.{finishes, IsFinishedText}
 use Rattle.theory_deal.specs.Finished.{NoOtherWay}
 use Rattle.theory_deal.specs.Plan.{IsPlanOfRuns}
 use Rattle.theory_deal.specs.Signatures.{ListsExactly, StartsExactly}
@@ -114,6 +115,15 @@ abbrev pub KeepsTexts : (List ℕ → List ℕ) → Option (List Text) → Type 
 KeepsTexts hash None = Unit {0}
 KeepsTexts hash (Some texts) = KeepsTaken hash texts
 
+-- ---- finished transactions
+
+-- where `finish` answers 0, its text is one transaction, which is the plan's, and which ledgers accept
+abbrev pub IfFinished : (List ℕ → List ℕ) → Option DealCommand → Option (List Text) → Printed → Type 0
+IfFinished hash None texts printed = Unit {0}
+IfFinished hash (Some command) None printed = Unit {0}
+IfFinished hash (Some command) (Some texts) printed =
+    (which : Which) → finishes command ≡ Some which → printed.status ≡ 0 → IsFinishedText secp256k1 hash texts which printed.text
+
 -- ---- the headline
 
 -- an answer with what is known of it
@@ -123,6 +133,8 @@ pub record Serves (hash : List ℕ → List ℕ) (command : Option DealCommand) 
   pub caused : Caused hash command answers.reads (deal_answer secp256k1 hash command answers.reads)
   -- what it shows of a deal that is taken is as the theorems say
   pub keeps : KeepsTexts hash (texts_read answers.reads)
+  -- and a transaction that it finishes
+  pub finished : IfFinished hash command (texts_read answers.reads) (deal_answer secp256k1 hash command answers.reads)
 
 -- what a call with this command does to what stands around it, and its status
 pub record Headline (hash : List ℕ → List ℕ) (command : Option DealCommand) (before now : Around) (status : ℕ) : Type 0 where

@@ -10,15 +10,15 @@ ghost use Rattle.tool_shell.specs.Asked.{asked};
 ghost use Rattle.bitml_deal.specs.Dealt.{seen, Headline};
 
 use crate::answering::text_reply;
-use bm_hash::Hash32;
+use bm_hash::{Hash32, hashes_bytes};
 use bm_io::{Files, Sink};
 use deal_command::{DealCommand, command_of, files_of};
 use spec_data::{Bytes, OutOfMemory};
 use spec_tool::Reply;
 use std::alloc::Global;
 use theory_deal::{
-    deal_statuses_have_causes, deals_are_sized, deals_give_all, false_without_one, finish_theorem,
-    finishes_exactly, keys_are_points, may_start, missing_and_held, plan_of_runs,
+    deal_statuses_have_causes, deals_are_sized, deals_give_all, false_without_one, finish_answers,
+    finish_theorem, finishes_exactly, keys_are_points, may_start, missing_and_held, plan_of_runs,
     signatures_verify,
 };
 use tool_shell::{Call, serve};
@@ -70,7 +70,8 @@ fn call_of(alloc: Global, words: &[String]) -> Result<Option<DealCall<'_>>, OutO
 }
 
 /// Runs the command that words are: reads its files, writes its text, and answers its status. Each status comes by its cause, and what is
-/// written of a deal that is taken is as the theorems on deals say, for ECDSA over secp256k1: its signatures verify.
+/// written of a deal that is taken is as the theorems on deals say, for ECDSA over secp256k1: its signatures verify, and a transaction that
+/// it finishes is accepted by each ledger on which what it spends is live, from its lock on.
 pub fn deal_tool<H: Hash32 + Drop, F: Files, S: Sink>(
     alloc: Global,
     words: &[String],
@@ -82,6 +83,7 @@ pub fn deal_tool<H: Hash32 + Drop, F: Files, S: Sink>(
         (around (F.told files.old) (F.log files.old) (F.taken files.old) (F.faults files.old) (S.pieces out.old) (S.faults out.old))
         (around (F.told files.new) (F.log files.new) (F.taken files.new) (F.faults files.new) (S.pieces out.new) (S.faults out.new)) result }
 {
+    hashes_bytes(&hash);
     deal_statuses_have_causes();
     deals_give_all();
     deals_are_sized();
@@ -92,6 +94,7 @@ pub fn deal_tool<H: Hash32 + Drop, F: Files, S: Sink>(
     may_start();
     finishes_exactly();
     finish_theorem();
+    finish_answers();
     false_without_one();
     serve(alloc, hash, call_of(alloc, words), files, out)
 }

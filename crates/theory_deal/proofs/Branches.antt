@@ -77,21 +77,25 @@ module _ (hash : List ℕ → List ℕ) (keys : Keys) (s : Instance) where
       end_from-step hash keys s (at_position (root_standing hash keys s) s.advert.root) front step
       ∙ ap (option_and_then (next_end hash keys s step)) h
 
-  by_next : (steps : List PathStep) (q : PathEnd) (o : Option PathEnd)
-      → ((r : PathEnd) → o ≡ Some r → end_from hash keys s r steps ≡ Some q → IfFound q)
-      → option_and_then (λ (r : PathEnd). end_from hash keys s r steps) o ≡ Some q → IfFound q
-  by_next steps q None go e = cc
-  by_next steps q (Some r) go e = go r refl e
+  by_next : (P : PathEnd → Type 0) (steps : List PathStep) (q : PathEnd) (o : Option PathEnd)
+      → ((r : PathEnd) → o ≡ Some r → end_from hash keys s r steps ≡ Some q → P q)
+      → option_and_then (λ (r : PathEnd). end_from hash keys s r steps) o ≡ Some q → P q
+  by_next P steps q None go e = cc
+  by_next P steps q (Some r) go e = go r refl e
 
-  found_from : (front steps : List PathStep) (p q : PathEnd) → end_at hash keys s front ≡ Some p → IfFound p
-      → end_from hash keys s p steps ≡ Some q → IfFound q
-  found_from front [] p q there found e = subst IfFound (some_same e) found
-  found_from front (step ∷ steps) p q there found e =
-      by_next steps q (next_end hash keys s step p)
-      (λ r is k. found_from (front ++ step ∷ []) steps r q (one_more front step p there ∙ is) (found_next front step p r there is) k) e
+  -- what each step keeps is kept along a path
+  pub along : (P : PathEnd → Type 0)
+      → ((front : List PathStep) (step : PathStep) (p r : PathEnd) → end_at hash keys s front ≡ Some p → P p
+      → next_end hash keys s step p ≡ Some r → P r)
+      → (front steps : List PathStep) (p q : PathEnd) → end_at hash keys s front ≡ Some p → P p → end_from hash keys s p steps ≡ Some q → P q
+  along P next front [] p q there now e = subst P (some_same e) now
+  along P next front (step ∷ steps) p q there now e =
+      by_next P steps q (next_end hash keys s step p)
+      (λ r is k. along P next (front ++ step ∷ []) steps r q (one_more front step p there ∙ is) (next front step p r there now is) k) e
 
   -- the branch at the end of a path
   pub branch_found : (path : List PathStep) (here : Standing) (i : ℕ) (b : term.Guarded)
       → end_at hash keys s path ≡ Some (at_branch here i b) → Found here i b
   branch_found path here i b e =
-      found_from [] path (at_position (root_standing hash keys s) s.advert.root) (at_branch here i b) refl tt e
+      along IfFound (λ front step p r there now is. found_next front step p r there is)
+      [] path (at_position (root_standing hash keys s) s.advert.root) (at_branch here i b) refl tt e

@@ -54,12 +54,12 @@ use Rattle.theory_deal.proofs.Listed.{all_pass}
 
 -- ---- lists
 
-script_at_end : (xs : List (List ℕ)) (x : List ℕ) → script_of (xs ++ x ∷ []) ≡ x
+pub script_at_end : (xs : List (List ℕ)) (x : List ℕ) → script_of (xs ++ x ∷ []) ≡ x
 script_at_end [] x = refl
 script_at_end (y ∷ []) x = refl
 script_at_end (y ∷ (z ∷ zs)) x = script_at_end (z ∷ zs) x
 
-items_before : (xs : List (List ℕ)) (x : List ℕ) → items_of (xs ++ x ∷ []) ≡ xs
+pub items_before : (xs : List (List ℕ)) (x : List ℕ) → items_of (xs ++ x ∷ []) ≡ xs
 items_before [] x = refl
 items_before (y ∷ []) x = refl
 items_before (y ∷ (z ∷ zs)) x = ap (λ (w : List (List ℕ)). y ∷ w) (items_before (z ∷ zs) x)
@@ -121,21 +121,22 @@ abbrev pub slot_of : Advert → Listed → ℕ → Spent → Label → Slot
 slot_of advert l k spent label =
     record { which = l.which; draft = l.draft; input = k; spent = spent; label = label; verb = verb_of advert l.which label }
 
-module _ (hash : List ℕ → List ℕ) (keys : Keys) (s : Instance) (given : List Signed) (judge : Judge) where
-  signature_short : are_short given ≡ true → (slot : Slot) → is_short (bytes_or_none (signature_for hash keys given slot)) ≡ true
-  signature_short short slot = by_found (find (is_for hash keys slot) given) refl
+module _ (hash : List ℕ → List ℕ) (keys : Keys) (s : Instance) (given : List Signed) (short : are_short given ≡ true) where
+  signature_short : (slot : Slot) → is_short (bytes_or_none (signature_for hash keys given slot)) ≡ true
+  signature_short slot = by_found (find (is_for hash keys slot) given) refl
     where
       by_found : (o : Option Signed) → find (is_for hash keys slot) given ≡ o
           → is_short (bytes_or_none (option_map (λ (g : Signed). g.signature) o)) ≡ true
       by_found None e = refl
       by_found (Some g) e = all_in (λ (x : Signed). is_short x.signature) given g short (found (is_for hash keys slot) given g e).0
 
-  input_short : are_short given ≡ true → (l : Listed) (k : ℕ) (spent : Spent) (signers : List Label)
+  pub input_short : (l : Listed) (k : ℕ) (spent : Spent) (signers : List Label)
       → list_all is_short (input_signatures hash keys s given l k spent signers) ≡ true
-  input_short short l k spent [] = refl
-  input_short short l k spent (label ∷ signers) = and_from _ _ (signature_short short (slot_of s.advert l k spent label))
-      (input_short short l k spent signers)
+  input_short l k spent [] = refl
+  input_short l k spent (label ∷ signers) =
+      and_from _ _ (signature_short (slot_of s.advert l k spent label)) (input_short l k spent signers)
 
+module _ (hash : List ℕ → List ℕ) (keys : Keys) (s : Instance) (given : List Signed) (judge : Judge) where
   input_valid : (l : Listed) (k : ℕ) (spent : Spent) (signers : List Label)
       → list_all (accepts_one hash keys given judge) (input_slots s.advert l k spent signers) ≡ true
       → are_valid (judge k) (input_signatures hash keys s given l k spent signers) (map (key_in hash keys) signers) ≡ true
@@ -174,7 +175,7 @@ module _ (hash : List ℕ → List ℕ) (keys : Keys) (s : Instance) (given : Li
       ap (λ (bytes : List ℕ). script_meaning hash (judge k) bytes (input_signatures hash keys s given l k spent
       (deposit_signer d.party))) d.script
       ∙ deposit_meaning hash (judge k) key (input_signatures hash keys s given l k spent (deposit_signer d.party))
-      (are_keys (labels.Deposit d.party)) (input_short short l k spent (deposit_signer d.party))
+      (are_keys (labels.Deposit d.party)) (input_short hash keys s given short l k spent (deposit_signer d.party))
       ∙ input_valid l k spent (deposit_signer d.party) a)
       h
 
@@ -259,7 +260,7 @@ module _ (hash : List ℕ → List ℕ) (keys : Keys) (s : Instance) (given : Li
       fits = all_fit hash s strings fit (reveals_of (core b)) shows;
       predicate = true_predicate;
       signed = branch_valid l h;
-      short = input_short short l 0 here.output (map (branch_label s.contract path) (participants s.advert));
+      short = input_short hash keys s given short l 0 here.output (map (branch_label s.contract path) (participants s.advert));
     }
 
     -- the witness, by the number of the position's branches

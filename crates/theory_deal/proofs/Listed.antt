@@ -1,10 +1,11 @@
 -- The signatures that are missing and held are those of the list without and with one given; the first endorsement that is missing.
-use Rattle.std.proofs.Common.{◌≡◌, List, [], ◌∷◌, Bool, true, false, not, Option, Some, None, refl, ap, cond}
-use Rattle.std.specs.Prelude.{filter, ◌&&◌}
+use Rattle.std.proofs.Common.{◌≡◌, List, [], ◌∷◌, Bool, true, false, not, Option, Some, None, refl, ap, ◌∙◌, cond, inl, inr}
+use Rattle.std.specs.Prelude.{filter, ◌&&◌, ◌⊎◌}
 use Rattle.std.specs.List.{Contains, find, list_all}
 use Rattle.spec_deal.specs.DealText.{gate_line}
 use Rattle.spec_deal.specs.Slots.{Slot, slots, is_endorsement}
 use Rattle.spec_deal.specs.Given.{has}
+use Rattle.theory_calculus.specs.Members.{Is_in}
 use Rattle.theory_calculus.proofs.Members.{in_from_contains, contains_from_in, in_filter, filter_has, all_in, found}
 use Rattle.theory_deal.specs.Signatures.{MissingAndHeld, MayStart}
 
@@ -56,6 +57,17 @@ all_pass p (x ∷ xs) h = by_test (p x) h (all_pass p xs)
         → (find (λ y. not (p y)) xs ≡ None → list_all p xs ≡ true) → (b && list_all p xs) ≡ true
     by_test true k ih = ih k
     by_test false k ih = cc
+
+-- where none is found, none passes
+pub none_found : {X : Type 0} (p : X → Bool) (xs : List X) (x : X) → find p xs ≡ None → Is_in x xs → p x ≡ false
+none_found p [] x h i = absurd i
+none_found {X} p (y ∷ ys) x h i = by_test (p y) refl h i (none_found p ys x)
+  where
+    by_test : (b : Bool) → p y ≡ b → cond b (Some y) (find p ys) ≡ None → (x ≡ y) ⊎ Is_in x ys
+        → (find p ys ≡ None → Is_in x ys → p x ≡ false) → p x ≡ false
+    by_test true e k j ih = cc
+    by_test false e k (inl same) ih = ap p same ∙ e
+    by_test false e k (inr later) ih = ih k later
 
 all_of_each : {X : Type 0} (p q : X → Bool) (xs : List X) → ((x : X) → Contains xs x → q x ≡ true → p x ≡ true)
     → list_all p (filter q xs) ≡ true

@@ -83,7 +83,7 @@ at_name f (n ∷ ns) m h k =
 -- ---- what a line gives
 
 -- a key that is a point to a label, a place to a deposit, a hash to a secret, each of its size
-abbrev fits : Verifier → Needed → Value → Bool
+abbrev pub fits : Verifier → Needed → Value → Bool
 fits v (needs.Key label) (key bytes) = has_size 33 bytes && v.is_point bytes
 fits v (needs.Key label) (place outpoint) = false
 fits v (needs.Key label) (hash bytes) = false
@@ -94,10 +94,10 @@ fits v (needs.Hash name) (hash bytes) = has_size 32 bytes
 fits v (needs.Hash name) (key bytes) = false
 fits v (needs.Hash name) (place outpoint) = false
 
-abbrev entry_fits : Verifier → Entry → Bool
+abbrev pub entry_fits : Verifier → Entry → Bool
 entry_fits v e = fits v e.needed e.value
 
-abbrev AllFit : Verifier → List Entry → Type 0
+abbrev pub AllFit : Verifier → List Entry → Type 0
 AllFit v entries = list_all (entry_fits v) entries ≡ true
 
 abbrev LineFits : Verifier → Line → Type 0
@@ -312,6 +312,15 @@ module _ (v : Verifier) (advert : Advert) where
         sym (all_map (is_given entries) needs.Key (needed_labels advert))
         ∙ all_left (is_given entries) (map needs.Key (needed_labels advert)) _ (all_pass (is_given entries) (needed advert) h)
 
+    -- ---- deposits
+
+    pub deposits_given : find (λ what. not (is_given entries what)) (needed advert) ≡ None
+        → list_all (λ name. is_given entries (needs.Deposit name)) (needed_deposits advert) ≡ true
+    deposits_given h =
+        sym (all_map (is_given entries) needs.Deposit (needed_deposits advert))
+        ∙ all_left (is_given entries) (map needs.Deposit (needed_deposits advert)) (map needs.Hash (needed_secrets advert))
+        (all_right (is_given entries) (map needs.Key (needed_labels advert)) _ (all_pass (is_given entries) (needed advert) h))
+
     -- ---- hashes
 
     hash_long : (name : List ℕ) (e : Entry) → same_needed e.needed (needs.Hash name) ≡ true → entry_fits v e ≡ true
@@ -370,27 +379,29 @@ module _ (v : Verifier) (advert : Advert) where
 
 module _ (v : Verifier) (advert : Advert) (text : List ℕ) (deal : Deal) where
   -- a deal that is taken is that of entries that fit and that give all that is needed
-  record IsOf : Type 0 where
-    entries : List Entry
-    fit : AllFit v entries
-    none : first_missing advert entries ≡ None
-    same : deal_of advert entries ≡ deal
+  pub record IsOf : Type 0 where
+    pub entries : List Entry
+    pub read : read_entries v advert [] 1 (lines_of text) ≡ Ok entries
+    pub fit : AllFit v entries
+    pub none : first_missing advert entries ≡ None
+    pub same : deal_of advert entries ≡ deal
 
-  is_of : read_deal v advert text ≡ Ok deal → IsOf
+  pub is_of : read_deal v advert text ≡ Ok deal → IsOf
   is_of e = by_size (nat_lt most_deal_bytes (length text)) e
     where
-      by_missing : (entries : List Entry) (o : Option Needed) → AllFit v entries → first_missing advert entries ≡ o
-          → whole_deal advert entries o ≡ Ok deal → IsOf
-      by_missing entries (Some what) all is k = cc
-      by_missing entries None all is k = record { entries = entries; fit = all; none = is; same = cc }
+      by_missing : (entries : List Entry) (o : Option Needed) → read_entries v advert [] 1 (lines_of text) ≡ Ok entries → AllFit v entries
+          → first_missing advert entries ≡ o → whole_deal advert entries o ≡ Ok deal → IsOf
+      by_missing entries (Some what) read all is k = cc
+      by_missing entries None read all is k = record { entries = entries; read = read; fit = all; none = is; same = cc }
 
-      by_entries : (r : Result (List Entry) DealFault) → ReadFits v advert r → deal_judged advert r ≡ Ok deal → IsOf
-      by_entries (Err fault) h k = cc
-      by_entries (Ok entries) h k = by_missing entries (first_missing advert entries) h refl k
+      by_entries : (r : Result (List Entry) DealFault) → read_entries v advert [] 1 (lines_of text) ≡ r → ReadFits v advert r
+          → deal_judged advert r ≡ Ok deal → IsOf
+      by_entries (Err fault) read h k = cc
+      by_entries (Ok entries) read h k = by_missing entries (first_missing advert entries) read h refl k
 
       by_size : (b : Bool) → cond b (Err faults.Size) (deal_judged advert (read_entries v advert [] 1 (lines_of text))) ≡ Ok deal → IsOf
       by_size true k = cc
-      by_size false k = by_entries (read_entries v advert [] 1 (lines_of text)) (entries_fit v advert [] 1 (lines_of text) refl) k
+      by_size false k = by_entries (read_entries v advert [] 1 (lines_of text)) refl (entries_fit v advert [] 1 (lines_of text) refl) k
 
 pub deals_are_sized : DealsAreSized
 deals_are_sized v hash_of advert text deal e =

@@ -24,7 +24,7 @@ use Rattle.spec_deal.specs.declared.transaction.Input.{Input}
 use Rattle.spec_deal.specs.declared.transaction.Transaction.{Transaction}
 use Rattle.spec_deal.specs.Transactions.{Wanted, all_wanted, transactions}
 use Rattle.spec_deal.specs.Verifier.{Verifier}
-use Rattle.spec_deal.specs.SignatureFile.{Taken, same_place, is_wanted, is_verified, taken_first, refused_second, taken_once, take_signature}
+use Rattle.spec_deal.specs.SignatureFile.{Taken, same_place, is_wanted, is_verified, refused_second, taken_once, take_signature}
 use Rattle.spec_deal.specs.SignatureFile.{take_signatures, spent_fits, script_fits, witness_fits}
 use Rattle.spec_deal.specs.SignatureFile.{final_signature, take_input, take_inputs, has_bytes}
 use Rattle.spec_deal.specs.SignatureFile.{take_transaction, take_psbt, take_bytes, take_words, take_lines, read_signatures}

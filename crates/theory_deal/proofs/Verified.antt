@@ -156,7 +156,7 @@ in_flat f (z ∷ xs) x y (inl e) k = in_left y (f z) (flat_map f xs) (subst (λ 
 in_flat f (z ∷ xs) x y (inr i) k = in_right y (f z) (flat_map f xs) (in_flat f xs x y i k)
 
 -- the first behind the first k stands at number k
-cut : {X : Type 0} (all : List X) (k : ℕ) (x : X) (xs : List X) → drop k all ≡ x ∷ xs
+pub cut : {X : Type 0} (all : List X) (k : ℕ) (x : X) (xs : List X) → drop k all ≡ x ∷ xs
     → (slice_get all k ≡ Some x) × (drop (k + 1) all ≡ xs)
 cut [] zero x xs e = cc
 cut [] (suc k) x xs e = cc

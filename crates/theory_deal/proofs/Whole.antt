@@ -79,7 +79,7 @@ module _ (hash : List ℕ → List ℕ) (keys : Keys) (s : Instance) (given : Li
 pub finishes_exactly : FinishesExactly
 finishes_exactly hash keys s given strings l = (complete_if hash keys s given strings l, if_complete hash keys s given strings l)
 
-strings_fit : (hash : List ℕ → List ℕ) (keys : Keys) (s : Instance) (strings : List Shown) → AreRead hash keys s strings
+pub strings_fit : (hash : List ℕ → List ℕ) (keys : Keys) (s : Instance) (strings : List Shown) → AreRead hash keys s strings
     → do_fit hash s strings ≡ true
 strings_fit hash keys s strings (inl e) = ap (do_fit hash s) e
 strings_fit hash keys s strings (inr r) = secrets_fit hash keys s r.0 strings r.1

@@ -5,3 +5,6 @@ pub mod Shapes
 pub mod Files
 pub mod Whole
 pub mod Causes
+pub mod Accepted
+pub mod Printed
+pub mod FinishAnswers

@@ -1,10 +1,13 @@
 //! What follows of deals: each theorem is the contract of a function that does nothing.
 #![tactic(auto)]
 
+ghost use Rattle.theory_deal.specs.Accepted.{VerdictByBook, AcceptedTheorem};
 ghost use Rattle.theory_deal.specs.Causes.{DealCausesTheorem};
 ghost use Rattle.theory_deal.specs.Files.{DealsAreSized, DealsGiveAll, KeysArePoints, SecretsFit, SignaturesAreShaped, SignaturesVerify};
+ghost use Rattle.theory_deal.specs.FinishAnswers.{FinishAnswers};
 ghost use Rattle.theory_deal.specs.Finished.{FinishedOpens, FinishedIsPlanned, FalseWithoutOne};
 ghost use Rattle.theory_deal.specs.Plan.{PlanOfRuns};
+ghost use Rattle.theory_deal.specs.Printed.{ReadAgainTheorem};
 ghost use Rattle.theory_deal.specs.Shapes.{ShapeExactly, ShapeIsShort};
 ghost use Rattle.theory_deal.specs.Signatures.{MissingAndHeld, MayStart};
 ghost use Rattle.theory_deal.specs.Whole.{FinishesExactly, FinishTheorem};
@@ -88,6 +91,26 @@ pub fn finishes_exactly()
 /// What `finish` prints of files that are taken is the plan's transaction, with witnesses that make all its scripts true.
 pub fn finish_theorem()
     ensures { FinishTheorem }
+{}
+
+/// By the book of ideal signatures, the verdict by a judge is that of the ledger.
+pub fn verdict_by_book()
+    ensures { VerdictByBook }
+{}
+
+/// What `finish` prints of files that are taken is accepted by each ledger on which what it spends is live, from its lock on and not before.
+pub fn finished_accepted()
+    ensures { AcceptedTheorem }
+{}
+
+/// What `finish` prints of files that are taken is, read as hexadecimal, the spelling of the finished transaction, and of no other.
+pub fn finished_is_read_again()
+    ensures { ReadAgainTheorem }
+{}
+
+/// Where the status of `finish` is 0, its text is one transaction, which is the plan's, and which ledgers accept.
+pub fn finish_answers()
+    ensures { FinishAnswers }
 {}
 
 /// Each status of the program for deals comes by its cause, the first of them in their order.

@@ -20,8 +20,9 @@ returns g c =
       starts = c.may_start.ensures;
       exactly = c.finishes_exactly.ensures;
       finished = c.finish_theorem.ensures;
+      answers = c.finish_answers.ensures;
       no_other_way = c.false_without_one.ensures;
-    }) (g.H.Hash32.digest_of c.args.hash) _ _ _ c.serve.result
+    }) (g.H.Hash32.digest_of c.args.hash) c.hashes_bytes.ensures _ _ _ c.serve.result
     (seen_as seen deal_files (deal_answer secp256k1 (g.H.Hash32.digest_of c.args.hash)) (λ call. deal_files (seen call))
     (λ call. deal_read_answer secp256k1 (g.H.Hash32.digest_of c.args.hash) (seen call)) (λ reads. refl) (λ call. refl)
     (λ call reads. refl) _ c.call_of.result _ _ c.serve.result c.call_of.ensures.command c.call_of.ensures.memory c.serve.ensures)

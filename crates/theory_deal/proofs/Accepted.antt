@@ -1,0 +1,96 @@
+-- A finished transaction is accepted by each ledger on which what it spends is live, from its lock on and not before.
+use Rattle.std.proofs.Common.{◌≡◌, ℕ, zero, suc, ◌+◌, List, [], ◌∷◌, map, refl, ap, ◌∙◌}
+use Rattle.std.specs.Prelude.{slice_get}
+use Rattle.std.specs.Option.{option_map_or}
+use Rattle.spec_bitcoin.specs.declared.tx.Tx.{Tx}
+use Rattle.spec_bitcoin.specs.Digests.{double, digest}
+use Rattle.spec_bitcoin.specs.Live.{Entry}
+use Rattle.spec_bitcoin.specs.Verdict.{script_of, spent_value}
+use Rattle.spec_compiler.specs.Keyed.Instance.{Instance}
+use Rattle.spec_compiler.specs.declared.unsigned.Spent.{Spent}
+use Rattle.spec_compiler.specs.Keyed.Transactions.{input_of, tx_of, digest_of_spent}
+use Rattle.spec_run.specs.Firing.{witnessed, with_witnesses}
+use Rattle.spec_tool.specs.Keyed.Listed.{Listed}
+use Rattle.spec_deal.specs.Finished.{witnesses}
+use Rattle.spec_deal.specs.Setting.{deal_keys, deal_instance}
+use Rattle.spec_deal.specs.Verifier.{Verifier}
+use Rattle.theory_world.proofs.Ledger.Acceptable.{with-bare}
+use Rattle.theory_world.proofs.Ledger.Bare.{same_preimage}
+use Rattle.theory_deal.specs.Finished.{Judge, judge_by, Agrees, AllOpen}
+use Rattle.theory_deal.specs.Accepted.{judge_on, AreLive, AcceptedTheorem}
+use Rattle.theory_deal.proofs.ByBook.{verdict_by_book}
+use Rattle.theory_deal.proofs.DifferentOutputs.{apart_at}
+use Rattle.theory_deal.proofs.Funded.{funded_at}
+use Rattle.theory_deal.proofs.PlacesApart.{places_apart}
+use Rattle.theory_deal.proofs.ReadSignatures.{signatures_are_shaped}
+use Rattle.theory_deal.proofs.ShortItems.{witnesses_short}
+use Rattle.theory_deal.proofs.Verdicts.{IsWhole, Lie, lies, one_worth, lie_of, accepts_open, refuses_early}
+use Rattle.theory_deal.proofs.Whole.{strings_fit, finish_theorem}
+use Rattle.theory_deal.proofs.WholeDeals.{deals_give_all}
+
+-- ---- the digests of the ledger are those of the plan
+
+-- what is signed reads no witness
+digest_with : (hash : List ℕ → List ℕ) (tx : Tx) (ws : List (List (List ℕ))) (x : Spent) (w : List (List ℕ)) (script : List ℕ) (value : ℕ)
+    → digest hash (with_witnesses tx ws) (record (input_of x) { witness = w }) script value ≡ digest hash tx (input_of x) script value
+digest_with hash tx ws x w script value =
+    ap (double hash) (same_preimage hash (with_witnesses tx ws) tx (record (input_of x) { witness = w }) (input_of x) script value
+    (with-bare tx ws) refl)
+
+module _ (hash : List ℕ → List ℕ) (live : List Entry) (tx : Tx) (all : List (List (List ℕ))) where
+  -- the digest of input k, of those that spend these
+  same_digest : (judge : Judge) (j k : ℕ) (xs : List Spent) (ws : List (List (List ℕ))) → AllOpen hash judge j xs ws → Lie hash live xs
+      → option_map_or (λ input. digest hash (with_witnesses tx all) input (script_of input.witness) (spent_value live input))
+      (slice_get (witnessed (map input_of xs) ws) k) []
+      ≡ option_map_or (digest_of_spent hash tx) (slice_get xs k) []
+  same_digest judge j k [] [] o h = refl
+  same_digest judge j k [] (w ∷ ws) o h = absurd o
+  same_digest judge j k (x ∷ xs) [] o h = absurd o
+  same_digest judge j zero (x ∷ xs) (w ∷ ws) o h =
+      let worth = one_worth hash live x (record (input_of x) { witness = w }) refl (lies hash live x h.0) in
+      (λ i. digest hash (with_witnesses tx all) (record (input_of x) { witness = w }) (o.0 i) (worth i))
+      ∙ digest_with hash tx all x w x.script x.value
+  same_digest judge j (suc k) (x ∷ xs) (w ∷ ws) o h = same_digest judge (j + 1) k xs ws o.2 h.1
+
+-- so a verifier's judge on the ledger agrees with the verifier
+agrees_on : (v : Verifier) (hash : List ℕ → List ℕ) (live : List Entry) (l : Listed) (judge : Judge) (ws : List (List (List ℕ)))
+    → AllOpen hash judge 0 l.draft.spends ws → AreLive hash live l.draft.spends
+    → Agrees v hash l (judge_on (λ digest signature key. v.is_signature key digest signature) hash live (with_witnesses (tx_of l.draft) ws))
+agrees_on v hash live l judge ws opens there k signature key good =
+    ap (λ (d : List ℕ). v.is_signature key d signature)
+    (same_digest hash live (tx_of l.draft) ws judge 0 k l.draft.spends ws opens (lie_of hash live l.draft.spends there))
+    ∙ good
+
+-- ---- the whole
+
+pub finished_accepted : AcceptedTheorem
+finished_accepted v hash advert deal_text deal file given strings which l size checked deal_read unmade given_read strings_read there refusal =
+    let keys = deal_keys deal in
+    let s : Instance = deal_instance advert deal in
+    let done = finish_theorem v hash advert deal_text deal file given strings which l checked deal_read given_read strings_read there refusal in
+    let ws = witnesses hash keys s given strings l l.which in
+    let whole : IsWhole l.draft = record {
+      funded = funded_at hash keys s checked which l there;
+      apart = apart_at hash keys s checked
+          (record {
+            bound = (deals_give_all v advert deal_text deal deal_read).deposits;
+            apart = places_apart v advert deal_text deal deal_read;
+            unmade = unmade;
+          }) which l there;
+    } in
+    let short =
+    witnesses_short hash keys s given strings (signatures_are_shaped v hash keys s file given given_read).short
+    (strings_fit hash keys s strings strings_read) l l.which in
+    record {
+      by_book = λ book chain. verdict_by_book hash book chain (with_witnesses (tx_of l.draft) ws);
+      judged = λ judge chain accepted live reached.
+          accepts_open hash judge chain l.draft ws whole live size reached (done.opens judge accepted) short;
+      agreed = λ judge chain agrees live reached.
+          accepts_open hash judge chain l.draft ws whole live size reached (done.agreed judge agrees) short;
+      verified = λ chain live reached.
+          let tx = with_witnesses (tx_of l.draft) ws in
+          let judge = judge_on (λ digest signature key. v.is_signature key digest signature) hash chain.live tx in
+          accepts_open hash judge chain l.draft ws whole live size reached
+          (done.agreed judge (agrees_on v hash chain.live l (judge_by v hash l) ws done.verified live)) short;
+      early = λ judge chain live early. refuses_early hash judge chain l.draft ws whole live early;
+    }

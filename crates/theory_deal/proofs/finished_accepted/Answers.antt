@@ -1,0 +1,5 @@
+use Rattle.theory_deal.proofs.Accepted as proof
+use Rattle.theory_deal.proofs.finished_accepted.Goals as goal
+
+pub returns : goal.returns
+returns c = proof.finished_accepted

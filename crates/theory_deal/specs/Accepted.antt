@@ -1,0 +1,144 @@
+-- The ledger's verdict on a transaction, with any judge of signatures in the place of the book of ideal ones; and what is claimed of it:
+-- it accepts each finished transaction where the spent outputs are live and the lock is reached.
+use Rattle.std.specs.Prelude.{◌≡◌, ℕ, ◌+◌, ◌<◌, ◌≤◌, List, [], ◌∷◌, length, map, Bool, true, not, ◌&&◌, ◌==◌, Option, Some, None, Ok, slice_get}
+use Rattle.std.specs.List.{Contains, list_any}
+use Rattle.std.specs.Option.{option_map, option_map_or, option_and_then}
+use Rattle.std.specs.Str.{bytes_eq}
+use Rattle.spec_data.specs.Hashes.{IsHash}
+use Rattle.spec_data.specs.Lists.{first_reason, or_else}
+use Rattle.spec_terms.specs.Advert.{Advert}
+use Rattle.spec_terms.specs.Faults.{IsWellFormed}
+use Rattle.spec_bitcoin.specs.declared.tx.OutPoint.{OutPoint}
+use Rattle.spec_bitcoin.specs.declared.tx.TxIn.{TxIn}
+use Rattle.spec_bitcoin.specs.declared.tx.TxOut.{TxOut}
+use Rattle.spec_bitcoin.specs.declared.tx.Tx.{Tx}
+use Rattle.spec_bitcoin.specs.declared.verdict.Refusal.{Refusal}
+use Rattle.spec_bitcoin.specs.declared.verdict.Refusal.TheVariants.{ScriptSigNotEmpty, NotWitnessScript, ScriptMismatch, ItemTooLong}
+use Rattle.spec_bitcoin.specs.declared.verdict.Refusal.TheVariants.{ScriptFalse, NotFinal}
+use Rattle.spec_bitcoin.specs.declared.verdict.Verdict.{Verdict}
+use Rattle.spec_bitcoin.specs.declared.verdict.Verdict.TheVariants.{Accepted, Refused}
+use Rattle.spec_bitcoin.specs.Digests.{digest}
+use Rattle.spec_bitcoin.specs.Keys.{Pair, is_valid}
+use Rattle.spec_bitcoin.specs.Live.{Entry, Chain, at_place}
+use Rattle.spec_bitcoin.specs.Meaning.{script_meaning}
+use Rattle.spec_bitcoin.specs.Spelling.{is_filled}
+use Rattle.spec_bitcoin.specs.Verdict.{whole_row, pays_to_script, program_of, script_of, items_of, is_long}
+use Rattle.spec_bitcoin.specs.Verdict.{spent_value, spent_number, numbers_from, verdict_for, verdict}
+use Rattle.spec_compiler.specs.Keyed.Keys.{Keys}
+use Rattle.spec_compiler.specs.Keyed.Instance.{Instance}
+use Rattle.spec_compiler.specs.declared.unsigned.Spent.{Spent}
+use Rattle.spec_compiler.specs.Keyed.Transactions.{pays}
+use Rattle.spec_tool.specs.declared.which.Which.{Which}
+use Rattle.spec_tool.specs.Keyed.Listed.{Listed, listed_at}
+use Rattle.spec_deal.specs.declared.deal.Deal.{Deal}
+use Rattle.spec_deal.specs.declared.entry.Shown.{Shown}
+use Rattle.spec_deal.specs.declared.signed.Signed.{Signed}
+use Rattle.spec_deal.specs.Answers.{circular}
+use Rattle.spec_deal.specs.DealFile.{read_deal}
+use Rattle.spec_deal.specs.Finished.{finished, finish_refusal}
+use Rattle.spec_deal.specs.Setting.{deal_keys, deal_instance}
+use Rattle.spec_deal.specs.SignatureFile.{read_signatures}
+use Rattle.spec_deal.specs.Verifier.{Verifier}
+use Rattle.theory_deal.specs.Finished.{Judge, accepts, Agrees}
+use Rattle.theory_deal.specs.Whole.{AreRead}
+
+-- ---- a verdict by a judge
+
+-- the conditions on input k, which spends this output, in their order; its script asks the judge
+abbrev pub judged_row : (List ℕ → List ℕ) → Judge → ℕ → TxIn → TxOut → List (Bool × Refusal)
+judged_row hash judge k input output =
+    (not (length input.script_sig == 0), ScriptSigNotEmpty k)
+    ∷ (not (pays_to_script output.script && is_filled input.witness), NotWitnessScript k)
+    ∷ (not (bytes_eq (hash (script_of input.witness)) (program_of output.script)), ScriptMismatch k)
+    ∷ (list_any is_long (items_of input.witness), ItemTooLong k)
+    ∷ (not (script_meaning hash (judge k) (script_of input.witness) (items_of input.witness)), ScriptFalse k)
+    ∷ []
+
+-- the refusal of input k; none where its output isn't live
+abbrev pub judged_input : (List ℕ → List ℕ) → Judge → List Entry → ℕ → TxIn → Option Refusal
+judged_input hash judge live k input =
+    option_and_then (λ p. first_reason (judged_row hash judge k input p.1)) (at_place live input.prev)
+
+-- the first refusal of an input, counted from k
+abbrev pub judged_inputs : (List ℕ → List ℕ) → Judge → List Entry → ℕ → List TxIn → Option Refusal
+judged_inputs hash judge live k [] = None
+judged_inputs hash judge live k (i ∷ is) = or_else (judged_input hash judge live k i) (judged_inputs hash judge live (k + 1) is)
+
+-- the first refusal that holds
+abbrev pub judged_refusal : (List ℕ → List ℕ) → Judge → ℕ → List Entry → Tx → Option Refusal
+judged_refusal hash judge tip live tx =
+    or_else (first_reason (whole_row tip live tx)) (judged_inputs hash judge live 0 tx.inputs)
+
+abbrev pub judged_verdict : (List ℕ → List ℕ) → Judge → Chain → Tx → Verdict
+judged_verdict hash judge chain tx = verdict_for chain tx (judged_refusal hash judge chain.tip chain.live tx)
+
+-- ---- judges by digest
+
+-- what a ledger asks a signature of input k to be of, by the output that the input spends and the script that its witness shows
+abbrev pub digest_on : (List ℕ → List ℕ) → List Entry → Tx → ℕ → List ℕ
+digest_on hash live tx k =
+    option_map_or (λ input. digest hash tx input (script_of input.witness) (spent_value live input)) (slice_get tx.inputs k) []
+
+-- the judge of a ledger on which these signatures and keys are valid for a digest
+abbrev pub judge_on : (List ℕ → List ℕ → List ℕ → Bool) → (List ℕ → List ℕ) → List Entry → Tx → Judge
+judge_on valid hash live tx = λ k signature key. valid (digest_on hash live tx k) signature key
+
+-- by the book of ideal signatures this is the verdict of the ledger
+abbrev pub VerdictByBook : Type 0
+VerdictByBook =
+    (hash : List ℕ → List ℕ) (book : List Pair) (chain : Chain) (tx : Tx)
+    → judged_verdict hash (judge_on (is_valid book) hash chain.live tx) chain tx ≡ verdict hash book chain tx
+
+-- the verdict of a ledger whose signatures a verifier finds good: for secp256k1 that of Bitcoin's consensus, as far as it is defined here
+abbrev pub verdict_by : Verifier → (List ℕ → List ℕ) → Chain → Tx → Verdict
+verdict_by v hash chain tx =
+    judged_verdict hash (judge_on (λ digest signature key. v.is_signature key digest signature) hash chain.live tx) chain tx
+
+-- ---- finished transactions
+
+-- the output that is live at a place
+abbrev pub output_at : List Entry → OutPoint → Option TxOut
+output_at live place = option_map (λ p. p.1) (at_place live place)
+
+-- where each of these is spent, what lies is the plan's: this value, for whoever shows this script
+abbrev pub AreLive : (List ℕ → List ℕ) → List Entry → List Spent → Type 0
+AreLive hash live spends = (x : Spent) → Contains spends x → output_at live x.outpoint ≡ Some (pays hash x.script x.value)
+
+-- accepted, with the birth numbers of what is spent and of what is made
+abbrev pub accepted_on : Chain → Tx → Verdict
+accepted_on chain tx = Accepted (map (spent_number chain.live) tx.inputs) (numbers_from chain.births tx.outputs)
+
+-- on each ledger on which what it spends is live, and at each height from its lock on, the verdict accepts it
+pub record IsAccepted (v : Verifier) (hash : List ℕ → List ℕ) (keys : Keys) (s : Instance) (given : List Signed) (strings : List Shown)
+    (l : Listed) : Type 0 where
+  -- this verdict is the ledger's, with a judge in the place of the book of ideal signatures
+  pub by_book : (book : List Pair) (chain : Chain)
+      → judged_verdict hash (judge_on (is_valid book) hash chain.live (finished hash keys s given strings l)) chain
+      (finished hash keys s given strings l)
+      ≡ verdict hash book chain (finished hash keys s given strings l)
+  -- by every judge that accepts the given signatures
+  pub judged : (judge : Judge) (chain : Chain) → accepts hash keys s given judge l ≡ true → AreLive hash chain.live l.draft.spends
+      → l.draft.lock ≤ chain.tip
+      → judged_verdict hash judge chain (finished hash keys s given strings l) ≡ accepted_on chain (finished hash keys s given strings l)
+  -- by every judge that agrees with the verifier
+  pub agreed : (judge : Judge) (chain : Chain) → Agrees v hash l judge → AreLive hash chain.live l.draft.spends → l.draft.lock ≤ chain.tip
+      → judged_verdict hash judge chain (finished hash keys s given strings l) ≡ accepted_on chain (finished hash keys s given strings l)
+  -- by the verifier itself, of the digests that the ledger asks for, with nothing asked of it
+  pub verified : (chain : Chain) → AreLive hash chain.live l.draft.spends → l.draft.lock ≤ chain.tip
+      → verdict_by v hash chain (finished hash keys s given strings l) ≡ accepted_on chain (finished hash keys s given strings l)
+  -- and at no height before
+  pub early : (judge : Judge) (chain : Chain) → AreLive hash chain.live l.draft.spends → chain.tip < l.draft.lock
+      → judged_verdict hash judge chain (finished hash keys s given strings l) ≡ Refused NotFinal
+
+-- of every well-formed contract and all files that are taken, where none of its deposits is made by the contract itself
+abbrev pub AcceptedTheorem : Type 0
+AcceptedTheorem =
+    (v : Verifier) (hash : List ℕ → List ℕ) (advert : Advert) (deal_text : List ℕ) (deal : Deal) (file : List ℕ) (given : List Signed)
+    (strings : List Shown) (which : Which) (l : Listed)
+    → IsHash hash → IsWellFormed advert → read_deal v advert deal_text ≡ Ok deal
+    → circular hash (deal_keys deal) (deal_instance advert deal) ≡ None
+    → read_signatures v hash (deal_keys deal) (deal_instance advert deal) file ≡ Ok given
+    → AreRead hash (deal_keys deal) (deal_instance advert deal) strings
+    → listed_at hash (deal_keys deal) (deal_instance advert deal) which ≡ Some l
+    → finish_refusal hash (deal_keys deal) (deal_instance advert deal) given strings l ≡ None
+    → IsAccepted v hash (deal_keys deal) (deal_instance advert deal) given strings l

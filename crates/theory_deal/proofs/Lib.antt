@@ -1,7 +1,10 @@
 pub mod Branches
 pub mod ByName
+mod Ascending
 mod Causes
+mod EndorsementsOfRuns
 mod FinishedOpens
+mod ForSigners
 mod InOrder
 mod Listed
 mod PlanOfRuns
@@ -10,6 +13,9 @@ mod ReadDeals
 mod ReadSecrets
 mod ReadSignatures
 mod Shapes
+mod Signing
+mod SigningOrder
+mod Transactions
 mod Unsigned
 mod Verified
 mod Whole

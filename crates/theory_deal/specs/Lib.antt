@@ -5,3 +5,7 @@ pub mod Shapes
 pub mod Files
 pub mod Whole
 pub mod Causes
+pub mod Signing
+pub mod Transactions
+pub mod ForSigners
+pub mod SigningOrder

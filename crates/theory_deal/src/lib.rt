@@ -4,14 +4,61 @@
 ghost use Rattle.theory_deal.specs.Causes.{DealCausesTheorem};
 ghost use Rattle.theory_deal.specs.Files.{DealsAreSized, DealsGiveAll, KeysArePoints, SecretsFit, SignaturesAreShaped, SignaturesVerify};
 ghost use Rattle.theory_deal.specs.Finished.{FinishedOpens, FinishedIsPlanned, FalseWithoutOne};
+ghost use Rattle.theory_deal.specs.ForSigners.{FilesForSigners};
 ghost use Rattle.theory_deal.specs.Plan.{PlanOfRuns};
 ghost use Rattle.theory_deal.specs.Shapes.{ShapeExactly, ShapeIsShort};
 ghost use Rattle.theory_deal.specs.Signatures.{MissingAndHeld, MayStart};
+ghost use Rattle.theory_deal.specs.Signing.{AsksExactly, EndorsementsOfRuns, HeldAndMissing};
+ghost use Rattle.theory_deal.specs.SigningOrder.{SignaturesInOrder};
+ghost use Rattle.theory_deal.specs.Transactions.{DealsHash, TransactionsOfDeals};
 ghost use Rattle.theory_deal.specs.Whole.{FinishesExactly, FinishTheorem};
+
+use theory_script::any_keys::paths_in_order;
 
 /// A signature is listed as missing exactly where a transaction needs it and it isn't there, and as held exactly where it is.
 pub fn missing_and_held()
     ensures { MissingAndHeld }
+{}
+
+/// A deal has a transaction under each name in the order of the text, that of the contract, which pays out what it spends but the fee.
+pub fn transactions_of_deals()
+    ensures { TransactionsOfDeals }
+{
+    paths_in_order();
+}
+
+/// What is hashed for a deal are the scripts of deposits, and then what is hashed to compile its contract at given keys.
+pub fn deals_hash()
+    ensures { DealsHash }
+{}
+
+/// The file for signers of a name is that of the contract's transaction of the name; all of them are these in order.
+pub fn files_for_signers()
+    ensures { FilesForSigners }
+{
+    transactions_of_deals();
+}
+
+/// A signature is wanted exactly where a transaction of the contract asks for it: of this input, by this key, by this event of a run.
+pub fn asks_exactly()
+    ensures { AsksExactly }
+{}
+
+/// Signatures are wanted in the order of the text, none of them twice.
+pub fn signatures_in_order()
+    ensures { SignaturesInOrder }
+{
+    transactions_of_deals();
+}
+
+/// The endorsements of a deal are those that honest parties in runs wait for, in the same order.
+pub fn endorsements_of_runs()
+    ensures { EndorsementsOfRuns }
+{}
+
+/// The signatures that are held and those that are missing part those that are wanted.
+pub fn held_and_missing()
+    ensures { HeldAndMissing }
 {}
 
 /// The initial transaction may be signed exactly where every endorsement is there.

@@ -13,17 +13,20 @@ use Rattle.spec_deal.specs.declared.deal.Deal.{Deal}
 use Rattle.spec_deal.specs.Answers.{deal_text_answer, deal_read_answer, deal_answer}
 use Rattle.spec_deal.specs.Commands.{DealCommand}
 use Rattle.spec_deal.specs.DealFile.{read_deal}
-use Rattle.spec_deal.specs.Setting.{deal_keys, deal_instance}
+use Rattle.spec_deal.specs.Setting.{key_at, deal_keys, deal_instance}
 use Rattle.spec_deal.specs.Verifier.{secp256k1}
+use Rattle.theory_deal.specs.Asked.{DealsAsk}
 use Rattle.theory_deal.specs.Causes.{deal_statuses, DealCausesTheorem}
 use Rattle.theory_deal.specs.Files.{DealsGiveAll, DealsAreSized, KeysArePoints, SignaturesVerify}
 use Rattle.theory_deal.specs.Finished.{FalseWithoutOne}
+use Rattle.theory_deal.specs.ForSigners.{FilesForSigners}
 use Rattle.theory_deal.specs.Plan.{PlanOfRuns}
 use Rattle.theory_deal.specs.Signatures.{MissingAndHeld, MayStart}
+use Rattle.theory_deal.specs.Transactions.{DealsHash}
 use Rattle.theory_deal.specs.Whole.{FinishesExactly, FinishTheorem}
 use Rattle.tool_headline.specs.Headline.{Around}
 use Rattle.bitml_deal.specs.Dealt.{Answers, GivesUp, AnswersOrGivesUp, CausedByTexts, Caused, Keeps, KeepsTaken}
-use Rattle.bitml_deal.specs.Dealt.{KeepsTexts, Headline}
+use Rattle.bitml_deal.specs.Dealt.{KeepsTexts, SignersTexts, Headline}
 use Rattle.bitml_deal.proofs.WellFormed.{well_formed}
 
 -- the theorems that are cited
@@ -34,6 +37,9 @@ pub record Theorems : Type 0 where
   pub points : KeysArePoints
   pub verified : SignaturesVerify
   pub planned : PlanOfRuns
+  pub asks : DealsAsk
+  pub hashes : DealsHash
+  pub signers : FilesForSigners
   pub lists : MissingAndHeld
   pub starts : MayStart
   pub exactly : FinishesExactly
@@ -105,6 +111,8 @@ module _ (t : Theorems) (hash : List ℕ → List ℕ) where
         points = t.points secp256k1 advert deal_text deal d;
         verified = λ file given read. t.verified secp256k1 hash keys s file given read;
         planned = t.planned hash keys s;
+        asks = t.asks hash keys s;
+        hashes = t.hashes hash (key_at deal.keys) s;
         lists = λ given slot. t.lists hash keys s given slot;
         starts = λ given. t.starts hash keys s given;
         finishes = λ file given strings which l read shown there. record {
@@ -122,6 +130,11 @@ module _ (t : Theorems) (hash : List ℕ → List ℕ) where
   keeps_texts None = tt
   keeps_texts (Some texts) = keeps_taken texts
 
+  signers_texts : (o : Option (List Text)) → SignersTexts hash o
+  signers_texts None = tt
+  signers_texts (Some texts) advert deal contract_file deal_file taken =
+      t.signers secp256k1 hash texts advert deal contract_file deal_file taken
+
   -- ---- the whole
 
   unread_is : (command : Option DealCommand) (reads : List Read) → (deal_answer secp256k1 hash command reads).status ≡ 3 → texts_read reads ≡ None
@@ -133,7 +146,7 @@ module _ (t : Theorems) (hash : List ℕ → List ℕ) where
     of_answer status a =
         let printed = deal_answer secp256k1 hash command a.reads in
         record {
-          serves = inl (record { answers = a; caused = caused command a.reads; keeps = keeps_texts (texts_read a.reads) });
+          serves = inl (record { answers = a; caused = caused command a.reads; keeps = keeps_texts (texts_read a.reads); signers = signers_texts (texts_read a.reads) });
           usage = λ e. (t.causes.usage secp256k1 hash command a.reads).0 (ended_with printed a.ends.went 2 (λ f. absurd (cc)) (sym e ∙ a.ends.status_is));
           unread = λ e.
               a.unread (unread_is command a.reads (ended_with printed a.ends.went 3 (λ f. absurd (cc)) (sym e ∙ a.ends.status_is)));

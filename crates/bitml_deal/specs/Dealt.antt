@@ -1,6 +1,9 @@
 -- What the program for deals promises, from its words to its status.
-use Rattle.std.specs.Prelude.{◌≡◌, ℕ, List, [], Bool, true, ◌⊎◌, ◌↔◌, ◌&&◌, Option, Some, None, is_some, is_err, Ok}
+use Rattle.std.specs.Prelude.{◌≡◌, ℕ, List, [], ◌++◌, map, Bool, true, ◌⊎◌, ◌↔◌, ◌&&◌, Option, Some, None, is_some, is_err, Ok}
 use Rattle.spec_terms.specs.Advert.{Advert}
+use Rattle.spec_compiler.specs.Keyed.Hashed.{compiled_strings}
+use Rattle.spec_compiler.specs.Keyed.Instance.{people}
+use Rattle.spec_compiler.specs.Keyed.Transactions.{party_script}
 use Rattle.spec_text.specs.Refusals.{contract_of}
 use Rattle.spec_tool.specs.Answers.{contract_in}
 use Rattle.spec_tool.specs.Commands.{Printed}
@@ -14,13 +17,16 @@ use Rattle.spec_deal.specs.Answers.{deal_answer, deal_reads}
 use Rattle.spec_deal.specs.Commands.{DealCommand, deal_files}
 use Rattle.spec_deal.specs.DealFile.{read_deal}
 use Rattle.spec_deal.specs.Finished.{finish_refusal}
+use Rattle.spec_deal.specs.Hashed.{deal_strings}
 use Rattle.spec_deal.specs.Setting.{deal_keys, deal_instance}
 use Rattle.spec_deal.specs.SignatureFile.{read_signatures}
 use Rattle.spec_deal.specs.Slots.{Slot}
 use Rattle.spec_deal.specs.Verifier.{secp256k1}
+use Rattle.theory_deal.specs.Asked.{DealAsks}
 use Rattle.theory_deal.specs.Causes.{reads_deal, is_deal_refused, causes, first_status}
 use Rattle.theory_deal.specs.Files.{GivesAll, IsSized, are_points, AreVerified}
 use Rattle.theory_deal.specs.Finished.{NoOtherWay}
+use Rattle.theory_deal.specs.ForSigners.{IsTaken, GivesSigners}
 use Rattle.theory_deal.specs.Plan.{IsPlanOfRuns}
 use Rattle.theory_deal.specs.Signatures.{ListsExactly, StartsExactly}
 use Rattle.theory_deal.specs.Whole.{AreRead, IsComplete, IsFinished}
@@ -112,6 +118,11 @@ pub record Keeps (hash : List ℕ → List ℕ) (advert : Advert) (deal : Deal) 
       → read_signatures secp256k1 hash (deal_keys deal) (deal_instance advert deal) file ≡ Ok given
       → AreVerified secp256k1 hash (deal_keys deal) (deal_instance advert deal) given
   pub planned : IsPlanOfRuns hash (deal_keys deal) (deal_instance advert deal)
+  pub asks : DealAsks hash (deal_keys deal) (deal_instance advert deal)
+  -- what is hashed to compile it
+  pub hashes : deal_strings hash (deal_keys deal) (deal_instance advert deal)
+      ≡ map (party_script hash (deal_keys deal)) (people (deal_instance advert deal))
+      ++ compiled_strings hash (deal_keys deal) (deal_instance advert deal)
   pub lists : (given : List Signed) (slot : Slot) → ListsExactly hash (deal_keys deal) (deal_instance advert deal) given slot
   pub starts : (given : List Signed) → StartsExactly hash (deal_keys deal) (deal_instance advert deal) given
   pub finishes : FinishesTaken hash advert deal
@@ -128,6 +139,13 @@ abbrev pub KeepsTexts : (List ℕ → List ℕ) → Option (List Text) → Type 
 KeepsTexts hash None = Unit {0}
 KeepsTexts hash (Some texts) = KeepsTaken hash texts
 
+-- what signers are given of a deal that is taken
+abbrev pub SignersTexts : (List ℕ → List ℕ) → Option (List Text) → Type 0
+SignersTexts hash None = Unit {0}
+SignersTexts hash (Some texts) =
+    (advert : Advert) (deal : Deal) (contract_file deal_file : List ℕ) → IsTaken secp256k1 hash texts advert deal
+    → GivesSigners secp256k1 hash texts advert deal contract_file deal_file
+
 -- ---- the headline
 
 -- an answer with what is known of it
@@ -137,6 +155,8 @@ pub record Serves (hash : List ℕ → List ℕ) (command : Option DealCommand) 
   pub caused : Caused hash command answers.reads (deal_answer secp256k1 hash command answers.reads)
   -- what it shows of a deal that is taken is as the theorems say
   pub keeps : KeepsTexts hash (texts_read answers.reads)
+  -- and the transactions for signers are those of its contract, each under its name
+  pub signers : SignersTexts hash (texts_read answers.reads)
 
 -- what a call with this command does to what stands around it, and its status
 pub record Headline (hash : List ℕ → List ℕ) (command : Option DealCommand) (before now : Around) (status : ℕ) : Type 0 where

@@ -9,3 +9,4 @@ pub mod Signing
 pub mod Transactions
 pub mod ForSigners
 pub mod SigningOrder
+pub mod Asked

@@ -1,6 +1,7 @@
 //! What follows of deals: each theorem is the contract of a function that does nothing.
 #![tactic(auto)]
 
+ghost use Rattle.theory_deal.specs.Asked.{DealsAsk};
 ghost use Rattle.theory_deal.specs.Causes.{DealCausesTheorem};
 ghost use Rattle.theory_deal.specs.Files.{DealsAreSized, DealsGiveAll, KeysArePoints, SecretsFit, SignaturesAreShaped, SignaturesVerify};
 ghost use Rattle.theory_deal.specs.Finished.{FinishedOpens, FinishedIsPlanned, FalseWithoutOne};
@@ -60,6 +61,17 @@ pub fn endorsements_of_runs()
 pub fn held_and_missing()
     ensures { HeldAndMissing }
 {}
+
+/// All that a deal asks to be signed is its contract's, in the order of the text.
+pub fn deals_ask()
+    ensures { DealsAsk }
+{
+    transactions_of_deals();
+    asks_exactly();
+    signatures_in_order();
+    endorsements_of_runs();
+    held_and_missing();
+}
 
 /// The initial transaction may be signed exactly where every endorsement is there.
 pub fn may_start()

@@ -17,9 +17,11 @@ use Rattle.spec_deal.specs.Setting.{key_at, deal_keys, deal_instance}
 use Rattle.spec_deal.specs.Verifier.{secp256k1}
 use Rattle.theory_deal.specs.Asked.{DealsAsk}
 use Rattle.theory_deal.specs.Causes.{deal_statuses, DealCausesTheorem}
+use Rattle.theory_deal.specs.Ecdsa.{IsEcdsa}
 use Rattle.theory_deal.specs.Files.{DealsGiveAll, DealsAreSized, KeysArePoints, SignaturesVerify}
 use Rattle.theory_deal.specs.Finished.{FalseWithoutOne}
 use Rattle.theory_deal.specs.ForSigners.{FilesForSigners}
+use Rattle.theory_deal.specs.NothingTwice.{NothingTwice}
 use Rattle.theory_deal.specs.Plan.{PlanOfRuns}
 use Rattle.theory_deal.specs.Signatures.{MissingAndHeld, MayStart}
 use Rattle.theory_deal.specs.Transactions.{DealsHash}
@@ -40,6 +42,8 @@ pub record Theorems : Type 0 where
   pub asks : DealsAsk
   pub hashes : DealsHash
   pub signers : FilesForSigners
+  pub once : NothingTwice
+  pub verifier : IsEcdsa
   pub lists : MissingAndHeld
   pub starts : MayStart
   pub exactly : FinishesExactly
@@ -124,7 +128,8 @@ module _ (t : Theorems) (hash : List ℕ → List ℕ) where
       }
 
   keeps_taken : (texts : List Text) → KeepsTaken hash texts
-  keeps_taken texts contract_text deal_text advert deal first second c d = keeps contract_text deal_text advert deal c d
+  keeps_taken texts contract_text deal_text advert deal first second c d =
+      (keeps contract_text deal_text advert deal c d, t.once secp256k1 advert deal_text deal d)
 
   keeps_texts : (o : Option (List Text)) → KeepsTexts hash o
   keeps_texts None = tt
@@ -146,7 +151,7 @@ module _ (t : Theorems) (hash : List ℕ → List ℕ) where
     of_answer status a =
         let printed = deal_answer secp256k1 hash command a.reads in
         record {
-          serves = inl (record { answers = a; caused = caused command a.reads; keeps = keeps_texts (texts_read a.reads); signers = signers_texts (texts_read a.reads) });
+          serves = inl (record { answers = a; caused = caused command a.reads; keeps = keeps_texts (texts_read a.reads); signers = signers_texts (texts_read a.reads); verifier = t.verifier });
           usage = λ e. (t.causes.usage secp256k1 hash command a.reads).0 (ended_with printed a.ends.went 2 (λ f. absurd (cc)) (sym e ∙ a.ends.status_is));
           unread = λ e.
               a.unread (unread_is command a.reads (ended_with printed a.ends.went 3 (λ f. absurd (cc)) (sym e ∙ a.ends.status_is)));

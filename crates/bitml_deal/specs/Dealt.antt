@@ -24,9 +24,11 @@ use Rattle.spec_deal.specs.Slots.{Slot}
 use Rattle.spec_deal.specs.Verifier.{secp256k1}
 use Rattle.theory_deal.specs.Asked.{DealAsks}
 use Rattle.theory_deal.specs.Causes.{reads_deal, is_deal_refused, causes, first_status}
+use Rattle.theory_deal.specs.Ecdsa.{IsEcdsa}
 use Rattle.theory_deal.specs.Files.{GivesAll, IsSized, are_points, AreVerified}
 use Rattle.theory_deal.specs.Finished.{NoOtherWay}
 use Rattle.theory_deal.specs.ForSigners.{IsTaken, GivesSigners}
+use Rattle.theory_deal.specs.NothingTwice.{GivesOnce}
 use Rattle.theory_deal.specs.Plan.{IsPlanOfRuns}
 use Rattle.theory_deal.specs.Signatures.{ListsExactly, StartsExactly}
 use Rattle.theory_deal.specs.Whole.{AreRead, IsComplete, IsFinished}
@@ -128,12 +130,13 @@ pub record Keeps (hash : List ℕ → List ℕ) (advert : Advert) (deal : Deal) 
   pub finishes : FinishesTaken hash advert deal
   pub no_other_way : (valid : List ℕ → List ℕ → Bool) → NoOtherWay hash (deal_keys deal) valid
 
--- where a contract and its deal are taken
+-- where a contract and its deal are taken, whose file gives nothing twice
 abbrev pub KeepsTaken : (List ℕ → List ℕ) → List Text → Type 0
 KeepsTaken hash texts =
     (contract_text deal_text : List ℕ) (advert : Advert) (deal : Deal)
     → text_at texts 0 ≡ Some contract_text → text_at texts 1 ≡ Some deal_text
-    → contract_of contract_text ≡ Ok advert → read_deal secp256k1 advert deal_text ≡ Ok deal → Keeps hash advert deal
+    → contract_of contract_text ≡ Ok advert → read_deal secp256k1 advert deal_text ≡ Ok deal
+    → Keeps hash advert deal × GivesOnce deal_text
 
 abbrev pub KeepsTexts : (List ℕ → List ℕ) → Option (List Text) → Type 0
 KeepsTexts hash None = Unit {0}
@@ -157,6 +160,8 @@ pub record Serves (hash : List ℕ → List ℕ) (command : Option DealCommand) 
   pub keeps : KeepsTexts hash (texts_read answers.reads)
   -- and the transactions for signers are those of its contract, each under its name
   pub signers : SignersTexts hash (texts_read answers.reads)
+  -- signatures are judged by the curve
+  pub verifier : IsEcdsa
 
 -- what a call with this command does to what stands around it, and its status
 pub record Headline (hash : List ℕ → List ℕ) (command : Option DealCommand) (before now : Around) (status : ℕ) : Type 0 where

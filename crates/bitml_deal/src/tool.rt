@@ -23,8 +23,8 @@ use spec_tool::Reply;
 use std::alloc::Global;
 use theory_deal::{
     deal_statuses_have_causes, deals_are_sized, deals_ask, deals_give_all, deals_hash,
-    false_without_one, files_for_signers, finish_theorem, finishes_exactly, keys_are_points,
-    may_start, missing_and_held, plan_of_runs, signatures_verify,
+    false_without_one, files_for_signers, finish_theorem, finishes_exactly, is_ecdsa,
+    keys_are_points, may_start, missing_and_held, nothing_twice, plan_of_runs, signatures_verify,
 };
 use tool_command::{Reading, read_all};
 use tool_headline::finish;
@@ -126,6 +126,8 @@ pub fn deal_tool<H: Hash32 + Drop, F: Files, S: Sink>(
     deals_ask();
     deals_hash();
     files_for_signers();
+    nothing_twice();
+    is_ecdsa();
     missing_and_held();
     may_start();
     finishes_exactly();

@@ -7,6 +7,7 @@ use Rattle.spec_compiler.specs.Keyed.Endorsements.{needed}
 use Rattle.spec_deal.specs.declared.signed.Signed.{Signed}
 use Rattle.spec_deal.specs.Given.{has, missing, held, endorsements}
 use Rattle.spec_deal.specs.Slots.{Slot, slots}
+use Rattle.theory_deal.specs.Scripts.{AsksForKey}
 use Rattle.theory_deal.specs.Signing.{IsAsked, need_of, IsParted}
 use Rattle.theory_deal.specs.SigningOrder.{AreInOrder}
 use Rattle.theory_deal.specs.Transactions.{AreTransactions}
@@ -15,6 +16,8 @@ pub record DealAsks (hash : List ℕ → List ℕ) (keys : Keys) (s : Instance) 
   pub transactions : AreTransactions hash keys s
   -- a signature is wanted exactly where the contract asks for it
   pub exactly : (slot : Slot) → Contains (slots hash keys s) slot ↔ IsAsked hash keys s slot
+  -- and the script of its input asks for its key
+  pub keyed : (slot : Slot) → Contains (slots hash keys s) slot → AsksForKey hash keys s slot.spent.script slot.label
   pub order : AreInOrder hash keys s
   -- the endorsements are those that an honest party in a run waits for
   pub endorsed : map (need_of hash keys) (endorsements hash keys s) ≡ needed hash keys s

@@ -10,3 +10,6 @@ pub mod Transactions
 pub mod ForSigners
 pub mod SigningOrder
 pub mod Asked
+pub mod Scripts
+pub mod NothingTwice
+pub mod Ecdsa

@@ -3,10 +3,13 @@
 
 ghost use Rattle.theory_deal.specs.Asked.{DealsAsk};
 ghost use Rattle.theory_deal.specs.Causes.{DealCausesTheorem};
+ghost use Rattle.theory_deal.specs.Ecdsa.{IsEcdsa};
 ghost use Rattle.theory_deal.specs.Files.{DealsAreSized, DealsGiveAll, KeysArePoints, SecretsFit, SignaturesAreShaped, SignaturesVerify};
 ghost use Rattle.theory_deal.specs.Finished.{FinishedOpens, FinishedIsPlanned, FalseWithoutOne};
 ghost use Rattle.theory_deal.specs.ForSigners.{FilesForSigners};
+ghost use Rattle.theory_deal.specs.NothingTwice.{NothingTwice};
 ghost use Rattle.theory_deal.specs.Plan.{PlanOfRuns};
+ghost use Rattle.theory_deal.specs.Scripts.{ScriptsAsk};
 ghost use Rattle.theory_deal.specs.Shapes.{ShapeExactly, ShapeIsShort};
 ghost use Rattle.theory_deal.specs.Signatures.{MissingAndHeld, MayStart};
 ghost use Rattle.theory_deal.specs.Signing.{AsksExactly, EndorsementsOfRuns, HeldAndMissing};
@@ -45,6 +48,11 @@ pub fn asks_exactly()
     ensures { AsksExactly }
 {}
 
+/// The script of an input asks for the key of each signature that is wanted of it.
+pub fn scripts_ask()
+    ensures { ScriptsAsk }
+{}
+
 /// Signatures are wanted in the order of the text, none of them twice.
 pub fn signatures_in_order()
     ensures { SignaturesInOrder }
@@ -68,6 +76,7 @@ pub fn deals_ask()
 {
     transactions_of_deals();
     asks_exactly();
+    scripts_ask();
     signatures_in_order();
     endorsements_of_runs();
     held_and_missing();
@@ -127,6 +136,16 @@ pub fn secrets_fit()
 /// A deal that is taken gives all that its contract needs, in order.
 pub fn deals_give_all()
     ensures { DealsGiveAll }
+{}
+
+/// No two lines of a deal file that is taken give the same.
+pub fn nothing_twice()
+    ensures { NothingTwice }
+{}
+
+/// The verifier of the program is ECDSA over secp256k1, of the key, the digest and the signature that it is given.
+pub fn is_ecdsa()
+    ensures { IsEcdsa }
 {}
 
 /// The keys and hashes of a deal that is taken have their sizes.

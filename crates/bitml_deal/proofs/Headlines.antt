@@ -135,10 +135,13 @@ module _ (t : Theorems) (hash : List ℕ → List ℕ) where
   keeps_texts None = tt
   keeps_texts (Some texts) = keeps_taken texts
 
+  signers_taken : (texts : List Text) → SignersTexts hash (Some texts)
+  signers_taken texts advert deal contract_file deal_file taken =
+      t.signers secp256k1 hash texts advert deal contract_file deal_file taken
+
   signers_texts : (o : Option (List Text)) → SignersTexts hash o
   signers_texts None = tt
-  signers_texts (Some texts) advert deal contract_file deal_file taken =
-      t.signers secp256k1 hash texts advert deal contract_file deal_file taken
+  signers_texts (Some texts) = signers_taken texts
 
   -- ---- the whole
 

@@ -14,14 +14,19 @@ use Rattle.spec_deal.specs.declared.deal.Deal.{Deal}
 use Rattle.spec_deal.specs.Answers.{deal_text_answer, deal_read_answer, deal_answer}
 use Rattle.spec_deal.specs.Commands.{DealCommand, deal_files}
 use Rattle.spec_deal.specs.DealFile.{read_deal}
-use Rattle.spec_deal.specs.Setting.{deal_keys, deal_instance}
+use Rattle.spec_deal.specs.Setting.{key_at, deal_keys, deal_instance}
 use Rattle.spec_deal.specs.Verifier.{secp256k1}
+use Rattle.theory_deal.specs.Asked.{DealsAsk}
 use Rattle.theory_deal.specs.Causes.{deal_statuses, DealCausesTheorem}
+use Rattle.theory_deal.specs.Ecdsa.{IsEcdsa}
 use Rattle.theory_deal.specs.Files.{DealsGiveAll, DealsAreSized, KeysArePoints, SignaturesVerify}
 use Rattle.theory_deal.specs.FinishAnswers.{FinishAnswers}
 use Rattle.theory_deal.specs.Finished.{FalseWithoutOne}
+use Rattle.theory_deal.specs.ForSigners.{FilesForSigners}
+use Rattle.theory_deal.specs.NothingTwice.{NothingTwice}
 use Rattle.theory_deal.specs.Plan.{PlanOfRuns}
 use Rattle.theory_deal.specs.Signatures.{MissingAndHeld, MayStart}
+use Rattle.theory_deal.specs.Transactions.{DealsHash}
 use Rattle.theory_deal.specs.Whole.{FinishesExactly, FinishTheorem}
 use Rattle.theory_deal.proofs.WellFormed.{well_formed}
 use Rattle.tool_shell.specs.Around.{Around}
@@ -29,7 +34,7 @@ use Rattle.tool_shell.specs.Answered.{GivesUp}
 use Rattle.tool_shell.proofs.Ended.{ended_with}
 use Rattle.tool_shell.proofs.Seen.{some_command}
 use Rattle.bitml_deal.specs.Dealt.{Answers, AnswersOrGivesUp, CausedByTexts, Caused, Keeps, KeepsTaken}
-use Rattle.bitml_deal.specs.Dealt.{KeepsTexts, IfFinished, Headline}
+use Rattle.bitml_deal.specs.Dealt.{KeepsTexts, SignersTexts, IfFinished, Headline}
 
 -- the theorems that are cited
 pub record Theorems : Type 0 where
@@ -39,6 +44,11 @@ pub record Theorems : Type 0 where
   pub points : KeysArePoints
   pub verified : SignaturesVerify
   pub planned : PlanOfRuns
+  pub asks : DealsAsk
+  pub hashes : DealsHash
+  pub signers : FilesForSigners
+  pub once : NothingTwice
+  pub verifier : IsEcdsa
   pub lists : MissingAndHeld
   pub starts : MayStart
   pub exactly : FinishesExactly
@@ -102,6 +112,8 @@ module _ (t : Theorems) (hash : List ℕ → List ℕ) (bytes : HashesBytes hash
         points = t.points secp256k1 advert deal_text deal d;
         verified = λ file given read. t.verified secp256k1 hash keys s file given read;
         planned = t.planned hash keys s;
+        asks = t.asks hash keys s;
+        hashes = t.hashes hash (key_at deal.keys) s;
         lists = λ given slot. t.lists hash keys s given slot;
         starts = λ given. t.starts hash keys s given;
         finishes = λ file given strings which l read shown there. record {
@@ -113,7 +125,8 @@ module _ (t : Theorems) (hash : List ℕ → List ℕ) (bytes : HashesBytes hash
       }
 
   keeps_taken : (texts : List Text) → KeepsTaken hash texts
-  keeps_taken texts contract_text deal_text advert deal first second c d = keeps contract_text deal_text advert deal c d
+  keeps_taken texts contract_text deal_text advert deal first second c d =
+      (keeps contract_text deal_text advert deal c d, t.once secp256k1 advert deal_text deal d)
 
   keeps_texts : (o : Option (List Text)) → KeepsTexts hash o
   keeps_texts None = tt
@@ -129,6 +142,16 @@ module _ (t : Theorems) (hash : List ℕ → List ℕ) (bytes : HashesBytes hash
       → IfFinished hash command (texts_read reads) (deal_answer secp256k1 hash command reads)
   finished None reads = tt
   finished (Some command) reads = finished_by command (texts_read reads)
+
+  -- ---- what signers are given
+
+  signers_taken : (texts : List Text) → SignersTexts hash (Some texts)
+  signers_taken texts advert deal contract_file deal_file taken =
+      t.signers secp256k1 hash texts advert deal contract_file deal_file taken
+
+  signers_texts : (o : Option (List Text)) → SignersTexts hash o
+  signers_texts None = tt
+  signers_texts (Some texts) = signers_taken texts
 
   -- ---- the whole
 
@@ -146,6 +169,8 @@ module _ (t : Theorems) (hash : List ℕ → List ℕ) (bytes : HashesBytes hash
             caused = caused command a.reads;
             keeps = keeps_texts (texts_read a.reads);
             finished = finished command a.reads;
+            signers = signers_texts (texts_read a.reads);
+            verifier = t.verifier;
           });
           usage = λ e. (t.causes.usage secp256k1 hash command a.reads).0 (ended_with printed a.ends.went 2 (λ f. absurd (cc)) (sym e ∙ a.ends.status_is));
           unread = λ e.

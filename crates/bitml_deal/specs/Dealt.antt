@@ -1,6 +1,9 @@
 -- What the program for deals promises, from its words to its status.
-use Rattle.std.specs.Prelude.{◌≡◌, ℕ, List, [], Bool, true, ◌⊎◌, ◌↔◌, ◌&&◌, Option, Some, None, is_some, option_map, is_err, Ok}
+use Rattle.std.specs.Prelude.{◌≡◌, ℕ, List, [], ◌++◌, map, Bool, true, ◌⊎◌, ◌↔◌, ◌&&◌, Option, Some, None, is_some, option_map, is_err, Ok}
 use Rattle.spec_terms.specs.Advert.{Advert}
+use Rattle.spec_compiler.specs.Keyed.Hashed.{compiled_strings}
+use Rattle.spec_compiler.specs.Keyed.Instance.{people}
+use Rattle.spec_compiler.specs.Keyed.Transactions.{party_script}
 use Rattle.spec_text.specs.Refusals.{contract_of}
 use Rattle.spec_tool.specs.Answers.{contract_in}
 use Rattle.spec_tool.specs.Commands.{Printed}
@@ -14,14 +17,19 @@ use Rattle.spec_deal.specs.Answers.{deal_answer}
 use Rattle.spec_deal.specs.Commands.{DealCommand, deal_files}
 use Rattle.spec_deal.specs.DealFile.{read_deal}
 use Rattle.spec_deal.specs.Finished.{finish_refusal}
+use Rattle.spec_deal.specs.Hashed.{deal_strings}
 use Rattle.spec_deal.specs.Setting.{deal_keys, deal_instance}
 use Rattle.spec_deal.specs.SignatureFile.{read_signatures}
 use Rattle.spec_deal.specs.Slots.{Slot}
 use Rattle.spec_deal.specs.Verifier.{secp256k1}
+use Rattle.theory_deal.specs.Asked.{DealAsks}
 use Rattle.theory_deal.specs.Causes.{reads_deal, is_deal_refused, causes, first_status}
+use Rattle.theory_deal.specs.Ecdsa.{IsEcdsa}
 use Rattle.theory_deal.specs.Files.{GivesAll, IsSized, are_points, AreVerified}
 use Rattle.theory_deal.specs.FinishAnswers.{finishes, IsFinishedText}
 use Rattle.theory_deal.specs.Finished.{NoOtherWay}
+use Rattle.theory_deal.specs.ForSigners.{IsTaken, GivesSigners}
+use Rattle.theory_deal.specs.NothingTwice.{GivesOnce}
 use Rattle.theory_deal.specs.Plan.{IsPlanOfRuns}
 use Rattle.theory_deal.specs.Signatures.{ListsExactly, StartsExactly}
 use Rattle.theory_deal.specs.Whole.{AreRead, IsComplete, IsFinished}
@@ -99,17 +107,23 @@ pub record Keeps (hash : List ℕ → List ℕ) (advert : Advert) (deal : Deal) 
       → read_signatures secp256k1 hash (deal_keys deal) (deal_instance advert deal) file ≡ Ok given
       → AreVerified secp256k1 hash (deal_keys deal) (deal_instance advert deal) given
   pub planned : IsPlanOfRuns hash (deal_keys deal) (deal_instance advert deal)
+  pub asks : DealAsks hash (deal_keys deal) (deal_instance advert deal)
+  -- what is hashed to compile it
+  pub hashes : deal_strings hash (deal_keys deal) (deal_instance advert deal)
+      ≡ map (party_script hash (deal_keys deal)) (people (deal_instance advert deal))
+      ++ compiled_strings hash (deal_keys deal) (deal_instance advert deal)
   pub lists : (given : List Signed) (slot : Slot) → ListsExactly hash (deal_keys deal) (deal_instance advert deal) given slot
   pub starts : (given : List Signed) → StartsExactly hash (deal_keys deal) (deal_instance advert deal) given
   pub finishes : FinishesTaken hash advert deal
   pub no_other_way : (valid : List ℕ → List ℕ → Bool) → NoOtherWay hash (deal_keys deal) valid
 
--- where a contract and its deal are taken
+-- where a contract and its deal are taken, whose file gives nothing twice
 abbrev pub KeepsTaken : (List ℕ → List ℕ) → List Text → Type 0
 KeepsTaken hash texts =
     (contract_text deal_text : List ℕ) (advert : Advert) (deal : Deal)
     → text_at texts 0 ≡ Some contract_text → text_at texts 1 ≡ Some deal_text
-    → contract_of contract_text ≡ Ok advert → read_deal secp256k1 advert deal_text ≡ Ok deal → Keeps hash advert deal
+    → contract_of contract_text ≡ Ok advert → read_deal secp256k1 advert deal_text ≡ Ok deal
+    → Keeps hash advert deal × GivesOnce deal_text
 
 abbrev pub KeepsTexts : (List ℕ → List ℕ) → Option (List Text) → Type 0
 KeepsTexts hash None = Unit {0}
@@ -123,6 +137,12 @@ IfFinished hash None texts printed = Unit {0}
 IfFinished hash (Some command) None printed = Unit {0}
 IfFinished hash (Some command) (Some texts) printed =
     (which : Which) → finishes command ≡ Some which → printed.status ≡ 0 → IsFinishedText secp256k1 hash texts which printed.text
+-- what signers are given of a deal that is taken
+abbrev pub SignersTexts : (List ℕ → List ℕ) → Option (List Text) → Type 0
+SignersTexts hash None = Unit {0}
+SignersTexts hash (Some texts) =
+    (advert : Advert) (deal : Deal) (contract_file deal_file : List ℕ) → IsTaken secp256k1 hash texts advert deal
+    → GivesSigners secp256k1 hash texts advert deal contract_file deal_file
 
 -- ---- the headline
 
@@ -135,6 +155,10 @@ pub record Serves (hash : List ℕ → List ℕ) (command : Option DealCommand) 
   pub keeps : KeepsTexts hash (texts_read answers.reads)
   -- and a transaction that it finishes
   pub finished : IfFinished hash command (texts_read answers.reads) (deal_answer secp256k1 hash command answers.reads)
+  -- and the transactions for signers are those of its contract, each under its name
+  pub signers : SignersTexts hash (texts_read answers.reads)
+  -- signatures are judged by the curve
+  pub verifier : IsEcdsa
 
 -- what a call with this command does to what stands around it, and its status
 pub record Headline (hash : List ℕ → List ℕ) (command : Option DealCommand) (before now : Around) (status : ℕ) : Type 0 where

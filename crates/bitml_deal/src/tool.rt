@@ -17,8 +17,9 @@ use spec_data::{Bytes, OutOfMemory};
 use spec_tool::Reply;
 use std::alloc::Global;
 use theory_deal::{
-    deal_statuses_have_causes, deals_are_sized, deals_give_all, false_without_one, finish_answers,
-    finish_theorem, finishes_exactly, keys_are_points, may_start, missing_and_held, plan_of_runs,
+    deal_statuses_have_causes, deals_are_sized, deals_ask, deals_give_all, deals_hash,
+    false_without_one, files_for_signers, finish_answers, finish_theorem, finishes_exactly,
+    is_ecdsa, keys_are_points, may_start, missing_and_held, nothing_twice, plan_of_runs,
     signatures_verify,
 };
 use tool_shell::{Call, serve};
@@ -90,6 +91,11 @@ pub fn deal_tool<H: Hash32 + Drop, F: Files, S: Sink>(
     keys_are_points();
     signatures_verify();
     plan_of_runs();
+    deals_ask();
+    deals_hash();
+    files_for_signers();
+    nothing_twice();
+    is_ecdsa();
     missing_and_held();
     may_start();
     finishes_exactly();

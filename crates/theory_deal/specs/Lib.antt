@@ -8,3 +8,11 @@ pub mod Causes
 pub mod Accepted
 pub mod Printed
 pub mod FinishAnswers
+pub mod Signing
+pub mod Transactions
+pub mod ForSigners
+pub mod SigningOrder
+pub mod Asked
+pub mod Scripts
+pub mod NothingTwice
+pub mod Ecdsa

@@ -2,20 +2,88 @@
 #![tactic(auto)]
 
 ghost use Rattle.theory_deal.specs.Accepted.{VerdictByBook, AcceptedTheorem};
+ghost use Rattle.theory_deal.specs.Asked.{DealsAsk};
 ghost use Rattle.theory_deal.specs.Causes.{DealCausesTheorem};
+ghost use Rattle.theory_deal.specs.Ecdsa.{IsEcdsa};
 ghost use Rattle.theory_deal.specs.Files.{DealsAreSized, DealsGiveAll, KeysArePoints, SecretsFit, SignaturesAreShaped, SignaturesVerify};
 ghost use Rattle.theory_deal.specs.FinishAnswers.{FinishAnswers};
 ghost use Rattle.theory_deal.specs.Finished.{FinishedOpens, FinishedIsPlanned, FalseWithoutOne};
+ghost use Rattle.theory_deal.specs.ForSigners.{FilesForSigners};
+ghost use Rattle.theory_deal.specs.NothingTwice.{NothingTwice};
 ghost use Rattle.theory_deal.specs.Plan.{PlanOfRuns};
 ghost use Rattle.theory_deal.specs.Printed.{ReadAgainTheorem};
+ghost use Rattle.theory_deal.specs.Scripts.{ScriptsAsk};
 ghost use Rattle.theory_deal.specs.Shapes.{ShapeExactly, ShapeIsShort};
 ghost use Rattle.theory_deal.specs.Signatures.{MissingAndHeld, MayStart};
+ghost use Rattle.theory_deal.specs.Signing.{AsksExactly, EndorsementsOfRuns, HeldAndMissing};
+ghost use Rattle.theory_deal.specs.SigningOrder.{SignaturesInOrder};
+ghost use Rattle.theory_deal.specs.Transactions.{DealsHash, TransactionsOfDeals};
 ghost use Rattle.theory_deal.specs.Whole.{FinishesExactly, FinishTheorem};
+
+use theory_script::any_keys::paths_in_order;
 
 /// A signature is listed as missing exactly where a transaction needs it and it isn't there, and as held exactly where it is.
 pub fn missing_and_held()
     ensures { MissingAndHeld }
 {}
+
+/// A deal has a transaction under each name in the order of the text, that of the contract, which pays out what it spends but the fee.
+pub fn transactions_of_deals()
+    ensures { TransactionsOfDeals }
+{
+    paths_in_order();
+}
+
+/// What is hashed for a deal are the scripts of deposits, and then what is hashed to compile its contract at given keys.
+pub fn deals_hash()
+    ensures { DealsHash }
+{}
+
+/// The file for signers of a name is that of the contract's transaction of the name; all of them are these in order.
+pub fn files_for_signers()
+    ensures { FilesForSigners }
+{
+    transactions_of_deals();
+}
+
+/// A signature is wanted exactly where a transaction of the contract asks for it: of this input, by this key, by this event of a run.
+pub fn asks_exactly()
+    ensures { AsksExactly }
+{}
+
+/// The script of an input asks for the key of each signature that is wanted of it.
+pub fn scripts_ask()
+    ensures { ScriptsAsk }
+{}
+
+/// Signatures are wanted in the order of the text, none of them twice.
+pub fn signatures_in_order()
+    ensures { SignaturesInOrder }
+{
+    transactions_of_deals();
+}
+
+/// The endorsements of a deal are those that honest parties in runs wait for, in the same order.
+pub fn endorsements_of_runs()
+    ensures { EndorsementsOfRuns }
+{}
+
+/// The signatures that are held and those that are missing part those that are wanted.
+pub fn held_and_missing()
+    ensures { HeldAndMissing }
+{}
+
+/// All that a deal asks to be signed is its contract's, in the order of the text.
+pub fn deals_ask()
+    ensures { DealsAsk }
+{
+    transactions_of_deals();
+    asks_exactly();
+    scripts_ask();
+    signatures_in_order();
+    endorsements_of_runs();
+    held_and_missing();
+}
 
 /// The initial transaction may be signed exactly where every endorsement is there.
 pub fn may_start()
@@ -71,6 +139,16 @@ pub fn secrets_fit()
 /// A deal that is taken gives all that its contract needs, in order.
 pub fn deals_give_all()
     ensures { DealsGiveAll }
+{}
+
+/// No two lines of a deal file that is taken give the same.
+pub fn nothing_twice()
+    ensures { NothingTwice }
+{}
+
+/// The verifier of the program is ECDSA over secp256k1, of the key, the digest and the signature that it is given.
+pub fn is_ecdsa()
+    ensures { IsEcdsa }
 {}
 
 /// The keys and hashes of a deal that is taken have their sizes.

@@ -1,0 +1,138 @@
+-- The script of an input asks for the key of each signature that is wanted of it.
+use Rattle.std.proofs.Common.{◌≡◌, ℕ, zero, suc, List, [], ◌∷◌, map, Option, Some, None, refl, sym, ap, subst, ◌∙◌}
+use Rattle.std.specs.Prelude.{slice_get}
+use Rattle.std.specs.Option.{option_map, option_and_then}
+use Rattle.spec_data.specs.Lists.{look_up}
+use Rattle.spec_terms.specs.Term as term
+use Rattle.spec_terms.specs.Core.{core, puts_of}
+use Rattle.spec_terms.specs.Paths as paths
+use Rattle.spec_terms.specs.Paths.{Subterm, as_branch, subterm_from, at}
+use Rattle.spec_terms.specs.Precondition.{Holding, persistent, volatile}
+use Rattle.spec_terms.specs.declared.path.PathStep.{PathStep}
+use Rattle.spec_bitcoin.specs.declared.label.Label.{Label}
+use Rattle.spec_bitcoin.specs.declared.label.Label.TheVariants as labels
+use Rattle.spec_bitcoin.specs.Keys.{deposit_script}
+use Rattle.spec_compiler.specs.Keyed.Keys.{Keys, key_in}
+use Rattle.spec_compiler.specs.Keyed.Instance.{Instance, branch_path, position_script}
+use Rattle.spec_compiler.specs.declared.unsigned.Spent.{Spent}
+use Rattle.spec_compiler.specs.declared.unsigned.Unsigned.{Unsigned}
+use Rattle.spec_compiler.specs.Keyed.Transactions.{Standing, deposit, holding_or_none, branch_unsigned}
+use Rattle.spec_compiler.specs.Keyed.ByPath as by_path
+use Rattle.spec_compiler.specs.Keyed.ByPath.{PathEnd, end_at, as_unsigned, unsigned_at}
+use Rattle.spec_compiler.specs.Keyed.Endorsements.{put_owner}
+use Rattle.spec_tool.specs.declared.which.Which.{Which}
+use Rattle.spec_tool.specs.declared.which.Which.TheVariants as names
+use Rattle.spec_tool.specs.Keyed.Listed.{Listed, path_listed, listed_at}
+use Rattle.spec_deal.specs.declared.finish.Verb.{Verb}
+use Rattle.spec_deal.specs.Slots.{Slot, slots}
+use Rattle.theory_script.proofs.Keyed.Stands.{some_same, IfAgrees, agrees_at}
+use Rattle.theory_deal.proofs.Branches.{branch_found}
+use Rattle.theory_deal.proofs.Signing.{asks_exactly, map_at}
+use Rattle.theory_deal.specs.Scripts.{IsOfPosition, AsksForKey, ScriptsAsk}
+use Rattle.theory_deal.specs.Signing.{StartsBy, GoesBy, PutsBy, BranchBy, Signs, IsAsked}
+
+module _ (hash : List ℕ → List ℕ) (keys : Keys) (s : Instance) where
+  -- by the key of an owner
+  owner_asks : (script : List ℕ) (label : Label) (party : List ℕ) → label ≡ labels.Deposit party
+      → script ≡ deposit_script (key_in hash keys (labels.Deposit party)) → AsksForKey hash keys s script label
+  owner_asks script label party e h = subst (AsksForKey hash keys s script) (sym e) h
+
+  initial_asks : (d : Unsigned) (k : ℕ) (spent : Spent) (label : Label) (h : List ℕ × Holding)
+      → option_map (λ (l : Listed). l.draft) (listed_at hash keys s names.Init) ≡ Some d
+      → slice_get d.spends k ≡ Some spent → slice_get (persistent s.advert.pre) k ≡ Some h
+      → label ≡ labels.Deposit (h.1).owner → AsksForKey hash keys s spent.script label
+  initial_asks d k spent label h there spends stands e =
+      let r = map_at (λ (x : List ℕ × Holding). deposit hash keys s (x.0) (x.1)) (persistent s.advert.pre) k spent
+      (subst (λ (x : Unsigned). slice_get x.spends k ≡ Some spent) (sym (some_same there)) spends) in
+      let same : r.0 ≡ h = some_same (sym r.1 ∙ stands) in
+      owner_asks spent.script label (h.1).owner e
+      (ap (λ (x : Spent). x.script) r.2 ∙ ap (λ (x : List ℕ × Holding). deposit_script (key_in hash keys (labels.Deposit (x.1).owner))) same)
+
+  -- ---- a path's
+
+  -- the branch that stands at the end of a path, as the term has it
+  record Stands (path : List PathStep) (b : term.Guarded) (d : Unsigned) : Type 0 where
+    here : Standing
+    i : ℕ
+    c : term.Guarded
+    stands : end_at hash keys s path ≡ Some (by_path.at_branch here i c)
+    is_path : branch_path here.position i ≡ path
+    same : c ≡ b
+    made : d ≡ branch_unsigned hash keys s here i c
+
+  stands_there : (path : List PathStep) (b : term.Guarded) (d : Unsigned) → unsigned_at hash keys s path ≡ Some d
+      → at s.advert.root path ≡ Some b → Stands path b d
+  stands_there path b d made there =
+      by_end (end_at hash keys s path) (subterm_from (paths.position s.advert.root) path) refl (agrees_at hash keys s path) made there
+    where
+      by_end : (o : Option PathEnd) (q : Option Subterm) → end_at hash keys s path ≡ o → IfAgrees hash keys s path o q
+          → option_and_then (as_unsigned hash keys s) o ≡ Some d → option_and_then as_branch q ≡ Some b → Stands path b d
+      by_end None q e agrees m t = cc
+      by_end (Some (by_path.at_position here choice)) q e agrees m t = cc
+      by_end (Some (by_path.at_branch here i c)) None e agrees m t = absurd agrees
+      by_end (Some (by_path.at_branch here i c)) (Some (paths.position x)) e agrees m t = absurd agrees
+      by_end (Some (by_path.at_branch here i c)) (Some (paths.at_branch x)) e agrees m t = record {
+        here = here;
+        i = i;
+        c = c;
+        stands = e;
+        is_path = agrees.0;
+        same = agrees.1 ∙ some_same t;
+        made = sym (some_same m);
+      }
+
+  position_asks : (path : List PathStep) (b : term.Guarded) (d : Unsigned) (spent : Spent) → Stands path b d
+      → slice_get d.spends 0 ≡ Some spent → IsOfPosition hash keys s path spent.script
+  position_asks path b d spent x spends =
+      let found = branch_found hash keys s path x.here x.i x.c x.stands in
+      let first : Some x.here.output ≡ Some spent = subst (λ (z : Unsigned). slice_get z.spends 0 ≡ Some spent) x.made spends in
+      record {
+        position = x.here.position;
+        contract = found.choice;
+        i = x.i;
+        b = x.c;
+        is_position = found.stands.branches;
+        is_branch = found.is_branch;
+        is_path = x.is_path;
+        is_script = ap (λ (z : Spent). z.script) (sym (some_same first)) ∙ found.stands.script;
+      }
+
+  put_asks : (path : List PathStep) (b : term.Guarded) (d : Unsigned) (k : ℕ) (spent : Spent) (label : Label) (name : List ℕ)
+      → Stands path b d → slice_get d.spends (suc k) ≡ Some spent → slice_get (puts_of (core b)) k ≡ Some name
+      → label ≡ labels.Deposit (put_owner s.advert name) → AsksForKey hash keys s spent.script label
+  put_asks path b d k spent label name x spends stands e =
+      let put = λ (n : List ℕ). deposit hash keys s n (holding_or_none (look_up n (volatile s.advert.pre))) in
+      let r = map_at put (puts_of (core x.c)) k spent
+      (subst (λ (z : Unsigned). slice_get z.spends (suc k) ≡ Some spent) x.made spends) in
+      let there : slice_get (puts_of (core b)) k ≡ Some r.0 =
+      subst (λ (y : term.Guarded). slice_get (puts_of (core y)) k ≡ Some r.0) x.same r.1 in
+      let same : r.0 ≡ name = some_same (sym there ∙ stands) in
+      owner_asks spent.script label (put_owner s.advert name) e
+      (ap (λ (z : Spent). z.script) r.2
+      ∙ ap (λ (n : List ℕ). deposit_script (key_in hash keys (labels.Deposit (put_owner s.advert n)))) same)
+
+  -- ---- all
+
+  made_at : (path : List PathStep) (o : Option Unsigned) (d : Unsigned)
+      → option_map (λ (l : Listed). l.draft) (option_map (path_listed s path) o) ≡ Some d → o ≡ Some d
+  made_at path None d e = cc
+  made_at path (Some x) d e = e
+
+  branch_asks : (path : List PathStep) (b : term.Guarded) (d : Unsigned) (k : ℕ) (spent : Spent) (label : Label) (verb : Verb)
+      → Stands path b d → slice_get d.spends k ≡ Some spent → BranchBy s path b k label verb → AsksForKey hash keys s spent.script label
+  branch_asks path b d zero spent label verb x spends h =
+      subst (AsksForKey hash keys s spent.script) (sym h.key) (position_asks path b d spent x spends)
+  branch_asks path b d (suc k) spent label verb x spends h = put_asks path b d k spent label h.name x spends h.stands h.key
+
+  each_asks : (which : Which) (k : ℕ) (label : Label) (verb : Verb) (d : Unsigned) (spent : Spent)
+      → option_map (λ (l : Listed). l.draft) (listed_at hash keys s which) ≡ Some d → slice_get d.spends k ≡ Some spent
+      → Signs s which k label verb → AsksForKey hash keys s spent.script label
+  each_asks names.Init k label verb d spent there spends h = initial_asks d k spent label h.deposit there spends h.stands h.key
+  each_asks (names.At path) k label verb d spent there spends h =
+      branch_asks path h.0 d k spent label verb
+      (stands_there path h.0 d (made_at path (unsigned_at hash keys s path) d there) h.1) spends h.2
+
+pub scripts_ask : ScriptsAsk
+scripts_ask hash keys s slot c =
+    let a = (asks_exactly hash keys s slot).0 c in
+    each_asks hash keys s slot.which slot.input slot.label slot.verb slot.draft slot.spent a.there a.spends a.signs

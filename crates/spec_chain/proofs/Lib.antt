@@ -1,0 +1,3 @@
+pub mod WorkedChainFiles
+pub mod WorkedDeals
+pub mod WorkedStates

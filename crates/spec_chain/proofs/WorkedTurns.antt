@@ -1,6 +1,6 @@
 -- Worked chains of other contracts and with other transactions, each by computation alone; and states that are read as files of secrets.
 use Rattle.std.proofs.Common.{◌≡◌, ℕ, List, [], ◌∷◌, ◌++◌, refl}
-use Rattle.std.specs.Prelude.{codes, map, replicate, Option, Some, None, Ok, Err}
+use Rattle.std.specs.Prelude.{codes, map, replicate}
 use Rattle.std.specs.Fmt.{digits}
 use Rattle.spec_bitcoin.specs.Keys.{label_text}
 use Rattle.spec_bitcoin.specs.Meaning.{script_meaning}
@@ -11,18 +11,17 @@ use Rattle.spec_bitcoin.specs.Scripts.{ops_of}
 use Rattle.spec_bitcoin.specs.Spelling.{stripped, compact, marked}
 use Rattle.spec_bitcoin.specs.Digests.{txid, places_list, sequences_list, outputs_list, preimage}
 use Rattle.spec_bitcoin.specs.declared.tx.OutPoint.{OutPoint}
-use Rattle.spec_terms.specs.Advert.{Advert}
 use Rattle.spec_terms.specs.Term.{always, after, put_reveal, withdraw, split, no_branch, branch, part, no_part}
 use Rattle.spec_terms.specs.declared.path.PathStep.TheVariants.{Branch as To, Part as Into}
 use Rattle.spec_compiler.specs.Keyed.Instance.{position_script}
 use Rattle.spec_tool.specs.declared.which.Which.{Which}
 use Rattle.spec_tool.specs.declared.which.Which.TheVariants as names
-use Rattle.spec_tool.specs.Keyed.Listed.{Listed, listed_at, path_signers}
+use Rattle.spec_tool.specs.Keyed.Listed.{Listed, path_signers}
 use Rattle.spec_deal.specs.declared.entry.Shown.{Shown}
-use Rattle.spec_deal.specs.Finished.{bytes_or_none, finished}
+use Rattle.spec_deal.specs.Finished.{finished}
 use Rattle.spec_deal.specs.RefusedText.{secrets_refused_line}
 use Rattle.spec_deal.specs.SecretFile.{shows, refused, collided}
-use Rattle.spec_deal.proofs.WorkedFiles.{line, weigh, bet, twin, put, pair, A, B, a, z}
+use Rattle.spec_deal.proofs.WorkedFiles.{line, weigh, twin, put, pair, A, B, a, z}
 use Rattle.spec_deal.proofs.WorkedSignatures.{keys}
 use Rattle.spec_chain.specs.StateText.{txid_text}
 use Rattle.spec_chain.specs.ToldSecrets.{read_told}

@@ -10,5 +10,5 @@ pub mod want;
 pub use fault::{ChainFault, ChainReason};
 pub use happened::Happened;
 pub use output::{Held, Output};
-pub use reading::{Confirmed, Reading};
+pub use reading::{Confirmed, Line, Reading};
 pub use want::Want;

@@ -1,8 +1,28 @@
 //! What the lines of a chain file say. Lines are counted from 1.
 
-use crate::fault::ChainFault;
+use crate::fault::{ChainFault, ChainReason};
 use spec_bitcoin::Tx;
 use spec_data::Seq;
+
+/// What a line says.
+pub enum Line {
+    /// Nothing: it has no words.
+    Empty,
+    /// It is no line of a chain.
+    Bad(ChainReason),
+    /// The blocks of what comes next have this height.
+    Rises(u32),
+    /// A block of the height last given has this transaction.
+    Confirms(Tx),
+}
+
+impl Drop for Line {
+    fn drop(self) {
+        match self {
+            Line::Empty | Line::Bad(_) | Line::Rises(_) | Line::Confirms(_) => {}
+        }
+    }
+}
 
 /// A transaction with its witnesses, the line that it stands on, and the height of its block.
 pub struct Confirmed {

@@ -5,6 +5,7 @@ use spec_bitcoin::Tx;
 use spec_data::Seq;
 
 /// What a line says.
+#[derive(Drop)]
 pub enum Line {
     /// Nothing: it has no words.
     Empty,
@@ -14,14 +15,6 @@ pub enum Line {
     Rises(u32),
     /// A block of the height last given has this transaction.
     Confirms(Tx),
-}
-
-impl Drop for Line {
-    fn drop(self) {
-        match self {
-            Line::Empty | Line::Bad(_) | Line::Rises(_) | Line::Confirms(_) => {}
-        }
-    }
 }
 
 /// A transaction with its witnesses, the line that it stands on, and the height of its block.

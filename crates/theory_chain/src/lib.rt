@@ -1,8 +1,11 @@
-//! What follows of chains of a deal: each theorem is the contract of a function that does nothing.
+//! What follows of chains of a deal: each theorem is the contract of a function that does nothing, or calls one that does nothing.
 #![tactic(auto)]
 
 ghost use Rattle.theory_chain.specs.Files.{ChainsAreSpelled, ChainsAreRefused};
+ghost use Rattle.theory_chain.specs.Prospects.{CanComes};
 ghost use Rattle.theory_chain.specs.Follows.{FollowedExactly, RefusedExactly, HistoryStays};
+
+use theory_deal::finishes_exactly;
 
 /// A chain file is taken exactly where its lines spell these transactions and this tip.
 pub fn chains_are_spelled()
@@ -28,3 +31,10 @@ pub fn refused_exactly()
 pub fn history_stays()
     ensures { HistoryStays }
 {}
+
+/// A transaction for which nothing is wanting is finished, its lock is reached and its deposits are live.
+pub fn can_comes()
+    ensures { CanComes }
+{
+    finishes_exactly();
+}

@@ -1,0 +1,4 @@
+pub mod WorkedChainFiles
+pub mod WorkedDeals
+pub mod WorkedStates
+pub mod WorkedTurns

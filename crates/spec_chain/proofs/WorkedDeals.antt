@@ -1,0 +1,95 @@
+-- Deals for worked chains: with the keys of no wallet, and a hash that is quick to compute.
+use Rattle.std.proofs.Common.{ℕ, List, [], ◌∷◌, ◌++◌}
+use Rattle.std.specs.Prelude.{codes, filter, map, not, Some, None}
+use Rattle.spec_data.specs.Digits.{hex_text, read_hex}
+use Rattle.spec_terms.specs.Advert.{Advert}
+use Rattle.spec_bitcoin.specs.declared.tx.OutPoint.{OutPoint}
+use Rattle.spec_bitcoin.specs.declared.tx.Tx.{Tx}
+use Rattle.spec_bitcoin.specs.Digests.{txid}
+use Rattle.spec_bitcoin.specs.Spelling.{spelling}
+use Rattle.spec_compiler.specs.Keyed.Instance.{Instance}
+use Rattle.spec_compiler.specs.Keyed.Transactions.{tx_of}
+use Rattle.spec_tool.specs.declared.which.Which.{Which}
+use Rattle.spec_tool.specs.Keyed.Listed.{Listed, listed_at}
+use Rattle.spec_deal.specs.declared.entry.Shown.{Shown}
+use Rattle.spec_deal.specs.declared.signed.Signed.{Signed}
+use Rattle.spec_deal.specs.Finished.{bytes_or_none, finished}
+use Rattle.spec_deal.specs.Slots.{slots}
+use Rattle.spec_deal.proofs.WorkedFiles.{weigh}
+use Rattle.spec_deal.proofs.WorkedSignatures.{keys, setting, sign, is_this}
+use Rattle.spec_chain.specs.Chain.{stands, refused, collided, follow_chain}
+use Rattle.spec_chain.specs.RefusedText.{chain_refused_line}
+use Rattle.spec_chain.specs.StateText.{txid_text, state_text}
+
+-- a contract, and the strings of its secrets
+pub record Worked : Type 0 where
+  pub advert : Advert
+  pub strings : List Shown
+
+-- the string with these digits, of the secret of this name
+abbrev pub string : List ℕ → List ℕ → Shown
+string name digits = record { line = 1; name = name; bytes = bytes_or_none (read_hex digits) }
+
+-- its deal, which has the hashes of these strings
+abbrev pub deal : Worked → Instance
+deal w = record (setting w.advert) { hashes = map (λ (x : Shown). (x.name, weigh x.bytes)) w.strings }
+
+-- ---- signatures
+
+abbrev pub all_signed : Worked → List Signed
+all_signed w = sign (slots weigh keys (deal w))
+
+-- all but the signature of this label for this transaction
+abbrev pub all_but : List ℕ → List ℕ → Worked → List Signed
+all_but which label w = sign (filter (λ slot. not (is_this which label slot)) (slots weigh keys (deal w)))
+
+abbrev pub unsigned : Worked → List Signed
+unsigned w = []
+
+-- ---- transactions
+
+-- what is made of the transaction of this name
+abbrev pub of_listed : (Listed → List ℕ) → Worked → Which → List ℕ
+of_listed made w which = elim (listed_at weigh keys (deal w) which) [
+  | None ↦ []
+  | Some l ↦ made l
+]
+
+-- the line of a transaction
+abbrev pub line_of_tx : Tx → List ℕ
+line_of_tx tx = codes "tx " ++ hex_text (spelling tx)
+
+-- the line of one of the deal's with its witnesses, which have all signatures and these strings
+abbrev pub sent_with : List Shown → Worked → Which → List ℕ
+sent_with strings w which =
+    of_listed (λ l. line_of_tx (finished weigh keys (deal w) (all_signed w) strings l)) w which
+
+abbrev pub sent : Worked → Which → List ℕ
+sent w which = sent_with w.strings w which
+
+-- without its witnesses
+abbrev pub bare : Worked → Which → List ℕ
+bare w which = of_listed (λ l. line_of_tx (tx_of l.draft)) w which
+
+-- its txid as wallets show it
+abbrev pub shown_txid : Worked → Which → List ℕ
+shown_txid w which = of_listed (λ l. txid_text (txid weigh (tx_of l.draft))) w which
+
+-- a stranger's transaction, which spends this place with these items
+abbrev pub stranger : OutPoint → List (List ℕ) → Tx
+stranger place items = record {
+  version = 1;
+  inputs = record { prev = place; script_sig = []; sequence = 4294967295; witness = items } ∷ [];
+  outputs = record { value = 5000; script = 81 ∷ [] } ∷ [];
+  lock = 0;
+}
+
+-- ---- what is printed
+
+-- of a chain, with these signatures and strings
+abbrev pub told : Worked → (Worked → List Signed) → List Shown → List ℕ → List ℕ
+told w given strings text = elim (follow_chain weigh keys (deal w) text) [
+  | stands course tip ↦ state_text weigh keys (deal w) course tip (given w) strings
+  | refused fault ↦ chain_refused_line fault
+  | collided earlier later ↦ codes "collided"
+]

@@ -1,0 +1,10 @@
+pub mod Sizes
+pub mod ChainFile
+pub mod Outputs
+pub mod Following
+pub mod Refusals
+pub mod Chain
+pub mod ToldSecrets
+pub mod Wanting
+pub mod StateText
+pub mod RefusedText

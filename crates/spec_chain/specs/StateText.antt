@@ -1,0 +1,122 @@
+-- What is printed of where a deal stands: what has been, as steps of the calculus, and what may come.
+use Rattle.std.specs.Prelude.{ℕ, List, [], ◌∷◌, ◌++◌, map, reverse, Option, Some, None, codes}
+use Rattle.std.specs.Fmt.{decimal}
+use Rattle.std.specs.List.{flat_map}
+use Rattle.spec_data.specs.Digits.{hex_text}
+use Rattle.spec_terms.specs.Precondition.{secrets, names_of}
+use Rattle.spec_bitcoin.specs.Keys.{label_text, path_text}
+use Rattle.spec_compiler.specs.Keyed.Keys.{Keys}
+use Rattle.spec_compiler.specs.Keyed.Instance.{Instance}
+use Rattle.spec_text.specs.RunText.{output_text}
+use Rattle.spec_text.specs.StepText.{step_line}
+use Rattle.spec_tool.specs.declared.which.Which.{Which}
+use Rattle.spec_tool.specs.Keyed.Listed.{which_text}
+use Rattle.spec_deal.specs.declared.entry.Shown.{Shown}
+use Rattle.spec_deal.specs.declared.signed.Signed.{Signed}
+use Rattle.spec_deal.specs.DealText.{line_of, verb_text}
+use Rattle.spec_deal.specs.SecretFile.{string_for}
+use Rattle.spec_chain.specs.declared.happened.Happened.{Happened}
+use Rattle.spec_chain.specs.declared.output.Held.TheVariants.{Deposit, Position, Payout}
+use Rattle.spec_chain.specs.declared.output.Output.{Output}
+use Rattle.spec_chain.specs.declared.want.Want.{Want}
+use Rattle.spec_chain.specs.declared.want.Want.TheVariants as wants
+use Rattle.spec_chain.specs.Chain.{Course}
+use Rattle.spec_chain.specs.Following.{State}
+use Rattle.spec_chain.specs.Wanting.{asked, known, wanting, awaited}
+
+-- a txid as wallets show it, with its bytes reversed
+abbrev pub txid_text : List ℕ → List ℕ
+txid_text txid = hex_text (reverse txid)
+
+-- ---- what has been
+
+-- one of the deal's by its name, any other by its txid
+abbrev pub happened_name : Happened → List ℕ
+happened_name h = elim h.which [
+  | None ↦ txid_text h.txid
+  | Some which ↦ which_text which
+]
+
+abbrev pub gone_line : List ℕ → List ℕ
+gone_line x = line_of (codes "gone" ∷ x ∷ [])
+
+-- a transaction, and below it its steps and the deposits that are gone
+abbrev pub happened_text : Happened → List ℕ
+happened_text h =
+    line_of (codes "confirmed" ∷ happened_name h ∷ decimal h.height ∷ [])
+    ++ (flat_map (step_line h.made) h.steps ++ flat_map gone_line h.gone)
+
+-- an output under its number, by what it is
+abbrev pub output_words : List ℕ → List ℕ → Output → List (List ℕ)
+output_words word name o =
+    word ∷ output_text o.number ∷ name ∷ txid_text o.place.txid ∷ decimal o.place.vout ∷ decimal o.value ∷ []
+
+-- a live position
+abbrev pub live_line : Output → List ℕ
+live_line o = elim o.held [
+  | Deposit name ↦ []
+  | Position path ↦ line_of (output_words (codes "live") (path_text path) o)
+  | Payout party ↦ []
+]
+
+-- a payout, wherever it is now
+abbrev pub paid_line : Output → List ℕ
+paid_line o = elim o.held [
+  | Deposit name ↦ []
+  | Position path ↦ []
+  | Payout party ↦ line_of (output_words (codes "paid") party o)
+]
+
+abbrev pub string_line : List ℕ → Option (List ℕ) → List ℕ
+string_line name None = []
+string_line name (Some bytes) = line_of (codes "secret" ∷ name ∷ hex_text bytes ∷ [])
+
+-- the secrets that are known, in the precondition's order
+abbrev pub secrets_text : Instance → List Shown → List ℕ
+secrets_text s strings = flat_map (λ name. string_line name (string_for strings name)) (names_of (secrets s.advert.pre))
+
+abbrev pub height_line : ℕ → List ℕ
+height_line tip = line_of (codes "height" ∷ decimal tip ∷ [])
+
+-- ---- what may come
+
+abbrev pub want_words : Want → List (List ℕ)
+want_words (wants.Height height) = codes "needs height" ∷ decimal height ∷ []
+want_words (wants.Signature which input label verb) =
+    codes "needs signature" ∷ which_text which ∷ decimal input ∷ label_text label ∷ verb_text verb ∷ []
+want_words (wants.Deposit name) = codes "needs deposit" ∷ name ∷ []
+want_words (wants.Secret name party) = codes "needs secret" ∷ name ∷ codes "of" ∷ party ∷ []
+want_words wants.DepositGone = codes "never: deposit gone" ∷ []
+want_words wants.PredicateFalse = codes "never: predicate false" ∷ []
+
+abbrev pub want_line : Want → List ℕ
+want_line want = line_of (want_words want)
+
+-- a transaction that these are wanting for
+abbrev pub prospect_text : Which → List Want → List ℕ
+prospect_text which [] = line_of (codes "can" ∷ which_text which ∷ [])
+prospect_text which (w ∷ ws) = line_of (codes "cannot" ∷ which_text which ∷ []) ++ flat_map want_line (w ∷ ws)
+
+abbrev pub waits_line : List ℕ → List ℕ
+waits_line party = line_of (codes "waits" ∷ party ∷ [])
+
+-- what is wanting for each that is asked
+abbrev pub wantings : (List ℕ → List ℕ) → Keys → Instance → List Signed → List Shown → State → ℕ → List (List Want)
+wantings hash keys s given strings state tip = map (wanting hash keys s given strings state tip) (asked s state)
+
+abbrev pub prospects_text : (List ℕ → List ℕ) → Keys → Instance → List Signed → List Shown → State → ℕ → List ℕ
+prospects_text hash keys s given strings state tip =
+    flat_map (λ which. prospect_text which (wanting hash keys s given strings state tip which)) (asked s state)
+    ++ flat_map waits_line (awaited s (wantings hash keys s given strings state tip))
+
+-- ---- all of it
+
+abbrev pub past_text : Course → List ℕ
+past_text course = flat_map happened_text course.history ++ (flat_map live_line course.state.live ++ flat_map paid_line course.state.made)
+
+-- where a deal stands after a chain of this tip, with these signatures and strings
+abbrev pub state_text : (List ℕ → List ℕ) → Keys → Instance → Course → ℕ → List Signed → List Shown → List ℕ
+state_text hash keys s course tip given strings =
+    past_text course
+    ++ (secrets_text s (known course.state strings)
+    ++ (height_line tip ++ prospects_text hash keys s given (known course.state strings) course.state tip))

@@ -1,0 +1,4 @@
+pub mod LineReads
+pub mod FileReads
+pub mod Courses
+pub mod Needs

@@ -1,0 +1,40 @@
+//! What follows of chains of a deal: each theorem is the contract of a function that does nothing, or calls one that does nothing.
+#![tactic(auto)]
+
+ghost use Rattle.theory_chain.specs.Files.{ChainsAreSpelled, ChainsAreRefused};
+ghost use Rattle.theory_chain.specs.Prospects.{CanComes};
+ghost use Rattle.theory_chain.specs.Follows.{FollowedExactly, RefusedExactly, HistoryStays};
+
+use theory_deal::finishes_exactly;
+
+/// A chain file is taken exactly where its lines spell these transactions and this tip.
+pub fn chains_are_spelled()
+    ensures { ChainsAreSpelled }
+{}
+
+/// It is refused for a line exactly where this is the first that is none of a chain, by the reason that holds there.
+pub fn chains_are_refused()
+    ensures { ChainsAreRefused }
+{}
+
+/// A chain is followed to its tip exactly where its file is taken and no transaction is bad where it stands.
+pub fn followed_exactly()
+    ensures { FollowedExactly }
+{}
+
+/// It is refused exactly at the first bad line.
+pub fn refused_exactly()
+    ensures { RefusedExactly }
+{}
+
+/// What has happened begins what has happened after more lines.
+pub fn history_stays()
+    ensures { HistoryStays }
+{}
+
+/// A transaction for which nothing is wanting is finished, its lock is reached and its deposits are live.
+pub fn can_comes()
+    ensures { CanComes }
+{
+    finishes_exactly();
+}

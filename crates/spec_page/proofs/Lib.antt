@@ -1,0 +1,4 @@
+mod Escrow
+mod Worked
+mod WorkedRun
+mod WorkedPage

@@ -1,0 +1,5 @@
+mod Safe
+mod Held
+mod Shown
+mod Whole
+mod Formed

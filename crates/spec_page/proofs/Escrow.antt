@@ -8,6 +8,11 @@ use Rattle.spec_run.specs.declared.event.Event.TheVariants as events
 use Rattle.spec_run.specs.Setup.{Setup}
 use Rattle.spec_tool.proofs.WorkedHash.{small_hash}
 
+-- texts, one after another
+abbrev pub pieces : List (List ℕ) → List ℕ
+pieces [] = []
+pieces (p ∷ ps) = p ++ pieces ps
+
 abbrev pub buyer : List ℕ
 buyer = codes "Buyer"
 

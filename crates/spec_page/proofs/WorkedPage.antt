@@ -15,12 +15,8 @@ use Rattle.spec_page.specs.Script.{script_text}
 use Rattle.spec_page.specs.ContractPart.{contract_elements}
 use Rattle.spec_page.specs.RunPart.{run_elements}
 use Rattle.spec_page.specs.Page.{outlook_part, bar_part, slider_part, table_part, text_part, head_part, body_part, page_of, page_text}
-use Rattle.spec_page.proofs.Escrow.{setup, mediated}
-
--- one after another
-abbrev pieces : List (List ℕ) → List ℕ
-pieces [] = []
-pieces (p ∷ ps) = p ++ pieces ps
+use Rattle.spec_page.specs.Page.{contract_table, contract_body, contract_page, contract_text}
+use Rattle.spec_page.proofs.Escrow.{pieces, escrow, setup, mediated}
 
 -- before the style
 abbrev before_style : List ℕ
@@ -64,11 +60,12 @@ before_table =
     codes "Mediator</p>\n" ∷
     codes "<p class=\"on\" data-at=\"0:off 8:on\">nothing</p>\n" ∷
     codes "</div>\n" ∷
+    codes "<div class=\"scroll\">" ∷
     [])
 
 -- the rows of the contract
-abbrev contract_table : List ℕ
-contract_table =
+abbrev contract_rows : List ℕ
+contract_rows =
     pieces (
     codes "<table class=\"few\"><tbody><tr class=\"head\"><th></th><th>the contract</th><th class=\"name p0\">Buyer</th>" ∷
     codes "<th class=\"name p1\">Seller</th><th class=\"name p2\">Mediator</th><th></th><th></th></tr>\n" ∷
@@ -104,8 +101,8 @@ contract_table =
     [])
 
 -- the rows of the run, and what is behind them
-abbrev run_table : List ℕ
-run_table =
+abbrev run_rows : List ℕ
+run_rows =
     pieces (
     codes "<tbody><tr class=\"head\"><th></th><th>the run</th><th class=\"name p0\">Buyer</th><th class=\"name p1\">" ∷
     codes "Seller</th><th class=\"name p2\">Mediator</th><th>contract</th><th>fees</th></tr>\n" ∷
@@ -150,7 +147,7 @@ run_table =
     codes "<tr class=\"total\"><td></td><td class=\"what\">at the end</td><td class=\"sum p0\" data-of=\"Buyer\">97</td>" ∷
     codes "<td class=\"sum p1\" data-of=\"Seller\">0</td><td class=\"sum p2\" data-of=\"Mediator\">3</td><td class=\"sum\" " ∷
     codes "data-of=\"contract\">0</td><td class=\"sum\" data-of=\"fees\">0</td></tr>\n" ∷
-    codes "</tbody></table>\n" ∷
+    codes "</tbody></table></div>\n" ∷
     codes "<details><summary>the contract's text</summary><pre>{Buyer:! 100 @ price | Seller:! 0 @ s | Mediator:! " ∷
     codes "0 @ m} (Buyer : withdraw Seller + Seller : withdraw Buyer + after 1000 : Mediator : split [3 -&gt; " ∷
     codes "withdraw Mediator, 97 -&gt; (Mediator : withdraw Seller + Mediator : withdraw Buyer)])</pre></details>\n" ∷
@@ -167,8 +164,56 @@ after_script =
     [])
 
 page_of_escrow : page_text (codes "escrow") setup mediated
-    ≡ before_style ++ (style_text ++ (before_table ++ (contract_table ++ (run_table ++ (script_text ++ after_script)))))
+    ≡ before_style ++ (style_text ++ (before_table ++ (contract_rows ++ (run_rows ++ (script_text ++ after_script)))))
 unfolding digits label_text stripped marked compact places_list sequences_list outputs_list preimage position_script script_meaning
     ops_of number_of_item signed_bytes item_of_number attribute_text style_text script_text contract_elements run_elements outlook_part
     bar_part slider_part table_part text_part head_part body_part page_of page_text
 page_of_escrow = refl
+
+-- ---- the contract alone
+
+-- behind the style
+abbrev alone_behind_style : List ℕ
+alone_behind_style =
+    pieces (
+    codes "</style>\n" ∷
+    codes "</head>\n" ∷
+    codes "<body><h1>escrow</h1>\n" ∷
+    codes "<div class=\"scroll\"><table class=\"few\"><tbody><tr class=\"head\"><th></th><th>the contract</th><th " ∷
+    codes "class=\"name p0\">Buyer</th><th class=\"name p1\">Seller</th><th class=\"name p2\">Mediator</th><th></th><th>" ∷
+    codes "</th></tr>\n" ∷
+    codes "<tr class=\"way d0 open\" data-at=\"\"><td class=\"path\"><bdi>init</bdi></td><td class=\"what\">all sign; each " ∷
+    codes "puts in</td><td class=\"sum p0\" data-of=\"Buyer\"><i class=\"open\" data-at=\"\">100</i> </td><td class=\"sum " ∷
+    codes "p1\" data-of=\"Seller\"><i class=\"open\" data-at=\"\">0</i> </td><td class=\"sum p2\" data-of=\"Mediator\"><i " ∷
+    codes "class=\"open\" data-at=\"\">0</i> </td><td></td><td></td></tr>\n" ∷
+    codes "<tr class=\"fork d0\"><td></td><td class=\"what\"><b>one of</b></td><td></td><td></td><td></td><td></td><td>" ∷
+    codes "</td></tr>\n" ∷
+    codes "<tr class=\"way d1 open\" data-at=\"\"><td class=\"path\"><bdi>r.0</bdi></td><td class=\"what\"><span " ∷
+    codes "class=\"chip open\" data-at=\"\">Buyer agrees</span> </td><td></td><td class=\"sum p1\" data-of=\"Seller\"><i " ∷
+    codes "class=\"open\" data-at=\"\">100</i> </td><td></td><td></td><td></td></tr>\n" ∷
+    codes "<tr class=\"way d1 open\" data-at=\"\"><td class=\"path\"><bdi>r.1</bdi></td><td class=\"what\"><span " ∷
+    codes "class=\"chip open\" data-at=\"\">Seller agrees</span> </td><td class=\"sum p0\" data-of=\"Buyer\"><i " ∷
+    codes "class=\"open\" data-at=\"\">100</i> </td><td></td><td></td><td></td><td></td></tr>\n" ∷
+    codes "<tr class=\"way d1 open\" data-at=\"\"><td class=\"path\"><bdi>r.2</bdi></td><td class=\"what\"><span " ∷
+    codes "class=\"chip open\" data-at=\"\">Mediator agrees</span> <span class=\"chip open\" data-at=\"\">block " ∷
+    codes "1,000</span> </td><td></td><td></td><td class=\"sum p2\" data-of=\"Mediator\"><i class=\"open\" data-at=\"\">" ∷
+    codes "3</i> </td><td></td><td></td></tr>\n" ∷
+    codes "<tr class=\"fork d2\"><td></td><td class=\"what\"><span class=\"part\">97: </span><b>one of</b></td><td></td>" ∷
+    codes "<td></td><td></td><td></td><td></td></tr>\n" ∷
+    codes "<tr class=\"way d3 open\" data-at=\"\"><td class=\"path\"><bdi>r.2/1.0</bdi></td><td class=\"what\"><span " ∷
+    codes "class=\"chip open\" data-at=\"\">Mediator agrees</span> </td><td></td><td class=\"sum p1\" data-of=\"Seller\">" ∷
+    codes "<i class=\"open\" data-at=\"\">97</i> </td><td></td><td></td><td></td></tr>\n" ∷
+    codes "<tr class=\"way d3 open\" data-at=\"\"><td class=\"path\"><bdi>r.2/1.1</bdi></td><td class=\"what\"><span " ∷
+    codes "class=\"chip open\" data-at=\"\">Mediator agrees</span> </td><td class=\"sum p0\" data-of=\"Buyer\"><i " ∷
+    codes "class=\"open\" data-at=\"\">97</i> </td><td></td><td></td><td></td><td></td></tr>\n" ∷
+    codes "</tbody></table></div>\n" ∷
+    codes "<details><summary>the contract's text</summary><pre>{Buyer:! 100 @ price | Seller:! 0 @ s | Mediator:! " ∷
+    codes "0 @ m} (Buyer : withdraw Seller + Seller : withdraw Buyer + after 1000 : Mediator : split [3 -&gt; " ∷
+    codes "withdraw Mediator, 97 -&gt; (Mediator : withdraw Seller + Mediator : withdraw Buyer)])</pre></details>\n" ∷
+    codes "</body>\n" ∷
+    codes "</html>\n" ∷
+    [])
+
+contract_alone : contract_text (codes "escrow") escrow ≡ before_style ++ (style_text ++ alone_behind_style)
+unfolding digits attribute_text style_text contract_elements text_part head_part contract_table contract_body contract_page contract_text
+contract_alone = refl

@@ -1,9 +1,10 @@
 -- The page of a run and its contracts: where the money is, what can be done, the rows of each contract and the rows of the run. What stands
 -- in it is the end of the run; a script goes back from there.
-use Rattle.std.specs.Prelude.{ℕ, zero, suc, take, ◌+◌, ◌-◌, List, [], ◌∷◌, ◌++◌, length, map, Bool, nat_lt, codes}
+use Rattle.std.specs.Prelude.{ℕ, zero, suc, take, ◌+◌, ◌-◌, List, [], ◌∷◌, ◌++◌, length, map, Bool, false, nat_lt, codes}
 use Rattle.std.specs.Fmt.{decimal}
 use Rattle.std.specs.List.{list_any}
 use Rattle.spec_terms.specs.Advert.{Advert}
+use Rattle.spec_terms.specs.Parties.{participants}
 use Rattle.spec_run.specs.declared.event.Event.{Event}
 use Rattle.spec_run.specs.Setup.{Setup}
 use Rattle.spec_run.specs.Translation.{last_or}
@@ -22,7 +23,7 @@ use Rattle.spec_page.specs.Html.{Element, element, void, raw, nothing, words, in
 use Rattle.spec_page.specs.Style.{style_text}
 use Rattle.spec_page.specs.Script.{script_text, policy_text}
 use Rattle.spec_page.specs.Cells.{Columns, party_look, table_look}
-use Rattle.spec_page.specs.ContractPart.{contract_elements}
+use Rattle.spec_page.specs.ContractPart.{Scene, contract_elements}
 use Rattle.spec_page.specs.RunPart.{run_elements}
 
 -- ---- what can be done
@@ -138,8 +139,10 @@ run_body s count sts =
 
 unfoldable pub table_part : Setup → ℕ → List Stop → Element
 table_part s count sts =
-    classed (codes "table") (table_look (length (columns s)))
+    classed (codes "div") (codes "scroll")
+    (all_of (classed (codes "table") (table_look (length (columns s)))
     (all_of (contract_bodies s sts 0 s.contracts ++ run_body s count sts ∷ []))
+    ∷ []))
 
 -- ---- texts
 
@@ -195,3 +198,34 @@ page title s es = page_of title s (length es) (stops s es)
 
 unfoldable pub page_text : List ℕ → Setup → List Event → List ℕ
 page_text title s es = document_text (page title s es)
+
+-- ---- the page of a contract alone
+
+abbrev pub contract_scene : Advert → Scene
+contract_scene a = record {
+  columns = record { parties = participants a; elsewhere = false };
+  several = false;
+  contract = 0;
+  advert = a;
+  moments = [];
+}
+
+unfoldable pub contract_table : Advert → Element
+contract_table a =
+    classed (codes "div") (codes "scroll")
+    (all_of (classed (codes "table") (table_look (length (participants a)))
+    (all_of (element (codes "tbody") [] (lines_of (contract_elements (contract_scene a))) ∷ []))
+    ∷ []))
+
+-- without a run there is nothing to go through, and no script
+unfoldable pub contract_body : List ℕ → Advert → Element
+contract_body title a =
+    element (codes "body") [] (lines_of (element (codes "h1") [] (said title) ∷ contract_table a ∷ text_part (a ∷ []) ∷ []))
+
+unfoldable pub contract_page : List ℕ → Advert → Element
+contract_page title a =
+    element (codes "html") ((codes "lang", codes "en") ∷ []) (lines_of (head_part title ∷ contract_body title a ∷ []))
+
+-- the page of a contract, with this title
+unfoldable pub contract_text : List ℕ → Advert → List ℕ
+contract_text title a = document_text (contract_page title a)

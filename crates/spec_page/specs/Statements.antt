@@ -1,7 +1,7 @@
 -- What is claimed of pages.
 use Rattle.std.specs.Prelude.{◌≡◌, ◌≤◌, ℕ, ◌+◌, zero, suc, List, [], ◌∷◌, ◌++◌, map, length, sum_by, Bool, true, false, not, ◌&&◌, ◌||◌}
 use Rattle.std.specs.Prelude.{◌==◌, nat_le, if◌then◌else◌, codes}
-use Rattle.std.specs.List.{list_all}
+use Rattle.std.specs.List.{list_all, AllByRecursion}
 use Rattle.spec_data.specs.Lists.{are_different}
 use Rattle.spec_terms.specs.Advert.{Advert}
 use Rattle.spec_terms.specs.Order.{branch_paths}
@@ -10,6 +10,7 @@ use Rattle.spec_terms.specs.declared.path.PathStep.{PathStep}
 use Rattle.spec_calculus.specs.Configuration.{Configuration}
 use Rattle.spec_run.specs.declared.event.Event.{Event}
 use Rattle.spec_run.specs.Setup.{Setup}
+use Rattle.spec_run.specs.Statements.{IsRun}
 use Rattle.spec_run.specs.Translation.{Turn}
 use Rattle.spec_page.specs.declared.event_row.Money.{Money}
 use Rattle.spec_page.specs.declared.way_row.Payment.{Payment}
@@ -17,17 +18,18 @@ use Rattle.spec_page.specs.declared.way_row.WayRow.{WayRow}
 use Rattle.spec_page.specs.declared.way_row.WayRow.TheVariants.{Choice, Way}
 use Rattle.spec_page.specs.Ways.{way_rows}
 use Rattle.spec_page.specs.Moments.{Moment}
-use Rattle.spec_page.specs.Balances.{all_deposits, all_contracts, money_of}
+use Rattle.spec_page.specs.Balances.{all_deposits, all_contracts, all_money, money_of}
 use Rattle.spec_page.specs.Folds.{Fold, folded}
-use Rattle.spec_page.specs.Stops.{most_rows, shown_folds, held_in}
+use Rattle.spec_page.specs.Stops.{most_rows, shown_folds, held_in, stops}
 use Rattle.spec_page.specs.Html.{escaped, IsWellFormedPage}
-use Rattle.spec_page.specs.Page.{page_text}
+use Rattle.spec_page.specs.Page.{page_text, contract_text}
 
 -- ---- the page
 
 -- every page is well-formed, whatever its title and its names are
-abbrev pub PagesAreWellFormed : Type 0
-PagesAreWellFormed = (title : List ℕ) (s : Setup) (es : List Event) → IsWellFormedPage (page_text title s es)
+pub record PagesAreWellFormed : Type 0 where
+  pub runs : (title : List ℕ) (s : Setup) (es : List Event) → IsWellFormedPage (page_text title s es)
+  pub contracts : (title : List ℕ) (a : Advert) → IsWellFormedPage (contract_text title a)
 
 -- ---- texts and values
 
@@ -128,3 +130,8 @@ abbrev pub MoneyIsWhole : Type 0
 MoneyIsWhole =
     (parties : List (List ℕ)) (total : ℕ) (g : Configuration) → are_different parties ≡ true
     → all_deposits g + all_contracts g ≤ total → all_of_it (money_of parties total g) ≡ total
+
+-- in a run of checked contracts all sums of each row together are the header's deposits
+abbrev pub RowsAreWhole : Type 0
+RowsAreWhole =
+    (s : Setup) (es : List Event) → IsRun s es → AllByRecursion (λ st. all_of_it st.row.money ≡ all_money s) (stops s es)

@@ -4,10 +4,11 @@ use Rattle.std.specs.Prelude.{◌&&◌, ◌==◌, if◌then◌else◌, codes, fi
 use Rattle.std.specs.Str.{bytes_eq}
 use Rattle.std.specs.List.{list_all}
 use Rattle.theory_text.proofs.ListFacts.{and_is, and_left, and_right}
-use Rattle.spec_page.specs.Html.{Element, element, raw, Content, nothing, words, inner, is_well_formed, is_well_formed_inside}
+use Rattle.spec_page.specs.Html.{Element, element, raw, Content, nothing, words, inner, is_well_formed, is_well_formed_inside, IsWellFormedPage}
 use Rattle.spec_page.specs.Html.{all_of, spaced, lines_of, classed, said}
 use Rattle.spec_terms.specs.Advert.{Advert}
 use Rattle.spec_tool.specs.declared.which.Which.TheVariants.{Init, At}
+use Rattle.spec_run.specs.declared.event.Event.{Event}
 use Rattle.spec_run.specs.Setup.{Setup}
 use Rattle.spec_page.specs.declared.way_row.Stake.{Stake}
 use Rattle.spec_page.specs.declared.way_row.Condition.{Condition}
@@ -35,6 +36,7 @@ use Rattle.spec_page.specs.RunPart.{event_element, event_elements, end_element, 
 use Rattle.spec_page.specs.Page.{stop_outlook, columns_of, run_body, bar_piece}
 use Rattle.spec_page.specs.Page.{outlook_elements, outlook_part, party_pieces, bar_part, last_money, slider_part, contract_bodies, table_part}
 use Rattle.spec_page.specs.Page.{text_part, head_part, body_part, page_of, page, page_text}
+use Rattle.spec_page.specs.Page.{contract_scene, contract_table, contract_body, contract_page, contract_text}
 use Rattle.spec_page.specs.Statements.{PagesAreWellFormed}
 
 -- ---- elements one after another
@@ -271,9 +273,11 @@ unfolding table_part
 table_formed s count sts =
     let c = columns_of s sts in
     let rows = map {B = EventRow} (λ st. st.row) sts in
-    all_formed (contract_bodies s sts 0 s.contracts ++ run_body s count sts ∷ [])
+    and_is _ _
+    (all_formed (contract_bodies s sts 0 s.contracts ++ run_body s count sts ∷ [])
     ∙ both_formed (contract_bodies s sts 0 s.contracts) (run_body s count sts ∷ []) (bodies_formed s sts 0 s.contracts)
-    (and_is _ _ (lines_formed (run_elements c count rows (last_money s sts)) ∙ run_formed c count rows (last_money s sts)) refl)
+    (and_is _ _ (lines_formed (run_elements c count rows (last_money s sts)) ∙ run_formed c count rows (last_money s sts)) refl))
+    refl
 
 text_formed : (adverts : List Advert) → is_well_formed (text_part adverts) ≡ true
 unfolding text_part
@@ -304,10 +308,30 @@ page_formed : (title : List ℕ) (s : Setup) (count : ℕ) (sts : List Stop) →
 unfolding page_of
 page_formed title s count sts = and_is _ _ (head_part_formed title) (and_is _ _ (body_formed title s count sts) refl)
 
-pub pages_are_well_formed : PagesAreWellFormed
+-- ---- the page of a contract alone
+
+contract_part_formed : (a : Advert) → is_well_formed (contract_table a) ≡ true
+unfolding contract_table
+contract_part_formed a =
+    and_is _ _ (and_is _ _ (lines_formed (contract_elements (contract_scene a)) ∙ contract_formed (contract_scene a)) refl) refl
+
+contract_body_formed : (title : List ℕ) (a : Advert) → is_well_formed (contract_body title a) ≡ true
+unfolding contract_body
+contract_body_formed title a = and_is _ _ (contract_part_formed a) (and_is _ _ (text_formed (a ∷ [])) refl)
+
+contract_page_formed : (title : List ℕ) (a : Advert) → is_well_formed (contract_page title a) ≡ true
+unfolding contract_page
+contract_page_formed title a = and_is _ _ (head_part_formed title) (and_is _ _ (contract_body_formed title a) refl)
+
+-- ---- pages
+
+of_runs : (title : List ℕ) (s : Setup) (es : List Event) → IsWellFormedPage (page_text title s es)
 unfolding page_text
-pages_are_well_formed title s es = record {
-  tree = page title s es;
-  well_formed = page_formed title s (length es) (stops s es);
-  spelled = refl;
-}
+of_runs title s es = record { tree = page title s es; well_formed = page_formed title s (length es) (stops s es); spelled = refl }
+
+of_contracts : (title : List ℕ) (a : Advert) → IsWellFormedPage (contract_text title a)
+unfolding contract_text
+of_contracts title a = record { tree = contract_page title a; well_formed = contract_page_formed title a; spelled = refl }
+
+pub pages_are_well_formed : PagesAreWellFormed
+pages_are_well_formed = record { runs = of_runs; contracts = of_contracts }

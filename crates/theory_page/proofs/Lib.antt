@@ -3,3 +3,4 @@ mod Held
 mod Shown
 mod Whole
 mod Formed
+mod Runs

@@ -54,6 +54,9 @@ all-cons d ds (p ∷ ps) =
 
 -- ---- a deposit has one owner
 
+no_sum : (m n : ℕ) → m ≡ 0 → n ≡ 0 → m + n ≡ 0
+no_sum m n e f = omega (arith, e, f)
+
 abbrev owned_by : Owner → ℕ → Deposit
 owned_by o v = record { number = 0; owner = o; value = v }
 
@@ -68,7 +71,7 @@ not_shared (Party x) v party (p ∷ ps) e h =
     let apart : bytes_eq x p ≡ false = subst (λ (y : List ℕ). bytes_eq y p ≡ false) (sym same) other in
     let rest : shares (owned_by (Party x) v) ps ≡ 0 = not_shared (Party x) v party ps e (or_right _ _ h) in
     let none : cond (bytes_eq x p) v 0 ≡ 0 = ap (λ (mine : Bool). cond mine v 0) apart in
-    omega (arith, none, rest)
+    no_sum _ _ none rest
 
 unnumbered : (d : Deposit) (ps : List (List ℕ)) → shares d ps ≡ shares (owned_by d.owner d.value) ps
 unnumbered d [] = refl

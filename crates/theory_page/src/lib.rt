@@ -1,9 +1,12 @@
 //! What follows of pages: each theorem is the contract of a function that does nothing.
 #![tactic(auto)]
 
-ghost use Rattle.spec_page.specs.Statements.{PagesAreWellFormed, TextsAreSafe, RowsShowBranches, AllRowsHoldEvents, MoneyIsWhole};
+ghost use Rattle.spec_page.specs.Statements.{PagesAreWellFormed, TextsAreSafe, RowsShowBranches, AllRowsHoldEvents, MoneyIsWhole, RowsAreWhole};
+ghost use Rattle.theory_run.specs.Sound.{RunsAreSound};
 
-/// Every page is well-formed HTML, whatever its title and its names are.
+use theory_run::runs_are_sound;
+
+/// Every page of a run or of a contract alone is well-formed HTML, whatever its title and its names are.
 pub fn pages_are_well_formed()
     ensures { PagesAreWellFormed }
 {}
@@ -23,7 +26,20 @@ pub fn rows_hold_events()
     ensures { AllRowsHoldEvents }
 {}
 
-/// All sums of a row together are the deposits.
+/// Where no more is there than was, all sums of a row together are what was.
 pub fn money_is_whole()
     ensures { MoneyIsWhole }
 {}
+
+fn by_sound_runs()
+    requires { RunsAreSound }
+    ensures { RowsAreWhole }
+{}
+
+/// In every run of checked contracts all sums of each row together are the header's deposits.
+pub fn rows_are_whole()
+    ensures { RowsAreWhole }
+{
+    runs_are_sound();
+    by_sound_runs();
+}

@@ -1,0 +1,10 @@
+//! The page of a contract and of a run with it: rows as plain data, and how HTML writes them.
+#![tactic(auto)]
+
+pub mod event_row;
+pub mod status;
+pub mod way_row;
+
+pub use event_row::{EventRow, Look, Money};
+pub use status::Status;
+pub use way_row::{Condition, Payment, Stake, WayRow};

@@ -1,0 +1,6 @@
+mod Safe
+mod Held
+mod Shown
+mod Whole
+mod Formed
+mod Runs

@@ -1,0 +1,45 @@
+//! What follows of pages: each theorem is the contract of a function that does nothing.
+#![tactic(auto)]
+
+ghost use Rattle.spec_page.specs.Statements.{PagesAreWellFormed, TextsAreSafe, RowsShowBranches, AllRowsHoldEvents, MoneyIsWhole, RowsAreWhole};
+ghost use Rattle.theory_run.specs.Sound.{RunsAreSound};
+
+use theory_run::runs_are_sound;
+
+/// Every page of a run or of a contract alone is well-formed HTML, whatever its title and its names are.
+pub fn pages_are_well_formed()
+    ensures { PagesAreWellFormed }
+{}
+
+/// Whatever is written as a text or a value stays there, and is read as it is shown.
+pub fn texts_are_safe()
+    ensures { TextsAreSafe }
+{}
+
+/// The rows of a contract show each of its branches as often as it stands in it.
+pub fn rows_show_branches()
+    ensures { RowsShowBranches }
+{}
+
+/// The rows of a run hold its events, each once; of those that are shown none holds an event that another holds.
+pub fn rows_hold_events()
+    ensures { AllRowsHoldEvents }
+{}
+
+/// Where no more is there than was, all sums of a row together are what was.
+pub fn money_is_whole()
+    ensures { MoneyIsWhole }
+{}
+
+fn by_sound_runs()
+    requires { RunsAreSound }
+    ensures { RowsAreWhole }
+{}
+
+/// In every run of checked contracts all sums of each row together are the header's deposits.
+pub fn rows_are_whole()
+    ensures { RowsAreWhole }
+{
+    runs_are_sound();
+    by_sound_runs();
+}

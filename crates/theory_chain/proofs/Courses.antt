@@ -1,6 +1,7 @@
 -- Chains that are followed, transaction by transaction.
 use Rattle.std.proofs.Common.{◌≡◌, ℕ, ◌+◌, List, [], ◌∷◌, ◌++◌, length, Bool, true, false, Option, Some, None, refl, sym, ap, subst, ◌∙◌, inl, inr, ◌⊎◌, append_assoc}
 use Rattle.spec_data.specs.Messages.{collision}
+use Rattle.spec_compiler.specs.Keyed.Keys.{Keys}
 use Rattle.spec_compiler.specs.Keyed.Instance.{Instance}
 use Rattle.spec_text.specs.Lines.{lines_of}
 use Rattle.spec_deal.specs.declared.transaction.Transaction.{Transaction}
@@ -11,7 +12,7 @@ use Rattle.spec_chain.specs.declared.fault.ChainFault.TheVariants as faults
 use Rattle.spec_chain.specs.declared.happened.Happened.{Happened}
 use Rattle.spec_chain.specs.declared.reading.Confirmed.{Confirmed}
 use Rattle.spec_chain.specs.declared.reading.Reading.{Reading}
-use Rattle.spec_chain.specs.Chain.{Course, Followed, stands, refused, collided, transaction_strings, if_matters, gone_on, at_end, follow, opening_course}
+use Rattle.spec_chain.specs.Chain.{Course, Followed, stands, refused, collided, transaction_strings, if_matters, gone_on, at_end, follow, opening_course, follow_chain}
 use Rattle.spec_chain.specs.ChainFile.{read_lines, read_chain}
 use Rattle.spec_chain.specs.Following.{happened, matters}
 use Rattle.spec_chain.specs.Refusals.{refusal}
@@ -221,8 +222,12 @@ module _ (hash : List ℕ → List ℕ) (s : Instance) (ts : List Transaction) w
   leads_on [] more course middle last h k = subst (λ (c : Course). LeadsTo hash s ts c more last) (sym h) k
   leads_on (c ∷ cs) more course middle last h k = leads_on cs more (gone_on hash s ts course c) middle last h.2 k.2
 
-pub history_stays : HistoryStays
-history_stays hash keys s text longer more course later tip top cut e k =
+-- what longer files have behind the transactions of a file leads on from there
+pub further : (hash : List ℕ → List ℕ) (keys : Keys) (s : Instance) (text longer : List ℕ) (more : List (List ℕ))
+    (course later : Course) (tip top : ℕ) → lines_of longer ≡ lines_of text ++ more
+    → follow_chain hash keys s text ≡ stands course tip → follow_chain hash keys s longer ≡ stands later top
+    → (cs : List Confirmed) × LeadsTo hash s (transactions hash keys s) course cs later
+further hash keys s text longer more course later tip top cut e k =
     let ts = transactions hash keys s in
     let p = (followed_exactly hash keys s text course tip).0 e in
     let q = (followed_exactly hash keys s longer later top).0 k in
@@ -231,7 +236,13 @@ history_stays hash keys s text longer more course later tip top cut e k =
     let long : spelled (read_chain longer).confirmed (read_chain longer).tip ≡ behind (read_chain text).confirmed rest
     = sym (lines_alone longer q.0) ∙ ap (read_lines [] 1 0) cut
     ∙ lines_longer 1 0 (lines_of text) more (read_chain text).confirmed (read_chain text).tip short in
-    let there = ap (λ (r : Reading). r.confirmed) long in
-    history_grows hash s ts rest.confirmed course later
-    (leads_on hash s ts (read_chain text).confirmed rest.confirmed (opening_course hash keys s) course later p.2
-    (subst (λ (cs : List Confirmed). LeadsTo hash s ts (opening_course hash keys s) cs later) there q.2))
+    let there = ap (λ (r : Reading). r.confirmed) long in (
+      rest.confirmed,
+      leads_on hash s ts (read_chain text).confirmed rest.confirmed (opening_course hash keys s) course later p.2
+          (subst (λ (cs : List Confirmed). LeadsTo hash s ts (opening_course hash keys s) cs later) there q.2),
+    )
+
+pub history_stays : HistoryStays
+history_stays hash keys s text longer more course later tip top cut e k =
+    let p = further hash keys s text longer more course later tip top cut e k in
+    history_grows hash s (transactions hash keys s) p.0 course later p.1

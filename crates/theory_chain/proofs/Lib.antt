@@ -2,3 +2,4 @@ pub mod LineReads
 pub mod FileReads
 pub mod Courses
 pub mod Needs
+pub mod Stays

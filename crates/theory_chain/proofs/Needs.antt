@@ -1,7 +1,7 @@
 -- A transaction for which nothing is wanting is finished, final and funded.
 use Rattle.std.proofs.Common.{◌≡◌, ℕ, ◌+◌, ◌≤◌, List, [], ◌∷◌, ◌++◌, length, map, Bool, true, false, Option, Some, None, refl, sym, ap, subst, ◌∙◌, cond, arith, inl, inr}
 use Rattle.std.specs.Prelude.{◌⊎◌, if◌then◌else◌, option_map, not, ◌&&◌, ◌||◌, ◌==◌, nat_lt, filter, is_some}
-use Rattle.std.specs.List.{find, list_all, list_any, flat_map}
+use Rattle.std.specs.List.{list_all, list_any, flat_map}
 use Rattle.std.proofs.lemmas.Bool.{and_from}
 use Rattle.std.proofs.lemmas.Bool.Decides.{nat_tests}
 use Rattle.spec_terms.specs.Advert.{Advert}
@@ -24,7 +24,7 @@ use Rattle.spec_deal.specs.declared.entry.Shown.{Shown}
 use Rattle.spec_deal.specs.declared.finish.FinishRefusal.TheVariants as refusals
 use Rattle.spec_deal.specs.declared.signed.Signed.{Signed}
 use Rattle.spec_deal.specs.declared.transaction.Transaction.{Transaction}
-use Rattle.spec_deal.specs.Finished.{which_branch, predicate_holds, predicate_refusal, finish_refusal}
+use Rattle.spec_deal.specs.Finished.{which_branch, predicate_holds, predicate_refusal}
 use Rattle.spec_deal.specs.Given.{has, missing, endorsements, may_start}
 use Rattle.spec_deal.specs.SecretFile.{string_for}
 use Rattle.spec_deal.specs.Slots.{Slot, slots, input_slots, slots_from, listed_slots, is_endorsement}
@@ -34,12 +34,11 @@ use Rattle.theory_calculus.proofs.Members.{in_left, in_right, in_append, in_filt
 use Rattle.theory_script.specs.Keyed.Listed.{at_path}
 use Rattle.theory_deal.proofs.ByName.{listed_in, listed_path}
 use Rattle.theory_deal.specs.Whole.{FinishesExactly}
-use Rattle.spec_chain.specs.declared.want.Want.{Want}
 use Rattle.spec_chain.specs.declared.want.Want.TheVariants as wants
 use Rattle.spec_chain.specs.Following.{State}
 use Rattle.spec_chain.specs.Outputs.{is_deposit, transaction_named}
 use Rattle.spec_chain.specs.Wanting.{lock_of, height_wants, is_needed_for, signature_want, signature_wants, deposits_needed, deposits_wanting, secrets_wanting, secret_want, gone_wants, is_false, predicate_wants, wanting}
-use Rattle.theory_chain.specs.Prospects.{CanCome, CanComes}
+use Rattle.theory_chain.specs.Prospects.{CanComes}
 
 -- ---- lists of which nothing is left
 
@@ -65,6 +64,7 @@ none_fail p (x ∷ xs) e = by_test (p x) e (none_fail p xs)
   where
     nonempty : {X : Type 0} (y : X) (ys : List X) → y ∷ ys ≡ [] → ⊥
     nonempty y ys k = cc
+
     by_test : (b : Bool) → cond (not b) (x ∷ filter (λ y. not (p y)) xs) (filter (λ y. not (p y)) xs) ≡ []
         → (filter (λ y. not (p y)) xs ≡ [] → list_all p xs ≡ true) → (b && list_all p xs) ≡ true
     by_test true k later = later k
@@ -129,6 +129,7 @@ module _ (hash : List ℕ → List ℕ) (keys : Keys) (s : Instance) where
       name_of : Option Listed → Which
       name_of None = names.At path
       name_of (Some x) = x.which
+
       by_entry : (o : Option Unsigned) → option_map (path_listed s path) o ≡ Some l → l.which ≡ names.At path
       by_entry None k = ap name_of (sym k)
       by_entry (Some d) k = ap name_of (sym k)
@@ -141,6 +142,7 @@ module _ (hash : List ℕ → List ℕ) (keys : Keys) (s : Instance) where
     where
       same : {A : Type 0} {a b : A} → Some a ≡ Some b → a ≡ b
       same k = cc
+
       by_test : (b : Bool) → path_eq p.0 path ≡ b → cond b (Some (p.1)) (at_path path es) ≡ Some d
           → (at_path path es ≡ Some d
           → transaction_named (map (transaction hash keys s.advert) (map (λ p. path_listed s (p.0) (p.1)) es)) (names.At path)
@@ -160,6 +162,7 @@ module _ (hash : List ℕ → List ℕ) (keys : Keys) (s : Instance) where
     where
       same : {A : Type 0} {a b : A} → Some a ≡ Some b → a ≡ b
       same k = cc
+
       by_entry : (o : Option Unsigned) → unsigned_at hash keys s path ≡ o → option_map (path_listed s path) o ≡ Some l
           → transaction_named (transactions hash keys s) (names.At path) ≡ Some (transaction hash keys s.advert l)
       by_entry None h k = cc
@@ -229,6 +232,21 @@ held strings wanting (Some b) e h =
     by_test false true k = refl
     by_test false false k = cc
 
+-- no deposit is wanting where nothing is
+pub nothing_wanting : (hash : List ℕ → List ℕ) (keys : Keys) (s : Instance) (given : List Signed) (strings : List Shown) (state : State)
+    (tip : ℕ) (which : Which) → wanting hash keys s given strings state tip which ≡ [] → deposits_wanting s state which ≡ []
+nothing_wanting hash keys s given strings state tip which none =
+    let heights = height_wants (transactions hash keys s) tip which in
+    let signatures = signature_wants hash keys s given which in
+    let deposits = map wants.Deposit (deposits_wanting s state which) in
+    let secrets = map (secret_want s) (secrets_wanting s strings which) in
+    let gone = gone_wants (deposits_wanting s state which) in
+    let predicate = predicate_wants s strings which in
+    map_nil wants.Deposit (deposits_wanting s state which)
+    (left_none deposits (secrets ++ (gone ++ predicate))
+    (right_none signatures (deposits ++ (secrets ++ (gone ++ predicate)))
+    (right_none heights (signatures ++ (deposits ++ (secrets ++ (gone ++ predicate)))) none)))
+
 pub can_comes : FinishesExactly → CanComes
 can_comes finishes_exactly hash keys s given strings state tip which l named none =
     let name = listed_name hash keys s which l named in
@@ -246,13 +264,13 @@ can_comes finishes_exactly hash keys s given strings state tip which l named non
     let no_secret = map_nil (secret_want s) (secrets_wanting s strings which) (left_none secrets (gone ++ predicate) after_deposits) in
     record {
       finishes = (finishes_exactly hash keys s given strings l).1 (record {
-      endorsed = λ e. endorsed hash keys s given which no_signature (sym name ∙ e);
-      signed = signed hash keys s given which l named no_signature;
-      shown = subst (λ (w : Which). list_all (λ a. is_some (string_for strings a)) (revealed_by (which_branch s w)) ≡ true) (sym name)
-          (none_fail (λ a. is_some (string_for strings a)) (revealed_by (which_branch s which)) no_secret);
-      holds = subst (λ (w : Which). predicate_refusal strings (which_branch s w) ≡ None) (sym name)
-          (held strings (secrets_wanting s strings which) (which_branch s which) no_secret
-          (right_none gone predicate after_secrets));
+        endorsed = λ e. endorsed hash keys s given which no_signature (sym name ∙ e);
+        signed = signed hash keys s given which l named no_signature;
+        shown = subst (λ (w : Which). list_all (λ a. is_some (string_for strings a)) (revealed_by (which_branch s w)) ≡ true) (sym name)
+            (none_fail (λ a. is_some (string_for strings a)) (revealed_by (which_branch s which)) no_secret);
+        holds = subst (λ (w : Which). predicate_refusal strings (which_branch s w) ≡ None) (sym name)
+            (held strings (secrets_wanting s strings which) (which_branch s which) no_secret
+            (right_none gone predicate after_secrets));
       });
       final = reached tip l.draft.lock
           (subst (λ (o : Option Transaction). (if nat_lt tip (lock_of o) then wants.Height (lock_of o) ∷ [] else []) ≡ [])

@@ -2,10 +2,10 @@
 #![tactic(auto)]
 
 ghost use Rattle.theory_chain.specs.Files.{ChainsAreSpelled, ChainsAreRefused};
-ghost use Rattle.theory_chain.specs.Prospects.{CanComes};
+ghost use Rattle.theory_chain.specs.Prospects.{CanComes, CanOpens, GoneNeverComes, KnownFit};
 ghost use Rattle.theory_chain.specs.Follows.{FollowedExactly, RefusedExactly, HistoryStays};
 
-use theory_deal::finishes_exactly;
+use theory_deal::{finished_opens, finishes_exactly};
 
 /// A chain file is taken exactly where its lines spell these transactions and this tip.
 pub fn chains_are_spelled()
@@ -38,3 +38,22 @@ pub fn can_comes()
 {
     finishes_exactly();
 }
+
+/// Every string that is known fits its secret.
+pub fn known_fit()
+    ensures { KnownFit }
+{}
+
+/// The witnesses of a transaction for which nothing is wanting open what it spends, for every judge that accepts its signatures.
+pub fn can_opens()
+    ensures { CanOpens }
+{
+    can_comes();
+    finished_opens();
+    known_fit();
+}
+
+/// A transaction whose deposit is gone never can come, whatever lines are added, and whatever is signed and known.
+pub fn gone_never_comes()
+    ensures { GoneNeverComes }
+{}

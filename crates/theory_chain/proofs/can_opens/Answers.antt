@@ -1,0 +1,8 @@
+use Rattle.spec_chain.specs.Wanting.{known}
+use Rattle.theory_chain.proofs.can_opens.Goals as goal
+
+pub returns : goal.returns
+returns c = λ hash keys s text course tip given strings which l judge are_keys settled short fit stands named none accepted.
+    c.finished_opens.ensures hash keys s given (known course.state strings) which l judge are_keys settled short
+    (c.known_fit.ensures hash keys s text course tip strings stands fit) named
+    (c.can_comes.ensures hash keys s given (known course.state strings) course.state tip which l named none).finishes accepted

@@ -6,3 +6,4 @@ mod WorkedPut
 mod WorkedRivals
 mod WorkedGuess
 mod WorkedLottery
+mod WorkedParts

@@ -20,7 +20,7 @@ use Rattle.spec_page.specs.Ways.{way_rows}
 use Rattle.spec_page.specs.Moments.{Moment}
 use Rattle.spec_page.specs.Balances.{all_deposits, all_contracts, all_money, money_of}
 use Rattle.spec_page.specs.Folds.{Fold, folded}
-use Rattle.spec_page.specs.Stops.{most_rows, shown_folds, held_in, stops}
+use Rattle.spec_page.specs.Stops.{most_rows, is_refusal, fold_look, shown_folds, held_in, stops}
 use Rattle.spec_page.specs.Html.{escaped, IsWellFormedPage}
 use Rattle.spec_page.specs.Page.{page_text, contract_text}
 
@@ -109,6 +109,11 @@ abbrev pub RisesFrom : ℕ → List Fold → Type 0
 RisesFrom n [] = Unit {0}
 RisesFrom n (f ∷ fs) = (n ≤ f.first) × (f.first ≤ f.last) × RisesFrom (f.last + 1) fs
 
+-- the rows that aren't refused
+abbrev pub others_of : List Fold → List Fold
+others_of [] = []
+others_of (f ∷ fs) = if is_refusal (fold_look f) then others_of fs else (f ∷ others_of fs)
+
 -- the folds of a run hold all its events, each once; those that are shown hold each once at most, and are at most so many
 pub record RowsHoldEvents (m : Moment) (ts : List Turn) : Type 0 where
   pub each : HoldFrom 1 (folded m ts)
@@ -116,6 +121,8 @@ pub record RowsHoldEvents (m : Moment) (ts : List Turn) : Type 0 where
   pub rising : RisesFrom 1 (shown_folds (folded m ts))
   pub few : length (shown_folds (folded m ts)) ≤ most_rows
   pub counted : held_in (shown_folds (folded m ts)) ≤ length ts
+  -- the refused ones go first
+  pub kept : length (others_of (folded m ts)) ≤ most_rows → others_of (shown_folds (folded m ts)) ≡ others_of (folded m ts)
 
 abbrev pub AllRowsHoldEvents : Type 0
 AllRowsHoldEvents = (m : Moment) (ts : List Turn) → RowsHoldEvents m ts

@@ -1,12 +1,12 @@
 -- The rows of a run hold its events, each once.
-use Rattle.std.proofs.Common.{◌≡◌, ℕ, zero, suc, ◌+◌, ◌-◌, ◌≤◌, List, [], ◌∷◌, length, Bool, true, false, refl, arith}
+use Rattle.std.proofs.Common.{◌≡◌, ℕ, zero, suc, ◌+◌, ◌-◌, ◌≤◌, List, [], ◌∷◌, length, Bool, true, false, refl, arith, ap, ◌∙◌}
 use Rattle.std.specs.Prelude.{if◌then◌else◌, nat_le}
 use Rattle.std.proofs.lemmas.Bool.Decides.{nat_tests}
 use Rattle.spec_run.specs.Translation.{Turn}
 use Rattle.spec_page.specs.Moments.{Moment, after_turn}
 use Rattle.spec_page.specs.Folds.{Fold, may_share, longer, fold_of, folded_from, folded}
 use Rattle.spec_page.specs.Stops.{most_rows, is_refusal, fold_look, count_refused, with_room, thinned, shown_folds, held_in}
-use Rattle.spec_page.specs.Statements.{HoldFrom, RisesFrom, AllRowsHoldEvents}
+use Rattle.spec_page.specs.Statements.{HoldFrom, RisesFrom, others_of, AllRowsHoldEvents}
 
 -- ---- all rows
 
@@ -156,6 +156,35 @@ shown_held : (small : Bool) (r : ℕ) (fs : List Fold) → held_in (if small the
 shown_held true r fs = omega arith
 shown_held false r fs = thinned_held r most_rows fs
 
+-- ---- the refused ones go first
+
+one_refused : (r : ℕ) (f : Fold) (fs : List Fold) → is_refusal (fold_look f) ≡ true → others_of (with_room r f fs) ≡ others_of fs
+one_refused zero f fs e = refl
+one_refused (suc r) f fs e = ap (λ (refused : Bool). if refused then others_of fs else (f ∷ others_of fs)) e
+
+one_other : (o : ℕ) (f : Fold) (fs : List Fold) → is_refusal (fold_look f) ≡ false → 1 ≤ o → others_of (with_room o f fs) ≡ f ∷ others_of fs
+one_other zero f fs e h = absurd (omega (arith, h))
+one_other (suc o) f fs e h = ap (λ (refused : Bool). if refused then others_of fs else (f ∷ others_of fs)) e
+
+others_kept : (r o : ℕ) (fs : List Fold) → length (others_of fs) ≤ o → others_of (thinned r o fs) ≡ others_of fs
+others_kept r o [] h = refl
+others_kept r o (f ∷ fs) h =
+    by_look (is_refusal (fold_look f)) refl h (λ k. others_kept (r - 1) o fs k) (λ k. others_kept r (o - 1) fs k)
+  where
+    by_look : (refused : Bool) → is_refusal (fold_look f) ≡ refused → length (if refused then others_of fs else (f ∷ others_of fs)) ≤ o
+        → (length (others_of fs) ≤ o → others_of (thinned (r - 1) o fs) ≡ others_of fs)
+        → (length (others_of fs) ≤ o - 1 → others_of (thinned r (o - 1) fs) ≡ others_of fs)
+        → others_of (if refused then with_room r f (thinned (r - 1) o fs) else with_room o f (thinned r (o - 1) fs))
+        ≡ (if refused then others_of fs else (f ∷ others_of fs))
+    by_look true e k a b = one_refused r f (thinned (r - 1) o fs) e ∙ a k
+    by_look false e k a b =
+        one_other o f (thinned r (o - 1) fs) e (omega (arith, k)) ∙ ap (λ (gs : List Fold). f ∷ gs) (b (omega (arith, k)))
+
+all_kept : (small : Bool) (r : ℕ) (fs : List Fold) → length (others_of fs) ≤ most_rows
+    → others_of (if small then fs else thinned r most_rows fs) ≡ others_of fs
+all_kept true r fs h = refl
+all_kept false r fs h = others_kept r most_rows fs h
+
 pub rows_hold_events : AllRowsHoldEvents
 rows_hold_events m ts =
     let fs = folded m ts in
@@ -167,4 +196,5 @@ rows_hold_events m ts =
       rising = shown_rise (nat_le (length fs) most_rows) (most_rows - (length fs - count_refused fs)) fs (rises 1 fs (all_hold m ts));
       few = few_shown fs;
       counted = omega (arith, k, e);
+      kept = all_kept (nat_le (length fs) most_rows) (most_rows - (length fs - count_refused fs)) fs;
     }

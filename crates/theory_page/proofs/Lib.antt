@@ -4,3 +4,4 @@ mod Shown
 mod Whole
 mod Formed
 mod Runs
+mod Told

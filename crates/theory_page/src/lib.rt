@@ -2,6 +2,7 @@
 #![tactic(auto)]
 
 ghost use Rattle.spec_page.specs.Statements.{PagesAreWellFormed, TextsAreSafe, RowsShowBranches, AllRowsHoldEvents, MoneyIsWhole, RowsAreWhole};
+ghost use Rattle.theory_page.specs.Tells.{LinesTellTurns};
 ghost use Rattle.theory_run.specs.Sound.{RunsAreSound};
 
 use theory_run::runs_are_sound;
@@ -43,3 +44,8 @@ pub fn rows_are_whole()
     runs_are_sound();
     by_sound_runs();
 }
+
+/// The lines of a row tell its events and their outcomes: equal lines are of equal events with equal outcomes.
+pub fn lines_tell_turns()
+    ensures { LinesTellTurns }
+{}

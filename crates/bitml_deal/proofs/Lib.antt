@@ -1,5 +1,6 @@
 mod Ending
 mod FinishLemmas
 mod Headlines
+mod LaterLemmas
 mod NamedLemmas
 mod OpeningLemmas

@@ -96,11 +96,7 @@ module _ (s : Setup) (g : Configuration) (w : World) (hs : List (List ℕ)) wher
 
   -- ---- what is shown
 
-<<<<<<< HEAD
-  posted_same : (o : Option (List ℕ)) → is_string_posted o more ≡ is_string_posted o w
-=======
   posted_same : (string : Option (List ℕ)) → is_string_posted string more ≡ is_string_posted string w
->>>>>>> origin/main
   posted_same None = refl
   posted_same (Some bytes) = refl
 

@@ -34,6 +34,7 @@ use Rattle.theory_next.specs.FirstRun.{FirstRunIsARun}
 use Rattle.theory_next.specs.MetAlone.{MetAloneTheorem}
 use Rattle.theory_next.specs.Once.{CandidatesStandOnce}
 use Rattle.theory_next.specs.Ready.{ReadyComesTheorem}
+use Rattle.theory_next.specs.Waits.{WaitsAreMeant}
 use Rattle.theory_next.specs.Wants.{WantsAreExactTheorem}
 use Rattle.theory_text.proofs.Within.Adverts.{read_is_readable}
 use Rattle.theory_tool.proofs.Runs.{opens_calmly}
@@ -46,6 +47,7 @@ pub record Theorems : Type 0 where
   pub said : OffersAreSaid
   pub once : CandidatesStandOnce
   pub wanting : WantsAreExactTheorem
+  pub waits : WaitsAreMeant
   pub ready : ReadyComesTheorem
   pub alone : MetAloneTheorem
   pub lines : FirstLinesAreARun
@@ -124,6 +126,7 @@ module _ (s : Setup) (es : List Event) where
     offered = λ offer i. t.said s es run offer i;
     once = t.once s es run;
     wanting = λ e. t.wanting s (last_configuration s es) (last_world s es) e;
+    waits = λ k advert at. t.waits s es run k advert at;
     ready = t.ready s es run;
     alone = t.alone s es run told.goes_on;
   }

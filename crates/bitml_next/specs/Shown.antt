@@ -4,6 +4,7 @@ use Rattle.std.specs.List.{Contains}
 use Rattle.spec_data.specs.Digits.{hex_text}
 use Rattle.spec_data.specs.Ranges.{most_contracts}
 use Rattle.spec_terms.specs.Advert.{Advert}
+use Rattle.spec_calculus.specs.Beginning.{contract_at}
 use Rattle.spec_run.specs.declared.event.Event.{Event}
 use Rattle.spec_run.specs.declared.event.Run.{Run}
 use Rattle.spec_run.specs.Event.{opening_collision}
@@ -26,6 +27,7 @@ use Rattle.theory_next.specs.FirstRun.{first_setup, HasRoom, AreSecrets}
 use Rattle.theory_next.specs.MetAlone.{MetAlone}
 use Rattle.theory_next.specs.Once.{EachOnce}
 use Rattle.theory_next.specs.Ready.{ReadyComes}
+use Rattle.theory_next.specs.Waits.{WaitsForThose}
 use Rattle.theory_next.specs.Wants.{WantsAreExact}
 
 -- ---- after a run
@@ -43,6 +45,9 @@ pub record SaysOfRun (s : Setup) (es : List Event) (text : List ℕ) : Type 0 wh
   pub once : EachOnce (all_candidates s (last_configuration s es) (last_world s es))
   -- what is wanting is exactly what fails
   pub wanting : (e : Event) → WantsAreExact s (last_configuration s es) (last_world s es) e
+  -- a contract waits exactly for those who can give now something that is wanting
+  pub waits : (k : ℕ) (advert : Advert) → contract_at (last_configuration s es).contracts k ≡ Some advert
+      → WaitsForThose s (last_configuration s es) (last_world s es) k advert
   -- where nothing is wanting, a contract begins and a branch is taken
   pub ready : ReadyComes s es
   -- where an authorisation or a height alone is wanting for a branch and is met, the branch can come

@@ -8,12 +8,13 @@ ghost use Rattle.theory_next.specs.FirstRun.{FirstRunIsARun};
 ghost use Rattle.theory_next.specs.MetAlone.{MetAloneTheorem};
 ghost use Rattle.theory_next.specs.Once.{CandidatesStandOnce};
 ghost use Rattle.theory_next.specs.Ready.{ReadyComesTheorem};
+ghost use Rattle.theory_next.specs.Waits.{WaitsAreMeant};
 ghost use Rattle.theory_next.specs.Wants.{WantsAreExactTheorem};
 ghost use Rattle.bitml_next.specs.Told.{TellsAll};
 
 use theory_next::{
     can_is_meant, candidates_stand_once, first_events_go_through, first_lines_are_a_run,
-    first_run_is_a_run, met_alone, offers_are_said, ready_comes, wants_are_exact,
+    first_run_is_a_run, met_alone, offers_are_said, ready_comes, waits_are_meant, wants_are_exact,
 };
 use theory_tool::valid_runs;
 
@@ -24,6 +25,7 @@ fn by_theorems()
     requires said { OffersAreSaid }
     requires once { CandidatesStandOnce }
     requires wanting { WantsAreExactTheorem }
+    requires waits { WaitsAreMeant }
     requires ready { ReadyComesTheorem }
     requires alone { MetAloneTheorem }
     requires lines { FirstLinesAreARun }
@@ -42,6 +44,7 @@ pub(crate) fn answers_tell_all()
     offers_are_said();
     candidates_stand_once();
     wants_are_exact();
+    waits_are_meant();
     ready_comes();
     met_alone();
     first_lines_are_a_run();

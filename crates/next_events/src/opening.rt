@@ -75,7 +75,7 @@ pub fn put_starting(
 }
 
 // Whether the name is one of these.
-fn is_name_among(names: &[Name], name: &Name) -> bool
+pub(crate) fn is_name_among(names: &[Name], name: &Name) -> bool
     ensures { result ≡ is_among name.now names.now }
 {
     names.iter().any(|n| *n == *name)

@@ -117,12 +117,13 @@ fn is_told(digests: &[(Name, [u8; 32])], name: &Name) -> bool
 pub fn put_digests(
     wants: &mut Seq<Want>,
     pre: &[Pre],
+    contract: u32,
     party: &Name,
     honest: bool,
     digests: &[(Name, [u8; 32])],
 ) -> Result<(), OutOfMemory>
     ensures { OnOk result (wants.new ≡ wants.old ++ spec.unmet
-        (map (λ x. (honest || is_among x (names_of digests.now), wanting.Digest party.now x)) (secrets_of party.now pre.now))) }
+        (map (λ x. (honest || is_among x (names_of digests.now), wanting.Digest party.now contract x)) (secrets_of party.now pre.now))) }
 {
     for entry in pre {
         if let Pre::Secret { party: owner, name } = entry
@@ -131,6 +132,7 @@ pub fn put_digests(
             let told = is_told(digests, name);
             let want = Want::Digest {
                 party: *party,
+                contract,
                 secret: *name,
             };
             put_unless(wants, honest || told, want)?;

@@ -11,6 +11,7 @@ ghost use Rattle.spec_next.specs.Wants as spec;
 ghost use Rattle.bm_syntax.specs.View.{guarded};
 ghost use Rattle.bm_calculus.specs.Answers.{shown, parts_of};
 
+use crate::opening::is_name_among;
 use crate::wanting::put_unless;
 use bm_calculus::{Active, Config};
 use bm_syntax::{Guarded, branch_at as branch_under, lock, puts, reveals};
@@ -79,15 +80,29 @@ fn owner_of(pre: &[Pre], secret: &Name) -> Option<Name>
     None
 }
 
+// What is wanting of a party's secret.
+fn want_of(honest: &[Name], contract: u32, party: Name, secret: &Name) -> Want
+    ensures { result ≡ spec.secret_want honest.now contract (Some party) secret.now }
+{
+    if is_name_among(honest, &party) {
+        return Want::Secret {
+            party,
+            contract,
+            secret: *secret,
+        };
+    }
+    Want::Posted {
+        party,
+        secret: *secret,
+    }
+}
+
 // What is wanting of a secret that isn't revealed.
-fn secret_want(pre: &[Pre], secret: &Name) -> Want
-    ensures { result ≡ spec.secret_want (look_up secret.now (secrets pre.now)) secret.now }
+fn secret_want(honest: &[Name], contract: u32, pre: &[Pre], secret: &Name) -> Want
+    ensures { result ≡ spec.secret_want honest.now contract (look_up secret.now (secrets pre.now)) secret.now }
 {
     match owner_of(pre, secret) {
-        Some(party) => Want::Secret {
-            party,
-            secret: *secret,
-        },
+        Some(party) => want_of(honest, contract, party, secret),
         None => Want::Predicate,
     }
 }
@@ -96,16 +111,17 @@ fn secret_want(pre: &[Pre], secret: &Name) -> Want
 #[tactic(auto, using(std::proofs::Common::append_assoc, crate::proofs::Unmet::unmet_first))]
 fn put_unrevealed(
     wants: &mut Seq<Want>,
+    honest: &[Name],
     config: &Config,
     contract: u32,
     pre: &[Pre],
     reveals: &[Name],
 ) -> Result<(), OutOfMemory>
-    ensures { OnOk result (wants.new ≡ wants.old ++ spec.unmet (spec.revealed config.now contract pre.now reveals.now)) }
+    ensures { OnOk result (wants.new ≡ wants.old ++ spec.unmet (spec.revealed honest.now config.now contract pre.now reveals.now)) }
 {
     for name in reveals {
         let met = config.is_revealed(contract, pre, name);
-        put_unless(wants, met, secret_want(pre, name))?;
+        put_unless(wants, met, secret_want(honest, contract, pre, name))?;
     }
     Ok(())
 }
@@ -115,6 +131,7 @@ fn put_unrevealed(
 #[tactic(auto, using(std::proofs::Common::append_assoc, crate::proofs::Unmet::unmet_first, crate::proofs::Unmet::unmet_append))]
 fn put_asked(
     wants: &mut Seq<Want>,
+    honest: &[Name],
     config: &Config,
     output: u32,
     branch: u32,
@@ -125,19 +142,22 @@ fn put_asked(
 ) -> Result<(), OutOfMemory>
     requires { held ≡ spec.undecided_or_true config.now contract pre.now (core_of (guarded taken.now)) }
     ensures { OnOk result (wants.new ≡ wants.old
-        ++ spec.unmet (spec.asked_for config.now output branch contract pre.now (guarded taken.now))) }
+        ++ spec.unmet (spec.asked_for honest.now config.now output branch contract pre.now (guarded taken.now))) }
 {
     let height = lock(taken);
-    put_unless(wants, height <= config.time(), Want::Height(height))?;
+    let blocks = height.saturating_sub(config.time());
+    let reached = height <= config.time();
+    put_unless(wants, reached, Want::Height { height, blocks })?;
     put_unauthorised(wants, config, output, branch, taken)?;
     put_gone(wants, config, contract, puts(taken))?;
-    put_unrevealed(wants, config, contract, pre, reveals(taken))?;
+    put_unrevealed(wants, honest, config, contract, pre, reveals(taken))?;
     put_unless(wants, held, Want::Predicate)
 }
 
 // The same of the branch of this number at the position of an active contract of this contract.
 fn put_standing(
     wants: &mut Seq<Want>,
+    honest: &[Name],
     config: &Config,
     output: u32,
     branch: u32,
@@ -147,7 +167,7 @@ fn put_standing(
     requires active { parts_of (active_at config.now.active output) ≡ shown (Some active.now) }
     requires contract { contract_at config.now.contracts active.now.contract ≡ Some checked.now }
     ensures { OnOk result (wants.new ≡ wants.old ++ spec.unmet
-        (spec.asked_by_branch config.now output branch (active_at config.now.active output) (branch_at config.now output branch))) }
+        (spec.asked_by_branch honest.now config.now output branch (active_at config.now.active output) (branch_at config.now output branch))) }
 {
     let held = config.may_hold(output, branch);
     let advert = checked.advert();
@@ -157,6 +177,7 @@ fn put_standing(
             let contract = active.contract;
             put_asked(
                 wants,
+                honest,
                 config,
                 output,
                 branch,
@@ -169,15 +190,16 @@ fn put_standing(
     }
 }
 
-/// What is wanting for a branch, nothing where there is no such branch.
+/// What is wanting for a branch where these parties are honest, nothing where there is no such branch.
 pub fn put_branch(
     wants: &mut Seq<Want>,
+    honest: &[Name],
     config: &Config,
     output: u32,
     branch: u32,
 ) -> Result<(), OutOfMemory>
     ensures { OnOk result (wants.new ≡ wants.old ++ spec.unmet
-        (spec.asked_by_branch config.now output branch (active_at config.now.active output) (branch_at config.now output branch))) }
+        (spec.asked_by_branch honest.now config.now output branch (active_at config.now.active output) (branch_at config.now output branch))) }
 {
     let Some(active) = config.contract(output) else {
         return Ok(());
@@ -185,5 +207,5 @@ pub fn put_branch(
     let Some(checked) = config.checked(active.contract) else {
         return Ok(());
     };
-    put_standing(wants, config, output, branch, &active, checked)
+    put_standing(wants, honest, config, output, branch, &active, checked)
 }

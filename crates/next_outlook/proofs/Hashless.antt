@@ -143,7 +143,7 @@ module _ (s : Setup) (g : Configuration) (w : World) (hs : List (List ℕ)) wher
 
   outlook_same : (k : ℕ) (c : Advert) → foretold_outlook s g more k c ≡ foretold_outlook s g w k c
   outlook_same k c =
-      ap (outlook_by (participants c)) (all_same (candidates s g more k c) ∙ ap (all_foretold s g w) (candidates_same k c))
+      ap (outlook_by g (participants c)) (all_same (candidates s g more k c) ∙ ap (all_foretold s g w) (candidates_same k c))
 
   -- ---- strings
 

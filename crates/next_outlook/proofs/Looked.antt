@@ -72,7 +72,7 @@ module _ (s : Setup) (g : Configuration) (w : World) where
       let later = candidates_from s g w (k + 1) cs in
       let cut : collision s.hash w.hashed (foreseen_strings s w here ++ foreseen_strings s w later) ≡ None =
       ap (collision s.hash w.hashed) (sym (flat_map-append (λ (x : Event). (draft s w x).hashes) here later)) ∙ h in
-      λ i. outlook_by (participants c) (prospects_are here (first_calm s.hash w.hashed (foreseen_strings s w here) (foreseen_strings s w later) cut) i)
+      λ i. outlook_by g (participants c) (prospects_are here (first_calm s.hash w.hashed (foreseen_strings s w here) (foreseen_strings s w later) cut) i)
       ∷ outlooks_are (k + 1) cs (rest_calm s.hash w.hashed (foreseen_strings s w here) (foreseen_strings s w later) cut) i
 
 pub looked_by : {H : Type 0} (digest : H → List ℕ → List ℕ) (g : Configuration) (old new : Played H) (list : List Outlook) → old.halt ≡ None

@@ -39,7 +39,7 @@ all_foretold s g w es = flat_map (foretold s g w) es
 
 -- of contract k
 abbrev pub foretold_outlook : Setup → Configuration → World → ℕ → Advert → Outlook
-foretold_outlook s g w k advert = outlook_by (participants advert) (all_foretold s g w (candidates s g w k advert))
+foretold_outlook s g w k advert = outlook_by g (participants advert) (all_foretold s g w (candidates s g w k advert))
 
 -- of the contracts from number k on
 abbrev pub foretold_outlooks : Setup → Configuration → World → ℕ → List Advert → List Outlook

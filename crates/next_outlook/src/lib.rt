@@ -1,10 +1,11 @@
-//! What comes next of the contracts of a run: what each event that a contract has ahead would come to, what is wanting for it, and on
-//! whom something waits.
+//! What comes next of the contracts of a run: what each event that a contract has ahead would come to, what is wanting for it, and who
+//! can give that now.
 #![tactic(auto)]
 
 mod ahead;
 mod candidates;
 mod endorsed;
+mod gives;
 mod looking;
 mod people;
 mod prospects;

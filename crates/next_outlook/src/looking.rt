@@ -69,15 +69,16 @@ fn look_all<H: Hash32 + Drop>(
     Ok(prospects)
 }
 
-// What is told of the events that a contract has ahead, and on whom something waits.
+// What is told of the events that a contract has ahead, and who can give now what is wanting.
 fn outlook_of(
     alloc: Global,
+    config: &Config,
     checked: &Checked,
     prospects: Seq<Prospect>,
 ) -> Result<Outlook, OutOfMemory>
-    ensures { IfOk result (λ outlook. outlook ≡ outlook_by (participants checked.now) prospects) }
+    ensures { IfOk result (λ outlook. outlook ≡ outlook_by config.now (participants checked.now) prospects) }
 {
-    let waits = waits(alloc, checked.parties(), prospects.as_slice())?;
+    let waits = waits(alloc, config, checked.parties(), prospects.as_slice())?;
     Ok(Outlook { prospects, waits })
 }
 
@@ -97,7 +98,7 @@ fn look_contract<H: Hash32 + Drop>(
     let _board = world.board();
     let events = candidates(alloc, world, config, contract, checked)?;
     let prospects = look_all(alloc, world, config, events.as_slice())?;
-    match outlook_of(alloc, checked, prospects) {
+    match outlook_of(alloc, config, checked, prospects) {
         Ok(outlook) => Ok(outlook),
         Err(_) => Err(Halt::Memory),
     }
@@ -165,7 +166,7 @@ fn look_contracts<H: Hash32 + Drop>(
 }
 
 /// What comes next of all contracts of this configuration in this world: what each event that a contract has ahead would come to, what
-/// is wanting for it, and on whom something waits. The ledger, the book and the posted strings stay, and the records too; only the strings
+/// is wanting for it, and who can give that now. The ledger, the book and the posted strings stay, and the records too; only the strings
 /// of the events are hashed, of which one may collide with another or with a message of the run. A run that has halted is answered by its
 /// halt. A run of 16,000 records or more is taken for want of memory.
 pub fn outlooks<H: Hash32 + Drop>(

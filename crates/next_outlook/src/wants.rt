@@ -84,7 +84,14 @@ fn put_committing<H: Hash32 + Drop>(
         Want::Advert(contract),
     )?;
     let honest = is_honest(world, party);
-    put_digests(wants, pre_in(world, contract), party, honest, digests)
+    put_digests(
+        wants,
+        pre_in(world, contract),
+        contract,
+        party,
+        honest,
+        digests,
+    )
 }
 
 // The endorsements of these people that are wanting for a contract that is compiled.
@@ -200,7 +207,10 @@ fn put_wants<H: Hash32 + Drop>(
             let begun = world.board().has_begun(*contract);
             put_begun(wants, config, begun, *contract, party)
         }
-        Event::Fire { output, branch } => put_branch(wants, config, *output, *branch),
+        Event::Fire { output, branch } => {
+            let honest = world.header().honest.as_slice();
+            put_branch(wants, honest, config, *output, *branch)
+        }
         _ => Ok(()),
     }
 }

@@ -4,6 +4,7 @@ ghost use Rattle.std.specs.Prelude.{◌≡◌, ◌++◌, codes, IfOk, OnOk};
 ghost use Rattle.std.specs.Fmt.{decimal};
 ghost use Rattle.spec_text.specs.StepText.{branch_text};
 ghost use Rattle.spec_next.specs.WantText as spec;
+ghost use Rattle.spec_next.specs.declared.want.Want.TheVariants as wants;
 
 use bm_runfile::{put_branch, put_word_number};
 use bm_text::put;
@@ -36,13 +37,65 @@ fn put_doing(
     put_word_number(alloc, out, verb, contract)
 }
 
-// What is wanting of a party's secret.
+// What is wanting of a party's secret, and by which event it is given.
 #[tactic(auto, using(std::proofs::Common::append_assoc))]
-fn put_of(out: &mut Vec<u8>, word: &[u8], secret: &Name, party: &Name) -> Result<(), OutOfMemory>
-    ensures { OnOk result (out.new.items ≡ out.old.items ++ (word.now ++ (secret.now ++ (codes " of " ++ party.now)))) }
+fn put_of(
+    out: &mut Vec<u8>,
+    word: &[u8],
+    secret: &Name,
+    party: &Name,
+    by: &[u8],
+) -> Result<(), OutOfMemory>
+    ensures { OnOk result (out.new.items ≡ out.old.items
+        ++ (word.now ++ (secret.now ++ (codes " of " ++ (party.now ++ by.now))))) }
 {
     put_name(out, word, secret)?;
-    put_name(out, b" of ", party)
+    put_name(out, b" of ", party)?;
+    put(out, by)
+}
+
+// A party's digest.
+#[tactic(auto, using(std::proofs::Common::append_assoc))]
+fn put_digest(
+    alloc: Global,
+    out: &mut Vec<u8>,
+    party: &Name,
+    contract: u32,
+    secret: &Name,
+) -> Result<(), OutOfMemory>
+    ensures { OnOk result (out.new.items ≡ out.old.items
+        ++ spec.want_text (wants.Digest party.now contract secret.now)) }
+{
+    put_of(out, b"needs digest ", secret, party, b" by commit ")?;
+    put_word_number(alloc, out, b"", contract)?;
+    put_name(out, b" ", party)
+}
+
+// An honest party's secret.
+#[tactic(auto, using(std::proofs::Common::append_assoc))]
+fn put_secret(
+    alloc: Global,
+    out: &mut Vec<u8>,
+    party: &Name,
+    contract: u32,
+    secret: &Name,
+) -> Result<(), OutOfMemory>
+    ensures { OnOk result (out.new.items ≡ out.old.items
+        ++ spec.want_text (wants.Secret party.now contract secret.now)) }
+{
+    put_of(out, b"needs secret ", secret, party, b" by reveal ")?;
+    put_word_number(alloc, out, b"", contract)?;
+    put_name(out, b" ", party)?;
+    put_name(out, b" ", secret)
+}
+
+#[tactic(auto, using(std::proofs::Common::append_assoc))]
+fn put_height(alloc: Global, out: &mut Vec<u8>, height: u32, blocks: u32) -> Result<(), OutOfMemory>
+    ensures { OnOk result (out.new.items ≡ out.old.items
+        ++ (codes "needs height " ++ (decimal height ++ (codes " by mine " ++ decimal blocks)))) }
+{
+    put_word_number(alloc, out, b"needs height ", height)?;
+    put_word_number(alloc, out, b" by mine ", blocks)
 }
 
 #[tactic(auto, using(std::proofs::Common::append_assoc))]
@@ -75,7 +128,11 @@ fn put_want(alloc: Global, out: &mut Vec<u8>, want: &Want) -> Result<(), OutOfMe
     match want {
         Want::Advert(contract) => put_word_number(alloc, out, b"needs advertise ", *contract),
         Want::Deposit(name) => put_name(out, b"needs deposit ", name),
-        Want::Digest { party, secret } => put_of(out, b"needs digest ", secret, party),
+        Want::Digest {
+            party,
+            contract,
+            secret,
+        } => put_digest(alloc, out, party, *contract, secret),
         Want::Commitment { party, contract } => {
             put_doing(alloc, out, party, b" commits ", *contract)
         }
@@ -84,14 +141,21 @@ fn put_want(alloc: Global, out: &mut Vec<u8>, want: &Want) -> Result<(), OutOfMe
         }
         Want::Start { party, contract } => put_doing(alloc, out, party, b" inits ", *contract),
         Want::Beginning(contract) => put_word_number(alloc, out, b"needs fire init ", *contract),
-        Want::Height(height) => put_word_number(alloc, out, b"needs height ", *height),
+        Want::Height { height, blocks } => put_height(alloc, out, *height, *blocks),
         Want::Authorisation {
             party,
             output,
             branch,
         } => put_authorises(alloc, out, party, *output, *branch),
         Want::Put(name) => put_gone(out, name),
-        Want::Secret { party, secret } => put_of(out, b"needs secret ", secret, party),
+        Want::Secret {
+            party,
+            contract,
+            secret,
+        } => put_secret(alloc, out, party, *contract, secret),
+        Want::Posted { party, secret } => {
+            put_of(out, b"needs secret ", secret, party, b" by post")
+        }
         Want::Predicate => put(out, b"never: predicate false"),
     }
 }

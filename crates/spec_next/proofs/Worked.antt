@@ -110,8 +110,6 @@ pub before_all : next_answer small_hash (Some (play (codes "r") (codes "c" ∷ [
     codes "needs advertise 0" ∷
     codes "needs A commits 0" ∷
     codes "needs fire init 0" ∷
-    codes "waits A" ∷
-    codes "waits B" ∷
     []))
 unfolding is_name word_front number_front symbol_front read_contract advert_of_all advert_at entries_at entry_at head_at deposit_at
     secret_at
@@ -126,9 +124,9 @@ pub once_opened : next_answer small_hash (Some (play (codes "r") (codes "c" ∷ 
     ≡ prints 0 (lines (
     codes "can reveal 0 A a" ∷
     codes "cannot fire #2 0 SecretUnknown a" ∷
-    codes "needs secret a of A" ∷
+    codes "needs secret a of A by reveal 0 A a" ∷
     codes "cannot fire #2 1 NotFinal" ∷
-    codes "needs height 1000" ∷
+    codes "needs height 1000 by mine 1000" ∷
     codes "waits A" ∷
     []))
 unfolding is_name word_front number_front symbol_front read_contract advert_of_all advert_at entries_at entry_at head_at deposit_at
@@ -147,7 +145,7 @@ pub escrow_waits : next_answer small_hash (Some (play (codes "r") (codes "c" ∷
     codes "needs A authorises #2 0" ∷
     codes "can authorise B #2 1" ∷
     codes "cannot fire #2 1 NotFinal" ∷
-    codes "needs height 7" ∷
+    codes "needs height 7 by mine 7" ∷
     codes "needs B authorises #2 1" ∷
     codes "waits A" ∷
     codes "waits B" ∷

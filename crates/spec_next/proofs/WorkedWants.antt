@@ -42,7 +42,6 @@ pub escrow_needs_endorsement : next_answer small_hash (Some (play (codes "r") (c
     codes "cannot fire init 0 ScriptFalse 0" ∷
     codes "needs A inits 0" ∷
     codes "needs B inits 0" ∷
-    codes "waits A" ∷
     codes "waits B" ∷
     []))
 unfolding is_name word_front number_front symbol_front read_contract advert_of_all advert_at entries_at entry_at head_at deposit_at
@@ -100,8 +99,6 @@ pub no_deposit_fits : next_answer small_hash (Some (play (codes "r") (codes "c" 
     codes "needs B commits 0" ∷
     codes "needs A inits 0" ∷
     codes "needs B inits 0" ∷
-    codes "waits A" ∷
-    codes "waits B" ∷
     []))
 unfolding is_name word_front number_front symbol_front read_contract advert_of_all advert_at entries_at entry_at head_at deposit_at
     secret_at
@@ -117,7 +114,7 @@ pub digest_is_wanting : next_answer small_hash (Some (play (codes "r") (codes "c
     ≡ prints 0 (lines (
     codes "can commit 0 A" ∷
     codes "cannot commit 0 B WrongNames" ∷
-    codes "needs digest b of B" ∷
+    codes "needs digest b of B by commit 0 B" ∷
     codes "cannot endorse 0 A NotAllCommitted" ∷
     codes "needs A commits 0" ∷
     codes "needs B commits 0" ∷
@@ -239,7 +236,6 @@ pub two_contracts : next_answer small_hash (Some (play (codes "r") (codes "c" �
     codes "needs advertise 1" ∷
     codes "needs A commits 1" ∷
     codes "needs A inits 1" ∷
-    codes "waits A" ∷
     []))
 unfolding is_name word_front number_front symbol_front read_contract advert_of_all advert_at entries_at entry_at head_at deposit_at
     secret_at

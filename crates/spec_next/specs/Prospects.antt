@@ -1,11 +1,12 @@
 -- What may come next of the contracts of a run: what each candidate would come to, what is wanting for it, and on whom something waits.
-use Rattle.std.specs.Prelude.{ℕ, ◌+◌, List, [], ◌∷◌, map, filter, Bool, true, false, not, Option, Some, None}
+use Rattle.std.specs.Prelude.{ℕ, ◌+◌, ◌==◌, List, [], ◌∷◌, map, filter, Bool, true, false, not, ◌&&◌, ◌||◌, Option, Some, None}
 use Rattle.std.specs.List.{list_any}
 use Rattle.std.specs.Str.{bytes_eq}
 use Rattle.spec_data.specs.Lists.{is_among, has_number}
 use Rattle.spec_terms.specs.Advert.{Advert}
 use Rattle.spec_terms.specs.Parties.{participants}
 use Rattle.spec_calculus.specs.Configuration.{Configuration}
+use Rattle.spec_calculus.specs.Beginning.{is_advertised as has_advert}
 use Rattle.spec_run.specs.declared.event.Event.{Event}
 use Rattle.spec_run.specs.declared.event.Event.TheVariants as events
 use Rattle.spec_run.specs.declared.outcome.Outcome.{Outcome}
@@ -83,22 +84,23 @@ prospects_of s g w es = map (prospect s g w) (filter (λ e. is_shown s w e (ruli
 
 -- ---- on whom something waits
 
--- the party that is to do what is wanting
+-- the party that is to give what is wanting
 abbrev pub awaited : Want → Option (List ℕ)
 awaited (wants.Advert k) = None
 awaited (wants.Deposit x) = None
-awaited (wants.Digest party secret) = Some party
+awaited (wants.Digest party k secret) = Some party
 awaited (wants.Commitment party k) = Some party
 awaited (wants.Endorsement party k) = Some party
 awaited (wants.Start party k) = Some party
 awaited (wants.Beginning k) = None
-awaited (wants.Height height) = None
+awaited (wants.Height height blocks) = None
 awaited (wants.Authorisation party n i) = Some party
 awaited (wants.Put x) = None
-awaited (wants.Secret party secret) = Some party
+awaited (wants.Secret party k secret) = Some party
+awaited (wants.Posted party secret) = Some party
 awaited wants.Predicate = None
 
--- whether it is for this party to do
+-- whether it is for this party to give
 abbrev pub is_for_whom : Option (List ℕ) → List ℕ → Bool
 is_for_whom None party = false
 is_for_whom (Some name) party = bytes_eq name party
@@ -106,22 +108,76 @@ is_for_whom (Some name) party = bytes_eq name party
 abbrev pub is_for : Want → List ℕ → Bool
 is_for want party = is_for_whom (awaited want) party
 
--- whether something that is wanting for one of these prospects is for this party to do
-abbrev pub is_waited_for : List Prospect → List ℕ → Bool
-is_waited_for ps party = list_any (λ p. list_any (λ want. is_for want party) p.wants) ps
+-- whether an event is this party's commitment to the contract
+abbrev pub is_commitment : List ℕ → ℕ → Event → Bool
+is_commitment party k (events.Commit contract who digests) = bytes_eq who party && (contract == k)
+is_commitment party k _ = false
+
+-- its endorsement of it
+abbrev pub is_endorsement : List ℕ → ℕ → Event → Bool
+is_endorsement party k (events.Endorse contract who) = bytes_eq who party && (contract == k)
+is_endorsement party k _ = false
+
+-- its signature of the initial transaction
+abbrev pub is_start : List ℕ → ℕ → Event → Bool
+is_start party k (events.Init contract who) = bytes_eq who party && (contract == k)
+is_start party k _ = false
+
+-- its authorisation of the branch
+abbrev pub is_authorisation : List ℕ → ℕ → ℕ → Event → Bool
+is_authorisation party n i (events.Authorise who output branch) = bytes_eq who party && (output == n) && (branch == i)
+is_authorisation party n i _ = false
+
+-- its reveal of the secret
+abbrev pub is_reveal : List ℕ → ℕ → List ℕ → Event → Bool
+is_reveal party k secret (events.Reveal contract who name) = bytes_eq who party && (contract == k) && bytes_eq name secret
+is_reveal party k secret _ = false
+
+-- whether the event gives what is wanting
+abbrev pub gives : Want → Event → Bool
+gives (wants.Commitment party k) e = is_commitment party k e
+gives (wants.Endorsement party k) e = is_endorsement party k e
+gives (wants.Start party k) e = is_start party k e
+gives (wants.Authorisation party n i) e = is_authorisation party n i e
+gives (wants.Secret party k secret) e = is_reveal party k secret e
+gives _ e = false
+
+abbrev pub can_come : Ruling → Bool
+can_come rulings.Can = true
+can_come (rulings.Cannot reason) = false
+can_come rulings.Halts = false
+
+-- whether one of these events gives it and can come
+abbrev pub is_given : List Prospect → Want → Bool
+is_given ps want = list_any (λ p. can_come p.ruling && gives want p.event) ps
+
+-- whether nothing stands in the way of giving it by an event that isn't listed: digests, once the contract is advertised, and strings that
+-- are posted
+abbrev pub is_open : Configuration → Want → Bool
+is_open g (wants.Digest party k secret) = has_advert g.advertised k
+is_open g (wants.Posted party secret) = true
+is_open g _ = false
+
+-- whether it can be given now
+abbrev pub is_at_hand : Configuration → List Prospect → Want → Bool
+is_at_hand g ps want = is_open g want || is_given ps want
+
+-- whether this party can give now what is wanting for one of these prospects
+abbrev pub is_waited_for : Configuration → List Prospect → List ℕ → Bool
+is_waited_for g ps party = list_any (λ p. list_any (λ want. is_for want party && is_at_hand g ps want) p.wants) ps
 
 -- those of these people on whom one of the prospects waits
-abbrev pub waits : List (List ℕ) → List Prospect → List (List ℕ)
-waits people ps = filter (λ party. is_waited_for ps party) people
+abbrev pub waits : Configuration → List (List ℕ) → List Prospect → List (List ℕ)
+waits g people ps = filter (λ party. is_waited_for g ps party) people
 
 -- ---- contracts
 
-abbrev pub outlook_by : List (List ℕ) → List Prospect → Outlook
-outlook_by people ps = record { prospects = ps; waits = waits people ps }
+abbrev pub outlook_by : Configuration → List (List ℕ) → List Prospect → Outlook
+outlook_by g people ps = record { prospects = ps; waits = waits g people ps }
 
 -- what comes next of contract k
 abbrev pub outlook : Setup → Configuration → World → ℕ → Advert → Outlook
-outlook s g w k advert = outlook_by (participants advert) (prospects_of s g w (candidates s g w k advert))
+outlook s g w k advert = outlook_by g (participants advert) (prospects_of s g w (candidates s g w k advert))
 
 -- of the contracts from number k on
 abbrev pub outlooks_from : Setup → Configuration → World → ℕ → List Advert → List Outlook

@@ -6,19 +6,23 @@ use Rattle.spec_text.specs.StepText.{branch_text}
 use Rattle.spec_next.specs.declared.want.Want.{Want}
 use Rattle.spec_next.specs.declared.want.Want.TheVariants as wants
 
--- `needs ..`, and of a predicate that is false that it never comes
+-- `needs ..`, by which event where that isn't plain; and of a predicate that is false that it never comes
 abbrev pub want_text : Want → List ℕ
 want_text (wants.Advert k) = codes "needs advertise " ++ decimal k
 want_text (wants.Deposit x) = codes "needs deposit " ++ x
-want_text (wants.Digest party secret) = codes "needs digest " ++ (secret ++ (codes " of " ++ party))
+want_text (wants.Digest party k secret) =
+    codes "needs digest " ++ (secret ++ (codes " of " ++ (party ++ (codes " by commit " ++ (decimal k ++ (codes " " ++ party))))))
 want_text (wants.Commitment party k) = codes "needs " ++ (party ++ (codes " commits " ++ decimal k))
 want_text (wants.Endorsement party k) = codes "needs " ++ (party ++ (codes " endorses " ++ decimal k))
 want_text (wants.Start party k) = codes "needs " ++ (party ++ (codes " inits " ++ decimal k))
 want_text (wants.Beginning k) = codes "needs fire init " ++ decimal k
-want_text (wants.Height height) = codes "needs height " ++ decimal height
+want_text (wants.Height height blocks) = codes "needs height " ++ (decimal height ++ (codes " by mine " ++ decimal blocks))
 want_text (wants.Authorisation party n i) = codes "needs " ++ (party ++ (codes " authorises " ++ branch_text n i))
 want_text (wants.Put x) = codes "needs put " ++ (x ++ codes " gone")
-want_text (wants.Secret party secret) = codes "needs secret " ++ (secret ++ (codes " of " ++ party))
+want_text (wants.Secret party k secret) =
+    codes "needs secret "
+    ++ (secret ++ (codes " of " ++ (party ++ (codes " by reveal " ++ (decimal k ++ (codes " " ++ (party ++ (codes " " ++ secret))))))))
+want_text (wants.Posted party secret) = codes "needs secret " ++ (secret ++ (codes " of " ++ (party ++ codes " by post")))
 want_text wants.Predicate = codes "never: predicate false"
 
 abbrev pub want_line : Want → List ℕ

@@ -1,5 +1,5 @@
 -- What is wanting for an event: the conditions that fail of those that it has in the calculus of BitML.
-use Rattle.std.specs.Prelude.{ℕ, List, [], ◌∷◌, ◌++◌, map, filter, Bool, not, ◌||◌, nat_le, if◌then◌else◌, Option, Some, None}
+use Rattle.std.specs.Prelude.{ℕ, ◌-◌, List, [], ◌∷◌, ◌++◌, map, filter, Bool, not, ◌||◌, nat_le, if◌then◌else◌, Option, Some, None}
 use Rattle.spec_data.specs.Lists.{is_among, has_number, look_up}
 use Rattle.spec_terms.specs.Core.{core, asks, lock, puts_of, reveals_of, test_of}
 use Rattle.spec_terms.specs.Precondition.{Holding, persistent, names_of, secrets}
@@ -44,7 +44,7 @@ bound names bindings = map (λ x. (is_among x (names_of bindings), wants.Deposit
 -- the digests are there of a party that isn't honest
 abbrev pub digests_told : Setup → ℕ → List ℕ → List (List ℕ × List ℕ) → List Condition
 digests_told s k party digests =
-    map (λ x. (is_honest s party || is_among x (names_of digests), wants.Digest party x)) (secrets_at s k party)
+    map (λ x. (is_honest s party || is_among x (names_of digests), wants.Digest party k x)) (secrets_at s k party)
 
 -- each of these has signed all that it endorses
 abbrev pub endorsed : Setup → World → ℕ → Instance → List (List ℕ) → List Condition
@@ -83,33 +83,35 @@ authorised g n i parties = map (λ party. (has_branch_authorised g.branch_author
 abbrev pub put_in : Configuration → ℕ → List (List ℕ) → List Condition
 put_in g k puts = map (λ x. (is_there g.deposits (look_up x (bindings_of g.advertised k)), wants.Put x)) puts
 
--- a secret that is wanting, by its owner; one of nobody, which no contract has that passed the check, is never revealed
-abbrev pub secret_want : Option (List ℕ) → List ℕ → Want
-secret_want None x = wants.Predicate
-secret_want (Some party) x = wants.Secret party x
+-- a secret that is wanting, by its owner: an honest one reveals it, another's is posted; one of nobody, which no contract has that passed
+-- the check, is never revealed
+abbrev pub secret_want : List (List ℕ) → ℕ → Option (List ℕ) → List ℕ → Want
+secret_want honest k None x = wants.Predicate
+secret_want honest k (Some party) x = if is_among party honest then wants.Secret party k x else wants.Posted party x
 
 -- each secret is revealed
-abbrev pub revealed : Configuration → ℕ → List Pre → List (List ℕ) → List Condition
-revealed g k pre names =
-    map (λ x. (is_revealed_by g.revealed k (look_up x (secrets pre)) x, secret_want (look_up x (secrets pre)) x)) names
+abbrev pub revealed : List (List ℕ) → Configuration → ℕ → List Pre → List (List ℕ) → List Condition
+revealed honest g k pre names =
+    map (λ x. (is_revealed_by g.revealed k (look_up x (secrets pre)) x, secret_want honest k (look_up x (secrets pre)) x)) names
 
 -- the predicate isn't false of the revealed lengths; where a secret isn't revealed, nothing decides it
 abbrev pub undecided_or_true : Configuration → ℕ → List Pre → term.Guarded → Bool
 undecided_or_true g k pre c =
     not (are_revealed g.revealed k pre (reveals_of c)) || holds (secret_lengths g.committed k pre (reveals_of c)) (test_of c)
 
--- what the branch asks for, of an active contract of contract k: its height, those whom it asks, deposits, secrets, predicate
-abbrev pub asked_for : Configuration → ℕ → ℕ → ℕ → List Pre → term.Guarded → List Condition
-asked_for g n i k pre b =
-    (nat_le (lock b) g.time, wants.Height (lock b))
+-- what the branch asks for, of an active contract of contract k, where these parties are honest: its height, those whom it asks, deposits,
+-- secrets, predicate
+abbrev pub asked_for : List (List ℕ) → Configuration → ℕ → ℕ → ℕ → List Pre → term.Guarded → List Condition
+asked_for honest g n i k pre b =
+    (nat_le (lock b) g.time, wants.Height (lock b) (lock b - g.time))
     ∷ (authorised g n i (asks b)
     ++ (put_in g k (puts_of (core b))
-    ++ (revealed g k pre (reveals_of (core b))
+    ++ (revealed honest g k pre (reveals_of (core b))
     ++ (undecided_or_true g k pre (core b), wants.Predicate) ∷ [])))
 
-abbrev pub asked_by_branch : Configuration → ℕ → ℕ → Option ActiveContract → Option term.Guarded → List Condition
-asked_by_branch g n i active None = []
-asked_by_branch g n i active (Some b) = asked_for g n i (contract_number active) (pre_of (advert_of g.contracts active)) b
+abbrev pub asked_by_branch : List (List ℕ) → Configuration → ℕ → ℕ → Option ActiveContract → Option term.Guarded → List Condition
+asked_by_branch honest g n i active None = []
+asked_by_branch honest g n i active (Some b) = asked_for honest g n i (contract_number active) (pre_of (advert_of g.contracts active)) b
 
 -- ---- all
 
@@ -124,7 +126,7 @@ conditions s g w (events.Init k party) =
 conditions s g w (events.FireInit k) = agreed g k ++ started g k (persistent (pre_of (contract_at g.contracts k)))
 conditions s g w (events.Reveal k party secret) = begun g w k party
 conditions s g w (events.Authorise party n i) = []
-conditions s g w (events.Fire n i) = asked_by_branch g n i (active_at g.active n) (branch_at g n i)
+conditions s g w (events.Fire n i) = asked_by_branch s.header.honest g n i (active_at g.active n) (branch_at g n i)
 conditions s g w (events.Post bytes) = []
 conditions s g w (events.Sign party label digest) = []
 conditions s g w (events.Give party inputs outputs) = []

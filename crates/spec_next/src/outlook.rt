@@ -42,7 +42,7 @@ impl Drop for Prospect {
     }
 }
 
-/// The events that a contract has ahead, and the parties on whom something waits.
+/// The events that a contract has ahead, and the parties that can give now what is wanting for one of them.
 pub struct Outlook {
     pub prospects: Seq<Prospect>,
     pub waits: Seq<Name>,

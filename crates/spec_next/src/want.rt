@@ -11,9 +11,10 @@ pub enum Want {
     Advert(u32),
     /// No live deposit fits the one of this name, or the one that was bound is gone.
     Deposit(Name),
-    /// The digest of a secret that its party, which isn't honest, is to hand in.
+    /// The digest of a secret that its party, which isn't honest, is to commit.
     Digest {
         party: Name,
+        contract: u32,
         secret: Name,
     },
     /// The party hasn't committed.
@@ -33,7 +34,11 @@ pub enum Want {
     },
     /// The contract hasn't begun.
     Beginning(u32),
-    Height(u32),
+    /// The height isn't reached; so many blocks lead to it.
+    Height {
+        height: u32,
+        blocks: u32,
+    },
     /// The party hasn't authorised the branch.
     Authorisation {
         party: Name,
@@ -42,8 +47,14 @@ pub enum Want {
     },
     /// The deposit that is put in is gone.
     Put(Name),
-    /// The secret isn't revealed.
+    /// The party, which is honest, hasn't revealed the secret.
     Secret {
+        party: Name,
+        contract: u32,
+        secret: Name,
+    },
+    /// The secret of a party that isn't honest isn't posted.
+    Posted {
         party: Name,
         secret: Name,
     },
@@ -58,6 +69,7 @@ impl Drop for Want {
             | Want::Deposit(_)
             | Want::Digest {
                 party: _,
+                contract: _,
                 secret: _,
             }
             | Want::Commitment {
@@ -73,7 +85,10 @@ impl Drop for Want {
                 contract: _,
             }
             | Want::Beginning(_)
-            | Want::Height(_)
+            | Want::Height {
+                height: _,
+                blocks: _,
+            }
             | Want::Authorisation {
                 party: _,
                 output: _,
@@ -81,6 +96,11 @@ impl Drop for Want {
             }
             | Want::Put(_)
             | Want::Secret {
+                party: _,
+                contract: _,
+                secret: _,
+            }
+            | Want::Posted {
                 party: _,
                 secret: _,
             }
@@ -97,8 +117,13 @@ impl Want {
         match self {
             Want::Advert(contract) => Want::Advert(*contract),
             Want::Deposit(name) => Want::Deposit(*name),
-            Want::Digest { party, secret } => Want::Digest {
+            Want::Digest {
+                party,
+                contract,
+                secret,
+            } => Want::Digest {
                 party: *party,
+                contract: *contract,
                 secret: *secret,
             },
             Want::Commitment { party, contract } => Want::Commitment {
@@ -114,7 +139,10 @@ impl Want {
                 contract: *contract,
             },
             Want::Beginning(contract) => Want::Beginning(*contract),
-            Want::Height(height) => Want::Height(*height),
+            Want::Height { height, blocks } => Want::Height {
+                height: *height,
+                blocks: *blocks,
+            },
             Want::Authorisation {
                 party,
                 output,
@@ -125,7 +153,16 @@ impl Want {
                 branch: *branch,
             },
             Want::Put(name) => Want::Put(*name),
-            Want::Secret { party, secret } => Want::Secret {
+            Want::Secret {
+                party,
+                contract,
+                secret,
+            } => Want::Secret {
+                party: *party,
+                contract: *contract,
+                secret: *secret,
+            },
+            Want::Posted { party, secret } => Want::Posted {
                 party: *party,
                 secret: *secret,
             },

@@ -1,10 +1,11 @@
 pub mod Complete
 pub mod Said
 pub mod Exact
+pub mod Apart
 pub mod Ready
 pub mod OneMore
 pub mod MetAlone
-pub mod Apart
+pub mod Waits
 pub mod Once
 pub mod FirstLines
 pub mod FirstRun

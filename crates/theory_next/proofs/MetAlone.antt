@@ -1,7 +1,7 @@
 -- Where one thing alone is wanting for a branch and is met, the branch can be taken.
 use Rattle.std.proofs.Common.{◌≡◌, ℕ, ◌+◌, ◌-◌, ◌<◌, ◌≤◌, List, [], ◌∷◌, ◌++◌, Bool, true, false, Option, Some, None, refl, sym, ap, ◌∙◌}
 use Rattle.std.proofs.Common.{subst, arith, inl, inr, ◌⊎◌}
-use Rattle.std.specs.Prelude.{not, cond, nat_le, is_some, slice_get}
+use Rattle.std.specs.Prelude.{not, cond, if◌then◌else◌, nat_le, is_some, slice_get}
 use Rattle.std.specs.Option.{option_and_then}
 use Rattle.std.proofs.lemmas.Bool.{le-leb, and_from, and_parts, or_left, or_right}
 use Rattle.std.specs.Str.{bytes_eq}
@@ -81,39 +81,57 @@ abbrev party_in : Want → List ℕ
 party_in (wants.Authorisation party n i) = party
 party_in (wants.Advert k) = []
 party_in (wants.Deposit x) = []
-party_in (wants.Digest party secret) = []
+party_in (wants.Digest party k secret) = []
 party_in (wants.Commitment party k) = []
 party_in (wants.Endorsement party contract) = []
 party_in (wants.Start party k) = []
 party_in (wants.Beginning k) = []
-party_in (wants.Height t) = []
+party_in (wants.Height t m) = []
 party_in (wants.Put x) = []
-party_in (wants.Secret party secret) = []
+party_in (wants.Secret party k secret) = []
+party_in (wants.Posted party secret) = []
 party_in wants.Predicate = []
 
 -- the height that is wanting
 abbrev height_in : Want → ℕ
-height_in (wants.Height t) = t
+height_in (wants.Height t m) = t
 height_in (wants.Authorisation party n i) = 0
 height_in (wants.Advert k) = 0
 height_in (wants.Deposit x) = 0
-height_in (wants.Digest party secret) = 0
+height_in (wants.Digest party k secret) = 0
 height_in (wants.Commitment party k) = 0
 height_in (wants.Endorsement party contract) = 0
 height_in (wants.Start party k) = 0
 height_in (wants.Beginning k) = 0
 height_in (wants.Put x) = 0
-height_in (wants.Secret party secret) = 0
+height_in (wants.Secret party k secret) = 0
+height_in (wants.Posted party secret) = 0
 height_in wants.Predicate = 0
+
+-- the blocks that lead to it
+abbrev blocks_in : Want → ℕ
+blocks_in (wants.Height t m) = m
+blocks_in (wants.Authorisation party n i) = 0
+blocks_in (wants.Advert k) = 0
+blocks_in (wants.Deposit x) = 0
+blocks_in (wants.Digest party k secret) = 0
+blocks_in (wants.Commitment party k) = 0
+blocks_in (wants.Endorsement party contract) = 0
+blocks_in (wants.Start party k) = 0
+blocks_in (wants.Beginning k) = 0
+blocks_in (wants.Put x) = 0
+blocks_in (wants.Secret party k secret) = 0
+blocks_in (wants.Posted party secret) = 0
+blocks_in wants.Predicate = 0
 
 -- ---- the conditions of a branch, in their parts
 
-module _ (g : Configuration) (n i k : ℕ) (pre : List Pre) (b : term.Guarded) (x : Want) where
+module _ (honest : List (List ℕ)) (g : Configuration) (n i k : ℕ) (pre : List Pre) (b : term.Guarded) (x : Want) where
   abbrev all : List Condition
-  all = asked_for g n i k pre b
+  all = asked_for honest g n i k pre b
 
   abbrev behind_asks : List Condition
-  behind_asks = put_in g k (puts_of (core b)) ++ (revealed g k pre (reveals_of (core b)) ++ (
+  behind_asks = put_in g k (puts_of (core b)) ++ (revealed honest g k pre (reveals_of (core b)) ++ (
     undecided_or_true g k pre
         (core b),
     wants.Predicate,
@@ -122,7 +140,8 @@ module _ (g : Configuration) (n i k : ℕ) (pre : List Pre) (b : term.Guarded) (
   -- whether it is no want of a put, a secret or a predicate
   record IsOther : Type 0 where
     no_put : (y : List ℕ) → wants.Put y ≡ x → ⊥
-    no_secret : (p y : List ℕ) → wants.Secret p y ≡ x → ⊥
+    no_secret : (p y : List ℕ) → wants.Secret p k y ≡ x → ⊥
+    no_posted : (p y : List ℕ) → wants.Posted p y ≡ x → ⊥
     no_predicate : wants.Predicate ≡ x → ⊥
 
   module _ (a : IsAlone x (unmet all)) (o : IsOther) where
@@ -132,7 +151,7 @@ module _ (g : Configuration) (n i k : ℕ) (pre : List Pre) (b : term.Guarded) (
     none : (c : Condition) → Is_in c behind_asks → c.1 ≡ x → ⊥
     none c h e = elim (in_append c (put_in g k (puts_of (core b))) _ h) [
       | inl p ↦ is_put c p e
-      | inr q ↦ elim (in_append c (revealed g k pre (reveals_of (core b))) _ q) [
+      | inr q ↦ elim (in_append c (revealed honest g k pre (reveals_of (core b))) _ q) [
         | inl r ↦ is_secret c r e
         | inr (inl t) ↦ o.no_predicate (sym (ap (λ (d : Condition). d.1) t) ∙ e)
         | inr (inr t) ↦ absurd t
@@ -142,14 +161,18 @@ module _ (g : Configuration) (n i k : ℕ) (pre : List Pre) (b : term.Guarded) (
         is_put : (c : Condition) → Is_in c (put_in g k (puts_of (core b))) → c.1 ≡ x → ⊥
         is_put c h e = let m = from_map _ (puts_of (core b)) c h in o.no_put m.0 (sym (ap (λ (d : Condition). d.1) m.2) ∙ e)
 
-        is_secret : (c : Condition) → Is_in c (revealed g k pre (reveals_of (core b))) → c.1 ≡ x → ⊥
+        is_secret : (c : Condition) → Is_in c (revealed honest g k pre (reveals_of (core b))) → c.1 ≡ x → ⊥
         is_secret c h e =
             let m = from_map _ (reveals_of (core b)) c h in
             by_owner (look_up m.0 (secrets pre)) m.0 (sym (ap (λ (d : Condition). d.1) m.2) ∙ e)
           where
-            by_owner : (owner : Option (List ℕ)) (y : List ℕ) → secret_want owner y ≡ x → ⊥
+            by_owner : (owner : Option (List ℕ)) (y : List ℕ) → secret_want honest k owner y ≡ x → ⊥
             by_owner None y q = o.no_predicate q
-            by_owner (Some p) y q = o.no_secret p y q
+            by_owner (Some p) y q = by_honesty (is_among p honest) q
+              where
+                by_honesty : (h : Bool) → (if h then wants.Secret p k y else wants.Posted p y) ≡ x → ⊥
+                by_honesty true e = o.no_secret p y e
+                by_honesty false e = o.no_posted p y e
 
     behind_met : met behind_asks ≡ true
     behind_met = all_from behind_asks (λ c h. by_or c h (met_or all x a c (in_behind c h)))
@@ -244,39 +267,38 @@ module _ (s : Setup) (es : List Event) (run : IsRun s es) (on : first_halt s es 
     abbrev entries : List Pre
     entries = pre_of (advert_of g.contracts (active_at g.active n))
 
-    other : (b : term.Guarded) → IsOther g n i number entries b wanting
-    other b = record { no_put = λ y e. cc; no_secret = λ p y e. cc; no_predicate = λ e. cc }
+    other : (b : term.Guarded) → IsOther s.header.honest g n i number entries b wanting
+    other b = record { no_put = λ y e. cc; no_secret = λ p y e. cc; no_posted = λ p y e. cc; no_predicate = λ e. cc }
 
-    asked : (b : term.Guarded) → IsAlone wanting (unmet (asked_for g n i number entries b)) → is_among party (asks b) ≡ true
+    asked : (b : term.Guarded) → IsAlone wanting (unmet (asked_for s.header.honest g n i number entries b)) → is_among party (asks b) ≡ true
     asked b a =
-        let f = is_failing (asked_for g n i number entries b) wanting (in_from_contains (unmet
-        (asked_for g n i number entries b)) wanting a.there) in
-        by_place f.condition (in_from_contains (asked_for g n i number entries b) f.condition f.there) f.wanting
+        let f = is_failing (asked_for s.header.honest g n i number entries b) wanting (in_from_contains (unmet
+        (asked_for s.header.honest g n i number entries b)) wanting a.there) in
+        by_place f.condition (in_from_contains (asked_for s.header.honest g n i number entries b) f.condition f.there) f.wanting
       where
-        by_place : (c : Condition) → Is_in c (asked_for g n i number entries b) → c.1 ≡ wanting → is_among party (asks b) ≡ true
-        by_place c (inl e) q = let z : wants.Height (lock b) ≡ wanting = sym (ap (λ (d : Condition). d.1) e) ∙ q in cc
+        by_place : (c : Condition) → Is_in c (asked_for s.header.honest g n i number entries b) → c.1 ≡ wanting → is_among party (asks b) ≡ true
+        by_place c (inl e) q = let z : wants.Height (lock b) (lock b - g.time) ≡ wanting = sym (ap (λ (d : Condition). d.1) e) ∙ q in cc
         by_place c (inr h) q = elim (in_append c (authorised g n i (asks b)) _ h) [
           | inl r ↦
               let m = from_map _ (asks b) c r in
               let z : m.0 ≡ party = ap party_in (sym (ap (λ (d : Condition). d.1) m.2) ∙ q) in
               subst (λ p. is_among p (asks b) ≡ true) z (among_in m.0 (asks b) m.1)
-          | inr r ↦ absurd (none g n i number entries b wanting a (other b) c r q)
+          | inr r ↦ absurd (none s.header.honest g n i number entries b wanting a (other b) c r q)
         ]
 
-    all_signed : (b : term.Guarded) → IsAlone wanting (unmet (asked_for g n i number entries b))
-        → met (asked_for signed_configuration n i number entries b) ≡ true
+    all_signed : (b : term.Guarded) → IsAlone wanting (unmet (asked_for s.header.honest g n i number entries b))
+        → met (asked_for s.header.honest signed_configuration n i number entries b) ≡ true
     all_signed b a =
-        let cs = asked_for g n i number entries b in
+        let cs = asked_for s.header.honest g n i number entries b in
         let height : nat_le (lock b) g.time ≡ true = by_height (met_or cs wanting a (
           nat_le (lock b) g.time,
-          wants.Height
-              (lock b),
+          wants.Height (lock b) (lock b - g.time),
         ) (inl refl)) in
         and_from _ _ height (met_both (authorised signed_configuration n i (asks b)) _ (all_from
         (authorised signed_configuration n i (asks b)) each)
-        (behind_met g n i number entries b wanting a (other b)))
+        (behind_met s.header.honest g n i number entries b wanting a (other b)))
       where
-        by_height : (nat_le (lock b) g.time ≡ true) ⊎ (wants.Height (lock b) ≡ wanting) → nat_le (lock b) g.time ≡ true
+        by_height : (nat_le (lock b) g.time ≡ true) ⊎ (wants.Height (lock b) (lock b - g.time) ≡ wanting) → nat_le (lock b) g.time ≡ true
         by_height (inl e) = e
         by_height (inr e) = cc
 
@@ -292,15 +314,15 @@ module _ (s : Setup) (es : List Event) (run : IsRun s es) (on : first_halt s es 
             let m = from_map _ (asks b) c h in
             let there = in_map (λ p. (has_branch_authorised g.branch_authorised n i p, wants.Authorisation p n i)) (asks b) m.0 m.1 in
             ap (λ (d : Condition). d.0) m.2
-            ∙ by_party m.0 (met_or (asked_for g n i number entries b) wanting a _ (inr (in_left _ (authorised g n i (asks b)) _ there)))
+            ∙ by_party m.0 (met_or (asked_for s.header.honest g n i number entries b) wanting a _ (inr (in_left _ (authorised g n i (asks b)) _ there)))
 
-    by_branch : (o : Option term.Guarded) → branch_at g n i ≡ o → IsAlone wanting (unmet (asked_by_branch g n i (active_at g.active n) o))
+    by_branch : (o : Option term.Guarded) → branch_at g n i ≡ o → IsAlone wanting (unmet (asked_by_branch s.header.honest g n i (active_at g.active n) o))
         → TurnsAround s es signing n i
     by_branch None here a = absurd (in_from_contains [] wanting a.there)
     by_branch (Some b) here a =
         let d = is_done b here (asked b a) in
         let longer = one_more.is_run s es run on signing declared signed_world d in
-        let enabled = branch_enabled signed_configuration n i (Some b) here refl (all_signed b a) in
+        let enabled = branch_enabled s.header.honest signed_configuration n i (Some b) here refl (all_signed b a) in
         record {
           can = one_more.can s es run on signing declared signed_world d;
           is_run = longer;
@@ -315,10 +337,7 @@ module _ (s : Setup) (es : List Event) (run : IsRun s es) (on : first_halt s es 
 
   -- ---- a height
 
-  module _ (t n i : ℕ) (in_reach : nat_le t last_height ≡ true) where
-    abbrev blocks : ℕ
-    blocks = t - w.tip
-
+  module _ (t blocks n i : ℕ) (in_reach : nat_le t last_height ≡ true) where
     abbrev mining : Event
     mining = events.Mine blocks
 
@@ -329,7 +348,7 @@ module _ (s : Setup) (es : List Event) (run : IsRun s es) (on : first_halt s es 
     later_configuration = record g { time = g.time + blocks }
 
     abbrev reaching : Want
-    reaching = wants.Height t
+    reaching = wants.Height t blocks
 
     abbrev contract : ℕ
     contract = contract_number (active_at g.active n)
@@ -337,30 +356,32 @@ module _ (s : Setup) (es : List Event) (run : IsRun s es) (on : first_halt s es 
     abbrev pres : List Pre
     pres = pre_of (advert_of g.contracts (active_at g.active n))
 
-    rest_other : (b : term.Guarded) → IsOther g n i contract pres b reaching
-    rest_other b = record { no_put = λ y e. cc; no_secret = λ p y e. cc; no_predicate = λ e. cc }
+    rest_other : (b : term.Guarded) → IsOther s.header.honest g n i contract pres b reaching
+    rest_other b = record { no_put = λ y e. cc; no_secret = λ p y e. cc; no_posted = λ p y e. cc; no_predicate = λ e. cc }
 
     -- the height that is wanting is that of the branch, and it isn't reached
     record Awaits (b : term.Guarded) : Type 0 where
       is_lock : lock b ≡ t
+      is_blocks : lock b - g.time ≡ blocks
       ahead : nat_le (lock b) g.time ≡ false
 
-    awaited : (b : term.Guarded) → IsAlone reaching (unmet (asked_for g n i contract pres b)) → Awaits b
+    awaited : (b : term.Guarded) → IsAlone reaching (unmet (asked_for s.header.honest g n i contract pres b)) → Awaits b
     awaited b a =
-        let f = is_failing (asked_for g n i contract pres b) reaching (in_from_contains (unmet
-        (asked_for g n i contract pres b)) reaching a.there) in
-        by_place f.condition (in_from_contains (asked_for g n i contract pres b) f.condition f.there) f.wanting f.fails
+        let f = is_failing (asked_for s.header.honest g n i contract pres b) reaching (in_from_contains (unmet
+        (asked_for s.header.honest g n i contract pres b)) reaching a.there) in
+        by_place f.condition (in_from_contains (asked_for s.header.honest g n i contract pres b) f.condition f.there) f.wanting f.fails
       where
-        by_place : (c : Condition) → Is_in c (asked_for g n i contract pres b) → c.1 ≡ reaching → c.0 ≡ false → Awaits b
+        by_place : (c : Condition) → Is_in c (asked_for s.header.honest g n i contract pres b) → c.1 ≡ reaching → c.0 ≡ false → Awaits b
         by_place c (inl e) q z = record {
           is_lock = ap height_in (sym (ap (λ (d : Condition). d.1) e) ∙ q);
+          is_blocks = ap blocks_in (sym (ap (λ (d : Condition). d.1) e) ∙ q);
           ahead = sym (ap (λ (d : Condition). d.0) e) ∙ z;
         }
         by_place c (inr h) q z = elim (in_append c (authorised g n i (asks b)) _ h) [
           | inl r ↦
               let m = from_map _ (asks b) c r in
               let no : wants.Authorisation m.0 n i ≡ reaching = sym (ap (λ (d : Condition). d.1) m.2) ∙ q in cc
-          | inr r ↦ absurd (none g n i contract pres b reaching a (rest_other b) c r q)
+          | inr r ↦ absurd (none s.header.honest g n i contract pres b reaching a (rest_other b) c r q)
         ]
 
     module _ (b : term.Guarded) (awaits : Awaits b) where
@@ -371,10 +392,10 @@ module _ (s : Setup) (es : List Event) (run : IsRun s es) (on : first_halt s es 
       same_time = tracks.money.time
 
       reaches_it : w.tip + blocks ≡ t
-      reaches_it = omega (arith, below, same_time)
+      reaches_it = let e = awaits.is_lock in let h = awaits.is_blocks in omega (arith, below, same_time, e, h)
 
       some_block : 1 ≤ blocks
-      some_block = omega (arith, below, same_time)
+      some_block = let e = awaits.is_lock in let h = awaits.is_blocks in omega (arith, below, same_time, e, h)
 
       mined : draft s w mining ≡ done later_world []
       mined =
@@ -388,11 +409,11 @@ module _ (s : Setup) (es : List Event) (run : IsRun s es) (on : first_halt s es 
           let e : later_configuration.time ≡ lock b = ap (λ m. m + blocks) same_time ∙ reaches_it ∙ sym awaits.is_lock in
           subst (λ m. nat_le (lock b) m ≡ true) (sym e) (le-leb (lock b) (lock b) (omega arith))
 
-      all_reached : IsAlone reaching (unmet (asked_for g n i contract pres b))
-          → met (asked_for later_configuration n i contract pres b) ≡ true
+      all_reached : IsAlone reaching (unmet (asked_for s.header.honest g n i contract pres b))
+          → met (asked_for s.header.honest later_configuration n i contract pres b) ≡ true
       all_reached a =
           and_from _ _ is_reached (met_both (authorised g n i (asks b)) _ (all_from (authorised g n i (asks b)) each)
-          (behind_met g n i contract pres b reaching a (rest_other b)))
+          (behind_met s.header.honest g n i contract pres b reaching a (rest_other b)))
         where
           by_or : (p : List ℕ) → (has_branch_authorised g.branch_authorised n i p ≡ true) ⊎ (wants.Authorisation p n i ≡ reaching)
               → has_branch_authorised g.branch_authorised n i p ≡ true
@@ -404,9 +425,9 @@ module _ (s : Setup) (es : List Event) (run : IsRun s es) (on : first_halt s es 
               let m = from_map _ (asks b) c h in
               let there = in_map (λ p. (has_branch_authorised g.branch_authorised n i p, wants.Authorisation p n i)) (asks b) m.0 m.1 in
               ap (λ (d : Condition). d.0) m.2
-              ∙ by_or m.0 (met_or (asked_for g n i contract pres b) reaching a _ (inr (in_left _ (authorised g n i (asks b)) _ there)))
+              ∙ by_or m.0 (met_or (asked_for s.header.honest g n i contract pres b) reaching a _ (inr (in_left _ (authorised g n i (asks b)) _ there)))
 
-    by_guarded : (o : Option term.Guarded) → branch_at g n i ≡ o → IsAlone reaching (unmet (asked_by_branch g n i (active_at g.active n) o))
+    by_guarded : (o : Option term.Guarded) → branch_at g n i ≡ o → IsAlone reaching (unmet (asked_by_branch s.header.honest g n i (active_at g.active n) o))
         → TurnsAround s es mining n i
     by_guarded None here a = absurd (in_from_contains [] reaching a.there)
     by_guarded (Some b) here a =
@@ -414,7 +435,7 @@ module _ (s : Setup) (es : List Event) (run : IsRun s es) (on : first_halt s es 
         let d = mined b awaits in
         let some = some_block b awaits in
         let longer = one_more.is_run s es run on mining some later_world d in
-        let enabled = branch_enabled later_configuration n i (Some b) here refl (all_reached b awaits a) in
+        let enabled = branch_enabled s.header.honest later_configuration n i (Some b) here refl (all_reached b awaits a) in
         record {
           can = one_more.can s es run on mining some later_world d;
           is_run = longer;
@@ -430,5 +451,5 @@ module _ (s : Setup) (es : List Event) (run : IsRun s es) (on : first_halt s es 
 pub met_alone : MetAloneTheorem
 met_alone s es run on = record {
   authorisation = λ party n i declared a. authorisation_met s es run on party n i declared a;
-  height = λ t n i in_reach a. height_met s es run on t n i in_reach a;
+  height = λ t blocks n i in_reach a. height_met s es run on t blocks n i in_reach a;
 }

@@ -90,7 +90,7 @@ pub record Enabled (g : Configuration) (e : Event) : Type 0 where
   pub enabled : fails g step ≡ 0
   pub leads : offers_of step ≡ record { step = step; event = e } ∷ []
 
-module _ (g : Configuration) (n i : ℕ) where
+module _ (honest : List (List ℕ)) (g : Configuration) (n i : ℕ) where
   abbrev active : Option ActiveContract
   active = active_at g.active n
 
@@ -105,7 +105,7 @@ module _ (g : Configuration) (n i : ℕ) where
     abbrev pre : List Pre
     pre = pre_of (advert_of g.contracts active)
 
-    module _ (all : met (asked_for g n i k pre b) ≡ true) where
+    module _ (all : met (asked_for honest g n i k pre b) ≡ true) where
       reached : nat_le (lock b) g.time ≡ true
       reached = (and_parts _ _ all).0
 
@@ -113,7 +113,7 @@ module _ (g : Configuration) (n i : ℕ) where
       agreed_to =
           sym (all_map (λ (c : Condition). c.0) _ (asks b)) ∙ (met_parts (authorised g n i (asks b)) _ (and_parts _ _ all).1).0
 
-      rest : met (put_in g k (puts_of (core b)) ++ (revealed g k pre (reveals_of (core b)) ++ (
+      rest : met (put_in g k (puts_of (core b)) ++ (revealed honest g k pre (reveals_of (core b)) ++ (
         undecided_or_true g k pre
             (core b),
         wants.Predicate,
@@ -123,15 +123,15 @@ module _ (g : Configuration) (n i : ℕ) where
       puts_there : are_there g.deposits (bindings_of g.advertised k) (puts_of (core b)) ≡ true
       puts_there = sym (all_map (λ (c : Condition). c.0) _ (puts_of (core b))) ∙ (met_parts (put_in g k (puts_of (core b))) _ rest).0
 
-      last : met (revealed g k pre (reveals_of (core b)) ++ (undecided_or_true g k pre (core b), wants.Predicate) ∷ []) ≡ true
+      last : met (revealed honest g k pre (reveals_of (core b)) ++ (undecided_or_true g k pre (core b), wants.Predicate) ∷ []) ≡ true
       last = (met_parts (put_in g k (puts_of (core b))) _ rest).1
 
       all_revealed : are_revealed g.revealed k pre (reveals_of (core b)) ≡ true
       all_revealed =
-          sym (all_map (λ (c : Condition). c.0) _ (reveals_of (core b))) ∙ (met_parts (revealed g k pre (reveals_of (core b))) _ last).0
+          sym (all_map (λ (c : Condition). c.0) _ (reveals_of (core b))) ∙ (met_parts (revealed honest g k pre (reveals_of (core b))) _ last).0
 
       decided : undecided_or_true g k pre (core b) ≡ true
-      decided = (and_parts _ _ (met_parts (revealed g k pre (reveals_of (core b))) _ last).1).0
+      decided = (and_parts _ _ (met_parts (revealed honest g k pre (reveals_of (core b))) _ last).1).0
 
       is_true : holds (secret_lengths g.committed k pre (reveals_of (core b))) (test_of (core b)) ≡ true
       is_true =
@@ -173,7 +173,7 @@ module _ (g : Configuration) (n i : ℕ) where
       by_core (after height body) e = absurd (no_after b height body e)
 
   -- where all conditions of a branch are met, the step that takes it is enabled
-  pub branch_enabled : (o : Option term.Guarded) → branch_at g n i ≡ o → is_some o ≡ true → met (asked_by_branch g n i active o) ≡ true
+  pub branch_enabled : (o : Option term.Guarded) → branch_at g n i ≡ o → is_some o ≡ true → met (asked_by_branch honest g n i active o) ≡ true
       → Enabled g (events.Fire n i)
   branch_enabled None here h all = cc
   branch_enabled (Some b) here h all = by_core b here all (core b) refl
@@ -237,5 +237,5 @@ ready_comes s es run =
           enabled_comes s es run (events.FireInit k) (beginning_enabled g k h (all_met (conditions s g w (events.FireInit k)) nothing));
       branches = λ n i h nothing.
           enabled_comes s es run (events.Fire n i)
-          (branch_enabled g n i (branch_at g n i) refl h (all_met (conditions s g w (events.Fire n i)) nothing));
+          (branch_enabled s.header.honest g n i (branch_at g n i) refl h (all_met (conditions s g w (events.Fire n i)) nothing));
     }

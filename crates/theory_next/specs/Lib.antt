@@ -6,3 +6,4 @@ pub mod Once
 pub mod FirstLines
 pub mod FirstRun
 pub mod FirstEvents
+pub mod Waits

@@ -1,5 +1,5 @@
 -- What is claimed of what is wanting for a branch: where one thing alone is wanting and is met, the branch can be taken.
-use Rattle.std.specs.Prelude.{◌≡◌, ℕ, ◌-◌, ◌++◌, List, [], ◌∷◌, None, true, nat_le}
+use Rattle.std.specs.Prelude.{◌≡◌, ℕ, ◌++◌, List, [], ◌∷◌, None, true, nat_le}
 use Rattle.std.specs.List.{Contains}
 use Rattle.spec_data.specs.Ranges.{last_height}
 use Rattle.spec_run.specs.declared.event.Event.{Event}
@@ -34,9 +34,9 @@ pub record MetAlone (s : Setup) (es : List Event) : Type 0 where
   -- an authorisation is met by the party's own event
   pub authorisation : (party : List ℕ) (n i : ℕ) → is_declared s party ≡ true
       → AloneWanting s es n i (wants.Authorisation party n i) → TurnsAround s es (events.Authorise party n i) n i
-  -- a height, if it can be reached, by as many blocks as there are up to it
-  pub height : (t n i : ℕ) → nat_le t last_height ≡ true
-      → AloneWanting s es n i (wants.Height t) → TurnsAround s es (events.Mine (t - (last_world s es).tip)) n i
+  -- a height, if it can be reached, by the blocks that are said to lead to it
+  pub height : (t blocks n i : ℕ) → nat_le t last_height ≡ true
+      → AloneWanting s es n i (wants.Height t blocks) → TurnsAround s es (events.Mine blocks) n i
 
 -- after every run that doesn't halt
 abbrev pub MetAloneTheorem : Type 0

@@ -8,6 +8,7 @@ ghost use Rattle.theory_next.specs.FirstRun.{FirstRunIsARun};
 ghost use Rattle.theory_next.specs.MetAlone.{MetAloneTheorem};
 ghost use Rattle.theory_next.specs.Once.{CandidatesStandOnce};
 ghost use Rattle.theory_next.specs.Ready.{ReadyComesTheorem};
+ghost use Rattle.theory_next.specs.Waits.{WaitsAreMeant};
 ghost use Rattle.theory_next.specs.Wants.{WantsAreExactTheorem};
 
 /// An event is said to be one that can come exactly where it is done or accepted, and halts nothing.
@@ -45,6 +46,12 @@ pub fn ready_comes()
 /// can come, and after it the branch can be taken, unless that halts the run.
 pub fn met_alone()
     ensures { MetAloneTheorem }
+{}
+
+/// After a run a contract waits exactly for those of its participants who can give now something that is wanting for an event of
+/// it that is listed.
+pub fn waits_are_meant()
+    ensures { WaitsAreMeant }
 {}
 
 /// The first lines of a run that are printed of a contract, with the bytes of its secrets filled in, are the text of the

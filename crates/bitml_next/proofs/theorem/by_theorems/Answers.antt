@@ -8,6 +8,7 @@ returns c = tells_all (record {
   said = c.requires.said;
   once = c.requires.once;
   wanting = c.requires.wanting;
+  waits = c.requires.waits;
   ready = c.requires.ready;
   alone = c.requires.alone;
   lines = c.requires.lines;

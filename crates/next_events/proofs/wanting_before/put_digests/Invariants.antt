@@ -8,5 +8,5 @@ use Rattle.next_events.proofs.wanting_before.put_digests.Given as goal
 
 abbrev pub invariant-loop-entry : goal.invariant-loop-entry
 invariant-loop-entry l =
-    l.wants ++ unmet (map (λ x. (l.honest || is_among x (names_of l.digests), wanting.Digest l.party x)) (secrets_of l.party (drop l.entry-index l.pre)))
-    ≡ l.initial.wants ++ unmet (map (λ x. (l.honest || is_among x (names_of l.digests), wanting.Digest l.party x)) (secrets_of l.party l.pre))
+    l.wants ++ unmet (map (λ x. (l.honest || is_among x (names_of l.digests), wanting.Digest l.party l.contract x)) (secrets_of l.party (drop l.entry-index l.pre)))
+    ≡ l.initial.wants ++ unmet (map (λ x. (l.honest || is_among x (names_of l.digests), wanting.Digest l.party l.contract x)) (secrets_of l.party l.pre))

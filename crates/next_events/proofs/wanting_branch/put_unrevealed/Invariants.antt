@@ -4,5 +4,5 @@ use Rattle.next_events.proofs.wanting_branch.put_unrevealed.Given as goal
 
 abbrev pub invariant-loop-name : goal.invariant-loop-name
 invariant-loop-name l =
-    l.wants ++ unmet (revealed l.config l.contract l.pre (drop l.name-index l.reveals))
-    ≡ l.initial.wants ++ unmet (revealed l.config l.contract l.pre l.reveals)
+    l.wants ++ unmet (revealed l.honest l.config l.contract l.pre (drop l.name-index l.reveals))
+    ≡ l.initial.wants ++ unmet (revealed l.honest l.config l.contract l.pre l.reveals)

@@ -46,7 +46,7 @@ returns-in-Ok-clause-sees g c =
     record {
       calm = subst (λ (xs : List Event). Calm g.H.Hash32.digest_of c.args.world.now c.look_all.new.world (foreseen_strings s w xs)) es
           c.in_ok-prospects.ensures.sees.calm;
-      told = c.in-Ok.ensures ∙ ap (outlook_by (participants c.args.checked.now)) (c.in_ok-prospects.ensures.sees.told
+      told = c.in-Ok.ensures ∙ ap (outlook_by c.args.config.now (participants c.args.checked.now)) (c.in_ok-prospects.ensures.sees.told
           ∙ ap (all_foretold s c.args.config.now w) es);
     }
 

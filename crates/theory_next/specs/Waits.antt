@@ -1,0 +1,75 @@
+-- What is claimed of the parties on whom a contract waits: they are exactly those who can give now something that is wanting.
+use Rattle.std.specs.Prelude.{◌≡◌, ◌↔◌, ◌⊎◌, ℕ, List, true, Some, None}
+use Rattle.std.specs.List.{Contains}
+use Rattle.spec_terms.specs.Advert.{Advert}
+use Rattle.spec_terms.specs.Parties.{participants}
+use Rattle.spec_calculus.specs.Configuration.{Configuration}
+use Rattle.spec_calculus.specs.Beginning.{contract_at}
+use Rattle.spec_run.specs.declared.event.Event.{Event}
+use Rattle.spec_run.specs.declared.event.Event.TheVariants as events
+use Rattle.spec_run.specs.Setup.{Setup}
+use Rattle.spec_run.specs.World.{World, is_advertised}
+use Rattle.spec_run.specs.Committing.{names_fit, repeated_digest}
+use Rattle.spec_run.specs.Translation.{last_configuration, last_world}
+use Rattle.spec_run.specs.Statements.{IsRun}
+use Rattle.spec_next.specs.declared.want.Want.{Want}
+use Rattle.spec_next.specs.declared.want.Want.TheVariants as wants
+use Rattle.spec_next.specs.declared.outlook.Prospect.{Prospect}
+use Rattle.spec_next.specs.declared.outlook.Outlook.{Outlook}
+use Rattle.spec_next.specs.Prospects.{awaited, prospect, outlook}
+use Rattle.theory_next.specs.Candidates.{GoesThrough}
+use Rattle.theory_next.specs.Ready.{CanUnlessHalts}
+
+-- ---- what can be given now
+
+-- the event that gives it, if it is one that is listed
+abbrev pub IsGivenBy : Want → Event → Type 0
+IsGivenBy (wants.Commitment party k) e = (digests : List (List ℕ × List ℕ)) × (e ≡ events.Commit k party digests)
+IsGivenBy (wants.Endorsement party k) e = e ≡ events.Endorse k party
+IsGivenBy (wants.Start party k) e = e ≡ events.Init k party
+IsGivenBy (wants.Authorisation party n i) e = e ≡ events.Authorise party n i
+IsGivenBy (wants.Secret party k secret) e = e ≡ events.Reveal k party secret
+IsGivenBy _ e = ⊥
+
+-- it is listed, and goes through
+pub record GivenByEvent (s : Setup) (g : Configuration) (w : World) (o : Outlook) (want : Want) : Type 0 where
+  pub event : Event
+  pub gives_it : IsGivenBy want event
+  pub listed : Contains o.prospects (prospect s g w event)
+  pub goes : GoesThrough s w event
+
+-- the contract is advertised, and whatever digests the party commits to it, if they have the right names and none was committed before or
+-- stands twice, the commitment comes, unless it halts the run
+pub record Commits (s : Setup) (w : World) (k : ℕ) (party : List ℕ) : Type 0 where
+  pub advertised : is_advertised w k ≡ true
+  pub taken : (digests : List (List ℕ × List ℕ)) → names_fit s k party digests ≡ true → repeated_digest s w k party digests ≡ None
+      → CanUnlessHalts s w (events.Commit k party digests)
+
+-- an event gives it that isn't listed, since its digests or its string are the party's to choose
+abbrev pub GivenByHand : Setup → World → Want → Type 0
+GivenByHand s w (wants.Digest party k secret) = Commits s w k party
+GivenByHand s w (wants.Posted party secret) = (bytes : List ℕ) → CanUnlessHalts s w (events.Post bytes)
+GivenByHand s w _ = ⊥
+
+-- the party can give what is wanting for one of these events
+pub record CanGive (s : Setup) (g : Configuration) (w : World) (o : Outlook) (party : List ℕ) : Type 0 where
+  pub lacking : Prospect
+  pub shown : Contains o.prospects lacking
+  pub want : Want
+  pub wanting : Contains lacking.wants want
+  pub its : awaited want ≡ Some party
+  pub given : GivenByEvent s g w o want ⊎ GivenByHand s w want
+
+-- ---- the claim
+
+-- a contract waits exactly for those of its participants who can give something
+pub record WaitsForThose (s : Setup) (g : Configuration) (w : World) (k : ℕ) (advert : Advert) : Type 0 where
+  pub waits : (party : List ℕ) → Contains (outlook s g w k advert).waits party
+      ↔ (Contains (participants advert) party × CanGive s g w (outlook s g w k advert) party)
+
+-- so it is of each contract after every run
+abbrev pub WaitsAreMeant : Type 0
+WaitsAreMeant =
+    (s : Setup) (es : List Event) → IsRun s es → (k : ℕ) (advert : Advert)
+    → contract_at (last_configuration s es).contracts k ≡ Some advert
+    → WaitsForThose s (last_configuration s es) (last_world s es) k advert

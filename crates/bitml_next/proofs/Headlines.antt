@@ -1,15 +1,11 @@
 -- An answer has its causes.
 use Rattle.std.proofs.Common.{◌≡◌, ℕ, Bool, true, false, List, [], ◌∷◌, Option, Some, None, refl, sym, inl, inr, ◌∙◌, length, map, option_map, arith}
-use Rattle.std.specs.Prelude.{nat_le}
 use Rattle.std.proofs.lemmas.Bool.{false≢true}
 use Rattle.spec_data.specs.Digits.{onto}
-use Rattle.spec_data.specs.Ranges.{most_contracts}
-use Rattle.spec_text.specs.Words.{given}
 use Rattle.spec_run.specs.Conditions.{HashesBytes}
 use Rattle.spec_tool.specs.Reads.{Asked, Read, Text, text_read, texts_read, are_made}
-use Rattle.spec_tool.specs.Commands.{Command, check, play, plan, make, psbt_of, psbt_shown, psbt_joined, weigh, audit, auto, files_of, contract_file, run_file}
-use Rattle.spec_tool.specs.Answers.{tool_reads}
-use Rattle.spec_next.specs.NextAnswer.{next_words, next_answer, next_texts, read_next}
+use Rattle.spec_tool.specs.Commands.{contract_file, run_file}
+use Rattle.spec_next.specs.NextAnswer.{NextCommand, begins, continues, next_files, next_words, next_answer, next_texts, read_next}
 use Rattle.theory_tool.proofs.Statuses.{apart}
 use Rattle.tool_shell.specs.Around.{Around}
 use Rattle.tool_shell.specs.Answered.{GivesUp}
@@ -20,29 +16,7 @@ use Rattle.bitml_next.specs.Told.{Answers, AnswersOrGivesUp, CausedByTexts, Caus
 use Rattle.bitml_next.proofs.Causes.{causes, known}
 use Rattle.bitml_next.proofs.Shown.{Theorems, shows}
 
--- ---- the words are no command, or one that reads files
-
-abbrev ReadsFiles : Option Command → Type 0
-ReadsFiles None = Unit {0}
-ReadsFiles (Some (check contract)) = Unit {0}
-ReadsFiles (Some (play run contracts)) = Unit {0}
-ReadsFiles (Some (plan run contract)) = ⊥
-ReadsFiles (Some (make number size)) = ⊥
-ReadsFiles (Some (psbt_of run contract which)) = ⊥
-ReadsFiles (Some (psbt_shown file)) = ⊥
-ReadsFiles (Some (psbt_joined first second)) = ⊥
-ReadsFiles (Some (weigh run contract)) = ⊥
-ReadsFiles (Some (audit run contract file)) = ⊥
-ReadsFiles (Some (auto run contract strategy)) = ⊥
-
-going_on : (run : List ℕ) (contracts : List (List ℕ)) (few : Bool) → ReadsFiles (given few (play run contracts))
-going_on run contracts true = tt
-going_on run contracts false = tt
-
-reads_files : (words : List (List ℕ)) → ReadsFiles (next_words words)
-reads_files [] = tt
-reads_files (contract ∷ []) = tt
-reads_files (run ∷ contract ∷ contracts) = going_on run (contract ∷ contracts) (nat_le (length (contract ∷ contracts)) most_contracts)
+-- ---- every command reads files
 
 -- what was read is a text or more, unless a read failed
 abbrev IsThere : Option (List Text) → Type 0
@@ -59,22 +33,14 @@ files_there : (file : Asked) (files : List Asked) (reads : List Read) → are_ma
 files_there file files [] h = absurd (false≢true h)
 files_there file files (read ∷ reads) h = onto_there (text_read read) (texts_read reads)
 
-texts_there : (command : Command) (reads : List Read) → ReadsFiles (Some command) → tool_reads (Some command) reads ≡ true → IsThere (texts_read reads)
-texts_there (check contract) reads r h = files_there (contract_file contract) [] reads h
-texts_there (play run contracts) reads r h = files_there (run_file run) (map contract_file contracts) reads h
-texts_there (plan run contract) reads r h = absurd r
-texts_there (make number size) reads r h = absurd r
-texts_there (psbt_of run contract which) reads r h = absurd r
-texts_there (psbt_shown file) reads r h = absurd r
-texts_there (psbt_joined first second) reads r h = absurd r
-texts_there (weigh run contract) reads r h = absurd r
-texts_there (audit run contract file) reads r h = absurd r
-texts_there (auto run contract strategy) reads r h = absurd r
+texts_there : (command : NextCommand) (reads : List Read) → are_made (next_files command) reads ≡ true → IsThere (texts_read reads)
+texts_there (begins contract) reads h = files_there (contract_file contract) [] reads h
+texts_there (continues run contracts) reads h = files_there (run_file run) (map contract_file contracts) reads h
 
 -- ---- the status of an answer
 
 -- what a status tells
-record Status (command : Option Command) (reads : List Read) (n : ℕ) : Type 0 where
+record Status (command : Option NextCommand) (reads : List Read) (n : ℕ) : Type 0 where
   usage : n ≡ 2 → command ≡ None
   unread : n ≡ 3 → texts_read reads ≡ None
   written : n ≡ 4 → ⊥
@@ -90,7 +56,7 @@ two = 2
 abbrev three : ℕ
 three = 3
 
-of_texts : (hash : List ℕ → List ℕ) (command : Command) (reads : List Read) (o : Option (List Text)) → texts_read reads ≡ o → IsThere o
+of_texts : (hash : List ℕ → List ℕ) (command : NextCommand) (reads : List Read) (o : Option (List Text)) → texts_read reads ≡ o → IsThere o
     → Status (Some command) reads (read_next hash o).status
 of_texts hash command reads None e h =
     record { usage = λ n. absurd (omega (arith, n)); unread = λ n. e; written = λ n. omega (arith, n); memory = λ n. omega (arith, n) }
@@ -105,26 +71,19 @@ of_texts hash command reads (Some (first ∷ more)) e h =
       memory = apart 5 numbers refl n k;
     }
 
-of_reads : (hash : List ℕ → List ℕ) (command : Option Command) (reads : List Read) → ReadsFiles command → tool_reads command reads ≡ true
-    → Status command reads (next_answer hash command reads).status
-of_reads hash None reads r made =
+of_reads : (hash : List ℕ → List ℕ) (command : Option NextCommand) (reads : List Read)
+    → are_reads (option_map next_files command) reads ≡ true → Status command reads (next_answer hash command reads).status
+of_reads hash None reads made =
     record { usage = λ n. refl; unread = λ n. absurd (omega (arith, n)); written = λ n. omega (arith, n); memory = λ n. omega (arith, n) }
-of_reads hash (Some command) reads r made =
-    of_texts hash command reads (texts_read reads) refl (texts_there command reads r made)
+of_reads hash (Some command) reads made = of_texts hash command reads (texts_read reads) refl (texts_there command reads made)
 
 caused_by : (hash : List ℕ → List ℕ) (o : Option (List Text)) → CausedByTexts hash o (read_next hash o)
 caused_by hash None = (refl, refl)
 caused_by hash (Some texts) = causes hash texts
 
-caused : (hash : List ℕ → List ℕ) (command : Option Command) (reads : List Read) → Caused hash command reads (next_answer hash command reads)
+caused : (hash : List ℕ → List ℕ) (command : Option NextCommand) (reads : List Read) → Caused hash command reads (next_answer hash command reads)
 caused hash None reads = refl
 caused hash (Some command) reads = caused_by hash (texts_read reads)
-
--- the reads of a command's files
-made_of : (command : Option Command) (reads : List Read) → are_reads (option_map files_of command) reads ≡ true
-    → tool_reads command reads ≡ true
-made_of None reads e = e
-made_of (Some command) reads e = e
 
 -- ---- the call
 
@@ -132,7 +91,7 @@ module _ (t : Theorems) (hash : List ℕ → List ℕ) (bytes : HashesBytes hash
   of_answer : Answers hash (next_words words) before now status → Tells hash words before now status
   of_answer a =
       let printed = next_answer hash (next_words words) a.reads in
-      let s : Status (next_words words) a.reads printed.status = of_reads hash (next_words words) a.reads (reads_files words) (made_of (next_words words) a.reads a.made) in
+      let s : Status (next_words words) a.reads printed.status = of_reads hash (next_words words) a.reads a.made in
       record {
         serves = inl (record {
           answers = a;
@@ -145,13 +104,13 @@ module _ (t : Theorems) (hash : List ℕ → List ℕ) (bytes : HashesBytes hash
         memory = λ e. absurd (s.memory (ended_with printed a.ends.went 5 (λ f. absurd (cc)) (sym e ∙ a.ends.status_is)));
       }
 
-  of_none : GivesUp (option_map files_of (next_words words)) before now status → Tells hash words before now status
+  of_none : GivesUp (option_map next_files (next_words words)) before now status → Tells hash words before now status
   of_none g = record {
     serves = inr g;
     usage = λ e. absurd (let f = g.status_is in cc);
     unread = λ e. absurd (let f = g.status_is in cc);
     unwritten = λ e. absurd (let f = g.status_is in cc);
-    memory = λ e. some_command files_of (next_words words) g.some;
+    memory = λ e. some_command next_files (next_words words) g.some;
   }
 
   tells : AnswersOrGivesUp hash (next_words words) before now status → Tells hash words before now status

@@ -21,12 +21,12 @@ use Rattle.spec_text.specs.Played.{ending, ending_from}
 use Rattle.spec_text.specs.ReadAdvert.{read_answer}
 use Rattle.spec_text.specs.Refusals.{Judged, judged_limit, judged_fault, judged_answer, contract_of}
 use Rattle.spec_tool.specs.Reads.{Read, Text, texts_read}
-use Rattle.spec_tool.specs.Commands.{Command, Printed, contracts_from, onto_judged, setup_of, ending_status, both_judged}
+use Rattle.spec_tool.specs.Commands.{Printed, contracts_from, onto_judged, setup_of, ending_status, both_judged}
 use Rattle.spec_tool.specs.Answers.{contracts_in, if_whole, unless_stopped}
 use Rattle.spec_tool.specs.Statements.{ValidRunTheorem}
 use Rattle.spec_next.specs.Foreseen.{foreseen_collision, unless_collided, next_printed}
 use Rattle.spec_next.specs.OutlookText.{next_text}
-use Rattle.spec_next.specs.NextAnswer.{begins_judged, next_answer, next_texts, read_next}
+use Rattle.spec_next.specs.NextAnswer.{NextCommand, begins_judged, next_answer, next_texts, read_next}
 use Rattle.theory_next.specs.Candidates.{CanIsMeant, OffersAreSaid}
 use Rattle.theory_next.specs.FirstLines.{FirstLinesAreARun}
 use Rattle.theory_next.specs.FirstEvents.{FirstEventsGoThrough}
@@ -164,7 +164,7 @@ shows_texts : Theorems → (hash : List ℕ → List ℕ) → HashesBytes hash �
 shows_texts t hash bytes None = tt
 shows_texts t hash bytes (Some texts) = (shows_run t hash bytes texts, shows_contract t hash bytes texts)
 
-pub shows : Theorems → (hash : List ℕ → List ℕ) → HashesBytes hash → (command : Option Command) (reads : List Read)
+pub shows : Theorems → (hash : List ℕ → List ℕ) → HashesBytes hash → (command : Option NextCommand) (reads : List Read)
     → Shows hash command reads (next_answer hash command reads)
 shows t hash bytes None reads = tt
 shows t hash bytes (Some command) reads = shows_texts t hash bytes (texts_read reads)

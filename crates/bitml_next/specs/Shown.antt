@@ -15,10 +15,11 @@ use Rattle.spec_run.specs.Translation.{last_configuration, last_world}
 use Rattle.spec_text.specs.Refusals.{contract_of, run_of}
 use Rattle.spec_text.specs.RunText.{run_text}
 use Rattle.spec_tool.specs.Reads.{Read, Text, texts_read}
-use Rattle.spec_tool.specs.Commands.{Command, Printed, contracts_from, setup_of}
+use Rattle.spec_tool.specs.Commands.{Printed, contracts_from, setup_of}
 use Rattle.spec_next.specs.declared.outlook.Ruling.TheVariants as rulings
 use Rattle.spec_next.specs.Candidates.{all_candidates}
 use Rattle.spec_next.specs.FirstLines.{begin_text, first_lines, first_run, first_events}
+use Rattle.spec_next.specs.NextAnswer.{NextCommand}
 use Rattle.spec_next.specs.OutlookText.{next_text}
 use Rattle.spec_next.specs.Prospects.{ruling}
 use Rattle.theory_next.specs.Candidates.{GoesThrough, IsSaid}
@@ -87,6 +88,6 @@ abbrev pub ShowsTexts : (List ℕ → List ℕ) → Option (List Text) → Print
 ShowsTexts hash None printed = Unit {0}
 ShowsTexts hash (Some texts) printed = ShowsRun hash texts printed × ShowsContract hash texts printed
 
-abbrev pub Shows : (List ℕ → List ℕ) → Option Command → List Read → Printed → Type 0
+abbrev pub Shows : (List ℕ → List ℕ) → Option NextCommand → List Read → Printed → Type 0
 Shows hash None reads printed = Unit {0}
 Shows hash (Some command) reads printed = ShowsTexts hash (texts_read reads) printed

@@ -1,33 +1,40 @@
 -- What the program that says what comes next promises, from its words to its status.
-use Rattle.std.specs.Prelude.{◌≡◌, ℕ, List, [], true, ◌⊎◌, Option, Some, None, is_some, option_map}
+use Rattle.std.specs.Prelude.{◌≡◌, ℕ, ◌≤◌, List, [], length, map, true, ◌⊎◌, Option, Some, None, is_some, option_map, string_bytes}
+use Rattle.spec_data.specs.Ranges.{most_contracts}
 use Rattle.spec_run.specs.Conditions.{HashesBytes}
 use Rattle.spec_tool.specs.Reads.{Read, Text, texts_read}
-use Rattle.spec_tool.specs.Commands.{Command, Printed, files_of}
-use Rattle.spec_next.specs.NextAnswer.{next_answer, next_words}
+use Rattle.spec_tool.specs.Commands.{Printed}
+use Rattle.spec_next.specs.NextAnswer.{NextCommand, begins, continues, next_files, next_answer, next_words}
 use Rattle.bm_io.specs.Counts.{RoseBy}
 use Rattle.tool_shell.specs.Around.{Around}
 use Rattle.tool_shell.specs.Answered.{AnswersBy, AnswersByOrGivesUp, GivesUp}
-use Rattle.tool_command.specs.Seen.{command}
 use Rattle.bitml_next.specs.declared.call.NextCall.{NextCall}
+use Rattle.bitml_next.specs.declared.call.NextCall.TheVariants as calls
 use Rattle.bitml_next.specs.Causes.{HasCauses}
 use Rattle.bitml_next.specs.Shown.{Shows}
 
 -- ---- the call
 
--- the command that has the same files
-abbrev pub seen : NextCall → Command
-seen call = command call.command
+-- the call as the definition has it
+abbrev pub seen : NextCall → NextCommand
+seen (calls.Begins contract) = begins contract.now
+seen (calls.Continues run contracts) = continues run.now (map string_bytes contracts.now)
+
+-- a run has no more contracts than it may have
+abbrev pub HasFew : Option NextCommand → Type 0
+HasFew (Some (continues run contracts)) = length contracts ≤ most_contracts
+HasFew _ = Unit {0}
 
 -- ---- answers
 
 -- the answers are those of the definition
-abbrev pub Answers : (List ℕ → List ℕ) → Option Command → Around → Around → ℕ → Type 0
-Answers hash command before now status = AnswersBy (next_answer hash command) (option_map files_of command) before now status
+abbrev pub Answers : (List ℕ → List ℕ) → Option NextCommand → Around → Around → ℕ → Type 0
+Answers hash command before now status = AnswersBy (next_answer hash command) (option_map next_files command) before now status
 
 -- the same, or want of memory
-abbrev pub AnswersOrGivesUp : (List ℕ → List ℕ) → Option Command → Around → Around → ℕ → Type 0
+abbrev pub AnswersOrGivesUp : (List ℕ → List ℕ) → Option NextCommand → Around → Around → ℕ → Type 0
 AnswersOrGivesUp hash command before now status =
-    AnswersByOrGivesUp (next_answer hash command) (option_map files_of command) before now status
+    AnswersByOrGivesUp (next_answer hash command) (option_map next_files command) before now status
 
 -- ---- causes
 
@@ -37,14 +44,14 @@ CausedByTexts hash None printed = (printed.status ≡ 3) × (printed.text ≡ []
 CausedByTexts hash (Some texts) printed = HasCauses hash texts printed.status
 
 -- of reads; words that are no command are answered by 2
-abbrev pub Caused : (List ℕ → List ℕ) → Option Command → List Read → Printed → Type 0
+abbrev pub Caused : (List ℕ → List ℕ) → Option NextCommand → List Read → Printed → Type 0
 Caused hash None reads printed = printed.status ≡ 2
 Caused hash (Some command) reads printed = CausedByTexts hash (texts_read reads) printed
 
 -- ---- the whole
 
 -- an answer with what is known of it
-pub record Serves (hash : List ℕ → List ℕ) (command : Option Command) (before now : Around) (status : ℕ) : Type 0 where
+pub record Serves (hash : List ℕ → List ℕ) (command : Option NextCommand) (before now : Around) (status : ℕ) : Type 0 where
   pub answers : Answers hash command before now status
   -- its status comes exactly by its cause
   pub caused : Caused hash command answers.reads (next_answer hash command answers.reads)
@@ -53,7 +60,7 @@ pub record Serves (hash : List ℕ → List ℕ) (command : Option Command) (bef
 
 -- what a call with these words does to what stands around it, and its status
 pub record Tells (hash : List ℕ → List ℕ) (words : List (List ℕ)) (before now : Around) (status : ℕ) : Type 0 where
-  pub serves : Serves hash (next_words words) before now status ⊎ GivesUp (option_map files_of (next_words words)) before now status
+  pub serves : Serves hash (next_words words) before now status ⊎ GivesUp (option_map next_files (next_words words)) before now status
   -- the usage answers nothing but words that are no command
   pub usage : status ≡ 2 → next_words words ≡ None
   -- a fault of the files is answered only where their count rose

@@ -1,15 +1,13 @@
 //! The whole program, over files and a sink that are handed in.
 
 ghost use Rattle.std.specs.Prelude.{◌≡◌, ℕ, List, length, Some, map, string_bytes, refl, IfOk};
-ghost use Rattle.spec_tool.specs.Commands.{files_of as files_named};
 ghost use Rattle.spec_tool.specs.Replies.{printed};
-ghost use Rattle.spec_next.specs.NextAnswer.{read_next};
+ghost use Rattle.spec_next.specs.NextAnswer.{next_files, read_next};
 ghost use Rattle.tool_shell.specs.Around.{around};
 ghost use Rattle.tool_shell.specs.Asked.{asked};
-ghost use Rattle.tool_command.specs.Seen.{HasFew};
-ghost use Rattle.bitml_next.specs.Told.{seen, Tells};
+ghost use Rattle.bitml_next.specs.Told.{seen, HasFew, Tells};
 
-use crate::call::{NextCall, call_of};
+use crate::call::{NextCall, call_of, files_of};
 use crate::replying::next_texts;
 use crate::theorem::answers_tell_all;
 use bm_hash::{Hash32, hashes_bytes};
@@ -17,22 +15,21 @@ use bm_io::{Files, Sink};
 use spec_data::{Bytes, OutOfMemory};
 use spec_tool::Reply;
 use std::alloc::Global;
-use tool_command::files_of;
 use tool_shell::{Call, serve};
 
 impl Call for NextCall<'_> {
     ghost is_served = { λ call. HasFew (Some (seen call)) };
 
-    ghost asks = { λ call. files_named (seen call) };
+    ghost asks = { λ call. next_files (seen call) };
 
     ghost answers = { λ hash call. read_next hash };
 
     ghost unread = { λ hash call. refl };
 
     fn files(&self, alloc: Global) -> Result<Vec<(&str, usize)>, OutOfMemory>
-        ensures { IfOk result (λ v. map asked v.items ≡ files_named (seen self.now)) }
+        ensures { IfOk result (λ v. map asked v.items ≡ next_files (seen self.now)) }
     {
-        files_of(alloc, &self.command)
+        files_of(alloc, self)
     }
 
     fn reply<H: Hash32 + Drop>(
@@ -42,7 +39,7 @@ impl Call for NextCall<'_> {
         texts: &[Option<Bytes>],
     ) -> Result<Reply, OutOfMemory>
         requires served { HasFew (Some (seen self.now)) }
-        requires count { length texts.now ≡ length (files_named (seen self.now)) }
+        requires count { length texts.now ≡ length (next_files (seen self.now)) }
         ensures { IfOk result (λ reply. printed reply ≡ read_next (H.digest_of hash) (Some texts.now)) }
     {
         next_texts(alloc, hash, texts)

@@ -22,13 +22,13 @@ use Rattle.spec_text.specs.ReadTest.{constant_at, length_at, formula_at, compari
 use Rattle.spec_text.specs.Reading.{names_from}
 use Rattle.spec_text.specs.Played.{play_text}
 use Rattle.spec_tool.specs.Reads.{got}
-use Rattle.spec_tool.specs.Commands.{check, play, prints}
+use Rattle.spec_tool.specs.Commands.{prints}
 use Rattle.spec_tool.proofs.WorkedHash.{small_hash}
 use Rattle.spec_next.specs.OutlookText.{next_text}
 use Rattle.spec_next.specs.Foreseen.{next_printed}
 use Rattle.spec_next.specs.FirstLines.{begin_text}
 use Rattle.spec_next.specs.Prospects.{is_string_posted, is_ahead}
-use Rattle.spec_next.specs.NextAnswer.{next_words, next_answer}
+use Rattle.spec_next.specs.NextAnswer.{begins, continues, next_words, next_answer}
 use Rattle.spec_next.proofs.WorkedRuns.{lines, commitment, commitment_header, commitment_opened, escrow, escrow_opened}
 
 -- ---- words
@@ -36,10 +36,10 @@ use Rattle.spec_next.proofs.WorkedRuns.{lines, commitment, commitment_header, co
 pub no_words : next_words [] ≡ None
 no_words = refl
 
-pub one_word : next_words (codes "c" ∷ []) ≡ Some (check (codes "c"))
+pub one_word : next_words (codes "c" ∷ []) ≡ Some (begins (codes "c"))
 one_word = refl
 
-pub sixteen_contracts : next_words (codes "r" ∷ replicate 16 (codes "c")) ≡ Some (play (codes "r") (replicate 16 (codes "c")))
+pub sixteen_contracts : next_words (codes "r" ∷ replicate 16 (codes "c")) ≡ Some (continues (codes "r") (replicate 16 (codes "c")))
 sixteen_contracts = refl
 
 pub seventeen_contracts : next_words (codes "r" ∷ replicate 17 (codes "c")) ≡ None
@@ -47,7 +47,7 @@ seventeen_contracts = refl
 
 -- ---- the first lines
 
-pub first_lines_of_commitment : next_answer small_hash (Some (check (codes "c"))) (got commitment ∷ [])
+pub first_lines_of_commitment : next_answer small_hash (Some (begins (codes "c"))) (got commitment ∷ [])
     ≡ prints 0 (lines (
     codes "party A" ∷
     codes "party B" ∷
@@ -77,7 +77,7 @@ first_lines_of_commitment = refl
 -- ---- what comes next
 
 -- before any event
-pub before_all : next_answer small_hash (Some (play (codes "r") (codes "c" ∷ []))) (got commitment_header ∷ got commitment ∷ [])
+pub before_all : next_answer small_hash (Some (continues (codes "r") (codes "c" ∷ []))) (got commitment_header ∷ got commitment ∷ [])
     ≡ prints 0 (lines (
     codes "can advertise 0 x=#0 y=#1" ∷
     codes "cannot commit 0 A NotAdvertised" ∷
@@ -120,7 +120,7 @@ unfolding is_name word_front number_front symbol_front read_contract advert_of_a
 before_all = refl
 
 -- once the commitment has begun
-pub once_opened : next_answer small_hash (Some (play (codes "r") (codes "c" ∷ []))) (got commitment_opened ∷ got commitment ∷ [])
+pub once_opened : next_answer small_hash (Some (continues (codes "r") (codes "c" ∷ []))) (got commitment_opened ∷ got commitment ∷ [])
     ≡ prints 0 (lines (
     codes "can reveal 0 A a" ∷
     codes "cannot fire #2 0 SecretUnknown a" ∷
@@ -138,7 +138,7 @@ unfolding is_name word_front number_front symbol_front read_contract advert_of_a
 once_opened = refl
 
 -- an escrow waits for its parties
-pub escrow_waits : next_answer small_hash (Some (play (codes "r") (codes "c" ∷ []))) (got escrow_opened ∷ got escrow ∷ [])
+pub escrow_waits : next_answer small_hash (Some (continues (codes "r") (codes "c" ∷ []))) (got escrow_opened ∷ got escrow ∷ [])
     ≡ prints 0 (lines (
     codes "can authorise A #2 0" ∷
     codes "cannot fire #2 0 ScriptFalse 0" ∷

@@ -19,12 +19,12 @@ use Rattle.spec_text.specs.ReadTest.{constant_at, length_at, formula_at, compari
 use Rattle.spec_text.specs.Reading.{names_from}
 use Rattle.spec_text.specs.Played.{play_text}
 use Rattle.spec_tool.specs.Reads.{got, failed, too_long}
-use Rattle.spec_tool.specs.Commands.{check, play, prints, usage}
+use Rattle.spec_tool.specs.Commands.{prints, usage}
 use Rattle.spec_tool.proofs.WorkedHash.{small_hash}
 use Rattle.spec_next.specs.OutlookText.{next_text}
 use Rattle.spec_next.specs.Foreseen.{next_printed}
 use Rattle.spec_next.specs.FirstLines.{begin_text}
-use Rattle.spec_next.specs.NextAnswer.{next_answer}
+use Rattle.spec_next.specs.NextAnswer.{begins, continues, next_answer}
 use Rattle.spec_next.proofs.WorkedRuns.{lines, commitment_header, escrow, escrow_endorsed, escrow_started, escrow_poor}
 use Rattle.spec_next.proofs.WorkedRuns.{commitment, guessing, lone, lone_run}
 use Rattle.spec_next.proofs.WorkedRuns.{long_secret, long_secret_revealed, putting, putting_gone, foreign_secret, foreign_advertised}
@@ -32,7 +32,7 @@ use Rattle.spec_next.proofs.WorkedRuns.{long_secret, long_secret_revealed, putti
 -- ---- before a contract begins
 
 -- honest parties wait for an endorsement
-pub escrow_needs_endorsement : next_answer small_hash (Some (play (codes "r") (codes "c" ∷ []))) (got escrow_endorsed ∷ got escrow ∷ [])
+pub escrow_needs_endorsement : next_answer small_hash (Some (continues (codes "r") (codes "c" ∷ []))) (got escrow_endorsed ∷ got escrow ∷ [])
     ≡ prints 0 (lines (
     codes "can endorse 0 B" ∷
     codes "cannot init 0 A NotEndorsed r.0 B" ∷
@@ -53,7 +53,7 @@ unfolding is_name word_front number_front symbol_front read_contract advert_of_a
 escrow_needs_endorsement = refl
 
 -- the beginning waits for a signature
-pub escrow_needs_signature : next_answer small_hash (Some (play (codes "r") (codes "c" ∷ []))) (got escrow_started ∷ got escrow ∷ [])
+pub escrow_needs_signature : next_answer small_hash (Some (continues (codes "r") (codes "c" ∷ []))) (got escrow_started ∷ got escrow ∷ [])
     ≡ prints 0 (lines (
     codes "can init 0 B" ∷
     codes "cannot fire init 0 ScriptFalse 1" ∷
@@ -69,7 +69,7 @@ unfolding is_name word_front number_front symbol_front read_contract advert_of_a
 escrow_needs_signature = refl
 
 -- no deposit fits a name
-pub no_deposit_fits : next_answer small_hash (Some (play (codes "r") (codes "c" ∷ []))) (got escrow_poor ∷ got escrow ∷ [])
+pub no_deposit_fits : next_answer small_hash (Some (continues (codes "r") (codes "c" ∷ []))) (got escrow_poor ∷ got escrow ∷ [])
     ≡ prints 0 (lines (
     codes "cannot advertise 0 x=#0 WrongNames" ∷
     codes "needs deposit y" ∷
@@ -109,7 +109,7 @@ unfolding is_name word_front number_front symbol_front read_contract advert_of_a
 no_deposit_fits = refl
 
 -- a party that isn't honest adds its digests itself
-pub digest_is_wanting : next_answer small_hash (Some (play (codes "r") (codes "c" ∷ [])))
+pub digest_is_wanting : next_answer small_hash (Some (continues (codes "r") (codes "c" ∷ [])))
     (got foreign_advertised ∷ got foreign_secret ∷ [])
     ≡ prints 0 (lines (
     codes "can commit 0 A" ∷
@@ -146,7 +146,7 @@ digest_is_wanting = refl
 -- ---- once it has begun
 
 -- the revealed length makes the predicate false
-pub predicate_is_false : next_answer small_hash (Some (play (codes "r") (codes "c" ∷ [])))
+pub predicate_is_false : next_answer small_hash (Some (continues (codes "r") (codes "c" ∷ [])))
     (got long_secret_revealed ∷ got long_secret ∷ [])
     ≡ prints 0 (lines (
     codes "cannot fire #1 0 ScriptFalse 0" ∷
@@ -162,7 +162,7 @@ unfolding is_name word_front number_front symbol_front read_contract advert_of_a
 predicate_is_false = refl
 
 -- the deposit that is put in has gone
-pub put_is_gone : next_answer small_hash (Some (play (codes "r") (codes "c" ∷ []))) (got putting_gone ∷ got putting ∷ [])
+pub put_is_gone : next_answer small_hash (Some (continues (codes "r") (codes "c" ∷ []))) (got putting_gone ∷ got putting ∷ [])
     ≡ prints 0 (lines (
     codes "cannot fire #2 0 MissingInput 1" ∷
     codes "needs put z gone" ∷
@@ -181,10 +181,10 @@ put_is_gone = refl
 pub words_refused : next_answer small_hash None [] ≡ usage
 words_refused = refl
 
-pub read_failed : next_answer small_hash (Some (play (codes "r") (codes "c" ∷ []))) (got commitment_header ∷ failed ∷ []) ≡ prints 3 []
+pub read_failed : next_answer small_hash (Some (continues (codes "r") (codes "c" ∷ []))) (got commitment_header ∷ failed ∷ []) ≡ prints 3 []
 read_failed = refl
 
-pub contract_too_long : next_answer small_hash (Some (check (codes "c"))) (too_long ∷ [])
+pub contract_too_long : next_answer small_hash (Some (begins (codes "c"))) (too_long ∷ [])
     ≡ prints 1 (lines (codes "contract 0 refused limit Text 1048576" ∷ []))
 unfolding is_name word_front number_front symbol_front read_contract advert_of_all advert_at entries_at entry_at head_at deposit_at
     secret_at
@@ -194,7 +194,7 @@ unfolding is_name word_front number_front symbol_front read_contract advert_of_a
     signed_bytes item_of_number play_text next_text next_printed begin_text
 contract_too_long = refl
 
-pub run_too_long : next_answer small_hash (Some (play (codes "r") (codes "c" ∷ []))) (too_long ∷ got escrow ∷ [])
+pub run_too_long : next_answer small_hash (Some (continues (codes "r") (codes "c" ∷ []))) (too_long ∷ got escrow ∷ [])
     ≡ prints 6 (lines (codes "run refused limit Size line 0" ∷ []))
 unfolding is_name word_front number_front symbol_front read_contract advert_of_all advert_at entries_at entry_at head_at deposit_at
     secret_at
@@ -205,7 +205,7 @@ unfolding is_name word_front number_front symbol_front read_contract advert_of_a
 run_too_long = refl
 
 -- a halted run has its last line alone
-pub guessed_run : next_answer small_hash (Some (play (codes "r") (codes "c" ∷ []))) (got guessing ∷ got commitment ∷ [])
+pub guessed_run : next_answer small_hash (Some (continues (codes "r") (codes "c" ∷ []))) (got guessing ∷ got commitment ∷ [])
     ≡ prints 7 (lines (codes "guessed A a" ∷ []))
 unfolding is_name word_front number_front symbol_front read_contract advert_of_all advert_at entries_at entry_at head_at deposit_at
     secret_at
@@ -218,7 +218,7 @@ guessed_run = refl
 -- ---- several contracts
 
 -- the first has begun with the only deposit, and the second finds none
-pub two_contracts : next_answer small_hash (Some (play (codes "r") (codes "c" ∷ codes "d" ∷ [])))
+pub two_contracts : next_answer small_hash (Some (continues (codes "r") (codes "c" ∷ codes "d" ∷ [])))
     (got lone_run ∷ got lone ∷ got lone ∷ [])
     ≡ prints 0 (lines (
     codes "can fire #1 0" ∷

@@ -9,29 +9,40 @@
 --  6  the run file is refused
 --  7  an event of the run guesses a secret: its last line alone
 --  8  the opening or an event of the run collides, or what is hashed in asking what may come next: the line of the two messages alone
-use Rattle.std.specs.Prelude.{ℕ, List, [], ◌∷◌, length, nat_le, Option, Some, None, Ok, Err}
+use Rattle.std.specs.Prelude.{ℕ, List, [], ◌∷◌, length, map, nat_le, Option, Some, None, Ok, Err}
 use Rattle.spec_data.specs.Ranges.{most_contracts}
 use Rattle.spec_terms.specs.Advert.{Advert}
 use Rattle.spec_text.specs.Words.{given}
 use Rattle.spec_text.specs.Refusals.{Judged}
-use Rattle.spec_tool.specs.Reads.{Read, Text, texts_read}
-use Rattle.spec_tool.specs.Commands.{Command, check, play, Printed, prints, usage, contract_refused, both_judged}
+use Rattle.spec_tool.specs.Reads.{Asked, Read, Text, texts_read}
+use Rattle.spec_tool.specs.Commands.{contract_file, run_file, Printed, prints, usage, contract_refused, both_judged}
 use Rattle.spec_tool.specs.Answers.{contract_in, contracts_in, run_in, if_whole}
 use Rattle.spec_next.specs.Foreseen.{next_printed}
 use Rattle.spec_next.specs.FirstLines.{begin_text}
 
 -- ---- words; files are named by their bytes
 
--- a run and up to 16 contracts
-abbrev pub goes_on : List ℕ → List (List ℕ) → Option Command
-goes_on run contracts = given (nat_le (length contracts) most_contracts) (play run contracts)
+-- what words ask for
+pub data NextCommand : Type 0 where
+  -- the first lines of a run of a contract
+  begins : (contract : List ℕ) → NextCommand
+  -- what comes next after a run with contracts
+  continues : (run : List ℕ) → (contracts : List (List ℕ)) → NextCommand
 
--- the command that the words are, if they are one: `check` stands for the first lines of a run of a contract, and `play` for what comes
--- next after a run with contracts, which read the same files
-abbrev pub next_words : List (List ℕ) → Option Command
+-- the files that are read
+abbrev pub next_files : NextCommand → List Asked
+next_files (begins contract) = contract_file contract ∷ []
+next_files (continues run contracts) = run_file run ∷ map contract_file contracts
+
+-- a run and up to 16 contracts
+abbrev pub continued : List ℕ → List (List ℕ) → Option NextCommand
+continued run contracts = given (nat_le (length contracts) most_contracts) (continues run contracts)
+
+-- the command that the words are, if they are one
+abbrev pub next_words : List (List ℕ) → Option NextCommand
 next_words [] = None
-next_words (contract ∷ []) = Some (check contract)
-next_words (run ∷ contract ∷ contracts) = goes_on run (contract ∷ contracts)
+next_words (contract ∷ []) = Some (begins contract)
+next_words (run ∷ contract ∷ contracts) = continued run (contract ∷ contracts)
 
 -- ---- answers
 
@@ -51,6 +62,6 @@ read_next hash None = prints 3 []
 read_next hash (Some texts) = next_texts hash texts
 
 -- what the words answer; those that are no command read nothing
-abbrev pub next_answer : (List ℕ → List ℕ) → Option Command → List Read → Printed
+abbrev pub next_answer : (List ℕ → List ℕ) → Option NextCommand → List Read → Printed
 next_answer hash None reads = usage
 next_answer hash (Some command) reads = read_next hash (texts_read reads)

@@ -19,7 +19,7 @@ const MOST_AUDIT_BYTES: usize = 8_388_608;
 const MOST_STRATEGY_BYTES: usize = 1_048_576;
 
 /// A run file and the files of its contracts.
-fn play_files<'a>(
+pub fn run_files<'a>(
     alloc: Global,
     run: &'a str,
     contracts: &'a [String],
@@ -50,7 +50,7 @@ pub fn files_of<'a>(alloc: Global, call: &Command<'a>) -> Result<Vec<(&'a str, u
 {
     match call {
         Command::Check(contract) => list_of(alloc, &[(contract, MOST_TEXT_BYTES)]),
-        Command::Play(run, contracts) => play_files(alloc, run, contracts),
+        Command::Play(run, contracts) => run_files(alloc, run, contracts),
         Command::Make(_, _) => list_of(alloc, &[]),
         Command::Plan(run, contract)
         | Command::PsbtOf(run, contract, _)

@@ -18,7 +18,7 @@ pub use command::Command;
 pub use contract::contract_in;
 pub use contracts::contracts_in;
 pub use error::{ContractsError, JudgeError};
-pub use files::files_of;
+pub use files::{files_of, run_files};
 pub use replies::{check_reply, contract_refused, run_refused};
 pub use run::run_in;
 pub use words::command_of;

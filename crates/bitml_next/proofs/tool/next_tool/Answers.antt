@@ -1,6 +1,5 @@
 use Rattle.std.proofs.Common.{ℕ, Ok, refl}
-use Rattle.spec_tool.specs.Commands.{files_of}
-use Rattle.spec_next.specs.NextAnswer.{next_answer, read_next}
+use Rattle.spec_next.specs.NextAnswer.{next_files, next_answer, read_next}
 use Rattle.tool_shell.proofs.Seen.{seen as seen_as}
 use Rattle.bitml_next.specs.Told.{seen}
 use Rattle.bitml_next.proofs.Few.{few_call}
@@ -12,6 +11,6 @@ serve-requires g c = few_call c.call_of.result c.call_of.ensures.few
 pub returns : goal.returns
 returns g c =
     c.answers_tell_all.ensures (g.H.Hash32.digest_of c.args.hash) c.hashes_bytes.ensures _ _ _ c.serve.result
-    (seen_as seen files_of (next_answer (g.H.Hash32.digest_of c.args.hash)) (λ call. files_of (seen call))
+    (seen_as seen next_files (next_answer (g.H.Hash32.digest_of c.args.hash)) (λ call. next_files (seen call))
     (λ call. read_next (g.H.Hash32.digest_of c.args.hash)) (λ reads. refl) (λ call. refl) (λ call reads. refl) {E = ℕ} _ (Ok c.call_of.result) _ _ c.serve.result
-    c.call_of.ensures.command tt c.serve.ensures)
+    c.call_of.ensures.call tt c.serve.ensures)

@@ -75,7 +75,7 @@ determined answers files told first first_now second second_now status other e f
 -- ---- by the log
 
 -- what a read answered tells the read
-read_in : Result (List ℕ) ReadError → Read
+abbrev read_in : Result (List ℕ) ReadError → Read
 read_in (Ok bytes) = got bytes
 read_in (Err Failed) = failed
 read_in (Err TooLong) = too_long
@@ -87,7 +87,7 @@ read_back too_long = refl
 read_back failed = refl
 
 -- the reads of a log
-reads_in_log : List Reply → List Read
+abbrev reads_in_log : List Reply → List Read
 reads_in_log [] = []
 reads_in_log (reply ∷ log) = read_in reply.answer ∷ reads_in_log log
 

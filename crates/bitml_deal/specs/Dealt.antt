@@ -137,6 +137,7 @@ IfFinished hash None texts printed = Unit {0}
 IfFinished hash (Some command) None printed = Unit {0}
 IfFinished hash (Some command) (Some texts) printed =
     (which : Which) → finishes command ≡ Some which → printed.status ≡ 0 → IsFinishedText secp256k1 hash texts which printed.text
+
 -- what signers are given of a deal that is taken
 abbrev pub SignersTexts : (List ℕ → List ℕ) → Option (List Text) → Type 0
 SignersTexts hash None = Unit {0}

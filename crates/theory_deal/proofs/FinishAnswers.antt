@@ -33,7 +33,7 @@ use Rattle.spec_deal.specs.SignatureFile.{read_signatures}
 use Rattle.spec_deal.specs.Verifier.{Verifier}
 use Rattle.theory_deal.specs.FinishAnswers.{IsFinishedText, FinishAnswers}
 use Rattle.theory_deal.specs.Whole.{AreRead}
-use Rattle.theory_deal.proofs.Accepted.{finished_accepted}
+use Rattle.theory_deal.proofs.Ledger.Accepted.{finished_accepted}
 use Rattle.theory_deal.proofs.ReadAgain.{finished_is_read_again}
 use Rattle.theory_deal.proofs.WellFormed.{well_formed}
 use Rattle.theory_deal.proofs.Whole.{finish_theorem}

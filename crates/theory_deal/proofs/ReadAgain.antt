@@ -32,10 +32,10 @@ use Rattle.theory_psbt.proofs.PartBytes.{witness_is_bytes, stripped_is_bytes}
 use Rattle.theory_text.proofs.Lines.HexBack.{hex_back}
 use Rattle.theory_text.proofs.Lines.LineBytes.{lines_again, hex_line}
 use Rattle.theory_deal.specs.Printed.{only_line, if_read, transaction_in, ReadAgainTheorem}
-use Rattle.theory_deal.proofs.Funded.{funded_at}
+use Rattle.theory_deal.proofs.Ledger.Funded.{funded_at}
 use Rattle.theory_deal.proofs.ReadDeals.{deals_are_sized}
 use Rattle.theory_deal.proofs.ReadSignatures.{signatures_are_shaped}
-use Rattle.theory_deal.proofs.Verdicts.{IsFunded}
+use Rattle.theory_deal.proofs.Ledger.Verdicts.{IsFunded}
 use Rattle.theory_deal.proofs.Whole.{strings_fit}
 use Rattle.theory_deal.proofs.WholeDeals.{deals_give_all}
 use Rattle.theory_deal.proofs.Widths.DealBytes.{deal_widths}

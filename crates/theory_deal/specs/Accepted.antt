@@ -126,7 +126,9 @@ pub record IsAccepted (v : Verifier) (hash : List ℕ → List ℕ) (keys : Keys
   -- by the verifier itself, of the digests that the ledger asks for, with nothing asked of it
   pub verified : (chain : Chain) → AreLive hash chain.live l.draft.spends → l.draft.lock ≤ chain.tip
       → verdict_by v hash chain (finished hash keys s given strings l) ≡ accepted_on chain (finished hash keys s given strings l)
-  -- and at no height before
+  -- there is such a ledger at each height
+  pub possible : (tip : ℕ) → (chain : Chain) × (chain.tip ≡ tip) × AreLive hash chain.live l.draft.spends
+  -- and before its lock none accepts it
   pub early : (judge : Judge) (chain : Chain) → AreLive hash chain.live l.draft.spends → chain.tip < l.draft.lock
       → judged_verdict hash judge chain (finished hash keys s given strings l) ≡ Refused NotFinal
 

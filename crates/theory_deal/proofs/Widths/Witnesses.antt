@@ -50,7 +50,7 @@ use Rattle.theory_deal.specs.Finished.{are_short, do_fit}
 use Rattle.theory_deal.proofs.Branches.{branch_found}
 use Rattle.theory_deal.proofs.FinishedOpens.{slot_of}
 use Rattle.theory_deal.proofs.ReadBranches.{choice_reads, reveals_different}
-use Rattle.theory_deal.proofs.ShortItems.{string_short}
+use Rattle.theory_deal.proofs.Ledger.ShortItems.{string_short}
 use Rattle.theory_deal.proofs.Widths.Outputs.{are_few}
 use Rattle.theory_deal.proofs.Widths.Places.{IsSpendable}
 use Rattle.theory_deal.proofs.Widths.SecretBytes.{ShownBytes}

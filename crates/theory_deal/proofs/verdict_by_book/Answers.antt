@@ -1,4 +1,4 @@
-use Rattle.theory_deal.proofs.ByBook as proof
+use Rattle.theory_deal.proofs.Ledger.ByBook as proof
 use Rattle.theory_deal.proofs.verdict_by_book.Goals as goal
 
 pub returns : goal.returns

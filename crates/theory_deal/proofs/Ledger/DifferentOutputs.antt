@@ -31,7 +31,7 @@ use Rattle.theory_calculus.proofs.Names.{bytes_refl, different_names, persistent
 use Rattle.theory_script.proofs.Keyed.Stands.{some_same}
 use Rattle.theory_world.proofs.Same.{place-true}
 use Rattle.theory_world.proofs.Tests.{any_map}
-use Rattle.theory_deal.proofs.Made.{IsMade, position_made, no_deposit_made}
+use Rattle.theory_deal.proofs.Ledger.Made.{IsMade, position_made, no_deposit_made}
 use Rattle.theory_deal.proofs.ReadBranches.{puts_needed, puts_different}
 
 -- ---- places

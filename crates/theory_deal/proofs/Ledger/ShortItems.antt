@@ -28,7 +28,7 @@ use Rattle.theory_calculus.proofs.Members.{all_in, found}
 use Rattle.theory_script.proofs.Keyed.Witnesses.{stack_short}
 use Rattle.theory_deal.specs.Finished.{are_short, do_fit}
 use Rattle.theory_deal.proofs.FinishedOpens.{items_before, input_short}
-use Rattle.theory_deal.proofs.Verdicts.{AllShort}
+use Rattle.theory_deal.proofs.Ledger.Verdicts.{AllShort}
 
 -- a string that fits its secret is no longer than an item may be
 pub string_short : (hash : List ℕ → List ℕ) (s : Instance) (strings : List Shown) → do_fit hash s strings ≡ true → (x : Shown)

@@ -18,13 +18,14 @@ use Rattle.theory_world.proofs.Ledger.Acceptable.{with-bare}
 use Rattle.theory_world.proofs.Ledger.Bare.{same_preimage}
 use Rattle.theory_deal.specs.Finished.{Judge, judge_by, Agrees, AllOpen}
 use Rattle.theory_deal.specs.Accepted.{judge_on, AreLive, AcceptedTheorem}
-use Rattle.theory_deal.proofs.ByBook.{verdict_by_book}
-use Rattle.theory_deal.proofs.DifferentOutputs.{apart_at}
-use Rattle.theory_deal.proofs.Funded.{funded_at}
-use Rattle.theory_deal.proofs.PlacesApart.{places_apart}
+use Rattle.theory_deal.proofs.Ledger.ByBook.{verdict_by_book}
+use Rattle.theory_deal.proofs.Ledger.DifferentOutputs.{apart_at}
+use Rattle.theory_deal.proofs.Ledger.Funded.{funded_at}
+use Rattle.theory_deal.proofs.Ledger.PlacesApart.{places_apart}
 use Rattle.theory_deal.proofs.ReadSignatures.{signatures_are_shaped}
-use Rattle.theory_deal.proofs.ShortItems.{witnesses_short}
-use Rattle.theory_deal.proofs.Verdicts.{IsWhole, Lie, lies, one_worth, lie_of, accepts_open, refuses_early}
+use Rattle.theory_deal.proofs.Ledger.Possible.{some_ledger}
+use Rattle.theory_deal.proofs.Ledger.ShortItems.{witnesses_short}
+use Rattle.theory_deal.proofs.Ledger.Verdicts.{IsWhole, Lie, lies, one_worth, lie_of, accepts_open, refuses_early}
 use Rattle.theory_deal.proofs.Whole.{strings_fit, finish_theorem}
 use Rattle.theory_deal.proofs.WholeDeals.{deals_give_all}
 
@@ -92,5 +93,6 @@ finished_accepted v hash advert deal_text deal file given strings which l size c
           let judge = judge_on (λ digest signature key. v.is_signature key digest signature) hash chain.live tx in
           accepts_open hash judge chain l.draft ws whole live size reached
           (done.agreed judge (agrees_on v hash chain.live l (judge_by v hash l) ws done.verified live)) short;
+      possible = some_ledger hash l.draft.spends whole.apart;
       early = λ judge chain live early. refuses_early hash judge chain l.draft ws whole live early;
     }

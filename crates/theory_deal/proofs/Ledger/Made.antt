@@ -29,7 +29,7 @@ use Rattle.theory_deal.proofs.ByName.{none_mapped, listed_in}
 use Rattle.theory_deal.proofs.Listed.{none_found}
 
 -- what is in a list and passes a test is found
-any_in : {X : Type 0} (p : X → Bool) (xs : List X) (x : X) → Is_in x xs → p x ≡ true → list_any p xs ≡ true
+pub any_in : {X : Type 0} (p : X → Bool) (xs : List X) (x : X) → Is_in x xs → p x ≡ true → list_any p xs ≡ true
 any_in p [] x i h = absurd i
 any_in p (y ∷ xs) x (inl e) h = ap (λ (b : Bool). b || list_any p xs) (sym (ap p e) ∙ h)
 any_in p (y ∷ xs) x (inr i) h = by_test (p y) (any_in p xs x i h)

@@ -28,7 +28,7 @@ use Rattle.theory_world.proofs.Contracts.Mentions.{a_person, has_deposit}
 use Rattle.theory_world.proofs.Labels.{core_readable}
 use Rattle.theory_run.proofs.Widths.BranchWidths.{lock_low}
 use Rattle.theory_deal.proofs.ReadBranches.{branch_reads}
-use Rattle.theory_deal.proofs.Verdicts.{IsFunded}
+use Rattle.theory_deal.proofs.Ledger.Verdicts.{IsFunded}
 
 -- a core is no wish and no lock
 abbrev is_bare : term.Guarded → Bool

@@ -1,0 +1,9 @@
+pub mod Accepted
+pub mod ByBook
+pub mod DifferentOutputs
+pub mod Funded
+pub mod Made
+pub mod PlacesApart
+pub mod Possible
+pub mod ShortItems
+pub mod Verdicts

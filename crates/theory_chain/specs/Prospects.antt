@@ -1,6 +1,6 @@
 -- What is claimed of what may come next of a deal: what can come is finished, final and opened by every judge that takes its signatures;
 -- what a deposit is gone for never comes.
-use Rattle.std.specs.Prelude.{◌≡◌, ℕ, ◌≤◌, List, [], ◌++◌, true, None, Some}
+use Rattle.std.specs.Prelude.{◌≡◌, ℕ, ◌≤◌, List, [], ◌++◌, ◌↔◌, true, None, Some}
 use Rattle.std.specs.List.{list_all, list_any}
 use Rattle.spec_compiler.specs.Keyed.Keys.{Keys}
 use Rattle.spec_compiler.specs.Keyed.Instance.{Instance}
@@ -33,12 +33,13 @@ pub record CanCome (hash : List ℕ → List ℕ) (keys : Keys) (s : Instance) (
   -- its deposits are live
   pub funded : list_all (λ x. list_any (is_deposit x) state.live) (deposits_needed s which) ≡ true
 
-abbrev pub CanComes : Type 0
-CanComes =
+-- nothing is wanting exactly where it can come
+abbrev pub CanExactly : Type 0
+CanExactly =
     (hash : List ℕ → List ℕ) (keys : Keys) (s : Instance) (given : List Signed) (strings : List Shown) (state : State) (tip : ℕ)
     (which : Which) (l : Listed)
-    → listed_at hash keys s which ≡ Some l → wanting hash keys s given strings state tip which ≡ []
-    → CanCome hash keys s given strings state tip which l
+    → listed_at hash keys s which ≡ Some l
+    → (wanting hash keys s given strings state tip which ≡ []) ↔ CanCome hash keys s given strings state tip which l
 
 -- and its witnesses open what it spends, for every judge that accepts the given signatures
 abbrev pub CanOpens : Type 0

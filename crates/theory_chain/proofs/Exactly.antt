@@ -26,13 +26,13 @@ use Rattle.spec_deal.specs.SecretFile.{string_for}
 use Rattle.spec_deal.specs.Slots.{Slot, slots, listed_slots, is_endorsement}
 use Rattle.spec_deal.specs.Transactions.{transactions}
 use Rattle.theory_calculus.specs.Members.{Is_in}
-use Rattle.theory_calculus.proofs.Members.{in_append, in_filter, filter_has, all_in}
+use Rattle.theory_calculus.proofs.Members.{in_append, in_filter, filter_has, all_in, contains_from_in}
 use Rattle.theory_script.proofs.Keyed.Transactions.{AreRight, transactions_right}
 use Rattle.theory_deal.specs.Whole.{IsComplete, FinishesExactly}
 use Rattle.spec_chain.specs.declared.want.Want.TheVariants as wants
 use Rattle.spec_chain.specs.Outputs.{is_deposit}
 use Rattle.spec_chain.specs.Wanting.{lock_of, height_wants, is_needed_for, signature_want, signature_wants, deposits_needed, deposits_wanting, secrets_wanting, secret_want, gone_wants, is_false, predicate_wants, wanting}
-use Rattle.theory_chain.specs.Prospects.{CanCome, CanExactly}
+use Rattle.theory_chain.specs.Prospects.{CanCome, CanExactly, SuppliedComes}
 use Rattle.theory_chain.proofs.Needs.{of_listed, listed_name, named_is, can_comes}
 
 -- ---- lists
@@ -178,3 +178,37 @@ can_exactly finishes_exactly hash keys s given strings state tip which l named =
         let predicate = no_predicate hash keys s given strings which l named complete in
         λ i. heights i ++ (signatures i ++ (map wants.Deposit (deposits i) ++ (map (secret_want s) (secrets i)
         ++ (gone_wants (deposits i) ++ predicate i))))
+
+-- ---- what is supplied
+
+pub supplied_comes : SuppliedComes
+supplied_comes hash keys s given strings state tip which l named c =
+    by_false (is_false strings (secrets_wanting s strings which) (which_branch s which)) refl
+  where
+    heights : height_wants (transactions hash keys s) tip which ≡ []
+    heights =
+        subst (λ (o : Option Transaction). (if nat_lt tip (lock_of o) then wants.Height (lock_of o) ∷ [] else []) ≡ [])
+        (sym (named_is hash keys s which l named)) (not_above tip l.draft.lock c.final)
+
+    isnt : (b : Bool) → not b ≡ true → b ≡ true → ⊥
+    isnt true e k = cc
+    isnt false e k = cc
+
+    signatures : signature_wants hash keys s given which ≡ []
+    signatures =
+        ap (map signature_want) (none_passing (is_needed_for which) (missing hash keys s given) (λ slot h needed.
+        let r = in_filter (λ x. not (has hash keys given x)) (slots hash keys s) slot h in
+        isnt (has hash keys given slot) r.1 (c.signed slot (contains_from_in (slots hash keys s) slot r.0) needed)))
+
+    secrets : secrets_wanting s strings which ≡ []
+    secrets = none_failing (λ a. is_some (string_for strings a)) (revealed_by (which_branch s which)) c.told
+
+    by_false : (b : Bool) → is_false strings (secrets_wanting s strings which) (which_branch s which) ≡ b
+        → (wanting hash keys s given strings state tip which ≡ [])
+        ⊎ (wanting hash keys s given strings state tip which ≡ wants.PredicateFalse ∷ [])
+    by_false true e =
+        inr (λ i. heights i ++ (signatures i ++ (map wants.Deposit (c.funded i) ++ (map (secret_want s) (secrets i)
+        ++ (gone_wants (c.funded i) ++ cond (e i) (wants.PredicateFalse ∷ []) [])))))
+    by_false false e =
+        inl (λ i. heights i ++ (signatures i ++ (map wants.Deposit (c.funded i) ++ (map (secret_want s) (secrets i)
+        ++ (gone_wants (c.funded i) ++ cond (e i) (wants.PredicateFalse ∷ []) [])))))

@@ -3,7 +3,7 @@
 
 ghost use Rattle.theory_chain.specs.Aside.{OthersAreReadOver};
 ghost use Rattle.theory_chain.specs.Files.{ChainsAreSpelled, ChainsAreRefused};
-ghost use Rattle.theory_chain.specs.Prospects.{CanExactly, CanOpens, GoneNeverComes, KnownFit};
+ghost use Rattle.theory_chain.specs.Prospects.{CanExactly, CanOpens, GoneNeverComes, KnownFit, SuppliedComes};
 ghost use Rattle.theory_chain.specs.Follows.{FollowedExactly, RefusedExactly, HistoryStays};
 
 use theory_deal::{finished_opens, finishes_exactly};
@@ -62,4 +62,9 @@ pub fn gone_never_comes()
 /// A transaction that isn't the deal's, spends none of its outputs and shows nothing new is never bad, and changes nothing of the text.
 pub fn others_are_read_over()
     ensures { OthersAreReadOver }
+{}
+
+/// Where all that may be wanting is supplied, nothing is wanting, or its predicate is false and it never comes.
+pub fn supplied_comes()
+    ensures { SuppliedComes }
 {}

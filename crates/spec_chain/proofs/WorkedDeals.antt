@@ -4,6 +4,7 @@ use Rattle.std.specs.Prelude.{codes, filter, map, not, Some, None}
 use Rattle.spec_data.specs.Digits.{hex_text, read_hex}
 use Rattle.spec_terms.specs.Advert.{Advert}
 use Rattle.spec_bitcoin.specs.declared.tx.OutPoint.{OutPoint}
+use Rattle.spec_bitcoin.specs.declared.tx.TxIn.{TxIn}
 use Rattle.spec_bitcoin.specs.declared.tx.Tx.{Tx}
 use Rattle.spec_bitcoin.specs.Digests.{txid}
 use Rattle.spec_bitcoin.specs.Spelling.{spelling}
@@ -67,6 +68,14 @@ sent_with strings w which =
 abbrev pub sent : Worked → Which → List ℕ
 sent w which = sent_with w.strings w which
 
+abbrev pub with_inputs : (List TxIn → List TxIn) → Tx → Tx
+with_inputs change tx = record tx { inputs = change tx.inputs }
+
+-- with other witnesses
+abbrev pub sent_but : (List TxIn → List TxIn) → Worked → Which → List ℕ
+sent_but change w which =
+    of_listed (λ l. line_of_tx (with_inputs change (finished weigh keys (deal w) (all_signed w) w.strings l))) w which
+
 -- without its witnesses
 abbrev pub bare : Worked → Which → List ℕ
 bare w which = of_listed (λ l. line_of_tx (tx_of l.draft)) w which
@@ -75,14 +84,21 @@ bare w which = of_listed (λ l. line_of_tx (tx_of l.draft)) w which
 abbrev pub shown_txid : Worked → Which → List ℕ
 shown_txid w which = of_listed (λ l. txid_text (txid weigh (tx_of l.draft))) w which
 
--- a stranger's transaction, which spends this place with these items
-abbrev pub stranger : OutPoint → List (List ℕ) → Tx
-stranger place items = record {
+-- a stranger's input, which spends this place with these items
+abbrev pub stranger_input : List (List ℕ) → OutPoint → TxIn
+stranger_input items place = record { prev = place; script_sig = []; sequence = 4294967295; witness = items }
+
+-- a stranger's transaction, which spends these places with these items
+abbrev pub stranger_of : List OutPoint → List (List ℕ) → Tx
+stranger_of places items = record {
   version = 1;
-  inputs = record { prev = place; script_sig = []; sequence = 4294967295; witness = items } ∷ [];
+  inputs = map (stranger_input items) places;
   outputs = record { value = 5000; script = 81 ∷ [] } ∷ [];
   lock = 0;
 }
+
+abbrev pub stranger : OutPoint → List (List ℕ) → Tx
+stranger place items = stranger_of (place ∷ []) items
 
 -- ---- what is printed
 

@@ -1,5 +1,5 @@
 -- Worked chains of a bet, each by computation alone: where it stands, and what may come.
-use Rattle.std.proofs.Common.{◌≡◌, ℕ, [], ◌∷◌, ◌++◌, refl}
+use Rattle.std.proofs.Common.{◌≡◌, ℕ, List, [], ◌∷◌, ◌++◌, refl}
 use Rattle.std.specs.Prelude.{codes, replicate}
 use Rattle.std.specs.Fmt.{digits}
 use Rattle.spec_bitcoin.specs.Keys.{label_text}
@@ -9,16 +9,18 @@ use Rattle.spec_bitcoin.specs.Reading.{many, wide_at, compact_at, string_at, inp
 use Rattle.spec_bitcoin.specs.Reading.{witnesses_at, plain_at, marked_at, transaction_at, all_at}
 use Rattle.spec_bitcoin.specs.Scripts.{ops_of}
 use Rattle.spec_bitcoin.specs.Spelling.{stripped, compact, marked}
+use Rattle.spec_bitcoin.specs.Verdict.{items_of}
 use Rattle.spec_bitcoin.specs.declared.tx.OutPoint.{OutPoint}
+use Rattle.spec_bitcoin.specs.declared.tx.TxIn.{TxIn}
 use Rattle.spec_bitcoin.specs.Digests.{places_list, sequences_list, outputs_list, preimage}
 use Rattle.spec_terms.specs.declared.path.PathStep.TheVariants.{Branch as To}
 use Rattle.spec_compiler.specs.Keyed.Instance.{position_script}
 use Rattle.spec_tool.specs.declared.which.Which.{Which}
 use Rattle.spec_tool.specs.declared.which.Which.TheVariants as names
-use Rattle.spec_compiler.specs.Keyed.Transactions.{root_standing}
-use Rattle.spec_deal.proofs.WorkedFiles.{line, weigh, bet, a}
+use Rattle.spec_compiler.specs.Keyed.Transactions.{party_script, root_standing}
+use Rattle.spec_deal.proofs.WorkedFiles.{line, weigh, bet, A, a}
 use Rattle.spec_deal.proofs.WorkedSignatures.{keys}
-use Rattle.spec_chain.proofs.WorkedDeals.{Worked, string, deal, all_signed, all_but, unsigned, sent, sent_with, bare, shown_txid, stranger, line_of_tx, told}
+use Rattle.spec_chain.proofs.WorkedDeals.{Worked, string, deal, all_signed, all_but, unsigned, sent, sent_with, bare, shown_txid, stranger, line_of_tx, told, sent_but}
 
 -- the secret has length 2
 abbrev pub a_bet : Worked
@@ -189,3 +191,54 @@ unfolding digits label_text stripped marked compact position_script item_of_numb
     string_at input_at inputs_at output_at outputs_at witness_at witnesses_at plain_at marked_at transaction_at all_at script_meaning ops_of
     places_list sequences_list outputs_list preimage
 string_of_length_3 = refl
+
+-- the second of two witnesses changed
+abbrev second_changed : (List (List ℕ) → List (List ℕ)) → List TxIn → List TxIn
+second_changed change [] = []
+second_changed change (i ∷ []) = i ∷ []
+second_changed change (i ∷ (j ∷ is)) = i ∷ record j { witness = change j.witness } ∷ is
+
+abbrev first_changed : (List (List ℕ) → List (List ℕ)) → List TxIn → List TxIn
+first_changed change [] = []
+first_changed change (i ∷ is) = record i { witness = change i.witness } ∷ is
+
+abbrev long_first : List (List ℕ) → List (List ℕ)
+long_first [] = []
+long_first (x ∷ xs) = replicate 521 0 ∷ xs
+
+pub an_item_more : told a_bet unsigned [] (line (codes "height 699000") (line (sent_but (second_changed (λ items. (7 ∷ []) ∷ items)) a_bet names.Init) []))
+    ≡
+    line (codes "chain refused line 2 witness 1") []
+unfolding digits label_text stripped marked compact position_script item_of_number signed_bytes number_of_item many wide_at compact_at
+    string_at input_at inputs_at output_at outputs_at witness_at witnesses_at plain_at marked_at transaction_at all_at script_meaning ops_of
+    places_list sequences_list outputs_list preimage
+an_item_more = refl
+
+pub another_script : told a_bet unsigned [] (line (codes "height 699000") (line (sent_but (second_changed (λ items. items_of items ++ party_script weigh keys A ∷ [])) a_bet names.Init) []))
+    ≡
+    line (codes "chain refused line 2 witness 1") []
+unfolding digits label_text stripped marked compact position_script item_of_number signed_bytes number_of_item many wide_at compact_at
+    string_at input_at inputs_at output_at outputs_at witness_at witnesses_at plain_at marked_at transaction_at all_at script_meaning ops_of
+    places_list sequences_list outputs_list preimage
+another_script = refl
+
+pub an_item_of_521_bytes : told a_bet unsigned [] (line (codes "height 699000") (line (sent a_bet names.Init) (line (sent_but (first_changed long_first) a_bet reveal) [])))
+    ≡
+    line (codes "chain refused line 3 witness 0") []
+unfolding digits label_text stripped marked compact position_script item_of_number signed_bytes number_of_item many wide_at compact_at
+    string_at input_at inputs_at output_at outputs_at witness_at witnesses_at plain_at marked_at transaction_at all_at script_meaning ops_of
+    places_list sequences_list outputs_list preimage
+an_item_of_521_bytes = refl
+
+-- ---- an endorsement that is missing
+
+pub one_endorsement_short : told a_bet (all_but (codes "r.0.0") (codes "B:0:r.0.0:B")) [] (line (codes "height 699000") [])
+    ≡
+    line (codes "height 699000") (
+    line (codes "cannot init") (
+    line (codes "needs signature r.0.0 0 B:0:r.0.0:B endorse") (
+    line (codes "waits B") [])))
+unfolding digits label_text stripped marked compact position_script item_of_number signed_bytes number_of_item many wide_at compact_at
+    string_at input_at inputs_at output_at outputs_at witness_at witnesses_at plain_at marked_at transaction_at all_at script_meaning ops_of
+    places_list sequences_list outputs_list preimage
+one_endorsement_short = refl

@@ -11,6 +11,7 @@ use Rattle.spec_bitcoin.specs.Scripts.{ops_of}
 use Rattle.spec_bitcoin.specs.Spelling.{stripped, compact, marked}
 use Rattle.spec_bitcoin.specs.Digests.{txid, places_list, sequences_list, outputs_list, preimage}
 use Rattle.spec_bitcoin.specs.declared.tx.OutPoint.{OutPoint}
+use Rattle.spec_bitcoin.specs.declared.tx.Tx.{Tx}
 use Rattle.spec_terms.specs.Term.{always, after, put_reveal, withdraw, split, no_branch, branch, part, no_part}
 use Rattle.spec_terms.specs.declared.path.PathStep.TheVariants.{Branch as To, Part as Into}
 use Rattle.spec_compiler.specs.Keyed.Instance.{position_script}
@@ -21,11 +22,11 @@ use Rattle.spec_deal.specs.declared.entry.Shown.{Shown}
 use Rattle.spec_deal.specs.Finished.{finished}
 use Rattle.spec_deal.specs.RefusedText.{secrets_refused_line}
 use Rattle.spec_deal.specs.SecretFile.{shows, refused, collided}
-use Rattle.spec_deal.proofs.WorkedFiles.{line, weigh, twin, put, pair, A, B, a, z}
+use Rattle.spec_deal.proofs.WorkedFiles.{line, weigh, bet, twin, put, pair, A, B, a, z}
 use Rattle.spec_deal.proofs.WorkedSignatures.{keys}
 use Rattle.spec_chain.specs.StateText.{txid_text}
 use Rattle.spec_chain.specs.ToldSecrets.{read_told}
-use Rattle.spec_chain.proofs.WorkedDeals.{Worked, string, deal, all_signed, unsigned, of_listed, sent, shown_txid, stranger, line_of_tx, told}
+use Rattle.spec_chain.proofs.WorkedDeals.{Worked, string, deal, all_signed, unsigned, of_listed, sent, shown_txid, stranger, line_of_tx, told, stranger_of}
 use Rattle.spec_chain.proofs.WorkedStates.{a_bet}
 
 abbrev first : Which
@@ -199,6 +200,80 @@ unfolding digits label_text stripped marked compact position_script item_of_numb
     string_at input_at inputs_at output_at outputs_at witness_at witnesses_at plain_at marked_at transaction_at all_at script_meaning ops_of
     places_list sequences_list outputs_list preimage
 branch_of_another_transaction = refl
+
+-- a secret of 15 bytes, whose hash the deal has
+abbrev short_bet : Worked
+short_bet = record { advert = bet; strings = string a (codes "00112233445566778899aabbccddee") ∷ [] }
+
+abbrev showing_less : List (List ℕ)
+showing_less = map (λ (x : Shown). x.bytes) short_bet.strings
+
+pub short_string : told short_bet unsigned [] (line (codes "height 698000") (line (stranger_line 1 showing_less) (line (codes "height 699000") [])))
+    ≡
+    line (codes "confirmed " ++ (stranger_txid 1 showing_less ++ codes " 698000")) (
+    line (codes "gone y") (
+    line (codes "height 699000") (
+    line (codes "cannot init") (
+    line (codes "needs signature init 0 D:A init") (
+    line (codes "needs signature init 1 D:B init") (
+    line (codes "needs signature r.0 0 B:0:r.0:A endorse") (
+    line (codes "needs signature r.0 0 B:0:r.0:B endorse") (
+    line (codes "needs signature r.0.0 0 B:0:r.0.0:A endorse") (
+    line (codes "needs signature r.0.0 0 B:0:r.0.0:B endorse") (
+    line (codes "needs signature r.1 0 B:0:r.1:A endorse") (
+    line (codes "needs deposit y") (
+    line (codes "never: deposit gone") []))))))))))))
+unfolding digits label_text stripped marked compact position_script item_of_number signed_bytes number_of_item many wide_at compact_at
+    string_at input_at inputs_at output_at outputs_at witness_at witnesses_at plain_at marked_at transaction_at all_at script_meaning ops_of
+    places_list sequences_list outputs_list preimage
+short_string = refl
+
+-- a stranger's transaction that spends the second deposit and then the first
+abbrev both_taken : Tx
+both_taken = stranger_of (deposit_place 1 ∷ deposit_place 0 ∷ []) []
+
+pub nobody_signed : told a_put unsigned [] (line (codes "height 698000") (line (line_of_tx both_taken) (line (codes "height 699000") [])))
+    ≡
+    line (codes "confirmed " ++ (txid_text (txid weigh both_taken) ++ codes " 698000")) (
+    line (codes "gone y") (
+    line (codes "gone x") (
+    line (codes "height 699000") (
+    line (codes "cannot init") (
+    line (codes "needs signature init 0 D:A init") (
+    line (codes "needs signature init 1 D:B init") (
+    line (codes "needs signature r.0 0 B:0:r.0:A endorse") (
+    line (codes "needs signature r.0 0 B:0:r.0:B endorse") (
+    line (codes "needs signature r.0 1 D:B endorse") (
+    line (codes "needs signature r.0.0 0 B:0:r.0.0:A endorse") (
+    line (codes "needs signature r.0.0 0 B:0:r.0.0:B endorse") (
+    line (codes "needs signature r.1 0 B:0:r.1:A endorse") (
+    line (codes "needs signature r.1 0 B:0:r.1:B endorse") (
+    line (codes "needs deposit x") (
+    line (codes "needs deposit y") (
+    line (codes "never: deposit gone") []))))))))))))))))
+unfolding digits label_text stripped marked compact position_script item_of_number signed_bytes number_of_item many wide_at compact_at
+    string_at input_at inputs_at output_at outputs_at witness_at witnesses_at plain_at marked_at transaction_at all_at script_meaning ops_of
+    places_list sequences_list outputs_list preimage
+nobody_signed = refl
+
+pub one_of_two_secrets : told a_pair all_signed (string (codes "b") (codes "8db373a68a9a9970f1aac10b16595ced63") ∷ []) (line (codes "height 1") (line (sent a_pair names.Init) (line (codes "height 2") [])))
+    ≡
+    line (codes "confirmed init 1") (
+    line (codes "step authinit 0 A x") (
+    line (codes "step authinit 0 B y") (
+    line (codes "step init 0 -> #3") (
+    line (codes "live #3 r " ++ (shown_txid a_pair names.Init ++ codes " 0 69000")) (
+    line (codes "secret b 8db373a68a9a9970f1aac10b16595ced63") (
+    line (codes "height 2") (
+    line (codes "cannot r.0") (
+    line (codes "needs secret a of A") (
+    line (codes "cannot r.1") (
+    line (codes "needs height 700100") (
+    line (codes "waits A") [])))))))))))
+unfolding digits label_text stripped marked compact position_script item_of_number signed_bytes number_of_item many wide_at compact_at
+    string_at input_at inputs_at output_at outputs_at witness_at witnesses_at plain_at marked_at transaction_at all_at script_meaning ops_of
+    places_list sequences_list outputs_list preimage
+one_of_two_secrets = refl
 
 -- ---- states as files of secrets
 

@@ -3,3 +3,5 @@ pub mod FileReads
 pub mod Courses
 pub mod Needs
 pub mod Stays
+pub mod Exactly
+pub mod ReadOver

@@ -38,7 +38,7 @@ use Rattle.spec_chain.specs.declared.want.Want.TheVariants as wants
 use Rattle.spec_chain.specs.Following.{State}
 use Rattle.spec_chain.specs.Outputs.{is_deposit, transaction_named}
 use Rattle.spec_chain.specs.Wanting.{lock_of, height_wants, is_needed_for, signature_want, signature_wants, deposits_needed, deposits_wanting, secrets_wanting, secret_want, gone_wants, is_false, predicate_wants, wanting}
-use Rattle.theory_chain.specs.Prospects.{CanComes}
+use Rattle.theory_chain.specs.Prospects.{CanCome}
 
 -- ---- lists of which nothing is left
 
@@ -75,7 +75,7 @@ each_all : {X : Type 0} (p : X → Bool) (xs : List X) → ((x : X) → Is_in x 
 each_all p [] f = refl
 each_all p (x ∷ xs) f = and_from (p x) (list_all p xs) (f x (inl refl)) (each_all p xs (λ y h. f y (inr h)))
 
-in_flat : {X Y : Type 0} (f : X → List Y) (xs : List X) (x : X) (y : Y) → Is_in x xs → Is_in y (f x) → Is_in y (flat_map f xs)
+pub in_flat : {X Y : Type 0} (f : X → List Y) (xs : List X) (x : X) (y : Y) → Is_in x xs → Is_in y (f x) → Is_in y (flat_map f xs)
 in_flat f [] x y h k = absurd h
 in_flat f (z ∷ xs) x y (inl e) k = in_left y (f z) (flat_map f xs) (subst (λ w. Is_in y (f w)) e k)
 in_flat f (z ∷ xs) x y (inr i) k = in_right y (f z) (flat_map f xs) (in_flat f xs x y i k)
@@ -246,6 +246,13 @@ nothing_wanting hash keys s given strings state tip which none =
     (left_none deposits (secrets ++ (gone ++ predicate))
     (right_none signatures (deposits ++ (secrets ++ (gone ++ predicate)))
     (right_none heights (signatures ++ (deposits ++ (secrets ++ (gone ++ predicate)))) none)))
+
+abbrev CanComes : Type 0
+CanComes =
+    (hash : List ℕ → List ℕ) (keys : Keys) (s : Instance) (given : List Signed) (strings : List Shown) (state : State) (tip : ℕ)
+    (which : Which) (l : Listed)
+    → listed_at hash keys s which ≡ Some l → wanting hash keys s given strings state tip which ≡ []
+    → CanCome hash keys s given strings state tip which l
 
 pub can_comes : FinishesExactly → CanComes
 can_comes finishes_exactly hash keys s given strings state tip which l named none =

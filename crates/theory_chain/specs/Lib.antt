@@ -1,3 +1,4 @@
 pub mod Files
 pub mod Follows
 pub mod Prospects
+pub mod Aside

@@ -1,8 +1,9 @@
 //! What follows of chains of a deal: each theorem is the contract of a function that does nothing, or calls one that does nothing.
 #![tactic(auto)]
 
+ghost use Rattle.theory_chain.specs.Aside.{OthersAreReadOver};
 ghost use Rattle.theory_chain.specs.Files.{ChainsAreSpelled, ChainsAreRefused};
-ghost use Rattle.theory_chain.specs.Prospects.{CanComes, CanOpens, GoneNeverComes, KnownFit};
+ghost use Rattle.theory_chain.specs.Prospects.{CanExactly, CanOpens, GoneNeverComes, KnownFit, SuppliedComes};
 ghost use Rattle.theory_chain.specs.Follows.{FollowedExactly, RefusedExactly, HistoryStays};
 
 use theory_deal::{finished_opens, finishes_exactly};
@@ -32,9 +33,9 @@ pub fn history_stays()
     ensures { HistoryStays }
 {}
 
-/// A transaction for which nothing is wanting is finished, its lock is reached and its deposits are live.
-pub fn can_comes()
-    ensures { CanComes }
+/// Nothing is wanting for a transaction exactly where it is finished, its lock is reached and its deposits are live.
+pub fn can_exactly()
+    ensures { CanExactly }
 {
     finishes_exactly();
 }
@@ -48,7 +49,7 @@ pub fn known_fit()
 pub fn can_opens()
     ensures { CanOpens }
 {
-    can_comes();
+    can_exactly();
     finished_opens();
     known_fit();
 }
@@ -56,4 +57,14 @@ pub fn can_opens()
 /// A transaction whose deposit is gone never can come, whatever lines are added, and whatever is signed and known.
 pub fn gone_never_comes()
     ensures { GoneNeverComes }
+{}
+
+/// A transaction that isn't the deal's, spends none of its outputs and shows nothing new is never bad, and changes nothing of the text.
+pub fn others_are_read_over()
+    ensures { OthersAreReadOver }
+{}
+
+/// Where all that may be wanting is supplied, nothing is wanting, or its predicate is false and it never comes.
+pub fn supplied_comes()
+    ensures { SuppliedComes }
 {}

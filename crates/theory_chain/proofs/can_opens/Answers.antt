@@ -5,4 +5,4 @@ pub returns : goal.returns
 returns c = λ hash keys s text course tip given strings which l judge are_keys settled short fit stands named none accepted.
     c.finished_opens.ensures hash keys s given (known course.state strings) which l judge are_keys settled short
     (c.known_fit.ensures hash keys s text course tip strings stands fit) named
-    (c.can_comes.ensures hash keys s given (known course.state strings) course.state tip which l named none).finishes accepted
+    ((c.can_exactly.ensures hash keys s given (known course.state strings) course.state tip which l named).0 none).finishes accepted

@@ -1,6 +1,6 @@
 -- Worked values: sums, the rows of a contract, and texts.
 use Rattle.std.proofs.Common.{◌≡◌, [], ◌∷◌, ◌++◌, refl, Some, None}
-use Rattle.std.specs.Prelude.{codes, true, false}
+use Rattle.std.specs.Prelude.{codes, true, false, nat_le, length}
 use Rattle.std.specs.Fmt.{digits}
 use Rattle.spec_terms.specs.declared.path.PathStep.TheVariants.{Branch as To, Part as Into}
 use Rattle.spec_page.specs.declared.status.Status.TheVariants.{Open, Offered, Taken}
@@ -92,6 +92,10 @@ good_style = refl
 good_script : is_well_formed (raw (codes "script") script_text) ≡ true
 unfolding script_text
 good_script = refl
+
+short_script : nat_le (length script_text) 2048 ≡ true
+unfolding script_text
+short_script = refl
 
 twice_named : is_well_formed (element (codes "p") ((codes "id", []) ∷ (codes "id", []) ∷ []) nothing) ≡ false
 twice_named = refl

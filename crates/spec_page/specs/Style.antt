@@ -55,7 +55,7 @@ style_3 =
     ++ (codes ".gone{color:var(--mut)}.gone .path,.gone .chip,.chip.gone,i.gone{text-decoration:line-through}"
     ++ (codes ".ev{cursor:pointer}.ev.blocks{background:var(--soft)}.ev.refused .what{color:var(--mut)}.ev em{color:var(--bad);"
     ++ (codes "font-style:normal}.ev.accepted .path{color:var(--ok);font-weight:bold}"
-    ++ (codes ".ev.later td{color:var(--mut)}.ev.later .sum{color:transparent}.ev.here{outline:2px solid var(--now);outline-offset:-2px}"
+    ++ (codes ".ev.later td{color:var(--mut)}.ev.later .sum{visibility:hidden}.ev.here{outline:2px solid var(--now);outline-offset:-2px}"
     ++ (codes ".dot:before{content:'\\25CF';font-size:10px;color:var(--c)}"
     ++ (codes ".wide th{padding:14px 2px 5px;font-size:12px}.wide th.name{max-width:84px}.wide td{padding:3px 2px}.wide .sum{width:auto;"
     ++ (codes "font-size:11.5px}.wide .what{min-width:200px}.wide i{padding:1px 2px}.turned th.name{writing-mode:vertical-rl;text-align:left;"
@@ -71,7 +71,7 @@ style_4 =
     ++ (codes "tr{display:flex;flex-wrap:wrap;align-items:baseline;gap:2px 8px;padding:3px 6px;border-bottom:1px solid var(--line)}"
     ++ (codes ".head{gap:0 10px;border-bottom:2px solid var(--edge)}td,.wide td{padding:0;border:0}td:empty{display:none}.path{width:auto;"
     ++ (codes "min-width:26px}.what{min-width:0;flex:1 1 70%}.sum,.wide .sum{width:auto;font-size:14px}.sum:before{content:attr(data-of) ' ';"
-    ++ (codes "font-size:12px;color:var(--c)}.ev.later .sum:before{color:transparent}.sum i{padding:0 4px}table .total td{border:0}"
+    ++ (codes "font-size:12px;color:var(--c)}.ev.later .sum{display:none}.sum i{padding:0 4px}table .total td{border:0}"
     ++ (codes ".total{border-top:2px solid var(--edge)}"
     ++ (codes ".d1 .what{padding-left:8px}.d2 .what{padding-left:16px}.d3 .what{padding-left:24px}.d4 .what{padding-left:32px}"
     ++ codes ".d5 .what{padding-left:40px}.d6 .what{padding-left:48px}.d7 .what{padding-left:56px}.d8 .what{padding-left:64px}}")))))))))

@@ -1,10 +1,9 @@
 -- The program's verifier finds good exactly what ECDSA over secp256k1 does.
-use Rattle.std.proofs.Common.{◌≡◌, ℕ, List, Bool, true, false, Option, Some, None, refl, sym, ap, subst, ◌∙◌}
+use Rattle.std.proofs.Common.{◌≡◌, ℕ, List, true, false, Option, Some, None, refl, sym, ap, ◌∙◌}
 use Rattle.std.specs.Prelude.{is_some}
 use Rattle.spec_curve.specs.Key.{number_of, point}
 use Rattle.spec_curve.specs.Point.{Point}
 use Rattle.spec_curve.specs.Signature.{Numbers, numbers_of, sign, is_signature}
-use Rattle.spec_curve.specs.Verify.{verifies}
 use Rattle.theory_deal.specs.Ecdsa.{SignsUnder, IsEcdsa}
 
 as_some : (o : Option Point) → elim o [ Some q ↦ true | None ↦ false ] ≡ is_some o

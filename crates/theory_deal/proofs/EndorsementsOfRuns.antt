@@ -1,5 +1,5 @@
 -- The endorsements of a deal are those that honest parties in runs wait for.
-use Rattle.std.proofs.Common.{◌≡◌, ℕ, ◌+◌, List, [], ◌∷◌, ◌++◌, map, Bool, true, false, not, Option, Some, None, refl, sym, ap, ◌∙◌}
+use Rattle.std.proofs.Common.{◌≡◌, ℕ, ◌+◌, List, [], ◌∷◌, ◌++◌, map, Bool, true, false, not, Option, Some, None, refl, ap, ◌∙◌}
 use Rattle.std.specs.Prelude.{filter, cond}
 use Rattle.std.specs.List.{flat_map}
 use Rattle.std.specs.Option.{option_map_or}
@@ -11,7 +11,6 @@ use Rattle.spec_terms.specs.Parties.{participants}
 use Rattle.spec_terms.specs.Paths.{at}
 use Rattle.spec_terms.specs.Precondition.{Holding, persistent}
 use Rattle.spec_terms.specs.declared.path.PathStep.{PathStep}
-use Rattle.spec_bitcoin.specs.declared.label.Label.{Label}
 use Rattle.spec_compiler.specs.declared.prepared.Prepared.{Prepared}
 use Rattle.spec_compiler.specs.declared.unsigned.Spent.{Spent}
 use Rattle.spec_compiler.specs.declared.unsigned.Unsigned.{Unsigned}
@@ -19,9 +18,9 @@ use Rattle.spec_compiler.specs.Keyed.Keys.{Keys, key_in}
 use Rattle.spec_compiler.specs.Keyed.Instance.{Instance, branch_label, deposit_key}
 use Rattle.spec_compiler.specs.Keyed.Transactions.{tx_of, prepared, digest_of_spent}
 use Rattle.spec_compiler.specs.Keyed.Compilation.{path_transactions}
-use Rattle.spec_compiler.specs.Keyed.Endorsements.{Need, branch_needs, put_owner, put_needs, needs_of, path_needs, needs}
+use Rattle.spec_compiler.specs.Keyed.Endorsements.{Need, put_owner, put_needs, needs_of, path_needs, needs}
 use Rattle.spec_tool.specs.declared.which.Which.TheVariants as names
-use Rattle.spec_tool.specs.Keyed.Listed.{Listed, deposit_signer, branch_signers, path_listed, initial_listed}
+use Rattle.spec_tool.specs.Keyed.Listed.{deposit_signer, branch_signers, path_listed, initial_listed}
 use Rattle.spec_deal.specs.Slots.{Slot, verb_if_asked, branch_verb, verb_of, is_endorsement, input_slots, slots_from, listed_slots}
 use Rattle.theory_deal.specs.Signing.{need_of, EndorsementsOfRuns}
 

@@ -1,9 +1,8 @@
 -- The files for signers of all transactions are those of each, in the order of the text.
-use Rattle.std.proofs.Common.{◌≡◌, ℕ, List, [], ◌∷◌, ◌++◌, map, Option, Some, None, refl, sym, ap, subst, ◌∙◌, inl, inr}
-use Rattle.std.specs.List.{Contains, flat_map}
+use Rattle.std.proofs.Common.{◌≡◌, ℕ, List, [], ◌∷◌, ◌++◌, map, Some, refl, sym, ap, ◌∙◌, inl, inr}
+use Rattle.std.specs.List.{flat_map}
 use Rattle.spec_terms.specs.Advert.{Advert}
 use Rattle.spec_tool.specs.declared.which.Which.{Which}
-use Rattle.spec_tool.specs.Answers.{contract_in}
 use Rattle.spec_tool.specs.Commands.{Printed, prints}
 use Rattle.spec_tool.specs.Keyed.Listed.{Listed, listed, listed_at}
 use Rattle.spec_tool.specs.PsbtText.{psbt_line}
@@ -12,7 +11,6 @@ use Rattle.spec_compiler.specs.Keyed.Keys.{Keys}
 use Rattle.spec_compiler.specs.Keyed.Instance.{Instance}
 use Rattle.spec_deal.specs.declared.deal.Deal.{Deal}
 use Rattle.spec_deal.specs.Answers.{circular, with_advert, with_deal, unless_collided, unless_circular, of_deal, if_there, of_transaction, deal_in}
-use Rattle.spec_deal.specs.Commands as commands
 use Rattle.spec_deal.specs.DealText.{unsigned_psbt, psbts_text}
 use Rattle.spec_deal.specs.Setting.{deal_keys, deal_instance}
 use Rattle.spec_deal.specs.Verifier.{Verifier}

@@ -8,7 +8,6 @@ use Rattle.spec_terms.specs.Advert.{Advert}
 use Rattle.spec_bitcoin.specs.Keys.{label_text}
 use Rattle.spec_text.specs.Lines.{lines_of, words_of}
 use Rattle.spec_text.specs.Words.{one_of}
-use Rattle.spec_deal.specs.declared.deal.Deal.{Deal}
 use Rattle.spec_deal.specs.declared.deal.Needed.{Needed}
 use Rattle.spec_deal.specs.declared.deal.Needed.TheVariants as needs
 use Rattle.spec_deal.specs.declared.fault.DealReason.TheVariants as reasons
@@ -21,7 +20,7 @@ use Rattle.spec_deal.specs.Needed.{needed_deposits, needed_secrets, same_needed}
 use Rattle.spec_deal.specs.Verifier.{Verifier}
 use Rattle.spec_deal.specs.DealFile.{key_of_word, place_of_words, hash_of_word, label_of_word, same_value}
 use Rattle.spec_deal.specs.DealFile.{Line, empty, bad, gives, given_once, with_needed, key_line, deposit_line, hash_line, line_says}
-use Rattle.spec_deal.specs.DealFile.{read_entries, deal_judged, read_deal}
+use Rattle.spec_deal.specs.DealFile.{read_entries, deal_judged}
 use Rattle.theory_calculus.specs.Members.{Is_in}
 use Rattle.theory_calculus.proofs.Names.{bytes_refl}
 use Rattle.theory_deal.specs.NothingTwice.{GiveSame, NothingTwice}

@@ -1,5 +1,5 @@
 -- The script of an input asks for the key of each signature that is wanted of it.
-use Rattle.std.proofs.Common.{◌≡◌, ℕ, zero, suc, List, [], ◌∷◌, map, Option, Some, None, refl, sym, ap, subst, ◌∙◌}
+use Rattle.std.proofs.Common.{◌≡◌, ℕ, zero, suc, List, Option, Some, None, refl, sym, ap, subst, ◌∙◌}
 use Rattle.std.specs.Prelude.{slice_get}
 use Rattle.std.specs.Option.{option_map, option_and_then}
 use Rattle.spec_data.specs.Lists.{look_up}
@@ -13,7 +13,7 @@ use Rattle.spec_bitcoin.specs.declared.label.Label.{Label}
 use Rattle.spec_bitcoin.specs.declared.label.Label.TheVariants as labels
 use Rattle.spec_bitcoin.specs.Keys.{deposit_script}
 use Rattle.spec_compiler.specs.Keyed.Keys.{Keys, key_in}
-use Rattle.spec_compiler.specs.Keyed.Instance.{Instance, branch_path, position_script}
+use Rattle.spec_compiler.specs.Keyed.Instance.{Instance, branch_path}
 use Rattle.spec_compiler.specs.declared.unsigned.Spent.{Spent}
 use Rattle.spec_compiler.specs.declared.unsigned.Unsigned.{Unsigned}
 use Rattle.spec_compiler.specs.Keyed.Transactions.{Standing, deposit, holding_or_none, branch_unsigned}
@@ -24,12 +24,11 @@ use Rattle.spec_tool.specs.declared.which.Which.{Which}
 use Rattle.spec_tool.specs.declared.which.Which.TheVariants as names
 use Rattle.spec_tool.specs.Keyed.Listed.{Listed, path_listed, listed_at}
 use Rattle.spec_deal.specs.declared.finish.Verb.{Verb}
-use Rattle.spec_deal.specs.Slots.{Slot, slots}
 use Rattle.theory_script.proofs.Keyed.Stands.{some_same, IfAgrees, agrees_at}
 use Rattle.theory_deal.proofs.Branches.{branch_found}
 use Rattle.theory_deal.proofs.Signing.{asks_exactly, map_at}
 use Rattle.theory_deal.specs.Scripts.{IsOfPosition, AsksForKey, ScriptsAsk}
-use Rattle.theory_deal.specs.Signing.{StartsBy, GoesBy, PutsBy, BranchBy, Signs, IsAsked}
+use Rattle.theory_deal.specs.Signing.{BranchBy, Signs}
 
 module _ (hash : List ℕ → List ℕ) (keys : Keys) (s : Instance) where
   -- by the key of an owner

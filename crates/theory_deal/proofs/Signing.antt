@@ -1,7 +1,7 @@
 -- A signature is wanted exactly where the contract asks for it; endorsements are those of runs; held and missing are all.
-use Rattle.std.proofs.Common.{◌≡◌, ℕ, zero, suc, ◌+◌, List, [], ◌∷◌, ◌++◌, map, Bool, true, false, not, Option, Some, None, refl, sym, ap, subst, ◌∙◌, arith, inl, inr}
+use Rattle.std.proofs.Common.{◌≡◌, ℕ, zero, suc, ◌+◌, List, [], ◌∷◌, map, Bool, true, false, not, Option, Some, None, refl, sym, ap, subst, ◌∙◌, arith, inl, inr}
 use Rattle.std.specs.Prelude.{filter, slice_get, ◌||◌, cond}
-use Rattle.std.specs.List.{Contains, flat_map, list_any}
+use Rattle.std.specs.List.{flat_map}
 use Rattle.std.specs.Option.{option_map, option_map_or}
 use Rattle.std.specs.Str.{bytes_eq}
 use Rattle.spec_data.specs.Lists.{is_among}
@@ -14,7 +14,7 @@ use Rattle.spec_terms.specs.declared.path.PathStep.{PathStep}
 use Rattle.spec_bitcoin.specs.declared.label.Label.{Label}
 use Rattle.spec_bitcoin.specs.declared.label.Label.TheVariants as labels
 use Rattle.spec_compiler.specs.Keyed.Keys.{Keys}
-use Rattle.spec_compiler.specs.Keyed.Instance.{Instance, people, branch_label}
+use Rattle.spec_compiler.specs.Keyed.Instance.{Instance, branch_label}
 use Rattle.spec_compiler.specs.declared.unsigned.Spent.{Spent}
 use Rattle.spec_compiler.specs.declared.unsigned.Unsigned.{Unsigned}
 use Rattle.spec_compiler.specs.Keyed.Compilation.{path_transactions}
@@ -32,7 +32,7 @@ use Rattle.theory_calculus.proofs.Members.{in_left, in_right, in_append, in_from
 use Rattle.theory_calculus.proofs.Names.{bytes-true, bytes_refl}
 use Rattle.theory_script.proofs.Keyed.Transactions.{AreRight, transactions_right}
 use Rattle.theory_deal.proofs.ByName.{listed_in}
-use Rattle.theory_deal.specs.Signing.{StartsBy, BranchEvent, GoesBy, PutsBy, BranchBy, Signs, IsAsked, AsksExactly, IsParted, HeldAndMissing}
+use Rattle.theory_deal.specs.Signing.{StartsBy, BranchEvent, BranchBy, Signs, IsAsked, AsksExactly, IsParted, HeldAndMissing}
 
 -- ---- lists
 

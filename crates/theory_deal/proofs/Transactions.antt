@@ -1,9 +1,8 @@
 -- The transactions of a deal are those of its contract, in the order of the text, and keep its money.
 use Rattle.std.proofs.Common.{◌≡◌, ℕ, List, [], ◌∷◌, ◌++◌, map, Option, Some, None, refl, sym, ap, subst, ◌∙◌, inl, inr}
-use Rattle.std.specs.List.{Contains, flat_map}
+use Rattle.std.specs.List.{flat_map}
 use Rattle.std.specs.Option.{option_map}
 use Rattle.spec_terms.specs.Faults.{IsWellFormed}
-use Rattle.spec_terms.specs.Order.{branch_paths}
 use Rattle.spec_terms.specs.declared.path.PathStep.{PathStep}
 use Rattle.spec_bitcoin.specs.declared.label.Label.{Label}
 use Rattle.spec_compiler.specs.Keyed.Keys.{Keys, given}
@@ -12,11 +11,11 @@ use Rattle.spec_compiler.specs.Keyed.Instance.{Instance, people}
 use Rattle.spec_compiler.specs.declared.unsigned.Unsigned.{Unsigned}
 use Rattle.spec_compiler.specs.declared.prepared.Prepared.{Prepared}
 use Rattle.spec_compiler.specs.Keyed.Transactions.{party_script, prepared, initial_unsigned}
-use Rattle.spec_compiler.specs.Keyed.Compilation.{path_transactions, scripts, compilation}
+use Rattle.spec_compiler.specs.Keyed.Compilation.{path_transactions, scripts}
 use Rattle.spec_compiler.specs.Keyed.ByPath.{unsigned_at}
 use Rattle.spec_tool.specs.declared.which.Which.{Which}
 use Rattle.spec_tool.specs.declared.which.Which.TheVariants as names
-use Rattle.spec_tool.specs.Keyed.Listed.{Listed, initial_listed, path_listed, listed, listed_at}
+use Rattle.spec_tool.specs.Keyed.Listed.{Listed, path_listed, listed, listed_at}
 use Rattle.theory_calculus.specs.Members.{Is_in}
 use Rattle.theory_calculus.proofs.Members.{in_from_contains, contains_from_in}
 use Rattle.theory_script.specs.Keyed.Listed.{PathsInOrder}
@@ -24,7 +23,7 @@ use Rattle.theory_script.specs.Keyed.Money.{IsKept}
 use Rattle.theory_script.proofs.Keyed.Money.{initial_kept, paths_kept}
 use Rattle.theory_script.proofs.Keyed.Transactions.{AreRight, transactions_right}
 use Rattle.theory_deal.proofs.ByName.{listed_in}
-use Rattle.theory_deal.specs.Transactions.{AreTransactions, TransactionsOfDeals, DealsHash}
+use Rattle.theory_deal.specs.Transactions.{TransactionsOfDeals, DealsHash}
 
 some_same : {A : Type 0} {a b : A} → Some a ≡ Some b → a ≡ b
 some_same e = cc

@@ -3,8 +3,8 @@
 
 _bitml_list=$(dirname "$(readlink -f "${BASH_SOURCE[0]}")")/help.txt
 
-# What may stand behind the given words, a line each: the next word of each form in help that begins with the first of them, or with the
-# first two for a deal, whatever stands between.
+# What may come behind the given words, a line each: the next word of each form in help that begins with the first of them, or with the
+# first two for a deal, whatever is between.
 _bitml_next() { # WORD..
     sed -nE '/^  [a-z-]/ { s/^  //; s/  .*//; p }' "$_bitml_list" | awk -v given="$*" '
         { n = split(given, word, " "); fixed = word[1] == "deal" ? 2 : 1

@@ -1,4 +1,4 @@
-"""Where the parts of a contract text stand, for what is shown of a refusal. The text keeps the grammar."""
+"""Where the parts of a contract text are, for what is shown of a refusal. The text keeps the grammar."""
 import re
 
 TOKEN = re.compile(rb'[A-Za-z][A-Za-z0-9_]*|[0-9]+|->|[^ \t\r\n]')
@@ -10,7 +10,7 @@ class Places:
     def __init__(self, text):
         self.tokens = [(m.group(), m.start()) for m in TOKEN.finditer(text)]
         self.at, self.branches, self.positions = 0, {}, {}
-        # each entry's place, its mark (`!`, `?` or `secret`), its value and its name
+        # each entry's place, its kind (`!`, `?` or `secret`), its value and its name
         self.entries = []
         # by path: the names behind `put` and `reveal` and in lengths, with their places
         self.names = {}
@@ -26,7 +26,7 @@ class Places:
         if self.word() == b'fee':
             self.fee = int(self.word(1))
             self.skip(2)
-        self.choice('r', sum(value for _, mark, value, _ in self.entries if mark == b'!') - self.fee)
+        self.choice('r', sum(value for _, kind, value, _ in self.entries if kind == b'!') - self.fee)
 
     def word(self, ahead=0):
         return self.tokens[self.at + ahead][0] if self.at + ahead < len(self.tokens) else b''
@@ -38,11 +38,11 @@ class Places:
         self.at += count
 
     def entry(self):
-        begin, mark, number, name = self.here(), self.word(2), self.word(3), b''
+        begin, kind, number, name = self.here(), self.word(2), self.word(3), b''
         while self.word() not in (b'|', b'}'):
             name = self.word()
             self.skip()
-        self.entries.append((begin, mark, int(number) if mark in (b'!', b'?') else 0, name))
+        self.entries.append((begin, kind, int(number) if kind in (b'!', b'?') else 0, name))
         if self.word() == b'|':
             self.skip()
 
@@ -90,7 +90,7 @@ class Places:
                 names[part].append((word, self.here()))
             self.skip()
         self.skip()
-        added = {name: value for _, mark, value, name in self.entries if mark == b'?'}
+        added = {name: value for _, kind, value, name in self.entries if kind == b'?'}
         self.choice(path, balance + sum(added.get(name, 0) for name, _ in names[b'put']) - self.fee)
 
     def party(self, name):
@@ -102,7 +102,7 @@ class Places:
             at, _, _, name = self.entries[int(path)]
             return name, at
         names = self.names[path]
-        known = {mark: [name for _, its, _, name in self.entries if its == mark] for mark in (b'?', b'secret')}
+        known = {kind: [name for _, its, _, name in self.entries if its == kind] for kind in (b'?', b'secret')}
         if fault == 'UnknownDeposit':
             return next(it for it in names[b'put'] if it[0] not in known[b'?'])
         if fault == 'UnknownSecret':

@@ -18,12 +18,12 @@ NUMBERS = {
     'amount': 'amounts are in satoshi, at most 2,100,000,000,000,000',
     'constant': 'constants are at most 2,147,483,647',
 }
-# What is said of the name that stands at a fault.
+# What is said of the name at a fault.
 NAMES = {
-    'NameRepeated': '%s stands in an earlier entry too',
+    'NameRepeated': '%s is in an earlier entry too',
     'UnknownDeposit': 'no entry has a deposit ? .. @ %s',
     'UnknownSecret': 'no entry has a secret %s',
-    'PrefixRepeated': '%s stands twice',
+    'PrefixRepeated': '%s is named twice',
     'PredicateSecret': '%s is no secret of this reveal',
 }
 KEYWORDS = 'put reveal if withdraw split after secret true and not fee Outside'.split()
@@ -36,8 +36,8 @@ class Ended(Exception):
 
 
 class Grammar:
-    """Goes by the grammar along tokens that begin a contract, and knows what may stand behind them in `wanted`. In `party` stands a name
-    that was taken for a party's, since it is no keyword, as long as nothing stands behind it."""
+    """Goes by the grammar along tokens that begin a contract, and knows in `wanted` what may come next. `party` is a name that was
+    taken for a party's, since it is no keyword, as long as nothing is behind it."""
 
     def __init__(self, text):
         self.tokens = [match.group().decode('ascii', 'replace') for match in TOKEN.finditer(text)]
@@ -184,14 +184,14 @@ def why_no_token(text, place):
     """Why no word begins at a byte."""
     letter = letter_at(text, place)
     if text[place] == ord('#') or text[place:place + 2] == b'//':
-        return 'a contract has no comments: leave out what stands from here to the end of the line'
+        return 'a contract has no comments: leave out the rest of the line'
     if text[place] >= 128:
         return '%s is not ASCII: names have the letters A to Z and a to z, digits and _' % letter
     return '%s begins no word of a contract' % (letter if letter.isprintable() else 'the byte %d' % text[place])
 
 
 def why_no_contract(text, place):
-    """Why the token at a byte can't stand there."""
+    """Why the token at a byte can't be there."""
     grammar = Grammar(text[:place])
     token = TOKEN.match(text, place)
     word = token.group().decode('ascii', 'replace') if token else None
@@ -208,7 +208,7 @@ def why_no_contract(text, place):
 
 
 def why_too_large(text, place):
-    """Which limit a number exceeds, by what stands before it."""
+    """Which limit a number exceeds, by what is before it."""
     before = TOKEN.findall(text[:place])
     if before[-1:] == [b'after']:
         return NUMBERS['height']

@@ -26,7 +26,7 @@ def why_form(words):
     """Which word of a deal file's line is too few, too many or none, and why."""
     comment = comment_in(words)
     if comment is not None:
-        return comment, 'a deal file has no comments: leave out what stands from here to the end of the line'
+        return comment, 'a deal file has no comments: leave out the rest of the line'
     if words[0] not in FORMS:
         small = words[0].lower()
         return 0, 'verbs have small letters: %s' % small.decode() if small in FORMS else 'a line begins with key, deposit or hash'
@@ -65,7 +65,7 @@ def why_deal_line(words, reason, other):
         return 1, 'the contract has no %s: ./bitml deal keys lists its lines' % what[words[0]]
     if reason == 'repeated':
         return 1, 'line %s has given it before' % other
-    return 2, 'line %s has the same %s, and each stands for one thing' % (other, {b'key': 'key', b'hash': 'hash'}.get(words[0], 'output'))
+    return 2, 'line %s has the same %s, and each is for one thing' % (other, {b'key': 'key', b'hash': 'hash'}.get(words[0], 'output'))
 
 
 def why_signatures_line(line, reason, number):
@@ -74,7 +74,7 @@ def why_signatures_line(line, reason, number):
         if line.split()[:1] == [b'secret']:
             return 'looks like a file of secrets, which is the last word'
         if len(line.split()) > 1 or re.search(rb'=[^=]', line) or line.count(b'cHNidP') > 1:
-            return 'each partially signed transaction stands on a line of its own'
+            return 'each partially signed transaction needs a line of its own'
         if re.fullmatch(rb'[0-9A-Fa-f]+', line.strip()):
             return 'these are hexadecimal digits, and Base64 is wanted'
         return 'this is no Base64 with padding, or not all of it'

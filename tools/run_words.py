@@ -1,7 +1,7 @@
 """The word of a bad line of a run file at which it is likely wrong, where the words stop to have their shapes, and why."""
 import re
 
-# What may stand in a word: a verb's other words, of which the last shape goes on as often as it fits.
+# What a word may be: a verb's other words, of which the last shape goes on as often as it fits.
 PARTY, NUMBER, OUTPUT, HEX, DIGEST = 'party', rb'0|[1-9]\d*', rb'#(0|[1-9]\d*)', rb'([0-9A-Fa-f]{2})+', rb'[0-9A-Fa-f]{64}'
 KEYWORD = rb'(put|reveal|if|withdraw|split|after|secret|true|and|not|fee|Outside)\b'
 NAME, LABEL = rb'(?!%s)[A-Za-z]\w{0,31}' % KEYWORD, rb'[DB]:.*'
@@ -13,7 +13,7 @@ EVENTS = {
     b'give': (PARTY, rb'->|%s|%s' % (OUTPUT, NAME)), b'fire': (rb'init|%s' % OUTPUT, NUMBER), b'mine': (rb'[1-9]\d*',),
 }
 SHAPES = {**HEADER, **EVENTS}
-# Those whose last word may stand any number of times, and so not at all.
+# Those whose last word may come any number of times, and so not at all.
 LISTS = (b'advertise', b'commit', b'give')
 LIMITS = {
     'Size': 'a run file has at most 8,388,608 bytes',
@@ -23,7 +23,7 @@ LIMITS = {
     'Deposits': 'a header has at most 1,000 deposits',
     'Secrets': 'a header has at most 1,000 secrets',
 }
-# What a shape is called where another word stands in its place.
+# What a shape is called where another word is in its place.
 CALLED = {
     NUMBER: 'a number is wanted here, as 0 or 12', OUTPUT: 'an output is wanted here, as #3', b'[1-9]\\d*': 'a number from 1 on is wanted here',
     LABEL: "a key's label is wanted here, as D:A or B:0:r.1:A", DIGEST: 'a digest is wanted here: 64 hexadecimal digits',
@@ -43,13 +43,13 @@ def written(word):
 def why_not(word, shape):
     """Why a word hasn't the shape that its place asks for."""
     if word[:1] == b'#' and shape not in (OUTPUT,) and not re.match(rb'#\d', word):
-        return 'a run file has no comments: leave out what stands from here to the end of the line'
+        return 'a run file has no comments: leave out the rest of the line'
     if any(byte >= 128 for byte in word):
         return '%s is not ASCII: names have the letters A to Z and a to z, digits and _' % written(word)
     if shape == HEX and word == b'HEX':
         return "HEX stands for the secret's bytes: 16 to 520 of them, two hexadecimal digits each"
     if shape in (HEX, DIGEST) and re.fullmatch(rb'0[xX][0-9A-Fa-f]*', word):
-        return 'hexadecimal digits stand here without 0x'
+        return 'hexadecimal digits are written without 0x here'
     if shape == HEX and re.fullmatch(rb'[0-9A-Fa-f]+', word):
         return 'an odd number of hexadecimal digits'
     if shape == HEX:
@@ -92,7 +92,7 @@ def fault(words, lines):
     for number, word in enumerate(words[1:], 1):
         shape = shapes[min(number, len(shapes)) - 1]
         if number > len(shapes) and words[0] not in LISTS:
-            return number, why_not(word, None) if word[:1] == b'#' else 'no word may stand here'
+            return number, why_not(word, None) if word[:1] == b'#' else 'the line has a word too many'
         payee = words[0] == b'give' and given == b'->' and word not in parties and re.fullmatch(NAME, word)
         if (shape == PARTY or payee) and word not in parties:
             return number, why_not(word, NAME) if any(byte >= 128 for byte in word) else 'no party %s' % written(word)
@@ -117,7 +117,7 @@ def unfit(words, earlier):
         if [b'honest', words[1]] not in earlier:
             return 1, '%s is not declared honest before' % first
         named = any(line[:3] == words[:3] for line in earlier)
-        return (2, 'a secret of this name stands before') if named else (3, 'the same bytes stand before')
+        return (2, 'an earlier line has a secret of this name') if named else (3, 'an earlier line has the same bytes')
     if verb == b'deposit':
         return 2, 'the deposits sum to more than 2,100,000,000,000,000 satoshi'
     if verb == b'give' and (words[2:3] == [b'->'] or words[-1] == b'->'):

@@ -27,7 +27,7 @@ $1 == "event" {
     if ($3 == "authorise") where = named($5, $6)
     next
 }
-# What collides before the first event stands alone.
+# What collides before the first event is alone.
 event == "" { if ($1 == "collided") print $1, cut($2), cut($3); next }
 $1 == "done" { came = "done" }
 $1 == "refused" || $1 == "guessed" || $1 == "collided" {

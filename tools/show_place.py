@@ -1,4 +1,4 @@
-"""Shows a line of a file with a mark under a place."""
+"""Shows a line of a file with a caret under a place."""
 import re
 import unicodedata
 
@@ -29,7 +29,7 @@ def letters(text):
 
 
 def show(file, text, place, is_public=False):
-    """Prints the line of a place, counted in bytes, and a mark under it. Only where a file is public all of the line is shown."""
+    """Prints the line of a place, counted in bytes, and a caret under it. Only where a file is public all of the line is shown."""
     place = min(place, len(text))
     begin = text.rfind(b'\n', 0, place) + 1
     if begin == len(text) > 0:
@@ -46,7 +46,7 @@ def show(file, text, place, is_public=False):
 
 
 def show_word(file, text, number, at, is_public=False):
-    """Prints a line, counted from 1, with the mark under a word of it, or behind it where it has no such word."""
+    """Prints a line, counted from 1, with the caret under a word of it, or behind it where it has no such word."""
     lines = text.split(b'\n')
     before = sum(len(line) + 1 for line in lines[:number - 1])
     line = lines[number - 1].rstrip()

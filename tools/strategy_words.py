@@ -3,7 +3,7 @@ import re
 
 NUMBER = rb'0|[1-9]\d*'
 PATH = rb'r([.](0|[1-9]\d*)|/(0|[1-9]\d*))*'
-# What stands behind a verb.
+# What comes behind a verb.
 RULES = {b'commit': (), b'endorse': (), b'init': (), b'authorise': (PATH,), b'reveal': (rb'[A-Za-z]\w*',), b'fire': (rb'init|' + PATH,)}
 LIMITS = {'Size': 'a strategy has at most 1,048,576 bytes', 'Events': 'a strategy has at most 256 rules, and run and rules together 10,000 events'}
 
@@ -27,7 +27,7 @@ def fault(words, run):
             return number, {2: "the contract's number, 0, is wanted here"}.get(number, 'a path is wanted here, as r.0' if PATH in shape else 'a name is wanted here')
     if len(words) < 2 + len(shapes):
         return len(words), 'a word is missing'
-    return (2 + len(shapes), 'no word may stand here') if len(words) > 2 + len(shapes) else (2, 'the contract of the command is 0')
+    return (2 + len(shapes), 'the line has a word too many') if len(words) > 2 + len(shapes) else (2, 'the contract of the command is 0')
 
 
 def absent_paths(rules, paths):

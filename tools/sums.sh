@@ -1,5 +1,5 @@
 # Sums that tell of which code a program was built, for the launcher and the gate, which source this file with `top` as the top of the
-# repository. Beside a program stands PROGRAM.sums, lines of a word and what it says: `program`, the sum of the program's own bytes;
+# repository. Beside a program is PROGRAM.sums, lines of a word and what it says: `program`, the sum of the program's own bytes;
 # `code`, that of the code it was built from; and where it is proved `proofs`, that of code, definitions and proofs, and `by`, who proved
 # and built it: `gate`, or `use` for a call of the launcher.
 # shellcheck shell=bash disable=SC2154
@@ -13,7 +13,7 @@ sum_of_proofs() {
 }
 sum_of_file() { sha256sum <"$1" | cut -c 1-64; }
 
-# What stands beside a program under a word.
+# What is noted of a program under a word.
 noted() { # PROGRAM WORD
     sed -n "s/^$2 //p" "$1.sums" 2>/dev/null
 }
@@ -26,7 +26,7 @@ note() { # PROGRAM CODE_SUM [PROOFS_SUM BY]
     } >"$1.sums"
 }
 
-# Whether the file is the program that was built, and of the code that stands here.
+# Whether the file is the program that was built, and of the code as it is here.
 is_of_this_code() { # PROGRAM
     [ -x "$1" ] && [ "$(noted "$1" program)" = "$(sum_of_file "$1")" ] && [ "$(noted "$1" code)" = "$(sum_of_code)" ]
 }

@@ -4,7 +4,7 @@
     test_signer.py keys SEED [PARTY ..] <TEMPLATE        fills in keys, of these parties or of all, and hashes
     test_signer.py secrets SEED NAME ..                  the secrets of these hashes, as a file of secrets
     test_signer.py wif SEED LABEL                        the private key of a label, as test chains import it
-    test_signer.py sign SEED WHO VERB PLAN PSBTS         signs what the plan marks, in lines of a file of signatures
+    test_signer.py sign SEED WHO VERB PLAN PSBTS         signs as the plan says, in lines of a file of signatures
     test_signer.py verify <HELD                          says of each line of `held` whether its signature is good
 
 The private key of a label is the SHA-256 of the words SEED and label; signatures are ECDSA on secp256k1
@@ -178,7 +178,7 @@ def with_signatures(line, signatures):
 
 
 def sign_plan(seed, who, verb, plan, psbts):
-    """Signs what the plan marks for one participant by a verb."""
+    """Signs what the plan has for one participant under a verb."""
     order, digests, wanted = [], {}, {}
     for words in (line.split() for line in open(plan)):
         if words[0] == 'tx':
@@ -186,8 +186,8 @@ def sign_plan(seed, who, verb, plan, psbts):
         elif words[0] == 'digest':
             digests[words[1], int(words[2])] = bytes.fromhex(words[3])
         elif words[0] == 'sign':
-            which, k, label, marked = words[1], int(words[2]), words[3], words[4]
-            if who in ('all', party_of(label)) and verb in ('all', marked, '%s:%s' % (marked, which)):
+            which, k, label, when = words[1], int(words[2]), words[3], words[4]
+            if who in ('all', party_of(label)) and verb in ('all', when, '%s:%s' % (when, which)):
                 signature = sign(secret_of(seed, label), digests[which, k])
                 wanted.setdefault(which, {}).setdefault(k, []).append((key_of(seed, label), signature))
     for which, line in zip(order, open(psbts)):

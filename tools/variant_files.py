@@ -1,7 +1,7 @@
 #!/usr/bin/env python3
 """Keeps the lists of files in docs/contributing.md true: variant_files.py checks them, variant_files.py --write makes them anew.
 
-A list stands between two lines of the page,
+A list is between two lines of the page,
 
     <!-- files that name Mine -->
     <!-- end of files -->

@@ -1,6 +1,7 @@
 mod Ending
 mod FinishLemmas
 mod Headlines
+mod LaterLemmas
 mod NamedLemmas
 mod OpeningLemmas
 mod WellFormed

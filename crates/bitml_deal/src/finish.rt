@@ -95,7 +95,7 @@ fn finish_by_file<H: Hash32 + Drop>(
     ensures { let hash = H.digest_of trail.old.hasher in (l : Listed) → IsOne hash compiled.now transaction.now l
         → IfOk result (λ reply. printed reply ≡ answered (λ keys s. answers.with_secrets
         (λ strings. answers.finished_answer hash keys s l given.now strings)
-        (later.strings_in hash keys s (option_map (λ text. text.now) secrets))) compiled.now) }
+        (later.strings_in hash keys s (option_map (λ text. text.now) secrets.entry))) compiled.now) }
 {
     match strings_in(alloc, trail, compiled, secrets)? {
         Shown::Refused(reply) => Ok(reply),
@@ -116,7 +116,7 @@ fn finish_one<H: Hash32 + Drop>(
     requires hashed { HashedAll (H.digest_of trail.old.hasher) trail.old.messages compiled.now }
     ensures { let hash = H.digest_of trail.old.hasher in (l : Listed) → IsOne hash compiled.now transaction.now l
         → IfOk result (λ reply. printed reply
-        ≡ answered (λ keys s. later.finish_answer hash signatures.now (option_map (λ text. text.now) secrets) keys s l) compiled.now) }
+        ≡ answered (λ keys s. later.finish_answer hash signatures.now (option_map (λ text. text.now) secrets.entry) keys s l) compiled.now) }
 {
     match signatures_in(alloc, compiled.made.transactions.as_slice(), signatures) {
         Ok(given) => finish_by_file(alloc, trail, compiled, transaction, &given, secrets),
@@ -138,7 +138,7 @@ pub(crate) fn finish_reply<H: Hash32 + Drop>(
     requires hashed { HashedAll (H.digest_of trail.old.hasher) trail.old.messages compiled.now }
     ensures { let hash = H.digest_of trail.old.hasher in IfOk result (λ reply. printed reply
         ≡ answered (answers.of_transaction hash which.now
-        (later.finish_answer hash signatures.now (option_map (λ text. text.now) secrets))) compiled.now) }
+        (later.finish_answer hash signatures.now (option_map (λ text. text.now) secrets.entry))) compiled.now) }
 {
     match named(compiled.made.transactions.as_slice(), which) {
         None => no_path(alloc, which),

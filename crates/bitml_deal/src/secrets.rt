@@ -82,7 +82,7 @@ pub(crate) fn strings_in<H: Hash32 + Drop>(
 ) -> Result<Shown, OutOfMemory>
     requires { HashedAll (H.digest_of trail.old.hasher) trail.old.messages compiled.now }
     ensures { let hash = H.digest_of trail.old.hasher in IfOk result (Tells (later.strings_in hash (deal_keys compiled.now.deal)
-        (deal_instance compiled.now.contract compiled.now.deal) (option_map (λ text. text.now) secrets))) }
+        (deal_instance compiled.now.contract compiled.now.deal) (option_map (λ text. text.now) secrets.entry))) }
 {
     match secrets {
         None => Ok(Shown::Taken(Strings::new(alloc))),

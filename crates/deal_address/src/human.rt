@@ -19,7 +19,8 @@ fn are_characters(word: &[u8]) -> bool
     word.iter().all(|byte| is_character(*byte))
 }
 
-/// Whether a word is the human-readable part of a network, by BIP 173: 1 to 18 characters from `!` to `~`, no capitals.
+/// Whether a word is the human-readable part of a network: 1 to 18 characters from `!` to `~`, none of them a capital letter.
+/// BIP 173 has up to 83; behind more than 18 some scripts have no address.
 pub fn is_hrp(word: &[u8]) -> bool
     ensures { result ≡ spec.is_hrp word.now }
 {

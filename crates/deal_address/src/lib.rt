@@ -1,4 +1,5 @@
-//! Addresses of witness outputs as text, by BIP 173 and BIP 350. Each that is written is read back as its script, and nothing else is read.
+//! Addresses of witness outputs as text, by BIP 173 and BIP 350. Each that is written is read back as its script, so is the same in capitals,
+//! and nothing else is read. Words, scripts and human-readable parts are bytes, and want of memory is the one error.
 #![tactic(auto)]
 
 mod checksum;

@@ -49,7 +49,8 @@ fn is_output(operation: u8, size: u8, program: &[u8]) -> bool
     is_program_size(version_of(operation), size as usize)
 }
 
-/// Whether a script is that of a witness output: a version from 0 to 16, and a program of a size that the version may have.
+/// Whether a script is that of a witness output, by BIP 141: a version from 0 to 16, and a program of 2 to 40 bytes, for
+/// version 0 of 20 or 32.
 pub fn is_witness_output(script: &[u8]) -> bool
     ensures { result ≡ spec.is_witness_output script.now }
 {

@@ -120,7 +120,7 @@ fn read_short(alloc: Global, hrp: &[u8], word: &[u8]) -> Result<Option<Bytes>, O
 }
 
 /// The script that a word is the address of, for the network of a human-readable part, by BIP 173 and BIP 350: with the
-/// checksum of its version, in one case, and with no bits but 0 behind its program. There is at most one.
+/// checksum of its version, in one case, and with at most 4 bits behind its program, all of them 0. There is at most one.
 pub fn read_address(alloc: Global, hrp: &[u8], word: &[u8]) -> Result<Option<Bytes>, OutOfMemory>
     ensures { IfOk result (λ script. script ≡ spec.read_address hrp.now word.now) }
 {

@@ -10,7 +10,7 @@ use Rattle.spec_compiler.specs.Instance.{Instance}
 use Rattle.spec_run.specs.declared.event.Event.{Event}
 use Rattle.spec_run.specs.declared.event.Event.TheVariants as events
 use Rattle.spec_run.specs.declared.header.HeldSecret.{HeldSecret}
-use Rattle.spec_run.specs.Setup.{Setup}
+use Rattle.spec_run.specs.Setup.{Setup, held_secret}
 use Rattle.spec_run.specs.World.{World}
 use Rattle.spec_run.specs.Compiled.{compiled_instance}
 use Rattle.spec_run.specs.Draft.{Draft, guess, settle}
@@ -21,7 +21,7 @@ use Rattle.spec_next.specs.declared.outlook.Prospect.{Prospect}
 use Rattle.spec_next.specs.Candidates.{people, advertising, committing, has_endorsed, endorsing, starting, revealing, taking_active, actives_of}
 use Rattle.spec_next.specs.Candidates.{candidates, candidates_from}
 use Rattle.spec_next.specs.Wants.{Condition, agreed, endorsed_for, conditions, unmet, wants_of}
-use Rattle.spec_next.specs.Prospects.{is_ahead, is_shown, ruling_of, wants_by, outlook_by}
+use Rattle.spec_next.specs.Prospects.{is_string_posted, is_ahead, is_shown, ruling_of, wants_by, outlook_by}
 use Rattle.spec_next.specs.Foreseen.{foreseen_strings}
 use Rattle.theory_world.proofs.Bookless.{compiled_same}
 use Rattle.theory_run.proofs.Events.Hashless.{carried, draft_same}
@@ -96,13 +96,17 @@ module _ (s : Setup) (g : Configuration) (w : World) (hs : List (List ℕ)) wher
 
   -- ---- what is shown
 
+  posted_same : (string : Option (List ℕ)) → is_string_posted string more ≡ is_string_posted string w
+  posted_same None = refl
+  posted_same (Some bytes) = refl
+
   ahead_same : (e : Event) → is_ahead s more e ≡ is_ahead s w e
   ahead_same (events.Advertise k bindings) = refl
   ahead_same (events.Commit k party digests) = refl
   ahead_same (events.Endorse k party) = refl
   ahead_same (events.Init k party) = refl
   ahead_same (events.FireInit k) = refl
-  ahead_same (events.Reveal k party secret) = refl
+  ahead_same (events.Reveal k party secret) = ap not (posted_same (held_secret s party secret))
   ahead_same (events.Authorise party n i) = refl
   ahead_same (events.Fire n i) = refl
   ahead_same (events.Post bytes) = refl

@@ -1,9 +1,10 @@
 -- Worked values of addresses, most of them from BIP 173 and BIP 350, each by computation alone.
 use Rattle.std.proofs.Common.{◌≡◌, ℕ, List, [], ◌∷◌, ◌++◌, length, true, false, Option, Some, None, refl}
-use Rattle.std.specs.Prelude.{codes, replicate, unwrap_or, ◌&&◌}
+use Rattle.std.specs.Prelude.{codes, filter, replicate, unwrap_or, ◌&&◌, ◌||◌}
+use Rattle.std.specs.List.{range_with_len}
 use Rattle.std.specs.Option.{option_map_or}
 use Rattle.spec_data.specs.Digits.{read_hex}
-use Rattle.spec_address.specs.Address.{is_hrp, address, values_of, read_address}
+use Rattle.spec_address.specs.Address.{is_hrp, is_hrp_character, pushes_version, is_program_size, is_witness_output, address, values_of, read_address}
 use Rattle.spec_address.specs.Checksum.{next_state, checksum, extended, mark, check_values}
 use Rattle.spec_address.specs.Groups.{group_at, byte_at}
 
@@ -70,6 +71,28 @@ pub no_address_of_a_hash : address (codes "bc") (script (codes "76a914751e76e819
 unfolding address read_address check_values next_state group_at byte_at
 no_address_of_a_hash = refl
 
+-- ---- scripts of witness outputs
+
+pub operations_of_versions : filter pushes_version (range_with_len 0 256) ≡ 0 ∷ range_with_len 0x51 16
+unfolding address read_address check_values next_state group_at byte_at
+operations_of_versions = refl
+
+pub sizes_of_version_0 : filter (is_program_size 0) (range_with_len 0 256) ≡ 20 ∷ 32 ∷ []
+unfolding address read_address check_values next_state group_at byte_at
+sizes_of_version_0 = refl
+
+pub sizes_of_version_1 : filter (is_program_size 1) (range_with_len 0 256) ≡ range_with_len 2 39
+unfolding address read_address check_values next_state group_at byte_at
+sizes_of_version_1 = refl
+
+pub another_size : (is_witness_output (script (codes "5103751e")) || is_witness_output (script (codes "5102751e76"))) ≡ false
+unfolding address read_address check_values next_state group_at byte_at
+another_size = refl
+
+pub no_byte : is_witness_output (0x51 ∷ 2 ∷ 0x75 ∷ 256 ∷ []) ≡ false
+unfolding address read_address check_values next_state group_at byte_at
+no_byte = refl
+
 -- ---- bad ones
 
 pub other_hrp : main (codes "tc1p0xlxvlhemja6c4dqv22uapctqupfhlxm9h8z3k2e72q4k9hcz7vq5zuyut") ≡ None
@@ -132,6 +155,14 @@ pub one_capital : test (codes "tb1qrp33g0q5c5txsp9arysrx4k6zdkfs4nce4xj0gdcccefv
 unfolding address read_address check_values next_state group_at byte_at
 one_capital = refl
 
+pub capitals_before_the_letters_alone : main (codes "BC1qw508d6qejxtdg4y5r3zarvary0c5xw7kv8f3t4") ≡ None
+unfolding address read_address check_values next_state group_at byte_at
+capitals_before_the_letters_alone = refl
+
+pub capitals_among_the_letters_alone : main (codes "bc1QW508D6QEJXTDG4Y5R3ZARVARY0C5XW7KV8F3T4") ≡ None
+unfolding address read_address check_values next_state group_at byte_at
+capitals_among_the_letters_alone = refl
+
 pub bits_behind_a_program : test (codes "tb1p0xlxvlhemja6c4dqv22uapctqupfhlxm9h8z3k2e72q4k9hcz7vpggkg4j") ≡ None
 unfolding address read_address check_values next_state group_at byte_at
 bits_behind_a_program = refl
@@ -154,6 +185,14 @@ pub checksum_of_version_16 : whole (codes "bc") (codes "bc1sw50qgdz25j") ≡ mar
 unfolding address read_address check_values next_state group_at byte_at
 checksum_of_version_16 = refl
 
+pub checksum_of_a_sign : whole (codes "?") (codes "?1ezyfcl") ≡ mark 0
+unfolding address read_address check_values next_state group_at byte_at
+checksum_of_a_sign = refl
+
+pub later_checksum_of_a_sign : whole (codes "?") (codes "?1v759aa") ≡ mark 1
+unfolding address read_address check_values next_state group_at byte_at
+later_checksum_of_a_sign = refl
+
 pub networks : (is_hrp (codes "bc") && (is_hrp (codes "tb") && is_hrp (codes "bcrt"))) ≡ true
 unfolding address read_address check_values next_state group_at byte_at
 networks = refl
@@ -161,6 +200,14 @@ networks = refl
 pub no_capitals : is_hrp (codes "BCRT") ≡ false
 unfolding address read_address check_values next_state group_at byte_at
 no_capitals = refl
+
+pub hrp_characters : filter is_hrp_character (range_with_len 0 256) ≡ range_with_len 33 32 ++ range_with_len 91 36
+unfolding address read_address check_values next_state group_at byte_at
+hrp_characters = refl
+
+pub hrp_of_1 : is_hrp (codes "!") ≡ true
+unfolding address read_address check_values next_state group_at byte_at
+hrp_of_1 = refl
 
 pub hrp_of_18 : is_hrp (replicate 18 126) ≡ true
 unfolding address read_address check_values next_state group_at byte_at

@@ -1,8 +1,8 @@
 #!/usr/bin/env python3
-"""hints.py ANSWER WORD..: what is said beside an answer of a program, on standard error.
+"""explain.py ANSWER WORD..: what is said beside an answer of a program, on standard error.
 
 ANSWER is the program's text or its beginning, WORD.. are the words of the command as help.txt has
-them. Where a file was refused, its line is shown with a mark under the place, and what is wrong
+them. Where a file was refused, its line is shown with a caret under the place, and what is wrong
 there as far as it can be told. The variable COPIED has lines of a copy, a tab and what the file is
 called.
 """
@@ -50,7 +50,7 @@ def say_of_contract(asked, number, reason):
         say(name, 'looks like a run file, which is the first word' +
             (': ./bitml next RUN CONTRACT' if asked.words[0] == 'next' and len(asked.words) == 2 else ''))
     if text.startswith(b'\xef\xbb\xbf'):
-        say(name, 'begins with a byte order mark, which is no part of the text')
+        say(name, 'begins with the bytes EF BB BF, which some editors write and which are no part of the text')
         return
     place, why = place_in(text, reason)
     if place is not None:
@@ -64,7 +64,7 @@ def say_of_run(asked, limit, number):
     if text.lstrip()[:1] == b'{':
         say(name, 'looks like a contract: the run file is the first word')
     elif text.startswith(b'\xef\xbb\xbf'):
-        say(name, 'begins with a byte order mark, which is no part of the text')
+        say(name, 'begins with the bytes EF BB BF, which some editors write and which are no part of the text')
     if limit:
         return say(name, LIMITS[limit])
     at, why = why_line(text, number)
@@ -128,7 +128,7 @@ def say_of_psbt(asked, which, reason):
 
 
 def say_of_deal(asked, kind, line, reason, other):
-    """Shows the line at which a file of a deal was refused, with a mark under the word."""
+    """Shows the line at which a file of a deal was refused, with a caret under the word."""
     import deal_words
     name, text = asked.file({'deal': 'DEAL', 'signatures': 'FILE', 'secrets': 'SECRETS'}[kind])
     bare = text.split(b'\n')[line - 1]
@@ -205,5 +205,5 @@ if __name__ == '__main__':
     try:
         main()
     except (OSError, ValueError, IndexError, KeyError, TypeError, AttributeError):
-        # What can't be shown is left out: the program's own answer stands.
+        # What can't be shown is left out: the program has answered.
         pass

@@ -110,10 +110,7 @@ fn without_reveals(alloc: Global, prospects: &[Prospect]) -> Result<Seq<Prospect
 }
 
 /// These, or where none of them takes a branch, those that aren't reveals of a contract that has begun.
-pub(crate) fn useful(
-    alloc: Global,
-    prospects: Seq<Prospect>,
-) -> Result<Seq<Prospect>, OutOfMemory>
+pub(crate) fn useful(alloc: Global, prospects: Seq<Prospect>) -> Result<Seq<Prospect>, OutOfMemory>
     ensures { IfOk result (λ list. list ≡ spec.useful prospects) }
 {
     if has_taking(prospects.as_slice()) {

@@ -31,7 +31,9 @@ use Rattle.theory_next.specs.Candidates.{CanIsMeant, OffersAreSaid}
 use Rattle.theory_next.specs.FirstLines.{FirstLinesAreARun}
 use Rattle.theory_next.specs.FirstEvents.{FirstEventsGoThrough}
 use Rattle.theory_next.specs.FirstRun.{FirstRunIsARun}
+use Rattle.theory_next.specs.Lasting.{RefusalsLast}
 use Rattle.theory_next.specs.MetAlone.{MetAloneTheorem}
+use Rattle.theory_next.specs.Never.{NeverIsSaid}
 use Rattle.theory_next.specs.Once.{CandidatesStandOnce}
 use Rattle.theory_next.specs.Ready.{ReadyComesTheorem}
 use Rattle.theory_next.specs.Waits.{WaitsAreMeant}
@@ -48,6 +50,8 @@ pub record Theorems : Type 0 where
   pub once : CandidatesStandOnce
   pub wanting : WantsAreExactTheorem
   pub waits : WaitsAreMeant
+  pub never : NeverIsSaid
+  pub last : RefusalsLast
   pub ready : ReadyComesTheorem
   pub alone : MetAloneTheorem
   pub lines : FirstLinesAreARun
@@ -126,6 +130,9 @@ module _ (s : Setup) (es : List Event) where
     offered = λ offer i. t.said s es run offer i;
     once = t.once s es run;
     wanting = λ e. t.wanting s (last_configuration s es) (last_world s es) e;
+    said = λ e. t.never.events s (last_configuration s es) (last_world s es) e;
+    shown = λ k advert. t.never.contracts s (last_configuration s es) (last_world s es) k advert;
+    lasting = t.last;
     waits = λ k advert at. t.waits s es run k advert at;
     ready = t.ready s es run;
     alone = t.alone s es run told.goes_on;

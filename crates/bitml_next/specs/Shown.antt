@@ -25,7 +25,9 @@ use Rattle.spec_next.specs.Prospects.{ruling}
 use Rattle.theory_next.specs.Candidates.{GoesThrough, IsSaid}
 use Rattle.theory_next.specs.FirstEvents.{AreLong, GoesThroughOrHalts}
 use Rattle.theory_next.specs.FirstRun.{first_setup, HasRoom, AreSecrets}
+use Rattle.theory_next.specs.Lasting.{RefusalsLast}
 use Rattle.theory_next.specs.MetAlone.{MetAlone}
+use Rattle.theory_next.specs.Never.{SaysWhatLacks, ShowsWhatComes}
 use Rattle.theory_next.specs.Once.{EachOnce}
 use Rattle.theory_next.specs.Ready.{ReadyComes}
 use Rattle.theory_next.specs.Waits.{WaitsForThose}
@@ -46,6 +48,12 @@ pub record SaysOfRun (s : Setup) (es : List Event) (text : List ℕ) : Type 0 wh
   pub once : EachOnce (all_candidates s (last_configuration s es) (last_world s es))
   -- what is wanting is exactly what fails
   pub wanting : (e : Event) → WantsAreExact s (last_configuration s es) (last_world s es) e
+  -- it is said, or of what never comes that alone
+  pub said : (e : Event) → SaysWhatLacks s (last_configuration s es) (last_world s es) e
+  -- refusals that are said to stay so do, but for a repeated digest, of which this says nothing
+  pub lasting : RefusalsLast
+  -- and which of a contract's events are shown
+  pub shown : (k : ℕ) (advert : Advert) → ShowsWhatComes s (last_configuration s es) (last_world s es) k advert
   -- a contract waits exactly for those who can give now something that is wanting
   pub waits : (k : ℕ) (advert : Advert) → contract_at (last_configuration s es).contracts k ≡ Some advert
       → WaitsForThose s (last_configuration s es) (last_world s es) k advert

@@ -5,7 +5,9 @@ ghost use Rattle.theory_next.specs.Candidates.{CanIsMeant, OffersAreSaid};
 ghost use Rattle.theory_next.specs.FirstEvents.{FirstEventsGoThrough};
 ghost use Rattle.theory_next.specs.FirstLines.{FirstLinesAreARun};
 ghost use Rattle.theory_next.specs.FirstRun.{FirstRunIsARun};
+ghost use Rattle.theory_next.specs.Lasting.{RefusalsLast};
 ghost use Rattle.theory_next.specs.MetAlone.{MetAloneTheorem};
+ghost use Rattle.theory_next.specs.Never.{NeverIsSaid};
 ghost use Rattle.theory_next.specs.Once.{CandidatesStandOnce};
 ghost use Rattle.theory_next.specs.Ready.{ReadyComesTheorem};
 ghost use Rattle.theory_next.specs.Waits.{WaitsAreMeant};
@@ -14,7 +16,8 @@ ghost use Rattle.bitml_next.specs.Told.{TellsAll};
 
 use theory_next::{
     can_is_meant, candidates_stand_once, first_events_go_through, first_lines_are_a_run,
-    first_run_is_a_run, met_alone, offers_are_said, ready_comes, waits_are_meant, wants_are_exact,
+    first_run_is_a_run, met_alone, never_is_said, offers_are_said, ready_comes, refusals_last,
+    waits_are_meant, wants_are_exact,
 };
 use theory_tool::valid_runs;
 
@@ -26,6 +29,8 @@ fn by_theorems()
     requires once { CandidatesStandOnce }
     requires wanting { WantsAreExactTheorem }
     requires waits { WaitsAreMeant }
+    requires never { NeverIsSaid }
+    requires last { RefusalsLast }
     requires ready { ReadyComesTheorem }
     requires alone { MetAloneTheorem }
     requires lines { FirstLinesAreARun }
@@ -45,6 +50,8 @@ pub(crate) fn answers_tell_all()
     candidates_stand_once();
     wants_are_exact();
     waits_are_meant();
+    never_is_said();
+    refusals_last();
     ready_comes();
     met_alone();
     first_lines_are_a_run();

@@ -159,12 +159,12 @@ fn put_gone(
     pre: &[Pre],
 ) -> Result<(), OutOfMemory>
     ensures { OnOk result (wants.new ≡ wants.old ++ spec.unmet
-        (map (λ d. (spec.isnt_gone config.now contract (d.0), wanting.Deposit (d.0))) (persistent pre.now))) }
+        (map (λ d. (spec.isnt_gone config.now contract (d.0), wanting.Gone (d.0))) (persistent pre.now))) }
 {
     for entry in pre {
         if let Pre::Persistent { name, .. } = entry {
             let met = isnt_gone(config, contract, name);
-            put_unless(wants, met, Want::Deposit(*name))?;
+            put_unless(wants, met, Want::Gone(*name))?;
         }
     }
     Ok(())

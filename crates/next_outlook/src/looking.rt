@@ -13,6 +13,7 @@ ghost use Rattle.bm_world_heard.specs.Heard.{Stopped};
 ghost use Rattle.next_outlook.specs.Seen.{SeesOne, Sees, SeesContract, AddsContract, SeesContracts, Looked};
 
 use crate::candidates::candidates;
+use crate::living::{living, useful};
 use crate::prospects::tell;
 use crate::waits::waits;
 use bm_calculus::Config;
@@ -74,10 +75,12 @@ fn outlook_of(
     alloc: Global,
     config: &Config,
     checked: &Checked,
-    prospects: Seq<Prospect>,
+    ahead: Seq<Prospect>,
 ) -> Result<Outlook, OutOfMemory>
-    ensures { IfOk result (λ outlook. outlook ≡ outlook_by config.now (participants checked.now) prospects) }
+    ensures { IfOk result (λ outlook. outlook ≡ outlook_by config.now (participants checked.now) ahead) }
 {
+    let useful = useful(alloc, ahead)?;
+    let prospects = living(alloc, useful)?;
     let waits = waits(alloc, config, checked.parties(), prospects.as_slice())?;
     Ok(Outlook { prospects, waits })
 }

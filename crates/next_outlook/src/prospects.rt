@@ -7,7 +7,7 @@ ghost use Rattle.bm_world.specs.Playing.{setup_in};
 ghost use Rattle.next_outlook.specs.Foretold as spec;
 
 use crate::ahead::is_shown;
-use crate::wants::wants_of;
+use crate::wants::lacking;
 use bm_calculus::Config;
 use bm_hash::Hash32;
 use bm_world::World;
@@ -37,7 +37,7 @@ fn ruling_in(alloc: Global, outcome: &Option<Outcome>) -> Result<Ruling, OutOfMe
     }
 }
 
-// What is wanting for an event with this ruling: nothing where it can come.
+// What is said to be wanting for an event with this ruling: nothing where it can come.
 fn wants_by<H: Hash32 + Drop>(
     alloc: Global,
     world: &World<H>,
@@ -49,7 +49,7 @@ fn wants_by<H: Hash32 + Drop>(
         (wants_of (setup_in H.digest_of world.now) config.now world.now.world event.now) ruling.now) }
 {
     match ruling {
-        Ruling::Cannot(_) => wants_of(alloc, world, config, event),
+        Ruling::Cannot(reason) => lacking(alloc, world, config, event, reason),
         Ruling::Can => Ok(Seq::new(alloc)),
         Ruling::Halts => Ok(Seq::new(alloc)),
     }

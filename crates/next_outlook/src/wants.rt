@@ -10,10 +10,12 @@ ghost use Rattle.spec_run.specs.Setup.{pre_at};
 ghost use Rattle.next_outlook.specs.Endorsed.{endorsed_by};
 ghost use Rattle.spec_run.specs.declared.event.Event.TheVariants as events;
 ghost use Rattle.spec_next.specs.declared.want.Want.TheVariants as wanting;
+ghost use Rattle.spec_next.specs.Prospects.{decisive, lasting};
 ghost use Rattle.spec_next.specs.Wants as spec;
 ghost use Rattle.bm_world.specs.Playing.{setup_in};
 
 use crate::endorsed::has_endorsed;
+use crate::never::{decisive, put_lasting};
 use bm_calculus::Config;
 use bm_hash::Hash32;
 use bm_world::World;
@@ -23,7 +25,7 @@ use next_events::{
 };
 use spec_data::{Name, OutOfMemory, Seq};
 use spec_next::Want;
-use spec_run::Event;
+use spec_run::{Event, Reason};
 use spec_terms::Pre;
 use std::alloc::Global;
 use std::marker::Model;
@@ -215,17 +217,20 @@ fn put_wants<H: Hash32 + Drop>(
     }
 }
 
-/// What is wanting for an event.
-pub(crate) fn wants_of<H: Hash32 + Drop>(
+/// What an event that is refused for this reason lacks.
+#[tactic(auto, using(std::proofs::Common::append_assoc))]
+pub(crate) fn lacking<H: Hash32 + Drop>(
     alloc: Global,
     world: &World<H>,
     config: &Config,
     event: &Event,
+    reason: &Reason,
 ) -> Result<Seq<Want>, OutOfMemory>
-    ensures { IfOk result (λ wants. wants
-        ≡ spec.wants_of (setup_in H.digest_of world.now) config.now world.now.world event.now) }
+    ensures { IfOk result (λ wants. wants ≡ decisive (lasting reason.now
+        ++ spec.wants_of (setup_in H.digest_of world.now) config.now world.now.world event.now)) }
 {
     let mut wants = Seq::new(alloc);
+    put_lasting(&mut wants, reason)?;
     put_wants(alloc, &mut wants, world, config, event)?;
-    Ok(wants)
+    decisive(alloc, wants)
 }

@@ -114,12 +114,13 @@ fn put_authorises(
     put_branch(alloc, out, output, branch)
 }
 
+// A name between words.
 #[tactic(auto, using(std::proofs::Common::append_assoc))]
-fn put_gone(out: &mut Vec<u8>, name: &Name) -> Result<(), OutOfMemory>
-    ensures { OnOk result (out.new.items ≡ out.old.items ++ (codes "needs put " ++ (name.now ++ codes " gone"))) }
+fn put_between(out: &mut Vec<u8>, word: &[u8], name: &Name, end: &[u8]) -> Result<(), OutOfMemory>
+    ensures { OnOk result (out.new.items ≡ out.old.items ++ (word.now ++ (name.now ++ end.now))) }
 {
-    put_name(out, b"needs put ", name)?;
-    put(out, b" gone")
+    put_name(out, word, name)?;
+    put(out, end)
 }
 
 fn put_want(alloc: Global, out: &mut Vec<u8>, want: &Want) -> Result<(), OutOfMemory>
@@ -128,6 +129,15 @@ fn put_want(alloc: Global, out: &mut Vec<u8>, want: &Want) -> Result<(), OutOfMe
     match want {
         Want::Advert(contract) => put_word_number(alloc, out, b"needs advertise ", *contract),
         Want::Deposit(name) => put_name(out, b"needs deposit ", name),
+        Want::Gone(name) => put_between(out, b"never: deposit ", name, b" gone"),
+        Want::NobodyHonest => put(out, b"never: nobody honest"),
+        Want::Missing(secret) => put_between(out, b"never: secret ", secret, b" missing"),
+        Want::BadLength(secret) => {
+            put_between(out, b"never: secret ", secret, b" not of 16 to 520 bytes")
+        }
+        Want::Repeated(secret) => {
+            put_between(out, b"never: secret ", secret, b" committed before")
+        }
         Want::Digest {
             party,
             contract,
@@ -147,7 +157,7 @@ fn put_want(alloc: Global, out: &mut Vec<u8>, want: &Want) -> Result<(), OutOfMe
             output,
             branch,
         } => put_authorises(alloc, out, party, *output, *branch),
-        Want::Put(name) => put_gone(out, name),
+        Want::Put(name) => put_between(out, b"never: put ", name, b" gone"),
         Want::Secret {
             party,
             contract,

@@ -76,6 +76,24 @@ unfolding digits label_text stripped marked compact position_script item_of_numb
     places_list sequences_list outputs_list preimage
 begun = refl
 
+pub lock_before : told a_bet all_signed [] (line (codes "height 699000") (line (sent a_bet names.Init) (line (codes "height 699999") [])))
+    ≡
+    line (codes "confirmed init 699000") (
+    line (codes "step authinit 0 A x") (
+    line (codes "step authinit 0 B y") (
+    line (codes "step init 0 -> #2") (
+    line (codes "live #2 r " ++ (shown_txid a_bet names.Init ++ codes " 0 119000")) (
+    line (codes "height 699999") (
+    line (codes "cannot r.0") (
+    line (codes "needs secret a of A") (
+    line (codes "cannot r.1") (
+    line (codes "needs height 700000") (
+    line (codes "waits A") []))))))))))
+unfolding digits label_text stripped marked compact position_script item_of_number signed_bytes number_of_item many wide_at compact_at
+    string_at input_at inputs_at output_at outputs_at witness_at witnesses_at plain_at marked_at transaction_at all_at script_meaning ops_of
+    places_list sequences_list outputs_list preimage
+lock_before = refl
+
 pub lock_reached : told a_bet all_signed a_bet.strings (line (codes "height 699000") (line (sent a_bet names.Init) (line (codes "height 700000") [])))
     ≡
     line (codes "confirmed init 699000") (

@@ -114,6 +114,48 @@ escrow_started =
     codes "init 0 A" ∷
     [])
 
+-- the escrow, of which A's deposit went elsewhere
+abbrev pub escrow_gone : List ℕ
+escrow_gone =
+    lines (
+    codes "party A" ∷
+    codes "party B" ∷
+    codes "honest A" ∷
+    codes "honest B" ∷
+    codes "deposit A 3" ∷
+    codes "deposit B 2" ∷
+    codes "--" ∷
+    codes "advertise 0 x=#0 y=#1" ∷
+    codes "commit 0 A" ∷
+    codes "give A #0 -> A 3" ∷
+    [])
+
+-- a run of the escrow in which nobody is honest
+abbrev pub escrow_of_none : List ℕ
+escrow_of_none =
+    lines (
+    codes "party A" ∷
+    codes "party B" ∷
+    codes "deposit A 3" ∷
+    codes "deposit B 2" ∷
+    codes "--" ∷
+    [])
+
+-- a run of the commitment whose secret is too short
+abbrev pub commitment_short : List ℕ
+commitment_short =
+    lines (
+    codes "party A" ∷
+    codes "party B" ∷
+    codes "honest A" ∷
+    codes "honest B" ∷
+    codes "secret A a 0011" ∷
+    codes "deposit A 100000000" ∷
+    codes "deposit B 0" ∷
+    codes "--" ∷
+    codes "advertise 0 x=#0 y=#1" ∷
+    [])
+
 -- a run without a deposit for the escrow
 abbrev pub escrow_poor : List ℕ
 escrow_poor =

@@ -26,7 +26,7 @@ use Rattle.spec_next.specs.Foreseen.{next_printed}
 use Rattle.spec_next.specs.FirstLines.{begin_text}
 use Rattle.spec_next.specs.NextAnswer.{begins, continues, next_answer}
 use Rattle.spec_next.proofs.WorkedRuns.{lines, commitment_header, escrow, escrow_endorsed, escrow_started, escrow_poor}
-use Rattle.spec_next.proofs.WorkedRuns.{commitment, guessing, lone, lone_run}
+use Rattle.spec_next.proofs.WorkedRuns.{commitment, commitment_short, escrow_gone, escrow_of_none, guessing, lone, lone_run}
 use Rattle.spec_next.proofs.WorkedRuns.{long_secret, long_secret_revealed, putting, putting_gone, foreign_secret, foreign_advertised}
 
 -- ---- before a contract begins
@@ -108,6 +108,48 @@ unfolding is_name word_front number_front symbol_front read_contract advert_of_a
     signed_bytes item_of_number play_text next_text next_printed begin_text
 no_deposit_fits = refl
 
+-- a deposit that was bound has gone, so the contract never begins
+pub deposit_is_gone : next_answer small_hash (Some (continues (codes "r") (codes "c" ∷ []))) (got escrow_gone ∷ got escrow ∷ [])
+    ≡ prints 0 (lines (
+    codes "cannot fire init 0 NotCompiled" ∷
+    codes "never: deposit x gone" ∷
+    []))
+unfolding is_name word_front number_front symbol_front read_contract advert_of_all advert_at entries_at entry_at head_at deposit_at
+    secret_at
+    fee_at choice_with branches_at branch_at parts_at auth_at after_at put_at reveal_at split_at reveals_at puts_at put_reveals_at
+    headed_at one_branch_at condition_at names_from test_at comparison_at formula_at constant_at length_at withdraw_at digits label_text
+    stripped marked compact places_list sequences_list outputs_list preimage position_script script_meaning ops_of number_of_item
+    signed_bytes item_of_number play_text next_text next_printed begin_text
+deposit_is_gone = refl
+
+-- nor does one of which nobody is honest
+pub nobody_is_honest : next_answer small_hash (Some (continues (codes "r") (codes "c" ∷ []))) (got escrow_of_none ∷ got escrow ∷ [])
+    ≡ prints 0 (lines (
+    codes "cannot advertise 0 x=#0 y=#1 NoHonest" ∷
+    codes "never: nobody honest" ∷
+    []))
+unfolding is_name word_front number_front symbol_front read_contract advert_of_all advert_at entries_at entry_at head_at deposit_at
+    secret_at
+    fee_at choice_with branches_at branch_at parts_at auth_at after_at put_at reveal_at split_at reveals_at puts_at put_reveals_at
+    headed_at one_branch_at condition_at names_from test_at comparison_at formula_at constant_at length_at withdraw_at digits label_text
+    stripped marked compact places_list sequences_list outputs_list preimage position_script script_meaning ops_of number_of_item
+    signed_bytes item_of_number play_text next_text next_printed begin_text
+nobody_is_honest = refl
+
+-- nor one to which an honest party can't commit
+pub secret_is_short : next_answer small_hash (Some (continues (codes "r") (codes "c" ∷ []))) (got commitment_short ∷ got commitment ∷ [])
+    ≡ prints 0 (lines (
+    codes "cannot commit 0 A BadSecretLength a" ∷
+    codes "never: secret a not of 16 to 520 bytes" ∷
+    []))
+unfolding is_name word_front number_front symbol_front read_contract advert_of_all advert_at entries_at entry_at head_at deposit_at
+    secret_at
+    fee_at choice_with branches_at branch_at parts_at auth_at after_at put_at reveal_at split_at reveals_at puts_at put_reveals_at
+    headed_at one_branch_at condition_at names_from test_at comparison_at formula_at constant_at length_at withdraw_at digits label_text
+    stripped marked compact places_list sequences_list outputs_list preimage position_script script_meaning ops_of number_of_item
+    signed_bytes item_of_number play_text next_text next_printed begin_text
+secret_is_short = refl
+
 -- a party that isn't honest adds its digests itself
 pub digest_is_wanting : next_answer small_hash (Some (continues (codes "r") (codes "c" ∷ [])))
     (got foreign_advertised ∷ got foreign_secret ∷ [])
@@ -165,7 +207,7 @@ predicate_is_false = refl
 pub put_is_gone : next_answer small_hash (Some (continues (codes "r") (codes "c" ∷ []))) (got putting_gone ∷ got putting ∷ [])
     ≡ prints 0 (lines (
     codes "cannot fire #2 0 MissingInput 1" ∷
-    codes "needs put z gone" ∷
+    codes "never: put z gone" ∷
     codes "can fire #2 1" ∷
     []))
 unfolding is_name word_front number_front symbol_front read_contract advert_of_all advert_at entries_at entry_at head_at deposit_at

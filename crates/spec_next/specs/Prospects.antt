@@ -1,5 +1,5 @@
 -- What may come next of the contracts of a run: what each candidate would come to, what is wanting for it, and on whom something waits.
-use Rattle.std.specs.Prelude.{ℕ, ◌+◌, ◌==◌, List, [], ◌∷◌, map, filter, Bool, true, false, not, ◌&&◌, ◌||◌, Option, Some, None}
+use Rattle.std.specs.Prelude.{ℕ, ◌+◌, ◌==◌, List, [], ◌∷◌, ◌++◌, map, filter, Bool, true, false, not, ◌&&◌, ◌||◌, if◌then◌else◌, Option, Some, None}
 use Rattle.std.specs.List.{list_any}
 use Rattle.std.specs.Str.{bytes_eq}
 use Rattle.spec_data.specs.Lists.{is_among, has_number}
@@ -10,6 +10,8 @@ use Rattle.spec_calculus.specs.Beginning.{is_advertised as has_advert}
 use Rattle.spec_run.specs.declared.event.Event.{Event}
 use Rattle.spec_run.specs.declared.event.Event.TheVariants as events
 use Rattle.spec_run.specs.declared.outcome.Outcome.{Outcome}
+use Rattle.spec_run.specs.declared.outcome.Reason.{Reason}
+use Rattle.spec_run.specs.declared.outcome.Reason.TheVariants as reason
 use Rattle.spec_run.specs.declared.outcome.Outcome.TheVariants as outcomes
 use Rattle.spec_run.specs.Setup.{Setup, held_secret}
 use Rattle.spec_run.specs.World.{World, is_advertised, has_promised}
@@ -69,10 +71,33 @@ is_shown s w e rulings.Halts = true
 
 -- ---- prospects
 
+-- what stays so of a refusal: nobody is honest; an honest party's secret isn't there, is too short or too long, or was committed before
+abbrev pub lasting : Reason → List Want
+lasting reason.NoHonest = wants.NobodyHonest ∷ []
+lasting (reason.NoSecret secret) = wants.Missing secret ∷ []
+lasting (reason.BadSecretLength secret) = wants.BadLength secret ∷ []
+lasting (reason.HashRepeated secret) = wants.Repeated secret ∷ []
+lasting _ = []
+
+-- whether nothing gives it
+abbrev pub is_never : Want → Bool
+is_never (wants.Gone x) = true
+is_never wants.NobodyHonest = true
+is_never (wants.Missing secret) = true
+is_never (wants.BadLength secret) = true
+is_never (wants.Repeated secret) = true
+is_never (wants.Put x) = true
+is_never wants.Predicate = true
+is_never _ = false
+
+-- beside what nothing gives the rest isn't wanting
+abbrev pub decisive : List Want → List Want
+decisive wanted = if list_any is_never wanted then filter is_never wanted else wanted
+
 -- nothing is wanting for what can come
 abbrev pub wants_by : List Want → Ruling → List Want
 wants_by wanted rulings.Can = []
-wants_by wanted (rulings.Cannot reason) = wanted
+wants_by wanted (rulings.Cannot reason) = decisive (lasting reason ++ wanted)
 wants_by wanted rulings.Halts = []
 
 abbrev pub prospect : Setup → Configuration → World → Event → Prospect
@@ -82,12 +107,56 @@ prospect s g w e = record { event = e; ruling = ruling s w e; wants = wants_by (
 abbrev pub prospects_of : Setup → Configuration → World → List Event → List Prospect
 prospects_of s g w es = map (prospect s g w) (filter (λ e. is_shown s w e (ruling s w e)) es)
 
+-- ---- contracts that never begin
+
+-- whether the event never comes
+abbrev pub is_lost : Prospect → Bool
+is_lost p = list_any is_never p.wants
+
+abbrev pub is_refused : Ruling → Bool
+is_refused rulings.Can = false
+is_refused (rulings.Cannot reason) = true
+is_refused rulings.Halts = false
+
+-- whether a contract goes on by it: a branch that is authorised or taken, or a beginning that isn't refused
+abbrev pub goes_on : Event → Ruling → Bool
+goes_on (events.Authorise party n i) r = true
+goes_on (events.Fire n i) r = true
+goes_on (events.FireInit k) r = not (is_refused r)
+goes_on _ r = false
+
+-- where something before the beginning never comes, the contract never begins, and of what is before the beginning that alone is shown
+abbrev pub living : List Prospect → List Prospect
+living ps =
+    if list_any (λ p. is_lost p && not (goes_on p.event p.ruling)) ps then filter (λ p. is_lost p || goes_on p.event p.ruling) ps else ps
+
+-- ---- contracts that are over
+
+-- whether a branch is taken by the event
+abbrev pub takes : Event → Bool
+takes (events.Fire n i) = true
+takes _ = false
+
+-- whether a secret is revealed by it, of a contract that has begun
+abbrev pub reveals : Event → Ruling → Bool
+reveals (events.Reveal k party secret) r = not (is_refused r)
+reveals _ r = false
+
+-- where no branch of a contract that has begun is left, nothing comes of its secrets
+abbrev pub useful : List Prospect → List Prospect
+useful ps = if list_any (λ p. takes p.event) ps then ps else filter (λ p. not (reveals p.event p.ruling)) ps
+
 -- ---- on whom something waits
 
 -- the party that is to give what is wanting
 abbrev pub awaited : Want → Option (List ℕ)
 awaited (wants.Advert k) = None
 awaited (wants.Deposit x) = None
+awaited (wants.Gone x) = None
+awaited wants.NobodyHonest = None
+awaited (wants.Missing secret) = None
+awaited (wants.BadLength secret) = None
+awaited (wants.Repeated secret) = None
 awaited (wants.Digest party k secret) = Some party
 awaited (wants.Commitment party k) = Some party
 awaited (wants.Endorsement party k) = Some party
@@ -173,7 +242,7 @@ waits g people ps = filter (λ party. is_waited_for g ps party) people
 -- ---- contracts
 
 abbrev pub outlook_by : Configuration → List (List ℕ) → List Prospect → Outlook
-outlook_by g people ps = record { prospects = ps; waits = waits g people ps }
+outlook_by g people ps = record { prospects = living (useful ps); waits = waits g people (living (useful ps)) }
 
 -- what comes next of contract k
 abbrev pub outlook : Setup → Configuration → World → ℕ → Advert → Outlook

@@ -62,7 +62,7 @@ isnt_gone g k x = not (is_advertised g.advertised k) || is_there g.deposits (loo
 -- the persistent deposits are there, and their owners let the contract take them
 abbrev pub started : Configuration → ℕ → List (List ℕ × Holding) → List Condition
 started g k ds =
-    map (λ d. (isnt_gone g k (d.0), wants.Deposit (d.0))) ds
+    map (λ d. (isnt_gone g k (d.0), wants.Gone (d.0))) ds
     ++ map (λ d. (is_init_authorised g.init_authorised k (d.0), wants.Start (d.1).owner k)) ds
 
 -- ---- once it has begun

@@ -9,8 +9,18 @@ use std::alloc::Global;
 pub enum Want {
     /// The contract isn't advertised.
     Advert(u32),
-    /// No live deposit fits the one of this name, or the one that was bound is gone.
+    /// No live deposit fits the one of this name.
     Deposit(Name),
+    /// The deposit that is bound to this name is gone.
+    Gone(Name),
+    /// Nobody who takes part is honest.
+    NobodyHonest,
+    /// The secret of an honest party isn't there.
+    Missing(Name),
+    /// It is shorter than 16 bytes or longer than 520.
+    BadLength(Name),
+    /// Its digest was committed before.
+    Repeated(Name),
     /// The digest of a secret that its party, which isn't honest, is to commit.
     Digest {
         party: Name,
@@ -67,6 +77,11 @@ impl Drop for Want {
         match self {
             Want::Advert(_)
             | Want::Deposit(_)
+            | Want::Gone(_)
+            | Want::NobodyHonest
+            | Want::Missing(_)
+            | Want::BadLength(_)
+            | Want::Repeated(_)
             | Want::Digest {
                 party: _,
                 contract: _,
@@ -117,6 +132,11 @@ impl Want {
         match self {
             Want::Advert(contract) => Want::Advert(*contract),
             Want::Deposit(name) => Want::Deposit(*name),
+            Want::Gone(name) => Want::Gone(*name),
+            Want::NobodyHonest => Want::NobodyHonest,
+            Want::Missing(secret) => Want::Missing(*secret),
+            Want::BadLength(secret) => Want::BadLength(*secret),
+            Want::Repeated(secret) => Want::Repeated(*secret),
             Want::Digest {
                 party,
                 contract,

@@ -5,3 +5,4 @@ pub mod Needs
 pub mod Stays
 pub mod Exactly
 pub mod ReadOver
+pub mod WantLines

@@ -2,3 +2,4 @@ pub mod Files
 pub mod Follows
 pub mod Prospects
 pub mod Aside
+pub mod Wants

@@ -5,6 +5,7 @@ ghost use Rattle.theory_chain.specs.Aside.{OthersAreReadOver};
 ghost use Rattle.theory_chain.specs.Files.{ChainsAreSpelled, ChainsAreRefused};
 ghost use Rattle.theory_chain.specs.Prospects.{CanExactly, CanOpens, GoneNeverComes, KnownFit, SuppliedComes};
 ghost use Rattle.theory_chain.specs.Follows.{FollowedExactly, RefusedExactly, HistoryStays};
+ghost use Rattle.theory_chain.specs.Wants.{WantsExactly};
 
 use theory_deal::{finished_opens, finishes_exactly};
 
@@ -67,4 +68,9 @@ pub fn others_are_read_over()
 /// Where all that may be wanting is supplied, nothing is wanting, or its predicate is false and it never comes.
 pub fn supplied_comes()
     ensures { SuppliedComes }
+{}
+
+/// Each line below a transaction that can't come stands exactly where what it says is wanting.
+pub fn wants_exactly()
+    ensures { WantsExactly }
 {}

@@ -1,6 +1,8 @@
 pub mod Complete
-pub mod Said
 pub mod Exact
+pub mod Never
+pub mod Lasting
+pub mod Said
 pub mod Apart
 pub mod Ready
 pub mod OneMore

@@ -79,50 +79,17 @@ branch_more given p o j n i a h = by_test (has_branch_authorised given o j p)
 -- the party of an authorisation
 abbrev party_in : Want → List ℕ
 party_in (wants.Authorisation party n i) = party
-party_in (wants.Advert k) = []
-party_in (wants.Deposit x) = []
-party_in (wants.Digest party k secret) = []
-party_in (wants.Commitment party k) = []
-party_in (wants.Endorsement party contract) = []
-party_in (wants.Start party k) = []
-party_in (wants.Beginning k) = []
-party_in (wants.Height t m) = []
-party_in (wants.Put x) = []
-party_in (wants.Secret party k secret) = []
-party_in (wants.Posted party secret) = []
-party_in wants.Predicate = []
+party_in _ = []
 
 -- the height that is wanting
 abbrev height_in : Want → ℕ
 height_in (wants.Height t m) = t
-height_in (wants.Authorisation party n i) = 0
-height_in (wants.Advert k) = 0
-height_in (wants.Deposit x) = 0
-height_in (wants.Digest party k secret) = 0
-height_in (wants.Commitment party k) = 0
-height_in (wants.Endorsement party contract) = 0
-height_in (wants.Start party k) = 0
-height_in (wants.Beginning k) = 0
-height_in (wants.Put x) = 0
-height_in (wants.Secret party k secret) = 0
-height_in (wants.Posted party secret) = 0
-height_in wants.Predicate = 0
+height_in _ = 0
 
 -- the blocks that lead to it
 abbrev blocks_in : Want → ℕ
 blocks_in (wants.Height t m) = m
-blocks_in (wants.Authorisation party n i) = 0
-blocks_in (wants.Advert k) = 0
-blocks_in (wants.Deposit x) = 0
-blocks_in (wants.Digest party k secret) = 0
-blocks_in (wants.Commitment party k) = 0
-blocks_in (wants.Endorsement party contract) = 0
-blocks_in (wants.Start party k) = 0
-blocks_in (wants.Beginning k) = 0
-blocks_in (wants.Put x) = 0
-blocks_in (wants.Secret party k secret) = 0
-blocks_in (wants.Posted party secret) = 0
-blocks_in wants.Predicate = 0
+blocks_in _ = 0
 
 -- ---- the conditions of a branch, in their parts
 

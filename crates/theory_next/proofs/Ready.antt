@@ -202,7 +202,7 @@ beginning_enabled g k h all =
     let ds = persistent (pre_of advert) in
     let p = met_parts (agreed g k) (started g k ds) all in
     let q = and_parts (is_advertised g.advertised k) _ p.0 in
-    let r = met_parts (map (λ (d : List ℕ × Holding). (isnt_gone g k (d.0), wants.Deposit (d.0))) ds) _ p.1 in
+    let r = met_parts (map (λ (d : List ℕ × Holding). (isnt_gone g k (d.0), wants.Gone (d.0))) ds) _ p.1 in
     let committed : have_committed g.committed k (participants_of advert) ≡ true =
     sym (all_map (λ (c : Condition). c.0) _ (participants_of advert)) ∙ q.1 in
     record {

@@ -41,7 +41,7 @@ use Rattle.spec_next.specs.Candidates.{has_endorsed, candidates}
 use Rattle.spec_next.specs.Wants.{Condition, agreed, bound, isnt_gone, endorsed, endorsed_for, started, asked_by_branch, secret_want, conditions, unmet, wants_of}
 use Rattle.spec_next.specs.Prospects.{is_commitment, is_endorsement, is_start, is_authorisation, is_reveal}
 use Rattle.spec_next.specs.Prospects.{ruling_by, ruling, ruling_of, is_ahead, is_shown, wants_by, prospect, prospects_of, awaited, is_for_whom, is_for, gives, can_come}
-use Rattle.spec_next.specs.Prospects.{is_given, is_open, is_at_hand, is_waited_for, outlook}
+use Rattle.spec_next.specs.Prospects.{is_never, living, useful, is_given, is_open, is_at_hand, is_waited_for, outlook}
 use Rattle.theory_calculus.specs.Members.{Is_in}
 use Rattle.theory_calculus.proofs.Members.{in_append, in_filter, filter_has, in_from_contains, contains_from_in, all_append, all_in}
 use Rattle.theory_calculus.proofs.Names.{bytes-true, bytes_refl}
@@ -53,26 +53,8 @@ use Rattle.theory_next.specs.Waits.{IsGivenBy, GivenByEvent, Commits, GivenByHan
 use Rattle.theory_next.proofs.Apart.{among_in}
 use Rattle.theory_next.proofs.Complete.{from_flat_map}
 use Rattle.theory_next.proofs.Exact.{from_map, is_failing}
+use Rattle.theory_next.proofs.Never.{any_in, any_from, in_living, in_useful, lacks_condition}
 use Rattle.theory_next.proofs.Said.{can_is_meant}
-
--- ---- lists
-
-any_in : {A : Type 0} (f : A → Bool) (xs : List A) (x : A) → Is_in x xs → f x ≡ true → list_any f xs ≡ true
-any_in f [] x i h = absurd i
-any_in f (y ∷ ys) x (inl e) h = or_left _ _ (subst (λ z. f z ≡ true) e h)
-any_in f (y ∷ ys) x (inr i) h = or_right (f y) _ (any_in f ys x i h)
-
-record Found {A : Type 0} (f : A → Bool) (xs : List A) : Type 0 where
-  one : A
-  there : Is_in one xs
-  passes : f one ≡ true
-
-any_from : {A : Type 0} (f : A → Bool) (xs : List A) → list_any f xs ≡ true → Found f xs
-any_from f [] h = cc
-any_from f (x ∷ xs) h = elim (or_cases (f x) (list_any f xs) h) [
-  | inl e ↦ record { one = x; there = inl refl; passes = e }
-  | inr e ↦ let r = any_from f xs e in record { one = r.one; there = inr r.there; passes = r.passes }
-]
 
 -- ---- digests are wanting for commitments alone
 
@@ -96,7 +78,7 @@ no_digest_bound names bindings = all_others _ (λ x. refl) names
 no_digest_started : (g : Configuration) (k : ℕ) (ds : List (List ℕ × Holding)) → list_all is_other (started g k ds) ≡ true
 no_digest_started g k ds =
     all_append is_other
-    (map (λ (d : List ℕ × Holding). (isnt_gone g k (d.0), wants.Deposit (d.0))) ds)
+    (map (λ (d : List ℕ × Holding). (isnt_gone g k (d.0), wants.Gone (d.0))) ds)
     (map (λ (d : List ℕ × Holding). (is_init_authorised g.init_authorised k (d.0), wants.Start (d.1).owner k)) ds)
     (all_others _ (λ x. refl) ds) (all_others _ (λ x. refl) ds)
 
@@ -362,7 +344,7 @@ module _ (s : Setup) (es : List Event) (run : IsRun s es) (k : ℕ) (c : Advert)
   w = last_world s es
 
   abbrev listed : List Prospect
-  listed = prospects_of s g w (candidates s g w k c)
+  listed = living (useful (prospects_of s g w (candidates s g w k c)))
 
   tracks : Tracks s (run_posts s es) g w
   tracks =
@@ -373,7 +355,7 @@ module _ (s : Setup) (es : List Event) (run : IsRun s es) (k : ℕ) (c : Advert)
   same_contract : contract_at s.contracts k ≡ Some c
   same_contract = ap (λ cs. contract_at cs k) (sym tracks.constant.contracts) ∙ at
 
-  -- what is wanting for an event that is listed, is wanting for it; and it is refused, and still ahead
+  -- what is wanting for an event that is listed and may come, is wanting for it; and it is refused, and still ahead
   record Lacks (p : Prospect) (x : Want) : Type 0 where
     event : Event
     is : p ≡ prospect s g w event
@@ -381,23 +363,23 @@ module _ (s : Setup) (es : List Event) (run : IsRun s es) (k : ℕ) (c : Advert)
     wanting : Is_in x (wants_of s g w event)
     ahead : is_ahead s w event ≡ true
 
-  lacks : (p : Prospect) (x : Want) → Is_in p listed → Is_in x p.wants → Lacks p x
-  lacks p x i h =
-      let m = from_map (prospect s g w) (filter (λ e. is_shown s w e (ruling s w e)) (candidates s g w k c)) p i in
+  lacks : (p : Prospect) (x : Want) → is_never x ≡ false → Is_in p listed → Is_in x p.wants → Lacks p x
+  lacks p x may i h =
+      let m = from_map (prospect s g w) (filter (λ e. is_shown s w e (ruling s w e)) (candidates s g w k c)) p (in_useful _ p (in_living _ p i)) in
       let f = in_filter (λ e. is_shown s w e (ruling s w e)) (candidates s g w k c) m.0 m.1 in
       by_ruling m.0 m.2 f.0 (ruling s w m.0) f.1 (subst (λ (q : Prospect). Is_in x q.wants) m.2 h)
     where
       by_ruling : (e : Event) → p ≡ prospect s g w e → Is_in e (candidates s g w k c) → (r : Ruling) → is_shown s w e r ≡ true
           → Is_in x (wants_by (wants_of s g w e) r) → Lacks p x
       by_ruling e q j rulings.Can t n = absurd n
-      by_ruling e q j (rulings.Cannot reason) t n = record { event = e; is = q; candidate = j; wanting = n; ahead = t }
+      by_ruling e q j (rulings.Cannot reason) t n = record { event = e; is = q; candidate = j; wanting = lacks_condition reason (wants_of s g w e) x may n; ahead = t }
       by_ruling e q j rulings.Halts t n = absurd n
 
   -- whose digest is wanting may commit it
   commits : (p : Prospect) (party : List ℕ) (j : ℕ) (secret : List ℕ) → Is_in p listed → Is_in (wants.Digest party j secret) p.wants
       → has_advert g.advertised j ≡ true → Commits s w j party
   commits p party j secret i h told =
-      let l = lacks p (wants.Digest party j secret) i h in
+      let l = lacks p (wants.Digest party j secret) refl i h in
       let u = committing_want s g w party j secret l.event l.wanting in
       let o = commitment_of s g w k c j party u.digests (subst (λ (e : Event). Is_in e (candidates s g w k c)) u.is l.candidate) in
       let there : contract_at s.contracts j ≡ Some c = ap (contract_at s.contracts) o.here ∙ same_contract in
@@ -420,6 +402,11 @@ module _ (s : Setup) (es : List Event) (run : IsRun s es) (k : ℕ) (c : Advert)
   by_hand p (wants.Posted party secret) i h o = λ bytes. comes_unless s w (events.Post bytes) refl
   by_hand p (wants.Advert j) i h o = cc
   by_hand p (wants.Deposit y) i h o = cc
+  by_hand p (wants.Gone y) i h o = cc
+  by_hand p wants.NobodyHonest i h o = cc
+  by_hand p (wants.Missing y) i h o = cc
+  by_hand p (wants.BadLength y) i h o = cc
+  by_hand p (wants.Repeated y) i h o = cc
   by_hand p (wants.Commitment party j) i h o = cc
   by_hand p (wants.Endorsement party j) i h o = cc
   by_hand p (wants.Start party j) i h o = cc
@@ -435,6 +422,11 @@ module _ (s : Setup) (es : List Event) (run : IsRun s es) (k : ℕ) (c : Advert)
   is_open_hand (wants.Posted party secret) h = refl
   is_open_hand (wants.Advert j) h = absurd h
   is_open_hand (wants.Deposit y) h = absurd h
+  is_open_hand (wants.Gone y) h = absurd h
+  is_open_hand wants.NobodyHonest h = absurd h
+  is_open_hand (wants.Missing y) h = absurd h
+  is_open_hand (wants.BadLength y) h = absurd h
+  is_open_hand (wants.Repeated y) h = absurd h
   is_open_hand (wants.Commitment party j) h = absurd h
   is_open_hand (wants.Endorsement party j) h = absurd h
   is_open_hand (wants.Start party j) h = absurd h
@@ -450,7 +442,7 @@ module _ (s : Setup) (es : List Event) (run : IsRun s es) (k : ℕ) (c : Advert)
   by_event x h =
       let f = any_from (λ (p : Prospect). can_come p.ruling && gives x p.event) listed h in
       let t = and_parts (can_come f.one.ruling) (gives x f.one.event) f.passes in
-      let m = from_map (prospect s g w) (filter (λ e. is_shown s w e (ruling s w e)) (candidates s g w k c)) f.one f.there in
+      let m = from_map (prospect s g w) (filter (λ e. is_shown s w e (ruling s w e)) (candidates s g w k c)) f.one (in_useful _ f.one (in_living _ f.one f.there)) in
       record {
         event = m.0;
         gives_it = giver_is x m.0 (subst (λ (p : Prospect). gives x p.event ≡ true) m.2 t.1);

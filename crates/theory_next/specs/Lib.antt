@@ -6,4 +6,6 @@ pub mod Once
 pub mod FirstLines
 pub mod FirstRun
 pub mod FirstEvents
+pub mod Never
+pub mod Lasting
 pub mod Waits

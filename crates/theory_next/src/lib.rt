@@ -5,7 +5,9 @@ ghost use Rattle.theory_next.specs.Candidates.{CanIsMeant, OffersAreCandidates, 
 ghost use Rattle.theory_next.specs.FirstEvents.{FirstEventsGoThrough};
 ghost use Rattle.theory_next.specs.FirstLines.{FirstLinesAreARun};
 ghost use Rattle.theory_next.specs.FirstRun.{FirstRunIsARun};
+ghost use Rattle.theory_next.specs.Lasting.{RefusalsLast};
 ghost use Rattle.theory_next.specs.MetAlone.{MetAloneTheorem};
+ghost use Rattle.theory_next.specs.Never.{NeverIsSaid};
 ghost use Rattle.theory_next.specs.Once.{CandidatesStandOnce};
 ghost use Rattle.theory_next.specs.Ready.{ReadyComesTheorem};
 ghost use Rattle.theory_next.specs.Waits.{WaitsAreMeant};
@@ -46,6 +48,16 @@ pub fn ready_comes()
 /// can come, and after it the branch can be taken, unless that halts the run.
 pub fn met_alone()
     ensures { MetAloneTheorem }
+{}
+
+/// An event that lacks what never comes says that alone; where it goes before the beginning, its contract shows no other such event.
+pub fn never_is_said()
+    ensures { NeverIsSaid }
+{}
+
+/// What is refused since nobody is honest, or since an honest party's secret isn't there or hasn't the size of one, never comes.
+pub fn refusals_last()
+    ensures { RefusalsLast }
 {}
 
 /// After a run a contract waits exactly for those of its participants who can give now something that is wanting for an event of

@@ -1,0 +1,63 @@
+-- What is claimed of what never comes: an event that lacks such says that alone, and where it is before the beginning, its contract shows
+-- no other event before the beginning.
+use Rattle.std.specs.Prelude.{◌≡◌, ◌↔◌, ◌⊎◌, ℕ, List, [], ◌++◌, true, false}
+use Rattle.std.specs.List.{Contains}
+use Rattle.spec_terms.specs.Advert.{Advert}
+use Rattle.spec_calculus.specs.Configuration.{Configuration}
+use Rattle.spec_run.specs.declared.event.Event.{Event}
+use Rattle.spec_run.specs.declared.outcome.Reason.{Reason}
+use Rattle.spec_run.specs.Setup.{Setup}
+use Rattle.spec_run.specs.World.{World}
+use Rattle.spec_next.specs.declared.want.Want.{Want}
+use Rattle.spec_next.specs.declared.outlook.Ruling.TheVariants as rulings
+use Rattle.spec_next.specs.declared.outlook.Prospect.{Prospect}
+use Rattle.spec_next.specs.Candidates.{actives_of, candidates}
+use Rattle.spec_next.specs.Wants.{wants_of}
+use Rattle.spec_next.specs.Prospects.{ruling, lasting, is_never, is_refused, is_lost, goes_on, takes, reveals, useful, prospect, prospects_of, outlook}
+
+-- ---- what is said of an event
+
+-- all that an event with this refusal lacks: what stays so of the refusal, and its conditions that fail
+abbrev pub all_lacking : Setup → Configuration → World → Event → Reason → List Want
+all_lacking s g w e reason = lasting reason ++ wants_of s g w e
+
+pub record SaysWhatLacks (s : Setup) (g : Configuration) (w : World) (e : Event) : Type 0 where
+  -- nothing, where it isn't refused
+  pub nothing : is_refused (ruling s w e) ≡ false → (prospect s g w e).wants ≡ []
+  -- all that it lacks, where each may come
+  pub all : (reason : Reason) → ruling s w e ≡ rulings.Cannot reason
+      → ((x : Want) → Contains (all_lacking s g w e reason) x → is_never x ≡ false)
+      → (prospect s g w e).wants ≡ all_lacking s g w e reason
+  -- where some never comes, exactly what never comes
+  pub never : (reason : Reason) → ruling s w e ≡ rulings.Cannot reason → (y : Want) → Contains (all_lacking s g w e reason) y → is_never y ≡ true
+      → (x : Want) → Contains (prospect s g w e).wants x ↔ (Contains (all_lacking s g w e reason) x × (is_never x ≡ true))
+
+-- ---- what is shown of a contract
+
+-- what it would show if all may come
+abbrev pub all_ahead : Setup → Configuration → World → ℕ → Advert → List Prospect
+all_ahead s g w k advert = useful (prospects_of s g w (candidates s g w k advert))
+
+-- one of these that goes before the beginning never comes
+pub record NeverBegins (ps : List Prospect) : Type 0 where
+  pub lost : Prospect
+  pub there : Contains ps lost
+  pub is_lost : is_lost lost ≡ true
+  pub before : goes_on lost.event lost.ruling ≡ false
+
+pub record ShowsWhatComes (s : Setup) (g : Configuration) (w : World) (k : ℕ) (advert : Advert) : Type 0 where
+  -- all, where the contract may begin
+  pub all : (NeverBegins (all_ahead s g w k advert) → ⊥) → (outlook s g w k advert).prospects ≡ all_ahead s g w k advert
+  -- where it never does, exactly the events that never come, and those by which a contract goes on that has begun or begins
+  pub never : NeverBegins (all_ahead s g w k advert) → (p : Prospect) → Contains (outlook s g w k advert).prospects p
+      ↔ (Contains (all_ahead s g w k advert) p × ((is_lost p ≡ true) ⊎ (goes_on p.event p.ruling ≡ true)))
+  -- where no contract output is left, no reveal that isn't refused
+  pub over : actives_of g k ≡ [] → (p : Prospect) → Contains (outlook s g w k advert).prospects p → reveals p.event p.ruling ≡ false
+  -- and where one with a branch is, all reveals
+  pub going : (p q : Prospect) → Contains (prospects_of s g w (candidates s g w k advert)) p → takes p.event ≡ true
+      → Contains (prospects_of s g w (candidates s g w k advert)) q → Contains (all_ahead s g w k advert) q
+
+-- of every event and contract in any world
+pub record NeverIsSaid : Type 0 where
+  pub events : (s : Setup) (g : Configuration) (w : World) (e : Event) → SaysWhatLacks s g w e
+  pub contracts : (s : Setup) (g : Configuration) (w : World) (k : ℕ) (advert : Advert) → ShowsWhatComes s g w k advert

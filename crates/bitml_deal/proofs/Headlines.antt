@@ -6,6 +6,7 @@ use Rattle.std.proofs.lemmas.Bool.{false≢true}
 use Rattle.spec_data.specs.Hashes.{HashesBytes}
 use Rattle.spec_data.specs.Lists.{has_number}
 use Rattle.spec_terms.specs.Advert.{Advert}
+use Rattle.spec_compiler.specs.Keyed.Statements.{ScriptTheorem}
 use Rattle.spec_text.specs.Refusals.{contract_of}
 use Rattle.spec_tool.specs.Answers.{ended}
 use Rattle.spec_tool.specs.Commands.{Printed}
@@ -54,6 +55,7 @@ pub record Theorems : Type 0 where
   pub exactly : FinishesExactly
   pub finished : FinishTheorem
   pub answers : FinishAnswers
+  pub scripts : ScriptTheorem
   pub no_other_way : FalseWithoutOne
 
 -- ---- the status of an answer
@@ -106,9 +108,11 @@ module _ (t : Theorems) (hash : List ℕ → List ℕ) (bytes : HashesBytes hash
   keeps contract_text deal_text advert deal c d =
       let keys = deal_keys deal in
       let s = deal_instance advert deal in
+      let sized = t.sized secp256k1 hash advert deal_text deal d in
+      let settled = sized.settled (well_formed contract_text advert c) in
       record {
         gives_all = t.gives_all secp256k1 advert deal_text deal d;
-        sized = t.sized secp256k1 hash advert deal_text deal d;
+        sized = sized;
         points = t.points secp256k1 advert deal_text deal d;
         verified = λ file given read. t.verified secp256k1 hash keys s file given read;
         planned = t.planned hash keys s;
@@ -121,6 +125,8 @@ module _ (t : Theorems) (hash : List ℕ → List ℕ) (bytes : HashesBytes hash
           finished = λ none.
               t.finished secp256k1 hash advert deal_text deal file given strings which l (well_formed contract_text advert c) d read shown there none;
         };
+        opens = λ valid position contract stack there short. t.scripts hash keys valid s position contract stack sized.are_keys
+            (record { checked = settled.checked; committed = settled.committed; is_position = there }) short;
         no_other_way = λ valid. t.no_other_way hash keys valid;
       }
 

@@ -1,8 +1,13 @@
 -- What the program for deals promises, from its words to its status.
 use Rattle.std.specs.Prelude.{◌≡◌, ℕ, List, [], ◌++◌, map, Bool, true, ◌⊎◌, ◌↔◌, ◌&&◌, Option, Some, None, is_some, option_map, is_err, Ok}
+use Rattle.std.specs.List.{list_all}
 use Rattle.spec_terms.specs.Advert.{Advert}
+use Rattle.spec_terms.specs.Paths.{contract_under}
+use Rattle.spec_terms.specs.Term.{Contract}
+use Rattle.spec_terms.specs.declared.path.PathStep.{PathStep}
 use Rattle.spec_compiler.specs.Keyed.Hashed.{compiled_strings}
 use Rattle.spec_compiler.specs.Keyed.Instance.{people}
+use Rattle.spec_compiler.specs.Keyed.Statements.{is_short, OpensExactly}
 use Rattle.spec_compiler.specs.Keyed.Transactions.{party_script}
 use Rattle.spec_text.specs.Refusals.{contract_of}
 use Rattle.spec_tool.specs.Answers.{contract_in}
@@ -115,6 +120,11 @@ pub record Keeps (hash : List ℕ → List ℕ) (advert : Advert) (deal : Deal) 
   pub lists : (given : List Signed) (slot : Slot) → ListsExactly hash (deal_keys deal) (deal_instance advert deal) given slot
   pub starts : (given : List Signed) → StartsExactly hash (deal_keys deal) (deal_instance advert deal) given
   pub finishes : FinishesTaken hash advert deal
+  -- whatever judges signatures, the script of a position is true on exactly the stacks that open one of its branches: by the selectors,
+  -- the secrets and every participant's signature of that branch
+  pub opens : (valid : List ℕ → List ℕ → Bool) (position : List PathStep) (contract : Contract) (stack : List (List ℕ))
+      → contract_under advert.root position ≡ Some contract → list_all is_short stack ≡ true
+      → OpensExactly hash (deal_keys deal) valid (deal_instance advert deal) position contract stack
   pub no_other_way : (valid : List ℕ → List ℕ → Bool) → NoOtherWay hash (deal_keys deal) valid
 
 -- where a contract and its deal are taken, whose file gives nothing twice

@@ -22,6 +22,7 @@ use theory_deal::{
     is_ecdsa, keys_are_points, may_start, missing_and_held, nothing_twice, plan_of_runs,
     signatures_verify,
 };
+use theory_script::any_keys::script_theorem;
 use tool_shell::{Call, serve};
 
 /// A command on a deal, as it is served.
@@ -101,6 +102,7 @@ pub fn deal_tool<H: Hash32 + Drop, F: Files, S: Sink>(
     finishes_exactly();
     finish_theorem();
     finish_answers();
+    script_theorem();
     false_without_one();
     serve(alloc, hash, call_of(alloc, words), files, out)
 }

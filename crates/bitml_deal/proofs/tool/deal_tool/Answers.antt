@@ -26,6 +26,7 @@ returns g c =
       exactly = c.finishes_exactly.ensures;
       finished = c.finish_theorem.ensures;
       answers = c.finish_answers.ensures;
+      scripts = c.script_theorem.ensures;
       no_other_way = c.false_without_one.ensures;
     }) (g.H.Hash32.digest_of c.args.hash) c.hashes_bytes.ensures _ _ _ c.serve.result
     (seen_as seen deal_files (deal_answer secp256k1 (g.H.Hash32.digest_of c.args.hash)) (λ call. deal_files (seen call))

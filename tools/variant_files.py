@@ -99,7 +99,7 @@ def with_lists(page):
 def gone(page):
     """The must-fail edits and test vectors that the page names and that aren't there."""
     edits = [f'crates/{crate}/must-fail/{name}.edit' for crate, name in re.findall(r'`(\w+)/must-fail/(\w+)`', page)]
-    vectors = [f'{name}.out' for name in re.findall(r'`(rows/(?!contracts/)\w+/\w+)`', page)]
+    vectors = [f'{name}.out' for name in re.findall(r'`(vectors/(?!contracts/)\w+/\w+)`', page)]
     return [place for place in edits + vectors if not os.path.exists(os.path.join(TOP, place))]
 
 

@@ -1,74 +1,16 @@
--- A set of entries as a book reads it, with one entry more and with less.
-use Rattle.std.proofs.Common.{◌≡◌, ℕ, zero, suc, List, [], ◌∷◌, ◌++◌, length, take, slice_get, Some, Bool, true, false, ◌&&◌, ◌||◌, cond, refl, sym, ap, ◌∙◌, arith}
-use Rattle.std.proofs.lemmas.Option.{none-some, same_Some}
-use Rattle.std.specs.Prelude.{◌≢◌, ◌==◌}
-use Rattle.std.specs.List.{list_any}
+-- The entries of a book as pairs, with one more and with less.
+use Rattle.std.proofs.Common.{◌≡◌, ℕ, ◌+◌, zero, suc, List, [], ◌∷◌, ◌++◌, length, map, take, Some, Bool, true, false, ◌&&◌, ◌||◌, cond, refl, sym, ap, ◌∙◌, arith}
+use Rattle.std.proofs.lemmas.List.{length-append}
+use Rattle.std.specs.Prelude.{◌≢◌, ◌==◌, drop, slice_get}
+use Rattle.std.specs.List.{list_all, list_any}
 use Rattle.std.specs.Str.{bytes_eq}
 use Rattle.std.proofs.lemmas.Slice.Eq.{bytes_eq-Decides}
 use Rattle.std.proofs.lemmas.Bool.{and_parts}
-use Rattle.indexmap.specs.IndexSet.{insert_key}
+use Rattle.spec_data.specs.Lists.{is_among}
 use Rattle.spec_bitcoin.specs.Keys.{has_signed}
-use Rattle.bm_book.specs.declared.signed.Signed.{Signed}
-use Rattle.bm_book.specs.Entries.{pairs_of, are_keys}
-
--- ---- equal entries
-
--- whether the first entry is the second
-abbrev pub is_entry : Signed → Signed → Bool
-is_entry k s = bytes_eq k.key s.key && bytes_eq k.digest s.digest
-
-both_ways : (b c : Bool) → (b ≡ true → c ≡ true) → (c ≡ true → b ≡ true) → b ≡ c
-both_ways true c h g = sym (h refl)
-both_ways false true h g = g refl
-both_ways false false h g = refl
-
-bytes_eq-sym : (xs ys : List ℕ) → bytes_eq xs ys ≡ bytes_eq ys xs
-bytes_eq-sym xs ys = both_ways _ _ (λ h. (bytes_eq-Decides ys xs).1 (sym ((bytes_eq-Decides xs ys).0 h))) (λ h. (bytes_eq-Decides xs ys).1 (sym ((bytes_eq-Decides ys xs).0 h)))
-
-is_entry-sym : (k s : Signed) → is_entry k s ≡ is_entry s k
-is_entry-sym k s = ap (λ x. x && bytes_eq k.digest s.digest) (bytes_eq-sym k.key s.key) ∙ ap (λ x. bytes_eq s.key k.key && x) (bytes_eq-sym k.digest s.digest)
-
--- an entry is in the set where its key has signed its digest
-pub is_signed : (entries : List Signed) (k : Signed) → list_any (is_entry k) entries ≡ has_signed (pairs_of entries) k.key k.digest
-is_signed [] k = refl
-is_signed (s ∷ ss) k = ap (λ b. b || list_any (is_entry k) ss) (is_entry-sym k s) ∙ ap (λ b. is_entry s k || b) (is_signed ss k)
-
--- and so it is where an equal one has a number there
-pub signed_there : (entries : List Signed) (n : ℕ) (known k : Signed) → slice_get entries n ≡ Some known → is_entry known k ≡ true
-    → has_signed (pairs_of entries) k.key k.digest ≡ true
-signed_there [] n known k here same = absurd (none-some known here)
-signed_there (s ∷ ss) zero known k here same = rw (same_Some s known here) (rw same refl)
-signed_there (s ∷ ss) (suc n) known k here same = or_later (is_entry s k) _ (signed_there ss n known k here same)
-  where
-    or_later : (b c : Bool) → c ≡ true → b || c ≡ true
-    or_later true c h = refl
-    or_later false c h = h
-
--- ---- their pairs
-
-pub pairs_of-length : (entries : List Signed) → length (pairs_of entries) ≡ length entries
-pairs_of-length [] = refl
-pairs_of-length (s ∷ ss) = ap suc (pairs_of-length ss)
-
-pub pairs_of-take : (n : ℕ) (entries : List Signed) → pairs_of (take n entries) ≡ take n (pairs_of entries)
-pairs_of-take zero entries = refl
-pairs_of-take (suc n) [] = refl
-pairs_of-take (suc n) (s ∷ ss) = ap (λ ps. (s.key, s.digest) ∷ ps) (pairs_of-take n ss)
-
-pairs_of-push : (entries : List Signed) (k : Signed) → pairs_of (entries ++ k ∷ []) ≡ pairs_of entries ++ (k.key, k.digest) ∷ []
-pairs_of-push [] k = refl
-pairs_of-push (s ∷ ss) k = ap (λ ps. (s.key, s.digest) ∷ ps) (pairs_of-push ss k)
-
--- what is inserted is a pair more, unless its key has signed its digest
-pub pairs_of-insert : (entries : List Signed) (k : Signed)
-    → pairs_of (insert_key is_entry entries k) ≡ cond (has_signed (pairs_of entries) k.key k.digest) (pairs_of entries) (pairs_of entries ++ (k.key, k.digest) ∷ [])
-pairs_of-insert entries k = by (list_any (is_entry k) entries) ∙ ap (λ b. cond b (pairs_of entries) (pairs_of entries ++ (k.key, k.digest) ∷ [])) (is_signed entries k)
-  where
-    by : (b : Bool) → pairs_of (cond b entries (entries ++ k ∷ [])) ≡ cond b (pairs_of entries) (pairs_of entries ++ (k.key, k.digest) ∷ [])
-    by true = refl
-    by false = pairs_of-push entries k
-
--- ---- the sizes of keys
+use Rattle.bm_hash_strings.specs.Placed.{stands_at}
+use Rattle.bm_hash_strings.proofs.Joined.{same_behind}
+use Rattle.bm_book.specs.Entries.{pair_of, pairs_of, are_entries}
 
 sized_as : (n m : ℕ) → n == m ≡ true → n ≡ m
 sized_as n m h = grind arith
@@ -76,33 +18,134 @@ sized_as n m h = grind arith
 same_size : (n m : ℕ) → n ≡ m → n == m ≡ true
 same_size n m h = grind arith
 
+-- ---- one entry
+
+module _ (key digest : List ℕ) (size : length key ≡ 33) where
+  take_key : take 33 (key ++ digest) ≡ key
+  take_key = ap (λ n. take n (key ++ digest)) (sym size) ∙ take_prefix key digest
+    where
+      take_prefix : (xs ys : List ℕ) → take (length xs) (xs ++ ys) ≡ xs
+      take_prefix [] ys = refl
+      take_prefix (x ∷ xs) ys = ap (λ l. x ∷ l) (take_prefix xs ys)
+
+  drop_key : drop 33 (key ++ digest) ≡ digest
+  drop_key = ap (λ n. drop n (key ++ digest)) (sym size) ∙ drop_prefix key digest
+    where
+      drop_prefix : (xs ys : List ℕ) → drop (length xs) (xs ++ ys) ≡ ys
+      drop_prefix [] ys = refl
+      drop_prefix (x ∷ xs) ys = drop_prefix xs ys
+
+  -- an entry is the pair of its key and digest
+  pair-of-entry : pair_of (key ++ digest) ≡ (key, digest)
+  pair-of-entry = ap (λ k. (k, drop 33 (key ++ digest))) take_key ∙ ap (λ d. (key, d)) drop_key
+
+join : (n : ℕ) (xs : List ℕ) → take n xs ++ drop n xs ≡ xs
+join zero xs = refl
+join (suc n) [] = refl
+join (suc n) (x ∷ xs) = ap (λ l. x ∷ l) (join n xs)
+
+length_prefix : (n m : ℕ) (xs : List ℕ) → length xs ≡ n + m → length (take n xs) ≡ n
+length_prefix zero m xs e = refl
+length_prefix (suc n) m [] e = absurd (omega (arith, e))
+length_prefix (suc n) m (x ∷ xs) e = let e' : length xs ≡ n + m = omega (arith, e) in ap suc (length_prefix n m xs e')
+
+-- whether an entry is the one of a key and a digest
+is_entry : (entry key digest : List ℕ) → length entry ≡ 65 → length key ≡ 33
+    → bytes_eq entry (key ++ digest) ≡ (bytes_eq (take 33 entry) key && bytes_eq (drop 33 entry) digest)
+is_entry entry key digest long size =
+    ap (λ l. bytes_eq l (key ++ digest)) (sym (join 33 entry))
+    ∙ same_behind (take 33 entry) key (drop 33 entry) digest (length_prefix 33 32 entry long ∙ sym size)
+
+-- ---- what has signed
+
+-- an entry stands in the index where its key has signed its digest
+pub is_signed : (entries : List (List ℕ)) (key digest : List ℕ) → are_entries entries ≡ true → length key ≡ 33
+    → is_among (key ++ digest) entries ≡ has_signed (pairs_of entries) key digest
+is_signed [] key digest all size = refl
+is_signed (e ∷ es) key digest all size =
+    let parts = and_parts (length e == 65) (are_entries es) all in
+    ap (λ b. b || is_among (key ++ digest) es) (is_entry e key digest (sized_as (length e) 65 parts.0) size)
+    ∙ ap (λ b. (bytes_eq (take 33 e) key && bytes_eq (drop 33 e) digest) || b) (is_signed es key digest parts.1 size)
+
+-- a string that stands at some place is there
+pub stands_there : (entries : List (List ℕ)) (n : ℕ) (q : List ℕ) → stands_at entries n q ≡ true → is_among q entries ≡ true
+stands_there [] n q here = cc
+stands_there (e ∷ es) zero q here = rw here refl
+stands_there (e ∷ es) (suc n) q here = or_later (bytes_eq e q) _ (stands_there es n q here)
+  where
+    or_later : (b c : Bool) → c ≡ true → b || c ≡ true
+    or_later true c h = refl
+    or_later false c h = h
+
 -- a key of another size has signed nothing
-pub unsized_unsigned : (entries : List Signed) (key digest : List ℕ) → are_keys entries ≡ true → length key ≢ 33
+pub unsized_unsigned : (entries : List (List ℕ)) (key digest : List ℕ) → are_entries entries ≡ true → length key ≢ 33
     → has_signed (pairs_of entries) key digest ≡ false
 unsized_unsigned [] key digest all other = refl
-unsized_unsigned (s ∷ ss) key digest all other =
-    let parts = and_parts (length s.key == 33) (are_keys ss) all in
-    elim (bytes_eq s.key key) as (λ b. bytes_eq s.key key ≡ b → (b && bytes_eq s.digest digest) || has_signed (pairs_of ss) key digest ≡ false) [
-      | true ↦ λ t. absurd (other (sym (ap length ((bytes_eq-Decides s.key key).0 t)) ∙ sized_as (length s.key) 33 parts.0))
-      | false ↦ λ t. unsized_unsigned ss key digest parts.1 other
+unsized_unsigned (e ∷ es) key digest all other =
+    let parts = and_parts (length e == 65) (are_entries es) all in
+    elim (bytes_eq (take 33 e) key) as (λ b. bytes_eq (take 33 e) key ≡ b
+    → (b && bytes_eq (drop 33 e) digest) || has_signed (pairs_of es) key digest ≡ false) [
+      | true ↦ λ t.
+          absurd (other (sym (ap length ((bytes_eq-Decides (take 33 e) key).0 t)) ∙ length_prefix 33 32 e (sized_as (length e) 65 parts.0)))
+      | false ↦ λ t. unsized_unsigned es key digest parts.1 other
     ] refl
 
-are_keys-push : (entries : List Signed) (k : Signed) → are_keys entries ≡ true → length k.key ≡ 33 → are_keys (entries ++ k ∷ []) ≡ true
-are_keys-push [] k all size = let here = same_size (length k.key) 33 size in rw here refl
-are_keys-push (s ∷ ss) k all size =
-    let parts = and_parts (length s.key == 33) (are_keys ss) all in
-    rw parts.0 (are_keys-push ss k parts.1 size)
+-- what stands at some place is signed again without a change
+pub signed_again : (entries : List (List ℕ)) (n : ℕ) (key digest entry : List ℕ) → are_entries entries ≡ true → length key ≡ 33
+    → entry ≡ key ++ digest → stands_at entries n entry ≡ true
+    → pairs_of entries ≡ cond (has_signed (pairs_of entries) key digest) (pairs_of entries) (pairs_of entries ++ (key, digest) ∷ [])
+signed_again entries n key digest entry all size is here =
+    ap (λ b. cond b (pairs_of entries) (pairs_of entries ++ (key, digest) ∷ []))
+    (sym (sym (is_signed entries key digest all size) ∙ ap (λ e. is_among e entries) (sym is) ∙ stands_there entries n entry here))
 
-pub are_keys-insert : (entries : List Signed) (k : Signed) → are_keys entries ≡ true → length k.key ≡ 33 → are_keys (insert_key is_entry entries k) ≡ true
-are_keys-insert entries k all size = by (list_any (is_entry k) entries)
+-- ---- one more, and less
+
+pub pairs_of-length : (entries : List (List ℕ)) → length (pairs_of entries) ≡ length entries
+pairs_of-length [] = refl
+pairs_of-length (e ∷ es) = ap suc (pairs_of-length es)
+
+pub pairs_of-take : (n : ℕ) (entries : List (List ℕ)) → pairs_of (take n entries) ≡ take n (pairs_of entries)
+pairs_of-take zero entries = refl
+pairs_of-take (suc n) [] = refl
+pairs_of-take (suc n) (e ∷ es) = ap (λ ps. pair_of e ∷ ps) (pairs_of-take n es)
+
+pairs_of-push : (entries : List (List ℕ)) (e : List ℕ) → pairs_of (entries ++ e ∷ []) ≡ pairs_of entries ++ pair_of e ∷ []
+pairs_of-push [] e = refl
+pairs_of-push (x ∷ xs) e = ap (λ ps. pair_of x ∷ ps) (pairs_of-push xs e)
+
+-- what is added once is a pair more, unless its key has signed its digest
+pub pairs_of-once : (entries : List (List ℕ)) (key digest : List ℕ) → are_entries entries ≡ true → length key ≡ 33
+    → pairs_of (cond (is_among (key ++ digest) entries) entries (entries ++ (key ++ digest) ∷ []))
+    ≡ cond (has_signed (pairs_of entries) key digest) (pairs_of entries) (pairs_of entries ++ (key, digest) ∷ [])
+pairs_of-once entries key digest all size =
+    by (is_among (key ++ digest) entries)
+    ∙ ap (λ b. cond b (pairs_of entries) (pairs_of entries ++ (key, digest) ∷ [])) (is_signed entries key digest all size)
   where
-    by : (b : Bool) → are_keys (cond b entries (entries ++ k ∷ [])) ≡ true
-    by true = all
-    by false = are_keys-push entries k all size
+    by : (b : Bool) → pairs_of (cond b entries (entries ++ (key ++ digest) ∷ []))
+        ≡ cond b (pairs_of entries) (pairs_of entries ++ (key, digest) ∷ [])
+    by true = refl
+    by false = pairs_of-push entries (key ++ digest) ∙ ap (λ p. pairs_of entries ++ p ∷ []) (pair-of-entry key digest size)
 
-pub are_keys-take : (n : ℕ) (entries : List Signed) → are_keys entries ≡ true → are_keys (take n entries) ≡ true
-are_keys-take zero entries all = refl
-are_keys-take (suc n) [] all = refl
-are_keys-take (suc n) (s ∷ ss) all =
-    let parts = and_parts (length s.key == 33) (are_keys ss) all in
-    rw parts.0 (are_keys-take n ss parts.1)
+are_entries-push : (entries : List (List ℕ)) (e : List ℕ) → are_entries entries ≡ true → length e ≡ 65 → are_entries (entries ++ e ∷ []) ≡ true
+are_entries-push [] e all size = let here = same_size (length e) 65 size in rw here refl
+are_entries-push (x ∷ xs) e all size =
+    let parts = and_parts (length x == 65) (are_entries xs) all in
+    rw parts.0 (are_entries-push xs e parts.1 size)
+
+pub are_entries-once : (entries : List (List ℕ)) (key digest : List ℕ) → are_entries entries ≡ true → length key ≡ 33 → length digest ≡ 32
+    → are_entries (cond (is_among (key ++ digest) entries) entries (entries ++ (key ++ digest) ∷ [])) ≡ true
+are_entries-once entries key digest all size long = by (is_among (key ++ digest) entries)
+  where
+    whole : length (key ++ digest) ≡ 65
+    whole = let e = length-append key digest in omega (arith, e, size, long)
+
+    by : (b : Bool) → are_entries (cond b entries (entries ++ (key ++ digest) ∷ [])) ≡ true
+    by true = all
+    by false = are_entries-push entries (key ++ digest) all whole
+
+pub are_entries-take : (n : ℕ) (entries : List (List ℕ)) → are_entries entries ≡ true → are_entries (take n entries) ≡ true
+are_entries-take zero entries all = refl
+are_entries-take (suc n) [] all = refl
+are_entries-take (suc n) (e ∷ es) all =
+    let parts = and_parts (length e == 65) (are_entries es) all in
+    rw parts.0 (are_entries-take n es parts.1)

@@ -1,12 +1,14 @@
--- The entries of a book's index as pairs, and the sizes of their keys.
-use Rattle.std.specs.Prelude.{List, map, length, Bool, ◌==◌}
+-- The entries of a book's index: each is a key, and behind it a digest that it has signed.
+use Rattle.std.specs.Prelude.{List, ℕ, map, take, drop, length, Bool, ◌==◌}
 use Rattle.std.specs.List.{list_all}
 use Rattle.spec_bitcoin.specs.Keys.{Pair}
-use Rattle.bm_book.specs.declared.signed.Signed.{Signed}
 
-abbrev pub pairs_of : List Signed → List Pair
-pairs_of entries = map (λ s. (s.key, s.digest)) entries
+abbrev pub pair_of : List ℕ → Pair
+pair_of entry = (take 33 entry, drop 33 entry)
 
--- whether each entry's key has the 33 bytes of a key
-abbrev pub are_keys : List Signed → Bool
-are_keys entries = list_all (λ s. length s.key == 33) entries
+abbrev pub pairs_of : List (List ℕ) → List Pair
+pairs_of entries = map pair_of entries
+
+-- whether each entry has the bytes of a key and of a digest
+abbrev pub are_entries : List (List ℕ) → Bool
+are_entries entries = list_all (λ e. length e == 65) entries

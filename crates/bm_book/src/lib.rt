@@ -1,42 +1,31 @@
-//! The book of signatures: which key has signed which digest.
+//! The list of signatures of a run, called its book: which key has signed which digest. Signatures are ideal here, so
+//! one is valid exactly if its pair is in the list.
 #![tactic(auto)]
 
 ghost use Rattle.std.specs.Prelude.{◌≡◌, ◌≤◌, ◌++◌, ◌∷◌, [], OnOk, OnErr, if◌then◌else◌, length, take, true};
 ghost use Rattle.spec_bitcoin.specs.Keys.{has_signed};
-ghost use Rattle.bm_book.specs.Entries.{pairs_of};
 
-mod signed;
-
-use crate::signed::Signed;
-use indexmap::IndexSet;
+use bm_hash_strings::Strings;
 use spec_data::OutOfMemory;
 use std::alloc::Global;
 use std::marker::Model;
 
-// A key has its size by its type.
-fn signed_by(key: &[u8; 33], digest: &[u8; 32]) -> Signed
-    ensures signed { result ≡ record { key = key.now; digest = digest.now } }
-    ensures sized { length key.now ≡ 33 }
+// A key and a digest as an entry of the index. Each has its size by its type.
+fn entry_of(key: &[u8; 33], digest: &[u8; 32]) -> [u8; 65]
+    ensures entry { result ≡ key.now ++ digest.now }
+    ensures key { length key.now ≡ 33 }
+    ensures digest { length digest.now ≡ 32 }
 {
-    Signed {
-        key: *key,
-        digest: *digest,
-    }
+    let mut entry = [0; 65];
+    entry[33..].copy_from_slice(digest);
+    entry[..33].copy_from_slice(key);
+    entry
 }
 
-// Whether the entry of this number is there, and is this one.
-fn stands_at(pairs: &IndexSet<Signed>, number: usize, pair: &Signed) -> bool
-    ensures { result ≡ true → has_signed (pairs_of pairs.now.keys) pair.now.key pair.now.digest ≡ true }
-{
-    match pairs.get_index(number) {
-        Some(known) => *known == *pair,
-        None => false,
-    }
-}
-
-/// The different pairs of key and digest, in order of signing.
+/// The different pairs of key and digest, in order of signing. Whoever writes a run chooses the digests, so they stand in an index that
+/// is ordered: it answers in the time of a few comparisons, however they are chosen.
 pub struct Book {
-    pairs: IndexSet<Signed>,
+    entries: Strings,
     // The number behind that of the pair that was signed last. It only says where a pair is looked for first.
     next: usize,
 }
@@ -44,18 +33,21 @@ pub struct Book {
 impl Model for Book {
     ghost use Rattle.std.specs.Prelude.{◌≡◌, List, true};
     ghost use Rattle.spec_bitcoin.specs.Keys.{Pair};
-    ghost use Rattle.bm_book.specs.Entries.{pairs_of, are_keys};
+    ghost use Rattle.bm_book.specs.Entries.{pairs_of, are_entries};
 
     ghost Value = { List Pair };
 
-    ghost view = { λ b. pairs_of b.pairs.keys };
+    ghost view = { λ b. pairs_of b.entries };
 
-    ghost invariant = { λ b. are_keys b.pairs.keys ≡ true };
+    ghost invariant = { λ b. are_entries b.entries ≡ true };
 }
 
 impl Drop for Book {
     fn drop(self) {
-        let Book { pairs: _, next: _ } = self;
+        let Book {
+            entries: _,
+            next: _,
+        } = self;
     }
 }
 
@@ -65,7 +57,7 @@ impl Book {
         ensures { result ≡ [] }
     {
         Book {
-            pairs: IndexSet::new(alloc),
+            entries: Strings::new(alloc),
             next: 0,
         }
     }
@@ -74,14 +66,14 @@ impl Book {
     pub fn count(&self) -> usize
         ensures { result ≡ length self.now }
     {
-        self.pairs.len()
+        self.entries.count()
     }
 
     /// Whether the key has signed the digest.
     pub fn has(&self, key: &[u8; 33], digest: &[u8; 32]) -> bool
         ensures { result ≡ has_signed self.now key.now digest.now }
     {
-        self.pairs.contains(&signed_by(key, digest))
+        self.entries.has(&entry_of(key, digest))
     }
 
     /// Whether these bytes are a key that has signed the digest. Bytes of another length are no key.
@@ -90,7 +82,7 @@ impl Book {
         ensures sized { result ≡ true → length key.now ≡ 33 }
     {
         match <[u8; 33]>::try_from(key) {
-            Ok(key) => self.pairs.contains(&signed_by(&key, digest)),
+            Ok(key) => self.entries.has(&entry_of(&key, digest)),
             Err(_) => false,
         }
     }
@@ -101,13 +93,13 @@ impl Book {
         ensures ok { OnOk result (self.new ≡ (if has_signed self.old key digest then self.old else self.old ++ (key, digest) ∷ [])) }
         ensures err { OnErr result (self.new ≡ self.old) }
     {
-        let pair = signed_by(&key, &digest);
-        if stands_at(&self.pairs, self.next, &pair) {
+        let entry = entry_of(&key, &digest);
+        if self.entries.stands_at(self.next, &entry) {
             self.next = self.next.wrapping_add(1);
             return Ok(());
         }
-        let (number, _) = self.pairs.insert_full(pair)?;
-        self.next = number.wrapping_add(1);
+        let place = self.entries.add_once(&entry)?;
+        self.next = place.wrapping_add(1);
         Ok(())
     }
 
@@ -116,6 +108,6 @@ impl Book {
         requires { count ≤ length self.old }
         ensures { self.new ≡ take count self.old }
     {
-        self.pairs.truncate(count);
+        self.entries.cut(count);
     }
 }

@@ -1,13 +1,19 @@
-use Rattle.std.proofs.Common.{◌++◌, ◌∷◌, [], if◌then◌else◌, ap, ◌∙◌}
-use Rattle.spec_bitcoin.specs.Keys.{has_signed}
+use Rattle.std.proofs.Common.{cond, ◌++◌, ◌∷◌, [], sym, ap, ◌∙◌}
+use Rattle.spec_data.specs.Lists.{is_among}
 use Rattle.bm_book.specs.Entries.{pairs_of}
-use Rattle.bm_book.proofs.Pairs.{pairs_of-insert}
+use Rattle.bm_book.proofs.Pairs.{signed_again, pairs_of-once}
 use Rattle.bm_book.proofs.Book.sign.Goals as goal
+
+pub returns-then-stands_at-clause-ok : goal.returns-then-stands_at-clause-ok
+returns-then-stands_at-clause-ok c =
+    rw (← c.self.view_is)
+    (signed_again c.self.inside.entries c.self.inside.next c.args.key c.args.digest c.entry_of-entry.result c.self.invariant
+    c.entry_of-entry.ensures.key c.entry_of-entry.ensures.entry (sym c.stands_at.ensures ∙ c.if-stands_at.true))
 
 pub returns-clause-ok : goal.returns-clause-ok
 returns-clause-ok c =
-    let before = c.self.inside.pairs.keys in
+    let before = c.self.inside.entries in
     rw (← c.self.view_is) (
-    ap pairs_of c.in_ok-number.ensures.keys
-    ∙ pairs_of-insert before c.signed_by-pair.result
-    ∙ ap (λ s. if has_signed (pairs_of before) s.key s.digest then pairs_of before else pairs_of before ++ (s.key, s.digest) ∷ []) c.signed_by-pair.ensures.signed)
+    ap pairs_of c.in_ok-place.ensures.ok
+    ∙ ap (λ e. pairs_of (cond (is_among e before) before (before ++ e ∷ []))) c.entry_of-entry.ensures.entry
+    ∙ pairs_of-once before c.args.key c.args.digest c.self.invariant c.entry_of-entry.ensures.key)

@@ -1,0 +1,36 @@
+-- The numbers at the ends of a long string and of a short one.
+use Rattle.std.proofs.Common.{◌≡◌, ℕ, ◌-◌, ◌<◌, ◌≤◌, List, length, Bool, true, false, cond, refl, sym, ap, ◌∙◌, arith}
+use Rattle.std.specs.Prelude.{nat_le, take, drop}
+use Rattle.std.specs.Int.{from_le_bytes, w64}
+use Rattle.bm_hash_strings.specs.Placed.{first_number, last_number}
+
+long : (n : ℕ) → 8 ≤ n → nat_le 8 n ≡ true
+long n h = by (nat_le 8 n) refl
+  where
+    by : (b : Bool) → nat_le 8 n ≡ b → b ≡ true
+    by true e = refl
+    by false e = absurd (grind (arith, h))
+
+short : (n : ℕ) → n < 8 → nat_le 8 n ≡ false
+short n h = by (nat_le 8 n) refl
+  where
+    by : (b : Bool) → nat_le 8 n ≡ b → b ≡ false
+    by false e = refl
+    by true e = absurd (grind (arith, h))
+
+pub last_long : (q last : List ℕ) → 8 ≤ length q → last ≡ drop (length q - 8) q → from_le_bytes w64 last ≡ last_number q
+unfolding last_number
+last_long q last h e =
+    ap (from_le_bytes w64) e ∙ sym (ap (λ b. cond b (from_le_bytes w64 (drop (length q - 8) q)) 0) (long (length q) h))
+
+pub last_short : (q : List ℕ) → length q < 8 → 0 ≡ last_number q
+unfolding last_number
+last_short q h = sym (ap (λ b. cond b (from_le_bytes w64 (drop (length q - 8) q)) 0) (short (length q) h))
+
+pub first_long : (q first : List ℕ) → 8 ≤ length q → first ≡ take 8 q → from_le_bytes w64 first ≡ first_number q
+unfolding first_number
+first_long q first h e = ap (from_le_bytes w64) e ∙ sym (ap (λ b. cond b (from_le_bytes w64 (take 8 q)) 0) (long (length q) h))
+
+pub first_short : (q : List ℕ) → length q < 8 → 0 ≡ first_number q
+unfolding first_number
+first_short q h = sym (ap (λ b. cond b (from_le_bytes w64 (take 8 q)) 0) (short (length q) h))

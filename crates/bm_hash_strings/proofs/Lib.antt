@@ -1,0 +1,5 @@
+pub mod Joined
+pub mod Fingerprints
+pub mod Updates
+pub mod Placing
+pub mod Forgetting

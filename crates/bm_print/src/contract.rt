@@ -6,9 +6,9 @@ ghost use Rattle.bm_syntax.specs.View.{guarded, contract, parts_view, choice_vie
 ghost use Rattle.spec_text.specs.Canonical as spec;
 
 use crate::prefix::put_heading;
-use crate::text::put_number;
+use crate::text::put_pieces;
 use bm_syntax::{Contract, Guarded, Part};
-use bm_text::put;
+use bm_text::{Piece, put};
 use spec_data::OutOfMemory;
 
 /// A contract.
@@ -45,14 +45,18 @@ fn put_branch(out: &mut Vec<u8>, branch: &Guarded) -> Result<(), OutOfMemory>
 {
     match branch {
         Guarded::Auth { party, body } => {
-            put(out, party.bytes())?;
-            put(out, b" : ")?;
+            put_pieces(out, &[Piece::Text(party.bytes()), Piece::Text(b" : ")])?;
             put_branch(out, body)
         }
         Guarded::After { height, body } => {
-            put(out, b"after ")?;
-            put_number(out, u64::from(*height))?;
-            put(out, b" : ")?;
+            put_pieces(
+                out,
+                &[
+                    Piece::Text(b"after "),
+                    Piece::Number(u64::from(*height)),
+                    Piece::Text(b" : "),
+                ],
+            )?;
             put_branch(out, body)
         }
         Guarded::PutReveal {
@@ -66,8 +70,10 @@ fn put_branch(out: &mut Vec<u8>, branch: &Guarded) -> Result<(), OutOfMemory>
             put_contract(out, next)
         }
         Guarded::Withdraw { party } => {
-            put(out, b"withdraw ")?;
-            put(out, party.bytes())
+            put_pieces(
+                out,
+                &[Piece::Text(b"withdraw "), Piece::Text(party.bytes())],
+            )
         }
         Guarded::Split { parts } => put_split(out, parts),
     }
@@ -103,7 +109,6 @@ fn put_part(out: &mut Vec<u8>, part: &Part) -> Result<(), OutOfMemory>
     ensures { OnOk result (out.new.items ≡ out.old.items
         ++ (decimal part.now.value ++ (codes " -> " ++ spec.choice_text (contract part.now.next)))) }
 {
-    put_number(out, part.value)?;
-    put(out, b" -> ")?;
+    put_pieces(out, &[Piece::Number(part.value), Piece::Text(b" -> ")])?;
     put_contract(out, &part.next)
 }

@@ -1,4 +1,5 @@
-//! The canonical text of an advert.
+//! Writes an advert in its canonical text, which `check` prints. Each advert has exactly one, and reading it gives the
+//! advert back.
 #![tactic(auto)]
 
 mod contract;

@@ -4,36 +4,44 @@ ghost use Rattle.std.specs.Prelude.{◌≡◌, ◌++◌, codes, OnOk};
 ghost use Rattle.std.specs.Fmt.{decimal};
 ghost use Rattle.spec_text.specs.Canonical as spec;
 
-use crate::text::put_number;
+use crate::text::put_pieces;
 use bm_syntax::{Name, Pre};
-use bm_text::put;
+use bm_text::{Piece, put};
 use spec_data::OutOfMemory;
 
 /// A deposit, whose mark is `!` or `?`.
-#[tactic(auto, using(std::proofs::Common::append_assoc))]
-fn put_deposit(
+fn put_deposit<'a>(
     out: &mut Vec<u8>,
-    party: &Name,
-    mark: &[u8],
+    party: &'a Name,
+    mark: &'a [u8],
     value: u64,
-    name: &Name,
+    name: &'a Name,
 ) -> Result<(), OutOfMemory>
     ensures { OnOk result (out.new.items ≡ out.old.items ++ (party.now ++ (mark.now ++ (decimal value ++ (codes " @ " ++ name.now))))) }
 {
-    put(out, party.bytes())?;
-    put(out, mark)?;
-    put_number(out, value)?;
-    put(out, b" @ ")?;
-    put(out, name.bytes())
+    put_pieces(
+        out,
+        &[
+            Piece::Text(party.bytes()),
+            Piece::Text(mark),
+            Piece::Number(value),
+            Piece::Text(b" @ "),
+            Piece::Text(name.bytes()),
+        ],
+    )
 }
 
-#[tactic(auto, using(std::proofs::Common::append_assoc))]
-fn put_secret(out: &mut Vec<u8>, party: &Name, name: &Name) -> Result<(), OutOfMemory>
+fn put_secret<'a>(out: &mut Vec<u8>, party: &'a Name, name: &'a Name) -> Result<(), OutOfMemory>
     ensures { OnOk result (out.new.items ≡ out.old.items ++ (party.now ++ (codes ": secret " ++ name.now))) }
 {
-    put(out, party.bytes())?;
-    put(out, b": secret ")?;
-    put(out, name.bytes())
+    put_pieces(
+        out,
+        &[
+            Piece::Text(party.bytes()),
+            Piece::Text(b": secret "),
+            Piece::Text(name.bytes()),
+        ],
+    )
 }
 
 fn put_entry(out: &mut Vec<u8>, entry: &Pre) -> Result<(), OutOfMemory>
@@ -62,14 +70,14 @@ pub fn put_entries(out: &mut Vec<u8>, entries: &[Pre]) -> Result<(), OutOfMemory
 }
 
 /// A fee, nothing where it is 0.
-#[tactic(auto, using(std::proofs::Common::append_assoc))]
 pub fn put_fee(out: &mut Vec<u8>, fee: u64) -> Result<(), OutOfMemory>
     ensures { OnOk result (out.new.items ≡ out.old.items ++ spec.fee_text fee) }
 {
     if fee == 0 {
         return Ok(());
     }
-    put(out, b"fee ")?;
-    put_number(out, fee)?;
-    put(out, b" ")
+    put_pieces(
+        out,
+        &[Piece::Text(b"fee "), Piece::Number(fee), Piece::Text(b" ")],
+    )
 }

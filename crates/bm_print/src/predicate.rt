@@ -4,9 +4,9 @@ ghost use Rattle.std.specs.Prelude.{◌≡◌, ◌++◌, OnOk};
 ghost use Rattle.bm_syntax.specs.View.{formula, test};
 ghost use Rattle.spec_text.specs.Canonical as spec;
 
-use crate::text::put_number;
+use crate::text::{put_number, put_pieces};
 use bm_syntax::{Expr, Pred};
-use bm_text::put;
+use bm_text::{Piece, put};
 use spec_data::OutOfMemory;
 
 /// An expression.
@@ -16,9 +16,14 @@ fn put_formula(out: &mut Vec<u8>, expr: &Expr) -> Result<(), OutOfMemory>
     match expr {
         Expr::Const(number) => put_number(out, u64::from(*number)),
         Expr::Length(name) => {
-            put(out, b"|")?;
-            put(out, name.bytes())?;
-            put(out, b"|")
+            put_pieces(
+                out,
+                &[
+                    Piece::Text(b"|"),
+                    Piece::Text(name.bytes()),
+                    Piece::Text(b"|"),
+                ],
+            )
         }
         Expr::Plus(left, right) => {
             put(out, b"(")?;

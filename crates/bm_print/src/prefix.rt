@@ -5,8 +5,9 @@ ghost use Rattle.bm_syntax.specs.View.{test};
 ghost use Rattle.spec_text.specs.Canonical as spec;
 
 use crate::predicate::put_if;
+use crate::text::put_pieces;
 use bm_syntax::{Name, Pred};
-use bm_text::put;
+use bm_text::{Piece, put};
 use spec_data::OutOfMemory;
 
 /// Writes names with commas between them.
@@ -18,8 +19,7 @@ pub fn put_names(out: &mut Vec<u8>, names: &[Name]) -> Result<(), OutOfMemory>
     };
     put(out, first.bytes())?;
     for name in others {
-        put(out, b", ")?;
-        put(out, name.bytes())?;
+        put_pieces(out, &[Piece::Text(b", "), Piece::Text(name.bytes())])?;
     }
     Ok(())
 }

@@ -14,7 +14,8 @@ below-great bound value [] h = rw (le-ltb value bound h) refl
 below-great bound value (b ∷ bytes) h = below-great bound (value * 10 + (b - 48)) bytes (omega arith)
 
 -- a value that grows too great with the next digit
-pub below-next : (bound value : ℕ) (bytes : List ℕ) (i : ℕ) → i < length bytes → bound ≤ value * 10 + (get_or bytes i 0 - 48) → below bound (value_from value (drop i bytes)) ≡ None
+pub below-next : (bound value : ℕ) (bytes : List ℕ) (i : ℕ) → i < length bytes → bound ≤ value * 10 + (get_or bytes i 0 - 48)
+    → below bound (value_from value (drop i bytes)) ≡ None
 below-next bound value bytes i less h =
     ap (λ bs. below bound (value_from value bs)) (drop-cons bytes i 0 less)
     ∙ below-great bound (value * 10 + (get_or bytes i 0 - 48)) (drop (suc i) bytes) h

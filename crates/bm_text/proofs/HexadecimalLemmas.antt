@@ -28,7 +28,8 @@ pair_gives c d i (Some h) None = refl
 pair_gives c d i None p = refl
 
 pair_is : (c d i : ℕ) → some_of (pair_value c d i) ≡ hex_pair (hex_digit_value c) (hex_digit_value d)
-pair_is c d i = pair_gives c d i (hex.hex_digit_value c) (hex.hex_digit_value d) ∙ ap (λ o. hex_pair o (hex.hex_digit_value d)) (value_is c) ∙ ap (hex_pair (hex_digit_value c)) (value_is d)
+pair_is c d i = pair_gives c d i (hex.hex_digit_value c) (hex.hex_digit_value d) ∙ ap (λ o. hex_pair o (hex.hex_digit_value d)) (value_is c)
+    ∙ ap (hex_pair (hex_digit_value c)) (value_is d)
 
 bytes_give : (r : Result ℕ FromHexError) (s : Result (List ℕ) FromHexError) → some_of (r >>= (λ b. s >>= (λ bs. Ok (b ∷ bs)))) ≡ onto (some_of r) (some_of s)
 bytes_give (Ok b) (Ok bs) = refl
@@ -52,7 +53,8 @@ hex_bytes-odd : (word : List ℕ) → length word % 2 ≡ 1 → hex_bytes word �
 hex_bytes-odd [] h = absurd (omega arith)
 hex_bytes-odd (c ∷ []) h = refl
 hex_bytes-odd (c ∷ d ∷ word) h =
-    ap (onto (hex_pair (hex_digit_value c) (hex_digit_value d))) (hex_bytes-odd word (omega arith)) ∙ onto_none (hex_pair (hex_digit_value c) (hex_digit_value d))
+    ap (onto (hex_pair (hex_digit_value c) (hex_digit_value d))) (hex_bytes-odd word (omega arith))
+    ∙ onto_none (hex_pair (hex_digit_value c) (hex_digit_value d))
 
 decode_is : (word : List ℕ) → some_of (decode_of word) ≡ hex_bytes word
 decode_is word =
@@ -95,7 +97,8 @@ unfolding encode_with
 encode_lower-hex_text [] h = refl
 encode_lower-hex_text (b ∷ rest) h =
     let small : b < 256 = h 0 in
-    rw (digit_is (b / 16) (omega arith), digit_is (b % 16) (omega arith)) (ap (λ r. hex_digit (b / 16) ∷ hex_digit (b % 16) ∷ r) (encode_lower-hex_text rest (λ k. h (suc k))))
+    rw (digit_is (b / 16) (omega arith), digit_is (b % 16) (omega arith))
+    (ap (λ r. hex_digit (b / 16) ∷ hex_digit (b % 16) ∷ r) (encode_lower-hex_text rest (λ k. h (suc k))))
 
 nonempty_text : (bytes : List ℕ) → 0 < length bytes → (length (hex_text bytes) == 0) ≡ false
 nonempty_text [] some = absurd (omega arith)

@@ -13,7 +13,7 @@ use std::alloc::Global;
 pub enum HexError {
     /// It isn't an even number of digits, of which there are at least two.
     Bad,
-    /// Want of memory.
+    /// Out of memory.
     Memory,
 }
 

@@ -47,7 +47,8 @@ module _ (bound : List (List ℕ × OutPoint)) where
   deed_bound pre h n (auth party body) k = refl
   deed_bound pre h n (after height body) k = refl
 
-  pub bound_nodes : (a : Advert) → IsWellFormed a → list_all (λ d. is_bound bound d.0) (deposits a.pre) ≡ true → list_all (has_bound_puts bound) (nodes_of a.root) ≡ true
+  pub bound_nodes : (a : Advert) → IsWellFormed a → list_all (λ d. is_bound bound d.0) (deposits a.pre) ≡ true
+      → list_all (has_bound_puts bound) (nodes_of a.root) ≡ true
   bound_nodes a well h =
       let e = each_of_advert (of_core (puts_known a.pre)) _ a (λ x k. core_says (puts_known a.pre) x.subterm k) (no_fault a well).1.0 in
       of_branches (puts_known a.pre) (λ deed. list_all (is_bound bound) (deed_puts deed)) (deed_bound a.pre h) [] 0 1 a.root e.1

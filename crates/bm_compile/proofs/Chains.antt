@@ -33,7 +33,8 @@ all_item f [] i x h lt at = absurd (omega (arith, lt))
 all_item f (y ∷ xs) zero x h lt at = subst (λ z. f z ≡ true) (sym at) (and_parts (f y) (list_all f xs) h).0
 all_item f (y ∷ xs) (suc i) x h lt at = all_item f xs i x (and_parts (f y) (list_all f xs) h).1 (omega (arith, lt)) at
 
-pub seen_item : {X Y : Type 0} (g : X → Y) (f : Y → Bool) (xs : List X) (i : ℕ) (x : X) → list_all f (map g xs) ≡ true → i < length xs → x ≡ get_or xs i x → f (g x) ≡ true
+pub seen_item : {X Y : Type 0} (g : X → Y) (f : Y → Bool) (xs : List X) (i : ℕ) (x : X) → list_all f (map g xs) ≡ true → i < length xs → x
+    ≡ get_or xs i x → f (g x) ≡ true
 seen_item g f xs i x h lt at = all_item (λ y. f (g y)) xs i x (sym (all_map g f xs) ∙ h) lt at
 
 -- and of what is left of them

@@ -39,10 +39,12 @@ module _ (hash : List ℕ → List ℕ) (s : Instance) (c : Numbered) (is : c �
   script_is listed (choice_node position branches) = rw is (listed hash s position)
   script_is listed (branch_node path asked height deed) = refl
 
-  pub transaction_found : PathsAreListed → option_and_then (transaction_of c.paths) (slice_get c.nodes n) ≡ option_and_then (compiled_transaction hash s) (slice_get c.nodes n)
+  pub transaction_found : PathsAreListed → option_and_then (transaction_of c.paths) (slice_get c.nodes n)
+      ≡ option_and_then (compiled_transaction hash s) (slice_get c.nodes n)
   transaction_found listed = by_each (transaction_of c.paths) (compiled_transaction hash s) (slice_get c.nodes n) (transaction_is listed)
 
-  pub script_found : ScriptsAreListed → option_and_then (script_of c.scripts) (slice_get c.nodes n) ≡ option_and_then (compiled_script hash s) (slice_get c.nodes n)
+  pub script_found : ScriptsAreListed → option_and_then (script_of c.scripts) (slice_get c.nodes n)
+      ≡ option_and_then (compiled_script hash s) (slice_get c.nodes n)
   script_found listed = by_each (script_of c.scripts) (compiled_script hash s) (slice_get c.nodes n) (script_is listed)
 
 -- ---- by the number of the branch at a path

@@ -41,7 +41,8 @@ held None = refl
 held (Some h) = refl
 
 -- what the deposits of a put bring is what its transaction spends beside its position
-pub sum_of_puts : (hash : List ℕ → List ℕ) (keys : Keys) (s : Instance) (puts : List (List ℕ)) → sum_by worth (put_deposits hash keys s puts) ≡ value_of_puts (volatile s.advert.pre) puts
+pub sum_of_puts : (hash : List ℕ → List ℕ) (keys : Keys) (s : Instance) (puts : List (List ℕ))
+    → sum_by worth (put_deposits hash keys s puts) ≡ value_of_puts (volatile s.advert.pre) puts
 sum_of_puts hash keys s [] = refl
 sum_of_puts hash keys s (x ∷ puts) =
     sum_by-cons worth (deposit hash keys s x (holding_or_none (look_up x (volatile s.advert.pre)))) (put_deposits hash keys s puts)
@@ -77,7 +78,8 @@ module _ (hash : List ℕ → List ℕ) (keys : Keys) (s : Instance) (small : s.
   below_branch p v b = funded_under (volatile s.advert.pre) s.advert.fee p (pos v) b
 
   mutual
-    choice_payable : (here : Standing) (i : ℕ) (c : Contract) → here.output.value ≤ max_money → list_all (is_kept s.advert.fee) (below_choice here.position here.output.value i c) ≡ true
+    choice_payable : (here : Standing) (i : ℕ) (c : Contract) → here.output.value ≤ max_money
+        → list_all (is_kept s.advert.fee) (below_choice here.position here.output.value i c) ≡ true
         → list_all is_payable (choice_transactions hash keys s here i c) ≡ true
     choice_payable here i no_branch le h = refl
     choice_payable here i (branch b bs) le h =
@@ -117,7 +119,8 @@ module _ (hash : List ℕ → List ℕ) (keys : Keys) (s : Instance) (small : s.
         let p = and_parts (is_kept s.advert.fee (as_funded (part_position path k) (pos v) (terms.position c))) _ h in
         let q = all_parts (is_kept s.advert.fee) (below_choice (part_position path k) v 0 c) (parts_funded (volatile s.advert.pre) s.advert.fee path (k + 1) ps) p.1 in
         let m = and_parts (not (int_lt (pos v) (pos 0)) && true) (not (int_lt (pos max_money) (pos v))) p.0 in
-        all_append is_payable (choice_transactions hash keys s (part_standing hash keys s path made k v c) 0 c) (parts_transactions hash keys s path made (k + 1) ps)
+        all_append is_payable (choice_transactions hash keys s (part_standing hash keys s path made k v c) 0 c)
+        (parts_transactions hash keys s path made (k + 1) ps)
         (choice_payable (part_standing hash keys s path made k v c) 0 c (within v (not-true _ m.1)) q.0) (parts_payable path made (k + 1) ps q.1)
 
 -- ---- of a contract that passed the check

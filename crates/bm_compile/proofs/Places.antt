@@ -36,7 +36,8 @@ module _ {V : Type 0} where
       let p = and_parts (not (is_path_among b.0 (map (λ x. x.0) (before ++ e ∷ rest)))) (are_once (map (λ x. x.0) (before ++ e ∷ rest))) h in
       rw (apart b.0 before e rest (not-true _ p.0)) (at_once before e rest p.1)
 
-  get_at : (before : List (List PathStep × V)) (e : List PathStep × V) (rest : List (List PathStep × V)) → slice_get (before ++ e ∷ rest) (length before) ≡ Some e
+  get_at : (before : List (List PathStep × V)) (e : List PathStep × V) (rest : List (List PathStep × V))
+      → slice_get (before ++ e ∷ rest) (length before) ≡ Some e
   get_at [] e rest = refl
   get_at (b ∷ before) e rest = get_at before e rest
 
@@ -45,11 +46,15 @@ module _ {V : Type 0} where
     led : (ns : List Node) (before rest : List (List PathStep × V)) (k : ℕ) → k ≡ length before → es ≡ before ++ rest → map (λ x. x.0) rest ≡ named kind ns
         → map (value_at es) (places_from kind k ns) ≡ map (found kind es) ns
     led [] before rest k size whole names = refl
-    led (n ∷ ns) before rest k size whole names = by_kind (is_kind kind n) rest whole names (λ early late j more all others. led ns early late j more all others)
+    led (n ∷ ns) before rest k size whole names =
+        by_kind (is_kind kind n) rest whole names (λ early late j more all others. led ns early late j more all others)
       where
-        by_kind : (t : Bool) (rest : List (List PathStep × V)) → es ≡ before ++ rest → map (λ x. x.0) rest ≡ (if t then path_of n ∷ named kind ns else named kind ns)
-            → ((early late : List (List PathStep × V)) (j : ℕ) → j ≡ length early → es ≡ early ++ late → map (λ x. x.0) late ≡ named kind ns → map (value_at es) (places_from kind j ns) ≡ map (found kind es) ns)
-            → map (value_at es) (if t then Some k ∷ places_from kind (k + 1) ns else None ∷ places_from kind k ns) ≡ (if t then at_path (path_of n) es else None) ∷ map (found kind es) ns
+        by_kind : (t : Bool) (rest : List (List PathStep × V)) → es ≡ before ++ rest → map (λ x. x.0) rest
+            ≡ (if t then path_of n ∷ named kind ns else named kind ns)
+            → ((early late : List (List PathStep × V)) (j : ℕ) → j ≡ length early → es ≡ early ++ late → map (λ x. x.0) late ≡ named kind ns
+            → map (value_at es) (places_from kind j ns) ≡ map (found kind es) ns)
+            → map (value_at es) (if t then Some k ∷ places_from kind (k + 1) ns else None ∷ places_from kind k ns)
+            ≡ (if t then at_path (path_of n) es else None) ∷ map (found kind es) ns
         by_kind false rest whole names led_on = ap (λ l. None ∷ l) (led_on before rest k size whole names)
         by_kind true [] whole names led_on = cc
         by_kind true (e ∷ rest) whole names led_on =
@@ -77,11 +82,13 @@ scripts_found scripts [] = refl
 scripts_found scripts (choice_node position branches ∷ ns) = ap (λ l. at_path position scripts ∷ l) (scripts_found scripts ns)
 scripts_found scripts (branch_node path asked height deed ∷ ns) = ap (λ l. None ∷ l) (scripts_found scripts ns)
 
-pub transactions_led : (paths : List (List PathStep × Prepared)) (ns : List Node) → map (λ x. x.0) paths ≡ named true ns → are_once (map (λ x. x.0) paths) ≡ true
+pub transactions_led : (paths : List (List PathStep × Prepared)) (ns : List Node) → map (λ x. x.0) paths ≡ named true ns
+    → are_once (map (λ x. x.0) paths) ≡ true
     → map (value_at paths) (places_from true 0 ns) ≡ map (transaction_of paths) ns
 transactions_led paths ns names once = all_led true paths once ns names ∙ transactions_found paths ns
 
-pub scripts_led : (scripts : List (List PathStep × List ℕ)) (ns : List Node) → map (λ x. x.0) scripts ≡ named false ns → are_once (map (λ x. x.0) scripts) ≡ true
+pub scripts_led : (scripts : List (List PathStep × List ℕ)) (ns : List Node) → map (λ x. x.0) scripts ≡ named false ns
+    → are_once (map (λ x. x.0) scripts) ≡ true
     → map (value_at scripts) (places_from false 0 ns) ≡ map (script_of scripts) ns
 scripts_led scripts ns names once = all_led false scripts once ns names ∙ scripts_found scripts ns
 

@@ -38,7 +38,8 @@ deed_test test (branch_node path asked height deed) = test deed
 
 module _ (g : Guarded → Bool) (test : Deed → Bool) (same : (n : ℕ) (b : Guarded) → g b ≡ true → test (deed_of n b) ≡ true) where
   mutual
-    pub of_branches : (position : List PathStep) (i n : ℕ) (c : Contract) → Each (of_core g) c → list_all (deed_test test) (branches_nodes position i n c) ≡ true
+    pub of_branches : (position : List PathStep) (i n : ℕ) (c : Contract) → Each (of_core g) c
+        → list_all (deed_test test) (branches_nodes position i n c) ≡ true
     of_branches position i n no_branch h = refl
     of_branches position i n (branch b bs) h =
         all_append (deed_test test) (branch_nodes (position ++ To i ∷ []) n (asks_once b) (lock b) b) _
@@ -50,7 +51,8 @@ module _ (g : Guarded → Bool) (test : Deed → Bool) (same : (n : ℕ) (b : Gu
     of_branch path n asked height (auth party body) k h = of_branch path n asked height body k h
     of_branch path n asked height (after after_height body) k h = of_branch path n asked height body k h
     of_branch path n asked height (put_reveal puts reveals t next) k h =
-        and_from (test (deed_of (n + 1) (put_reveal puts reveals t next))) _ (same (n + 1) (put_reveal puts reveals t next) k) (of_branches path 0 (n + 1 + 1) next h.1)
+        and_from (test (deed_of (n + 1) (put_reveal puts reveals t next))) _ (same (n + 1) (put_reveal puts reveals t next) k)
+        (of_branches path 0 (n + 1 + 1) next h.1)
     of_branch path n asked height (withdraw party) k h = and_from (test (deed_of (n + 1) (withdraw party))) true (same (n + 1) (withdraw party) k) refl
     of_branch path n asked height (split parts) k h =
         and_from (test (deed_of (n + 1) (split parts))) _ (same (n + 1) (split parts) k) (of_parts path 0 (n + 1) parts h)

@@ -20,7 +20,8 @@ use Rattle.bm_compile.specs.Seen.{is_payable}
 use Rattle.bm_compile.proofs.Chains.{all_drop}
 use Rattle.bm_compile.proofs.Walks.{Walked, walked_more, walked_stops}
 
-module _ {H X P : Type 0} (f : (Message → Message) → List PathStep × Unsigned → P) (view : X → Node) (digest : H → Message → Message) (keys : Keys) (s : Instance) (script : ℕ → List ℕ) (first here : H) (same : here ≡ first)
+module _ {H X P : Type 0} (f : (Message → Message) → List PathStep × Unsigned → P) (view : X → Node) (digest : H → Message → Message)
+    (keys : Keys) (s : Instance) (script : ℕ → List ℕ) (first here : H) (same : here ≡ first)
     (xs : List X) (i : ℕ) (x : X) (lt : i < length xs) (at : x ≡ get_or xs i x) (stack : List Waiting) (old mid new : List Message) (all : List (List PathStep × Unsigned)) (made : List P) where
   abbrev hash : Message → Message
   hash = digest first
@@ -29,12 +30,14 @@ module _ {H X P : Type 0} (f : (Message → Message) → List PathStep × Unsign
   abbrev rest : List Waiting → List (List PathStep × Unsigned)
   rest after = walk hash keys s script (map view (drop (i + 1) xs)) after
 
-  parted : walk hash keys s script (map view (drop i xs)) stack ≡ made_by hash keys s script (view x) stack ++ rest (next_stack hash keys s script (view x) stack)
+  parted : walk hash keys s script (map view (drop i xs)) stack ≡ made_by hash keys s script (view x) stack
+      ++ rest (next_stack hash keys s script (view x) stack)
   parted =
       let cut : drop i xs ≡ x ∷ drop (i + 1) xs = drop_more xs i x lt ∙ ap (λ z. z ∷ drop (i + 1) xs) (sym at) in
       ap (λ l. walk hash keys s script (map view l) stack) cut ∙ walk-step hash keys s script (view x) (map view (drop (i + 1) xs)) stack
 
-  pub turn_more : (after : List Waiting) (more : List P) → Walked (f hash) (ready_strings hash) hash old mid all (walk hash keys s script (map view (drop i xs)) stack) made
+  pub turn_more : (after : List Waiting) (more : List P)
+      → Walked (f hash) (ready_strings hash) hash old mid all (walk hash keys s script (map view (drop i xs)) stack) made
       → after ≡ next_stack (digest here) keys s script (view x) stack
       → more ≡ made ++ map (f (digest here)) (made_by (digest here) keys s script (view x) stack)
       → Hashed (digest here) mid new (flat_map (ready_strings (digest here)) (made_by (digest here) keys s script (view x) stack))
@@ -43,17 +46,20 @@ module _ {H X P : Type 0} (f : (Message → Message) → List PathStep × Unsign
       let after_is : after ≡ next_stack hash keys s script (view x) stack = rw same at e in
       let now = subst (λ r. Walked (f hash) (ready_strings hash) hash old mid all r made) parted w in
       subst (λ a. Walked (f hash) (ready_strings hash) hash old new all (rest a) more) (sym after_is)
-      (walked_more (f hash) (ready_strings hash) hash all old mid new (made_by hash keys s script (view x) stack) (rest (next_stack hash keys s script (view x) stack)) made more now (rw same at m) (rw same at h))
+      (walked_more (f hash) (ready_strings hash) hash all old mid new (made_by hash keys s script (view x) stack)
+      (rest (next_stack hash keys s script (view x) stack)) made more now (rw same at m) (rw same at h))
 
   pub turn_stops : (e : TrailError) → Walked (f hash) (ready_strings hash) hash old mid all (walk hash keys s script (map view (drop i xs)) stack) made
       → Stops (digest here) mid new (flat_map (ready_strings (digest here)) (made_by (digest here) keys s script (view x) stack)) e
       → Stops hash old new (flat_map (ready_strings hash) all) e
   turn_stops e w stops =
-      walked_stops (f hash) (ready_strings hash) hash all old mid new (made_by hash keys s script (view x) stack) (rest (next_stack hash keys s script (view x) stack)) made e
+      walked_stops (f hash) (ready_strings hash) hash all old mid new (made_by hash keys s script (view x) stack)
+      (rest (next_stack hash keys s script (view x) stack)) made e
       (subst (λ r. Walked (f hash) (ready_strings hash) hash old mid all r made) parted w) (rw same at stops)
 
   -- the transaction that this node makes is payable where all are
-  pub turn_payable : Walked (f hash) (ready_strings hash) hash old mid all (walk hash keys s script (map view (drop i xs)) stack) made → list_all is_payable all ≡ true
+  pub turn_payable : Walked (f hash) (ready_strings hash) hash old mid all (walk hash keys s script (map view (drop i xs)) stack) made
+      → list_all is_payable all ≡ true
       → list_all is_payable (made_by (digest here) keys s script (view x) stack) ≡ true
   turn_payable w h =
       let now = subst (λ r. Walked (f hash) (ready_strings hash) hash old mid all r made) parted w in
@@ -63,7 +69,10 @@ module _ {H X P : Type 0} (f : (Message → Message) → List PathStep × Unsign
       subst (λ k. list_all is_payable (made_by (digest k) keys s script (view x) stack) ≡ true) (sym same) p.0
 
 -- no node is left
-pub turn_end : {X P : Type 0} (f : (Message → Message) → List PathStep × Unsigned → P) (view : X → Node) (hash : Message → Message) (keys : Keys) (s : Instance) (script : ℕ → List ℕ) (xs : List X) (i : ℕ) (stack : List Waiting) (old now : List Message) (all : List (List PathStep × Unsigned)) (made : List P)
-    → length xs ≤ i → Walked (f hash) (ready_strings hash) hash old now all (walk hash keys s script (map view (drop i xs)) stack) made → Walked (f hash) (ready_strings hash) hash old now all [] made
+pub turn_end : {X P : Type 0} (f : (Message → Message) → List PathStep × Unsigned → P) (view : X → Node) (hash : Message → Message)
+    (keys : Keys) (s : Instance) (script : ℕ → List ℕ) (xs : List X) (i : ℕ) (stack : List Waiting) (old now : List Message)
+    (all : List (List PathStep × Unsigned)) (made : List P)
+    → length xs ≤ i → Walked (f hash) (ready_strings hash) hash old now all (walk hash keys s script (map view (drop i xs)) stack) made
+    → Walked (f hash) (ready_strings hash) hash old now all [] made
 turn_end f view hash keys s script xs i stack old now all made past w =
     subst (λ r. Walked (f hash) (ready_strings hash) hash old now all r made) (ap (λ l. walk hash keys s script (map view l) stack) (drop_all i xs past)) w

@@ -40,7 +40,7 @@ none_of (x ∷ xs) = none_of xs
 -- what is hashed to have the keys of a path, participant by participant
 labels_here : (keys : Keys) (s : Instance) (path : List PathStep) → labels_of_path keys s path ≡ key_strings keys s path
 labels_here by_plan s path = singles (λ party. label_text (branch_label s.contract path party)) (people s)
-labels_here (handed keys) s path = none_of (people s)
+labels_here (handed keys own) s path = none_of (people s)
 
 module _ (hash : List ℕ → List ℕ) (keys : Keys) (s : Instance) where
   -- ---- keys
@@ -96,7 +96,8 @@ module _ (hash : List ℕ → List ℕ) (keys : Keys) (s : Instance) where
     script_here n node e = ap (node_script hash keys s all) e
 
     -- the choices' scripts are the listed ones
-    strings_of_scripts : (n : ℕ) (ns : List Node) → Begins all n ns → flat_map (scripts_of_node hash keys s all) ns ≡ map (λ p. p.1) (listed_scripts (script_of hash keys s all) n ns)
+    strings_of_scripts : (n : ℕ) (ns : List Node) → Begins all n ns → flat_map (scripts_of_node hash keys s all) ns
+        ≡ map (λ p. p.1) (listed_scripts (script_of hash keys s all) n ns)
     strings_of_scripts n [] b = refl
     strings_of_scripts n (choice_node position branches ∷ ns) b =
         let here = script_here n (choice_node position branches) (begins_get all n (choice_node position branches) ns b) in
@@ -106,7 +107,8 @@ module _ (hash : List ℕ → List ℕ) (keys : Keys) (s : Instance) where
         strings_of_scripts (n + 1) ns (begins_right all n 1 (branch_node path asked height deed ∷ []) ns refl b)
 
   pub scripts_whole : {X : Type 0} (view : X → Node) (xs : List X) (table : List (List ℕ)) → map view xs ≡ nodes_of s.advert.root
-      → table ≡ map (λ x. script_of_node hash keys s (map view xs) (view x)) xs → (n : ℕ) → listed_script table n ≡ script_of hash keys s (nodes_of s.advert.root) n
+      → table ≡ map (λ x. script_of_node hash keys s (map view xs) (view x)) xs → (n : ℕ) → listed_script table n
+      ≡ script_of hash keys s (nodes_of s.advert.root) n
   scripts_whole view xs table is made n =
       ap (λ t. listed_script t n) (made ∙ sym (map-view view (script_of_node hash keys s (map view xs)) xs))
       ∙ ap (λ l. listed_script (map (script_of_node hash keys s l) l) n) is

@@ -1,3 +1,4 @@
 pub mod Detailed
 pub mod Numbered
 pub mod Sources
+pub mod Wallets

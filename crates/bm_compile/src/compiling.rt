@@ -87,8 +87,8 @@ fn prepare_initial<H: Hash32 + Drop, K: KeySource>(
     ensures trail { let hash = H.digest_of trail.old.hasher in
         Hashes H.digest_of trail.old trail.new (unsigned_strings hash (initial hash (K.keys source.now) setting.now)) result }
 {
-    let draft = initial_unsigned(alloc, &*trail, source, setting, scripts)?;
-    detail(alloc, trail, draft)
+    let pending = initial_unsigned(alloc, &*trail, source, setting, scripts)?;
+    detail(alloc, trail, pending)
 }
 
 // The root, which waits from the initial transaction of this txid on.
@@ -305,7 +305,7 @@ pub fn compile_details<H: Hash32 + Drop, K: KeySource>(
 /// What is hashed are the strings of the keys by path and participant, the scripts by position, and the strings of the initial
 /// transaction and of each path's, in the order of the text. No limit of scripts is met where
 /// keys have 33 bytes, since the check keeps them. Nor does a sum exceed its type, since no balance is more than all money:
-/// `Memory` is answered only where memory is wanting.
+/// `Memory` is answered only where memory has run out.
 #[tactic(auto, using(bm_hash::proofs::HashesLemmas::stopping))]
 pub fn compile_with<H: Hash32 + Drop, K: KeySource>(
     alloc: Global,

@@ -11,6 +11,7 @@ ghost use Rattle.bm_compile.specs.Seen.{is_bound};
 use crate::binding::bound_to;
 use crate::setting::Setting;
 use crate::sourcing::KeySource;
+use crate::wallets::code_of;
 use bm_hash::Hash32;
 use bm_keys::{deposit_script, pay_to};
 use bm_syntax::{Name, Pre};
@@ -19,8 +20,8 @@ use spec_compiler::Spent;
 use spec_data::{Bytes, OutOfMemory, Seq};
 use std::alloc::Global;
 
-/// The script of a party's deposits. Its parts were hashed earlier, so that they aren't hashed along a trail.
-pub(crate) fn party_script<H: Hash32, K: KeySource>(
+// The script of a party's deposits, where they are of its key. Its parts were hashed earlier, so that they aren't hashed along a trail.
+fn party_script<H: Hash32, K: KeySource>(
     alloc: Global,
     hasher: &H,
     source: &K,
@@ -47,6 +48,39 @@ pub fn pays<H: Hash32>(
     })
 }
 
+/// The output script of what a party is paid.
+pub(crate) fn payee_script<H: Hash32, K: KeySource>(
+    alloc: Global,
+    hasher: &H,
+    source: &K,
+    party: &[u8],
+) -> Result<Bytes, OutOfMemory>
+    ensures { IfOk result (λ script. script ≡ spec.payee_script (H.digest_of hasher.now) (K.keys source.now) party.now) }
+{
+    if let Some(script) = source.own_payee(party) {
+        return Bytes::from_slice(alloc, script);
+    }
+    let script = party_script(alloc, hasher, source, party)?;
+    Bytes::from_slice(alloc, &pay_to(&hasher.hash32(&script)))
+}
+
+// The script that signatures of the owner of the deposit of this name are made with.
+fn deposit_code<H: Hash32, K: KeySource>(
+    alloc: Global,
+    hasher: &H,
+    source: &K,
+    name: &[u8],
+    owner: &[u8],
+) -> Result<Bytes, OutOfMemory>
+    ensures { IfOk result (λ code. code ≡ spec.deposit_code (H.digest_of hasher.now) (K.keys source.now) name.now owner.now) }
+{
+    if let Some(script) = source.own_script(name) {
+        return code_of(alloc, script);
+    }
+    let script = party_script(alloc, hasher, source, owner)?;
+    Bytes::from_slice(alloc, &script)
+}
+
 // The output of the deposit of this name, of an owner and a value.
 fn deposit<H: Hash32, K: KeySource>(
     alloc: Global,
@@ -63,10 +97,9 @@ fn deposit<H: Hash32, K: KeySource>(
     let Some(outpoint) = bound_to(setting.bound(), name) else {
         unreachable!()
     };
-    let script = party_script(alloc, hasher, source, owner)?;
     Ok(Spent {
         outpoint,
-        script: Bytes::from_slice(alloc, &script)?,
+        script: deposit_code(alloc, hasher, source, name.bytes(), owner)?,
         value,
     })
 }

@@ -9,14 +9,14 @@ use spec_data::{Bytes, Seq};
 
 /// A transaction by what it spends and makes, and the same ready to be signed.
 pub struct Detailed {
-    pub draft: Unsigned,
+    pub pending: Unsigned,
     pub prepared: Prepared,
 }
 
 impl Drop for Detailed {
     fn drop(self) {
         let Detailed {
-            draft: _,
+            pending: _,
             prepared: _,
         } = self;
     }
@@ -40,8 +40,8 @@ impl Drop for Details {
     }
 }
 
-/// What is kept of each transaction. A draft has the script of what it spends, with the keys of all branches of a position: where nobody
-/// asks for drafts they aren't kept.
+/// What is kept of each transaction. A pending effect has the script of what it spends, with the keys of all branches of a position: where nobody
+/// asks for pending effects they aren't kept.
 pub(crate) trait Kept {
     // what is kept of a transaction
     ghost kept: { Detailed → Self };
@@ -72,7 +72,10 @@ impl Detailed {
     pub fn into_prepared(self) -> Prepared
         ensures { result ≡ self.prepared }
     {
-        let Detailed { draft: _, prepared } = self;
+        let Detailed {
+            pending: _,
+            prepared,
+        } = self;
         prepared
     }
 }

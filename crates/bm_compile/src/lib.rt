@@ -1,4 +1,5 @@
-//! Contracts compiled to their transactions.
+//! The compiler: it turns a checked contract into its transactions, scripts and digests. Where keys come from is handed
+//! in, so that runs with model keys and deals with real ones share it.
 #![tactic(auto)]
 
 mod binding;
@@ -16,6 +17,7 @@ mod stacking;
 mod tables;
 mod unsigned;
 mod walking;
+mod wallets;
 
 pub use binding::are_bound;
 pub use bm_hash::TrailError;

@@ -121,12 +121,12 @@ fn prepare<H: Hash32 + Drop>(
 pub(crate) fn detail<H: Hash32 + Drop>(
     alloc: Global,
     trail: &mut Trail<H>,
-    draft: Unsigned,
+    pending: Unsigned,
 ) -> Result<Detailed, TrailError>
     requires clear { evidence_of (H.digest_of trail.old.hasher) trail.old.messages ≡ None }
-    ensures detailed { IfOk result (λ d. d ≡ detailed (H.digest_of trail.old.hasher) draft) }
-    ensures trail { Hashes H.digest_of trail.old trail.new (unsigned_strings (H.digest_of trail.old.hasher) draft) result }
+    ensures detailed { IfOk result (λ d. d ≡ detailed (H.digest_of trail.old.hasher) pending) }
+    ensures trail { Hashes H.digest_of trail.old trail.new (unsigned_strings (H.digest_of trail.old.hasher) pending) result }
 {
-    let prepared = prepare(alloc, trail, &draft)?;
-    Ok(Detailed { draft, prepared })
+    let prepared = prepare(alloc, trail, &pending)?;
+    Ok(Detailed { pending, prepared })
 }

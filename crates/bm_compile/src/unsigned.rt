@@ -9,7 +9,7 @@ ghost use Rattle.bm_arena.specs.NodeView.{deed_view};
 ghost use Rattle.bm_compile.specs.Passes.{listed_script, initial_with};
 ghost use Rattle.bm_compile.specs.Seen.{is_bound};
 
-use crate::depositing::{add_deposits, party_script, pays, persistent_deposits, volatile_value};
+use crate::depositing::{add_deposits, payee_script, pays, persistent_deposits, volatile_value};
 use crate::setting::Setting;
 use crate::sourcing::KeySource;
 use bm_arena::Core;
@@ -118,12 +118,11 @@ fn withdrawn_outputs<H: Hash32, K: KeySource>(
     party: &Name,
 ) -> Result<Seq<TxOut>, OutOfMemory>
     ensures { let hash = H.digest_of hasher.now in let fee = setting.now.advert.fee in
-        IfOk result (λ outputs. outputs ≡ spec.pays hash (spec.party_script hash (K.keys source.now) party.now) (balance - fee) ∷ []) }
+        IfOk result (λ outputs. outputs ≡ spec.pays_party hash (K.keys source.now) party.now (balance - fee) ∷ []) }
 {
-    let script = party_script(alloc, hasher, source, party.bytes())?;
+    let script = payee_script(alloc, hasher, source, party.bytes())?;
     let value = balance.saturating_sub(setting.advert().fee);
-    let output = pays(alloc, hasher, &script, value)?;
-    one(alloc, output)
+    one(alloc, TxOut { value, script })
 }
 
 // The outputs of a split's parts.

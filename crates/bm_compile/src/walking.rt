@@ -60,10 +60,10 @@ fn prepare_branch<H: Hash32 + Drop, K: KeySource>(
         let made = spec.node_unsigned hash (K.keys source.now) setting.now (listed_script scripts.now) waiting.now lock (deed_view core.now) in
         Hashes H.digest_of trail.old trail.new (unsigned_strings hash made) result }
 {
-    let draft = branch_unsigned(
+    let pending = branch_unsigned(
         alloc, &*trail, source, setting, scripts, waiting, lock, core,
     )?;
-    detail(alloc, trail, draft)
+    detail(alloc, trail, pending)
 }
 
 // What a branch of a choice that waits makes: what is kept of its transaction, and the choices that wait for it.

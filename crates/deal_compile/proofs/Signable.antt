@@ -49,13 +49,13 @@ module _ (hash : List ℕ → List ℕ) (keys : Keys) (advert : Advert) (l : Lis
   count (spent ∷ spends) [] = ap suc (count spends [])
   count (spent ∷ spends) (labels ∷ signers) = ap suc (count spends signers)
 
-  counted : (length (inputs hash keys advert l l.draft.spends l.signers) == length (map input_of l.draft.spends)) ≡ true
+  counted : (length (inputs hash keys advert l l.pending.spends l.signers) == length (map input_of l.pending.spends)) ≡ true
   counted =
-      (λ j. count l.draft.spends l.signers j == length-map l.draft.spends input_of j)
-      ∙ same_count (length l.draft.spends)
+      (λ j. count l.pending.spends l.signers j == length-map l.pending.spends input_of j)
+      ∙ same_count (length l.pending.spends)
 
-  signable : is_some_list l.draft.spends ≡ true → is_signable (transaction hash keys advert l) ≡ true
-  signable h = and_from (is_unsigned (tx_of l.draft)) _ (some_bare l.draft.spends l.draft refl h) counted
+  signable : is_some_list l.pending.spends ≡ true → is_signable (transaction hash keys advert l) ≡ true
+  signable h = and_from (is_unsigned (tx_of l.pending)) _ (some_bare l.pending.spends l.pending refl h) counted
 
 -- ---- the transactions of a contract
 
@@ -78,13 +78,15 @@ module _ (hash : List ℕ → List ℕ) (keys : Keys) (s : Instance) where
         parts_some (branch_path here.position i) (core_unsigned hash keys s here i l (split parts)) 0 parts
     branch_some here i l (put_reveal puts reveals test next) =
         choice_some
-        (continued hash keys s (branch_path here.position i) (core_unsigned hash keys s here i l (put_reveal puts reveals test next)) (continued_value s here.output.value puts) next)
+        (continued hash keys s (branch_path here.position i) (core_unsigned hash keys s here i l (put_reveal puts reveals test next))
+        (continued_value s here.output.value puts) next)
         0 next
 
     parts_some : (path : List PathStep) (made : Unsigned) (k : ℕ) (ps : Parts) → list_all spends_some (parts_transactions hash keys s path made k ps) ≡ true
     parts_some path made k no_part = refl
     parts_some path made k (part v c ps) =
-        all_append spends_some (choice_transactions hash keys s (part_standing hash keys s path made k v c) 0 c) (parts_transactions hash keys s path made (k + 1) ps)
+        all_append spends_some (choice_transactions hash keys s (part_standing hash keys s path made k v c) 0 c)
+        (parts_transactions hash keys s path made (k + 1) ps)
         (choice_some (part_standing hash keys s path made k v c) 0 c) (parts_some path made (k + 1) ps)
 
   paths_signable : (ps : List (List PathStep × Unsigned)) → list_all spends_some ps ≡ true
@@ -92,7 +94,8 @@ module _ (hash : List ℕ → List ℕ) (keys : Keys) (s : Instance) where
   paths_signable [] h = refl
   paths_signable (p ∷ ps) h =
       let q = and_parts (spends_some p) (list_all spends_some ps) h in
-      and_from (is_signable (transaction hash keys s.advert (path_listed s (p.0) (p.1)))) _ (signable hash keys s.advert (path_listed s (p.0) (p.1)) q.0) (paths_signable ps q.1)
+      and_from (is_signable (transaction hash keys s.advert (path_listed s (p.0) (p.1)))) _
+      (signable hash keys s.advert (path_listed s (p.0) (p.1)) q.0) (paths_signable ps q.1)
 
   in_some : {X Y : Type 0} (f : X → Y) (x : X) (xs : List X) → Is_in x xs → is_some_list (map f xs) ≡ true
   in_some f x [] i = absurd i

@@ -25,4 +25,5 @@ by_test false e rest other h = h
 
 pub found_under : (es : List LabelKey) (text : List ℕ) → key_or (find (λ e. bytes_eq (label_text e.label) text) es) ≡ key_under (map pair_of es) text
 found_under [] text = refl
-found_under (e ∷ es) text = by_test (bytes_eq (label_text e.label) text) e (find (λ e. bytes_eq (label_text e.label) text) es) (key_under (map pair_of es) text) (found_under es text)
+found_under (e ∷ es) text =
+    by_test (bytes_eq (label_text e.label) text) e (find (λ e. bytes_eq (label_text e.label) text) es) (key_under (map pair_of es) text) (found_under es text)

@@ -9,6 +9,7 @@ use Rattle.spec_bitcoin.specs.declared.label.Label.{Label}
 use Rattle.spec_bitcoin.specs.declared.label.Label.TheVariants as labels
 use Rattle.spec_bitcoin.specs.Digests.{txid}
 use Rattle.spec_bitcoin.specs.Spelling.{stripped}
+use Rattle.spec_compiler.specs.Keyed.OwnScripts.{no_scripts}
 use Rattle.spec_compiler.specs.Keyed.Keys.{given}
 use Rattle.spec_compiler.specs.Keyed.Instance.{Instance}
 use Rattle.spec_compiler.specs.Keyed.Transactions.{tx_of, digest_of_spent, pays}
@@ -37,31 +38,38 @@ same_verb advert (names.At path) (labels.Deposit party) = refl
 same_verb advert (names.At path) (labels.Branch contract place party) = refl
 
 module _ (hash : List ℕ → List ℕ) (table : Table) (advert : Advert) (l : Listed) where
-  same_signers : (ls : List Label) → map (signer_by table l.which (branch_of advert l.which)) ls ≡ map (signer hash (given (key_at table)) advert l.which) ls
+  same_signers : (ls : List Label) → map (signer_by table l.which (branch_of advert l.which)) ls
+      ≡ map (signer hash (given (key_at table) no_scripts) advert l.which) ls
   same_signers [] = refl
   same_signers (label ∷ ls) =
       λ j. record { label = label; key = key_at table label; verb = same_verb advert l.which label j } ∷ same_signers ls j
 
   same_input : (spent : Spent) (ls : List Label)
-      → input_by hash table l.which (branch_of advert l.which) spent (digest_of_spent hash (tx_of l.draft) spent) ls
-      ≡ input hash (given (key_at table)) advert l spent ls
-  same_input spent ls = λ j. record { spent = spent; output = pays hash spent.script spent.value; digest = digest_of_spent hash (tx_of l.draft) spent; signers = same_signers ls j }
+      → input_by hash table l.which (branch_of advert l.which) spent (digest_of_spent hash (tx_of l.pending) spent) ls
+      ≡ input hash (given (key_at table) no_scripts) advert l spent ls
+  same_input spent ls = λ j. record {
+    spent = spent;
+    output = pays hash spent.script spent.value;
+    digest = digest_of_spent hash
+        (tx_of l.pending) spent;
+    signers = same_signers ls j;
+  }
 
   same_inputs : (spends : List Spent) (signers : List (List Label))
-      → inputs_by hash table l.which (branch_of advert l.which) spends (map (digest_of_spent hash (tx_of l.draft)) spends) signers
-      ≡ inputs hash (given (key_at table)) advert l spends signers
+      → inputs_by hash table l.which (branch_of advert l.which) spends (map (digest_of_spent hash (tx_of l.pending)) spends) signers
+      ≡ inputs hash (given (key_at table) no_scripts) advert l spends signers
   same_inputs [] signers = refl
   same_inputs (spent ∷ spends) [] = λ j. same_input spent [] j ∷ same_inputs spends [] j
   same_inputs (spent ∷ spends) (ls ∷ signers) = λ j. same_input spent ls j ∷ same_inputs spends signers j
 
-  same_transaction : transaction_by hash table l.which (branch_of advert l.which) l.signers (detailed hash l.draft)
-      ≡ transaction hash (given (key_at table)) advert l
+  same_transaction : transaction_by hash table l.which (branch_of advert l.which) l.signers (detailed hash l.pending)
+      ≡ transaction hash (given (key_at table) no_scripts) advert l
   same_transaction = λ j. record {
     which = l.which;
-    tx = tx_of l.draft;
-    txid = txid hash (tx_of l.draft);
-    bytes = stripped (tx_of l.draft);
-    inputs = same_inputs l.draft.spends l.signers j;
+    tx = tx_of l.pending;
+    txid = txid hash (tx_of l.pending);
+    bytes = stripped (tx_of l.pending);
+    inputs = same_inputs l.pending.spends l.signers j;
   }
 
 same_labels : (advert : Advert) (path : List PathStep) (o : Option term.Guarded)
@@ -80,7 +88,8 @@ module _ (hash : List ℕ → List ℕ) (advert : Advert) (deal : Deal) where
       ∙ same_transaction hash deal.keys advert (path_listed s path d)
 
   same_paths : (ps : List (List PathStep × Unsigned))
-      → map (path_transaction hash deal.keys advert) (map (ready hash) ps) ≡ map (transaction hash (deal_keys deal) advert) (map (λ p. path_listed s (p.0) (p.1)) ps)
+      → map (path_transaction hash deal.keys advert) (map (ready hash) ps)
+      ≡ map (transaction hash (deal_keys deal) advert) (map (λ p. path_listed s (p.0) (p.1)) ps)
   same_paths [] = refl
   same_paths (p ∷ ps) = λ j. same_path (p.0) (p.1) j ∷ same_paths ps j
 

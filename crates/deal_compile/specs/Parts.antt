@@ -90,7 +90,7 @@ transaction_by hash table which b labels d = record {
   tx = d.prepared.tx;
   txid = d.prepared.txid;
   bytes = stripped d.prepared.tx;
-  inputs = inputs_by hash table which b d.draft.spends d.prepared.digests labels;
+  inputs = inputs_by hash table which b d.pending.spends d.prepared.digests labels;
 }
 
 -- the initial one

@@ -3,6 +3,7 @@
 ghost use Rattle.std.specs.Prelude.{◌≡◌, [], ◌∷◌, map, None, IfOk};
 ghost use Rattle.bm_hash.specs.Messages.{evidence_of};
 ghost use Rattle.bm_hash.specs.Trails.{Hashes};
+ghost use Rattle.spec_compiler.specs.Keyed.OwnScripts.{no_scripts};
 ghost use Rattle.spec_compiler.specs.Keyed.Keys.{given};
 ghost use Rattle.spec_compiler.specs.Keyed.Transactions.{party_script as script_of};
 ghost use Rattle.spec_deal.specs.Setting.{key_at};
@@ -19,7 +20,7 @@ pub(crate) fn party_script(
     keys: &DealKeys,
     party: &[u8],
 ) -> Result<[u8; 35], OutOfMemory>
-    ensures { IfOk result (λ script. script ≡ script_of (λ m. m) (given (key_at keys.now)) party.now) }
+    ensures { IfOk result (λ script. script ≡ script_of (λ m. m) (given (key_at keys.now) no_scripts) party.now) }
 {
     let key = keys.party_key(alloc, party)?;
     Ok(deposit_script(&key))
@@ -35,7 +36,7 @@ fn hash_script<H: Hash32 + Drop>(
 ) -> Result<(), TrailError>
     requires clear { evidence_of (H.digest_of trail.old.hasher) trail.old.messages ≡ None }
     ensures { Hashes H.digest_of trail.old trail.new
-        (script_of (H.digest_of trail.old.hasher) (given (key_at keys.now)) party.now ∷ []) result }
+        (script_of (H.digest_of trail.old.hasher) (given (key_at keys.now) no_scripts) party.now ∷ []) result }
 {
     let script = party_script(alloc, keys, party.bytes())?;
     trail.hash(&script)?;
@@ -52,7 +53,7 @@ pub(crate) fn hash_scripts<H: Hash32 + Drop>(
 ) -> Result<(), TrailError>
     requires clear { evidence_of (H.digest_of trail.old.hasher) trail.old.messages ≡ None }
     ensures { Hashes H.digest_of trail.old trail.new
-        (map (script_of (H.digest_of trail.old.hasher) (given (key_at keys.now))) parties.now) result }
+        (map (script_of (H.digest_of trail.old.hasher) (given (key_at keys.now) no_scripts)) parties.now) result }
 {
     for party in parties {
         hash_script(alloc, trail, keys, party)?;

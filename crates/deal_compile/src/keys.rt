@@ -3,6 +3,7 @@
 ghost use Rattle.std.specs.Prelude.{◌≡◌, ◌++◌, ◌∷◌, [], map, true, IfOk, OnOk};
 ghost use Rattle.spec_bitcoin.specs.Keys.{label_text};
 ghost use Rattle.spec_bitcoin.specs.declared.label.Label.TheVariants.{Deposit};
+ghost use Rattle.spec_compiler.specs.Keyed.OwnScripts.{no_scripts};
 ghost use Rattle.spec_compiler.specs.Keyed.Keys.{given};
 ghost use Rattle.spec_deal.specs.Setting.{key_at};
 ghost use Rattle.deal_compile.specs.Keyed as spec;
@@ -127,7 +128,7 @@ impl DealKeys {
 }
 
 impl KeySource for DealKeys {
-    ghost keys = { λ k. given (key_at k) };
+    ghost keys = { λ k. given (key_at k) no_scripts };
 
     #[tactic(auto, using(bm_hash::proofs::HashesLemmas::hashed_none, bm_hash::proofs::HashesLemmas::stops_early))]
     fn key<H: Hash32 + Drop>(
@@ -147,5 +148,13 @@ impl KeySource for DealKeys {
         party: &[u8],
     ) -> Result<[u8; 33], OutOfMemory> {
         self.party_key(alloc, party)
+    }
+
+    fn own_script(&self, _name: &[u8]) -> Option<&[u8]> {
+        None
+    }
+
+    fn own_payee(&self, _party: &[u8]) -> Option<&[u8]> {
+        None
     }
 }

@@ -1,4 +1,5 @@
-//! Deals compiled: the transactions and scripts of a contract by the keys, deposits and hashes of real wallets.
+//! Compiles a deal: a contract's transactions at the keys, deposits and hashes of real wallets. It also finds a deposit
+//! that the deal's own transactions would make.
 #![tactic(auto)]
 
 mod circle;

@@ -39,7 +39,7 @@ fn transaction_for<H: Hash32>(
         labels.now detailed.now) }
 {
     let prepared = &detailed.prepared;
-    let spends = detailed.draft.spends.as_slice();
+    let spends = detailed.pending.spends.as_slice();
     let digests = prepared.digests.as_slice();
     let inputs = inputs_for(
         alloc, hasher, programs, keys, &which, branch, spends, digests, labels,

@@ -1,3 +1,4 @@
+pub mod OwnScripts
 pub mod Keys
 pub mod Instance
 pub mod Transactions

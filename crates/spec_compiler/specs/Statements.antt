@@ -21,7 +21,7 @@ Opens hash = keyed.Opens hash by_plan
 abbrev pub OpensExactly : (List ℕ → List ℕ) → (List ℕ → List ℕ → Bool) → Instance → List PathStep → Contract → List (List ℕ) → Type 0
 OpensExactly hash = keyed.OpensExactly hash by_plan
 
--- for every hash, every judge of signatures, every position of a checked contract and every stack of short items
+-- for every hash, every oracle of signatures, every position of a checked contract and every stack of short items
 abbrev pub ScriptTheorem : Type 0
 ScriptTheorem =
     (hash : List ℕ → List ℕ) (valid : List ℕ → List ℕ → Bool)

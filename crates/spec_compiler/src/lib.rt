@@ -1,5 +1,5 @@
-//! What a contract is compiled to: scripts of its positions, witnesses, transactions with their digests, and the
-//! signatures that honest parties wait for.
+//! The definition of what a contract compiles to: its scripts, witnesses, transactions and digests, and the
+//! endorsements that have to come before the start.
 #![tactic(auto)]
 
 pub mod prepared;

@@ -1,4 +1,5 @@
-//! What follows of a contract's numbered nodes: each theorem is the contract of a function that does nothing.
+//! Theorems on a contract's numbered nodes: a path leads to its number, and one walk gives all transactions and
+//! scripts. Each is the contract of a function that does nothing.
 #![tactic(auto)]
 
 ghost use Rattle.theory_nodes.specs.Found.{BranchesAreFound, ChoicesAreFound, FewNodes};

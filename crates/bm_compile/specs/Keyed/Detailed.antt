@@ -10,7 +10,7 @@ use Rattle.bm_compile.specs.declared.detailed.Detailed.{Detailed}
 use Rattle.bm_compile.specs.declared.detailed.Details.{Details}
 
 abbrev pub detailed : (List ℕ → List ℕ) → Unsigned → Detailed
-detailed hash d = record { draft = d; prepared = prepared hash d }
+detailed hash d = record { pending = d; prepared = prepared hash d }
 
 -- of a path
 abbrev pub ready : (List ℕ → List ℕ) → List PathStep × Unsigned → List PathStep × Detailed

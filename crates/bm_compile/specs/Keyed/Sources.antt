@@ -7,7 +7,7 @@ use Rattle.spec_compiler.specs.Keyed.Keys.{Keys, by_plan, given}
 
 abbrev pub label_strings : Keys → Label → List (List ℕ)
 label_strings by_plan label = label_text label ∷ []
-label_strings (given keys) label = []
+label_strings (given keys own) label = []
 
 -- a label as it is for another party
 abbrev pub named_for : Label → List ℕ → Label

@@ -64,11 +64,11 @@ is_met book need = has_signed book need.key need.digest
 
 -- the first that is missing
 abbrev pub first_unmet : List Pair → List Need → Option Need
-first_unmet book wanted = find (λ need. not (is_met book need)) wanted
+first_unmet book required = find (λ need. not (is_met book need)) required
 
 -- whether none is missing
 abbrev pub all_met : List Pair → List Need → Bool
-all_met book wanted = list_all (is_met book) wanted
+all_met book required = list_all (is_met book) required
 
 -- ---- a contract
 

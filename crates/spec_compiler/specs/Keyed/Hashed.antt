@@ -20,7 +20,7 @@ path_labels s path = map (λ party. label_text (branch_label s.contract path par
 -- what is hashed to have the keys of a path
 abbrev pub key_strings : Keys → Instance → List PathStep → List (List ℕ)
 key_strings by_plan s path = path_labels s path
-key_strings (given keys) s path = []
+key_strings (given keys own) s path = []
 
 -- the strings of the digest of the input that spends this
 abbrev pub spent_strings : (List ℕ → List ℕ) → Tx → Spent → List (List ℕ)

@@ -1,9 +1,10 @@
 -- What is claimed of the scripts of a contract: on which stacks Bitcoin's consensus finds them true, and how large they are. It is claimed
 -- for every way to give a key of 33 bytes to each label.
 use Rattle.std.specs.Prelude.{◌≡◌, ℕ, ◌-◌, ◌≤◌, List, [], ◌∷◌, ◌++◌, length, map, reverse, Bool, true, false, ◌&&◌, nat_le, slice_get}
-use Rattle.std.specs.Prelude.{Some, ◌==◌}
+use Rattle.std.specs.Prelude.{Option, Some, None, ◌==◌}
 use Rattle.std.specs.List.{list_all}
 use Rattle.std.specs.Str.{bytes_eq}
+use Rattle.spec_data.specs.Hashes.{IsBytes}
 use Rattle.spec_data.specs.Ranges.{least_secret_bytes, most_item_bytes, most_script_bytes, most_operations}
 use Rattle.spec_terms.specs.Term as term
 use Rattle.spec_terms.specs.Term.{Contract, branches}
@@ -19,7 +20,7 @@ use Rattle.spec_bitcoin.specs.Effects.{truth}
 use Rattle.spec_bitcoin.specs.Scripts.{script_ops, counted}
 use Rattle.spec_bitcoin.specs.Meaning.{script_meaning}
 use Rattle.spec_bitcoin.specs.Keys.{key_bytes, deposit_script}
-use Rattle.spec_compiler.specs.Keyed.Keys.{Keys, key_in}
+use Rattle.spec_compiler.specs.Keyed.Keys.{Keys, key_in, own_script, own_payee}
 use Rattle.spec_compiler.specs.Scripts.{digest_of, output_ops}
 use Rattle.spec_compiler.specs.Keyed.Instance.{Instance, people, branch_path, branch_keys, position_demands, position_script}
 use Rattle.spec_compiler.specs.Witness.{selection, witness_stack, chosen}
@@ -83,6 +84,19 @@ pub record Opens (hash : List ℕ → List ℕ) (keys : Keys) (valid : List ℕ 
 abbrev pub AreKeys : (List ℕ → List ℕ) → Keys → Type 0
 AreKeys hash keys = (label : Label) → length (key_in hash keys label) ≡ key_bytes
 
+-- each deposit is of its owner's key: none has an output script of a wallet's
+abbrev pub AreKeyDeposits : Keys → Type 0
+AreKeyDeposits keys = (name : List ℕ) → own_script keys name ≡ None
+
+-- a script with no more bytes than the longest that a wallet is paid at, a witness program of 32 bytes
+pub record IsPayable (script : List ℕ) : Type 0 where
+  pub bytes : IsBytes script
+  pub few : length script ≤ 34
+
+-- each participant who is paid at a script of its own is paid at such a one
+abbrev pub ArePayable : Keys → Type 0
+ArePayable keys = (party script : List ℕ) → own_payee keys party ≡ Some script → IsPayable script
+
 -- whether a string has so many bytes
 abbrev pub has_size : ℕ → List ℕ → Bool
 has_size n bytes = length bytes == n
@@ -107,7 +121,7 @@ pub record OpensExactly (hash : List ℕ → List ℕ) (keys : Keys) (valid : Li
   pub opens_true : Opens hash keys valid s position contract (reverse stack)
       → script_meaning hash valid (position_script hash keys s position contract) stack ≡ true
 
--- for every hash, all keys, every judge of signatures, every position of a checked contract and every stack of short items
+-- for every hash, all keys, every oracle of signatures, every position of a checked contract and every stack of short items
 abbrev pub ScriptTheorem : Type 0
 ScriptTheorem =
     (hash : List ℕ → List ℕ) (keys : Keys) (valid : List ℕ → List ℕ → Bool)

@@ -1,5 +1,6 @@
 -- The transactions of a BitML contract, before they are put in order: Bitcoin's, with segregated witnesses (BIP 141). The keys are any.
 use Rattle.std.specs.Prelude.{ℕ, ◌+◌, ◌-◌, List, [], ◌∷◌, ◌++◌, map, Option, Some, None}
+use Rattle.std.specs.Option.{option_map_or}
 use Rattle.spec_data.specs.Lists.{look_up}
 use Rattle.spec_terms.specs.Term as term
 use Rattle.spec_terms.specs.Term.{Contract, auth, after, put_reveal, withdraw, split, Parts, no_part, part}
@@ -13,7 +14,8 @@ use Rattle.spec_bitcoin.specs.declared.tx.TxOut.{TxOut}
 use Rattle.spec_bitcoin.specs.declared.tx.Tx.{Tx}
 use Rattle.spec_bitcoin.specs.Digests.{txid, digest}
 use Rattle.spec_bitcoin.specs.Keys.{pay_to, deposit_script}
-use Rattle.spec_compiler.specs.Keyed.Keys.{Keys}
+use Rattle.spec_compiler.specs.Keyed.OwnScripts.{code_of}
+use Rattle.spec_compiler.specs.Keyed.Keys.{Keys, own_script, own_payee}
 use Rattle.spec_compiler.specs.declared.prepared.Prepared.{Prepared}
 use Rattle.spec_compiler.specs.declared.unsigned.Spent.{Spent}
 use Rattle.spec_compiler.specs.declared.unsigned.Unsigned.{Unsigned}
@@ -44,11 +46,23 @@ output_outpoint hash d k = record { txid = txid hash (tx_of d); vout = k }
 abbrev pub pays : (List ℕ → List ℕ) → List ℕ → ℕ → TxOut
 pays hash script value = record { value = value; script = pay_to (hash script) }
 
--- ---- deposits
+-- ---- deposits and payees
 
--- the script of a party's deposits
+-- the script of a party's deposits, where they are of its key
 abbrev pub party_script : (List ℕ → List ℕ) → Keys → List ℕ → List ℕ
 party_script hash keys party = deposit_script (deposit_key hash keys party)
+
+-- the output script of what a party is paid: its own, or that of its deposits' key
+abbrev pub payee_script : (List ℕ → List ℕ) → Keys → List ℕ → List ℕ
+payee_script hash keys party = option_map_or (λ own. own) (own_payee keys party) (pay_to (hash (party_script hash keys party)))
+
+-- an output for a party
+abbrev pub pays_party : (List ℕ → List ℕ) → Keys → List ℕ → ℕ → TxOut
+pays_party hash keys party value = record { value = value; script = payee_script hash keys party }
+
+-- the script that signatures of the owner of the deposit of this name are made with: by its own output script, or that of its key
+abbrev pub deposit_code : (List ℕ → List ℕ) → Keys → List ℕ → List ℕ → List ℕ
+deposit_code hash keys name owner = option_map_or code_of (own_script keys name) (party_script hash keys owner)
 
 -- where a deposit that was looked up lies
 abbrev pub outpoint_or_none : Option OutPoint → OutPoint
@@ -58,7 +72,7 @@ outpoint_or_none (Some outpoint) = outpoint
 -- the output of a bound deposit
 abbrev pub deposit : (List ℕ → List ℕ) → Keys → Instance → List ℕ → Holding → Spent
 deposit hash keys s name h =
-    record { outpoint = outpoint_or_none (look_up name s.bound); script = party_script hash keys h.owner; value = h.value }
+    record { outpoint = outpoint_or_none (look_up name s.bound); script = deposit_code hash keys name h.owner; value = h.value }
 
 -- a deposit that was looked up
 abbrev pub holding_or_none : Option Holding → Holding
@@ -98,7 +112,7 @@ part_outputs hash keys s path k (part v c ps) =
 abbrev pub core_outputs : (List ℕ → List ℕ) → Keys → Instance → List PathStep → ℕ → term.Guarded → List TxOut
 core_outputs hash keys s path balance (put_reveal puts reveals test next) =
     pays hash (position_script hash keys s path next) (continued_value s balance puts) ∷ []
-core_outputs hash keys s path balance (withdraw party) = pays hash (party_script hash keys party) (balance - s.advert.fee) ∷ []
+core_outputs hash keys s path balance (withdraw party) = pays_party hash keys party (balance - s.advert.fee) ∷ []
 core_outputs hash keys s path balance (split parts) = part_outputs hash keys s path 0 parts
 core_outputs hash keys s path balance (auth party body) = []
 core_outputs hash keys s path balance (after height body) = []

@@ -32,7 +32,8 @@ module _ (hash : List ℕ → List ℕ) (keys : Keys) (s : Instance) (ns : List 
   core_demands n (after h body) own = refl
 
   demands_right : (position : List PathStep) (i n : ℕ) (c : Contract) → Begins ns n (branches_nodes position i n c)
-      → map (λ m. node_demands hash keys s (slice_get ns m)) (branch_numbers n c) ≡ demands_from (λ k. branch_keys hash keys s (branch_path position k)) s.hashes i (branches c)
+      → map (λ m. node_demands hash keys s (slice_get ns m)) (branch_numbers n c)
+      ≡ demands_from (λ k. branch_keys hash keys s (branch_path position k)) s.hashes i (branches c)
   demands_right position i n no_branch b = refl
   demands_right position i n (branch x xs) b =
       let path = branch_path position i in
@@ -44,7 +45,8 @@ module _ (hash : List ℕ → List ℕ) (keys : Keys) (s : Instance) (ns : List 
       let rest = demands_right position (i + 1) (n + branch_count x) xs (begins_right ns n (branch_count x) here others (length-branch_nodes path n (asks_once x) (lock x) x) b) in
       λ j. (ap (node_demands hash keys s) got ∙ core_demands (n + 1) (core x) (branch_keys hash keys s path)) j ∷ rest j
 
-  pub script_right : (position : List PathStep) (n : ℕ) (c : Contract) → Begins ns n (choice_nodes position n c) → script_of hash keys s ns n ≡ position_script hash keys s position c
+  pub script_right : (position : List PathStep) (n : ℕ) (c : Contract) → Begins ns n (choice_nodes position n c)
+      → script_of hash keys s ns n ≡ position_script hash keys s position c
   unfolding script_of position_script
   script_right position n c b =
       let got = begins_get ns n (choice_head position n c) (branches_nodes position 0 (n + 1) c) b in
@@ -57,7 +59,8 @@ module _ (hash : List ℕ → List ℕ) (keys : Keys) (s : Instance) (ns : List 
   abbrev pub standing : List PathStep → Waiting → Standing
   standing position w = record { position = position; output = spent_of script w }
 
-  pays_right : (path : List PathStep) (n v : ℕ) (c : Contract) → Begins ns n (choice_nodes path n c) → pays hash (script_of hash keys s ns n) v ≡ pays hash (position_script hash keys s path c) v
+  pays_right : (path : List PathStep) (n v : ℕ) (c : Contract) → Begins ns n (choice_nodes path n c)
+      → pays hash (script_of hash keys s ns n) v ≡ pays hash (position_script hash keys s path c) v
   pays_right path n v c b = ap (λ x. pays hash x v) (script_right path n c b)
 
   outputs_right : (path : List PathStep) (k n : ℕ) (ps : Parts) → Begins ns n (parts_nodes path k n ps)
@@ -70,12 +73,15 @@ module _ (hash : List ℕ → List ℕ) (keys : Keys) (s : Instance) (ns : List 
       let rest = outputs_right path (k + 1) (n + choice_count c) ps (begins_right ns n (choice_count c) here others (length-choice_nodes (part_position path k) n c) b) in
       λ j. first j ∷ rest j
 
-  choice_under : (position : List PathStep) (n : ℕ) (c : Contract) → Begins ns n (choice_nodes position n c) → Begins ns (n + 1) (branches_nodes position 0 (n + 1) c)
+  choice_under : (position : List PathStep) (n : ℕ) (c : Contract) → Begins ns n (choice_nodes position n c)
+      → Begins ns (n + 1) (branches_nodes position 0 (n + 1) c)
   choice_under position n c b = begins_right ns n 1 (choice_head position n c ∷ []) (branches_nodes position 0 (n + 1) c) refl b
 
   mutual
-    branches_walk : (position : List PathStep) (i n : ℕ) (c : Contract) (w : Waiting) (stack : List Waiting) (ys : List Node) → Begins ns n (branches_nodes position i n c)
-        → walk hash keys s script (branches_nodes position i n c ++ ys) (replicate (length (branch_numbers n c)) w ++ stack) ≡ choice_transactions hash keys s (standing position w) i c ++ walk hash keys s script ys stack
+    branches_walk : (position : List PathStep) (i n : ℕ) (c : Contract) (w : Waiting) (stack : List Waiting) (ys : List Node)
+        → Begins ns n (branches_nodes position i n c)
+        → walk hash keys s script (branches_nodes position i n c ++ ys) (replicate (length (branch_numbers n c)) w ++ stack)
+        ≡ choice_transactions hash keys s (standing position w) i c ++ walk hash keys s script ys stack
     branches_walk position i n no_branch w stack ys b = refl
     branches_walk position i n (branch x xs) w stack ys b =
         let path = branch_path position i in
@@ -85,12 +91,16 @@ module _ (hash : List ℕ → List ℕ) (keys : Keys) (s : Instance) (ns : List 
         let more = replicate (length (branch_numbers (n + branch_count x) xs)) w ++ stack in
         ap (λ l. walk hash keys s script l (w ∷ more)) (append_assoc here others ys)
         ∙ branch_walk position i n (asks_once x) (lock x) x w more (others ++ ys) (begins_left ns n here others b)
-        ∙ ap (λ l. branch_transactions hash keys s (standing position w) i (lock x) x ++ l) (branches_walk position (i + 1) (n + branch_count x) xs w stack ys under)
-        ∙ sym (append_assoc (branch_transactions hash keys s (standing position w) i (lock x) x) (choice_transactions hash keys s (standing position w) (i + 1) xs) (walk hash keys s script ys stack))
+        ∙ ap (λ l. branch_transactions hash keys s (standing position w) i (lock x) x ++ l)
+        (branches_walk position (i + 1) (n + branch_count x) xs w stack ys under)
+        ∙ sym (append_assoc (branch_transactions hash keys s (standing position w) i (lock x) x)
+        (choice_transactions hash keys s (standing position w) (i + 1) xs) (walk hash keys s script ys stack))
 
-    branch_walk : (position : List PathStep) (i n : ℕ) (asked : List (List ℕ)) (height : ℕ) (x : term.Guarded) (w : Waiting) (stack : List Waiting) (ys : List Node)
+    branch_walk : (position : List PathStep) (i n : ℕ) (asked : List (List ℕ)) (height : ℕ) (x : term.Guarded) (w : Waiting)
+        (stack : List Waiting) (ys : List Node)
         → Begins ns n (branch_nodes (branch_path position i) n asked height x)
-        → walk hash keys s script (branch_nodes (branch_path position i) n asked height x ++ ys) (w ∷ stack) ≡ branch_transactions hash keys s (standing position w) i height x ++ walk hash keys s script ys stack
+        → walk hash keys s script (branch_nodes (branch_path position i) n asked height x ++ ys) (w ∷ stack)
+        ≡ branch_transactions hash keys s (standing position w) i height x ++ walk hash keys s script ys stack
     branch_walk position i n asked height (auth party body) w stack ys b = branch_walk position i n asked height body w stack ys b
     branch_walk position i n asked height (after h body) w stack ys b = branch_walk position i n asked height body w stack ys b
     branch_walk position i n asked height (withdraw party) w stack ys b = refl
@@ -118,7 +128,8 @@ module _ (hash : List ℕ → List ℕ) (keys : Keys) (s : Instance) (ns : List 
         λ j. (path, made j) ∷ rest j
 
     parts_walk : (path : List PathStep) (d : Unsigned) (k n : ℕ) (ps : Parts) (stack : List Waiting) (ys : List Node) → Begins ns n (parts_nodes path k n ps)
-        → walk hash keys s script (parts_nodes path k n ps ++ ys) (parts_wait hash d k (part_numbers n ps) ++ stack) ≡ parts_transactions hash keys s path d k ps ++ walk hash keys s script ys stack
+        → walk hash keys s script (parts_nodes path k n ps ++ ys) (parts_wait hash d k (part_numbers n ps) ++ stack)
+        ≡ parts_transactions hash keys s path d k ps ++ walk hash keys s script ys stack
     parts_walk path d k n no_part stack ys b = refl
     parts_walk path d k n (part v c ps) stack ys b =
         let position = part_position path k in
@@ -133,10 +144,13 @@ module _ (hash : List ℕ → List ℕ) (keys : Keys) (s : Instance) (ns : List 
         ap (λ l. walk hash keys s script l (w ∷ more)) (append_assoc nodes others ys)
         ∙ branches_walk position 0 (n + 1) c w more (others ++ ys) (choice_under position n c first)
         ∙ (λ j. choice_transactions hash keys s (here j) 0 c ++ parts_walk path d (k + 1) (n + choice_count c) ps stack ys under j)
-        ∙ sym (append_assoc (choice_transactions hash keys s (part_standing hash keys s path d k v c) 0 c) (parts_transactions hash keys s path d (k + 1) ps) (walk hash keys s script ys stack))
+        ∙ sym (append_assoc (choice_transactions hash keys s (part_standing hash keys s path d k v c) 0 c)
+        (parts_transactions hash keys s path d (k + 1) ps) (walk hash keys s script ys stack))
 
-  pub choice_walk : (position : List PathStep) (n : ℕ) (c : Contract) (w : Waiting) (stack : List Waiting) (ys : List Node) → Begins ns n (choice_nodes position n c)
-      → walk hash keys s script (choice_nodes position n c ++ ys) (w ∷ stack) ≡ choice_transactions hash keys s (standing position w) 0 c ++ walk hash keys s script ys stack
+  pub choice_walk : (position : List PathStep) (n : ℕ) (c : Contract) (w : Waiting) (stack : List Waiting) (ys : List Node)
+      → Begins ns n (choice_nodes position n c)
+      → walk hash keys s script (choice_nodes position n c ++ ys) (w ∷ stack) ≡ choice_transactions hash keys s (standing position w) 0 c
+      ++ walk hash keys s script ys stack
   choice_walk position n c w stack ys b =
       branches_walk position 0 (n + 1) c w stack ys (choice_under position n c b)
 
@@ -152,17 +166,22 @@ module _ (hash : List ℕ → List ℕ) (keys : Keys) (s : Instance) (ns : List 
         ap node_paths (append_assoc nodes others ys)
         ∙ paths_of_branch here i n (asks_once x) (lock x) x (others ++ ys)
         ∙ ap (λ l. map (λ p. p.0) (branch_transactions hash keys s here i (lock x) x) ++ l) (paths_of_branches here (i + 1) (n + branch_count x) xs ys)
-        ∙ sym (append_assoc (map (λ p. p.0) (branch_transactions hash keys s here i (lock x) x)) (map (λ p. p.0) (choice_transactions hash keys s here (i + 1) xs)) (node_paths ys))
-        ∙ ap (λ l. l ++ node_paths ys) (sym (map-append (λ p. p.0) (branch_transactions hash keys s here i (lock x) x) (choice_transactions hash keys s here (i + 1) xs)))
+        ∙ sym (append_assoc (map (λ p. p.0) (branch_transactions hash keys s here i (lock x) x))
+        (map (λ p. p.0) (choice_transactions hash keys s here (i + 1) xs)) (node_paths ys))
+        ∙ ap (λ l. l ++ node_paths ys) (sym (map-append (λ p. p.0) (branch_transactions hash keys s here i (lock x) x)
+        (choice_transactions hash keys s here (i + 1) xs)))
 
     paths_of_branch : (here : Standing) (i n : ℕ) (asked : List (List ℕ)) (height : ℕ) (x : term.Guarded) (ys : List Node)
-        → node_paths (branch_nodes (branch_path here.position i) n asked height x ++ ys) ≡ map (λ p. p.0) (branch_transactions hash keys s here i height x) ++ node_paths ys
+        → node_paths (branch_nodes (branch_path here.position i) n asked height x ++ ys)
+        ≡ map (λ p. p.0) (branch_transactions hash keys s here i height x) ++ node_paths ys
     paths_of_branch here i n asked height (auth party body) ys = paths_of_branch here i n asked height body ys
     paths_of_branch here i n asked height (after h body) ys = paths_of_branch here i n asked height body ys
     paths_of_branch here i n asked height (withdraw party) ys = refl
     paths_of_branch here i n asked height (put_reveal puts reveals test next) ys =
         let path = branch_path here.position i in
-        ap (λ l. path ∷ l) (paths_of_branches (continued hash keys s path (core_unsigned hash keys s here i height (put_reveal puts reveals test next)) (continued_value s here.output.value puts) next) 0 (n + 1 + 1) next ys)
+        ap (λ l. path ∷ l) (paths_of_branches (continued hash keys s path
+        (core_unsigned hash keys s here i height (put_reveal puts reveals test next)) (continued_value s here.output.value puts) next) 0
+        (n + 1 + 1) next ys)
     paths_of_branch here i n asked height (split parts) ys =
         let path = branch_path here.position i in
         ap (λ l. path ∷ l) (paths_of_parts path (core_unsigned hash keys s here i height (split parts)) 0 (n + 1) parts ys)
@@ -176,11 +195,14 @@ module _ (hash : List ℕ → List ℕ) (keys : Keys) (s : Instance) (ns : List 
         ap node_paths (append_assoc (choice_nodes (part_position path k) n c) others ys)
         ∙ paths_of_branches here 0 (n + 1) c (others ++ ys)
         ∙ ap (λ l. map (λ p. p.0) (choice_transactions hash keys s here 0 c) ++ l) (paths_of_parts path d (k + 1) (n + choice_count c) ps ys)
-        ∙ sym (append_assoc (map (λ p. p.0) (choice_transactions hash keys s here 0 c)) (map (λ p. p.0) (parts_transactions hash keys s path d (k + 1) ps)) (node_paths ys))
-        ∙ ap (λ l. l ++ node_paths ys) (sym (map-append (λ p. p.0) (choice_transactions hash keys s here 0 c) (parts_transactions hash keys s path d (k + 1) ps)))
+        ∙ sym (append_assoc (map (λ p. p.0) (choice_transactions hash keys s here 0 c))
+        (map (λ p. p.0) (parts_transactions hash keys s path d (k + 1) ps)) (node_paths ys))
+        ∙ ap (λ l. l ++ node_paths ys) (sym (map-append (λ p. p.0) (choice_transactions hash keys s here 0 c)
+        (parts_transactions hash keys s path d (k + 1) ps)))
 
   mutual
-    scripts_of_branches : (position : List PathStep) (i n m : ℕ) (c : Contract) (ys : List Node) → m ≡ n + branches_count c → Begins ns n (branches_nodes position i n c)
+    scripts_of_branches : (position : List PathStep) (i n m : ℕ) (c : Contract) (ys : List Node) → m ≡ n + branches_count c
+        → Begins ns n (branches_nodes position i n c)
         → listed_scripts script n (branches_nodes position i n c ++ ys) ≡ choice_scripts hash keys s position i c ++ listed_scripts script m ys
     scripts_of_branches position i n m no_branch ys e b = let z : n ≡ m = omega (arith, e) in ap (λ k. listed_scripts script k ys) z
     scripts_of_branches position i n m (branch x xs) ys e b =
@@ -193,7 +215,8 @@ module _ (hash : List ℕ → List ℕ) (keys : Keys) (s : Instance) (ns : List 
         ∙ ap (λ l. branch_scripts hash keys s path x ++ l) (scripts_of_branches position (i + 1) (n + branch_count x) m xs ys (omega (arith, e)) under)
         ∙ sym (append_assoc (branch_scripts hash keys s path x) (choice_scripts hash keys s position (i + 1) xs) (listed_scripts script m ys))
 
-    scripts_of_branch : (path : List PathStep) (n m : ℕ) (asked : List (List ℕ)) (height : ℕ) (x : term.Guarded) (ys : List Node) → m ≡ n + branch_count x → Begins ns n (branch_nodes path n asked height x)
+    scripts_of_branch : (path : List PathStep) (n m : ℕ) (asked : List (List ℕ)) (height : ℕ) (x : term.Guarded) (ys : List Node) → m
+        ≡ n + branch_count x → Begins ns n (branch_nodes path n asked height x)
         → listed_scripts script n (branch_nodes path n asked height x ++ ys) ≡ branch_scripts hash keys s path x ++ listed_scripts script m ys
     scripts_of_branch path n m asked height (auth party body) ys e b = scripts_of_branch path n m asked height body ys e b
     scripts_of_branch path n m asked height (after h body) ys e b = scripts_of_branch path n m asked height body ys e b
@@ -218,8 +241,10 @@ module _ (hash : List ℕ → List ℕ) (keys : Keys) (s : Instance) (ns : List 
         let rest = scripts_of_branches position 0 (n + 1) (n + choice_count c) c (others ++ ys) (omega arith) (choice_under position n c first) in
         ap (listed_scripts script n) (append_assoc nodes others ys)
         ∙ (λ j. (position, script_right position n c first j) ∷ rest j)
-        ∙ ap (λ l. ((position, position_script hash keys s position c) ∷ choice_scripts hash keys s position 0 c) ++ l) (scripts_of_parts path (k + 1) (n + choice_count c) m ps ys (omega (arith, e)) under)
-        ∙ sym (append_assoc ((position, position_script hash keys s position c) ∷ choice_scripts hash keys s position 0 c) (parts_scripts hash keys s path (k + 1) ps) (listed_scripts script m ys))
+        ∙ ap (λ l. ((position, position_script hash keys s position c) ∷ choice_scripts hash keys s position 0 c) ++ l)
+        (scripts_of_parts path (k + 1) (n + choice_count c) m ps ys (omega (arith, e)) under)
+        ∙ sym (append_assoc ((position, position_script hash keys s position c) ∷ choice_scripts hash keys s position 0 c)
+        (parts_scripts hash keys s path (k + 1) ps) (listed_scripts script m ys))
 
 -- ---- the whole
 

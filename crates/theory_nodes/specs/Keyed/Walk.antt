@@ -10,7 +10,7 @@ use Rattle.spec_compiler.specs.Scripts.{Demands, demands, output_ops}
 use Rattle.spec_compiler.specs.declared.unsigned.Spent.{Spent}
 use Rattle.spec_compiler.specs.declared.unsigned.Unsigned.{Unsigned}
 use Rattle.spec_compiler.specs.Keyed.Instance.{Instance, branch_keys}
-use Rattle.spec_compiler.specs.Keyed.Transactions.{pays, party_script, put_deposits, continued_value, output_outpoint, initial_unsigned}
+use Rattle.spec_compiler.specs.Keyed.Transactions.{pays, pays_party, put_deposits, continued_value, output_outpoint, initial_unsigned}
 use Rattle.spec_compiler.specs.Keyed.Transactions.{root_value}
 use Rattle.spec_compiler.specs.Keyed.Compilation.{path_transactions, scripts}
 use Rattle.theory_nodes.specs.declared.waiting.Waiting.{Waiting}
@@ -50,7 +50,7 @@ deed_puts (splits parts) = []
 abbrev pub deed_outputs : (List ℕ → List ℕ) → Keys → Instance → (ℕ → List ℕ) → ℕ → Deed → List TxOut
 deed_outputs hash keys s script balance (puts_reveals puts reveals test next) =
     pays hash (script next) (continued_value s balance puts) ∷ []
-deed_outputs hash keys s script balance (withdraws party) = pays hash (party_script hash keys party) (balance - s.advert.fee) ∷ []
+deed_outputs hash keys s script balance (withdraws party) = pays_party hash keys party (balance - s.advert.fee) ∷ []
 deed_outputs hash keys s script balance (splits parts) = map (λ p. pays hash (script p.1) p.0) parts
 
 -- the transaction of a branch's node, at a choice that waits

@@ -19,7 +19,13 @@ returns-in_err-keyed-clause-trail g c =
     let first = c.args.trail.now.hasher in
     let keys = g.K.KeySource.keys c.args.source.now in
     let s = c.args.setting.now in
-    rw (p.1, p.2) (c.in_err-keyed.ensures.trail.0, tt, stops_before digest first (flat_map (λ p. key_strings keys s p.0) (path_transactions (digest first) keys s)) (map (λ p. p.1) (scripts (digest first) keys s)) _ _ _ _ c.in_err-keyed.ensures.trail.2)
+    rw (p.1, p.2) (
+      c.in_err-keyed.ensures.trail.0,
+      tt,
+      stops_before digest first
+          (flat_map (λ p. key_strings keys s p.0) (path_transactions (digest first) keys s)) (map (λ p. p.1) (scripts (digest first) keys s))
+          _ _ _ _ c.in_err-keyed.ensures.trail.2,
+    )
 
 pub returns-in_err-made-clause-trail : goal.returns-in_err-made-clause-trail
 returns-in_err-made-clause-trail g c =
@@ -31,8 +37,10 @@ returns-in_err-made-clause-trail g c =
     rw (p.1, p.2) (
       c.in_err-made.ensures.trail.0 ∙ c.in_ok-keyed.ensures.trail.0,
       tt,
-      stops_behind digest first (flat_map (λ p. key_strings keys s p.0) (path_transactions (digest first) keys s)) (map (λ p. p.1) (scripts (digest first) keys s)) _ _ _ _
-          (λ h. unsigned_strings h (initial_unsigned h keys s) ++ flat_map (λ p. unsigned_strings h p.1) (path_transactions h keys s)) _ c.in_ok-keyed.ensures.trail.0 c.in_ok-keyed.ensures.trail.1 c.in_err-made.ensures.trail.2,
+      stops_behind digest first (flat_map (λ p. key_strings keys s p.0) (path_transactions (digest first) keys s))
+          (map (λ p. p.1) (scripts (digest first) keys s)) _ _ _ _
+          (λ h. unsigned_strings h (initial_unsigned h keys s) ++ flat_map (λ p. unsigned_strings h p.1) (path_transactions h keys s)) _
+          c.in_ok-keyed.ensures.trail.0 c.in_ok-keyed.ensures.trail.1 c.in_err-made.ensures.trail.2,
     )
 
 pub returns-in_err-listed-clause-trail : goal.returns-in_err-listed-clause-trail
@@ -45,8 +53,10 @@ returns-in_err-listed-clause-trail g c =
     rw (p.1, p.2) (
       c.in_ok-made.ensures.trail.0 ∙ c.in_ok-keyed.ensures.trail.0,
       tt,
-      stops_late _ _ _ _ (hashed_four digest first (flat_map (λ p. key_strings keys s p.0) (path_transactions (digest first) keys s)) (map (λ p. p.1) (scripts (digest first) keys s)) _ _ _ _
-          (λ h. unsigned_strings h (initial_unsigned h keys s) ++ flat_map (λ p. unsigned_strings h p.1) (path_transactions h keys s)) c.in_ok-keyed.ensures.trail.0 c.in_ok-keyed.ensures.trail.1 c.in_ok-made.ensures.trail.1),
+      stops_late _ _ _ _ (hashed_four digest first (flat_map (λ p. key_strings keys s p.0) (path_transactions (digest first) keys s))
+          (map (λ p. p.1) (scripts (digest first) keys s)) _ _ _ _
+          (λ h. unsigned_strings h (initial_unsigned h keys s) ++ flat_map (λ p. unsigned_strings h p.1) (path_transactions h keys s))
+          c.in_ok-keyed.ensures.trail.0 c.in_ok-keyed.ensures.trail.1 c.in_ok-made.ensures.trail.1),
     )
 
 pub returns-clause-trail : goal.returns-clause-trail
@@ -56,8 +66,10 @@ returns-clause-trail g c =
     let keys = g.K.KeySource.keys c.args.source.now in
     let s = c.args.setting.now in (
       c.in_ok-made.ensures.trail.0 ∙ c.in_ok-keyed.ensures.trail.0,
-      hashed_four digest first (flat_map (λ p. key_strings keys s p.0) (path_transactions (digest first) keys s)) (map (λ p. p.1) (scripts (digest first) keys s)) _ _ _ _
-          (λ h. unsigned_strings h (initial_unsigned h keys s) ++ flat_map (λ p. unsigned_strings h p.1) (path_transactions h keys s)) c.in_ok-keyed.ensures.trail.0 c.in_ok-keyed.ensures.trail.1 c.in_ok-made.ensures.trail.1,
+      hashed_four digest first (flat_map (λ p. key_strings keys s p.0) (path_transactions (digest first) keys s))
+          (map (λ p. p.1) (scripts (digest first) keys s)) _ _ _ _
+          (λ h. unsigned_strings h (initial_unsigned h keys s) ++ flat_map (λ p. unsigned_strings h p.1) (path_transactions h keys s))
+          c.in_ok-keyed.ensures.trail.0 c.in_ok-keyed.ensures.trail.1 c.in_ok-made.ensures.trail.1,
       tt,
     )
 
@@ -68,4 +80,5 @@ returns-clause-scripts g c =
     let s = c.args.setting.now in
     let nodes = c.nodes.ensures ∙ c.requires.root in
     c.in_ok-listed.ensures ∙ ap (λ t. listed_scripts (listed_script t) 0 (map node_view c.nodes.result.now)) c.as_slice-2.ensures
-    ∙ listed_whole hash keys s (listed_script c.in_ok-keyed.keyed.1) (map node_view c.nodes.result.now) c.nodes_give_scripts.ensures nodes c.in_ok-keyed.ensures.scripts
+    ∙ listed_whole hash keys s (listed_script c.in_ok-keyed.keyed.1) (map node_view c.nodes.result.now) c.nodes_give_scripts.ensures nodes
+    c.in_ok-keyed.ensures.scripts

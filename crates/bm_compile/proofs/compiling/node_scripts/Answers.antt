@@ -19,7 +19,12 @@ returns-in_err-keys-clause-trail g c =
     let keys = g.K.KeySource.keys c.args.source.now in
     let s = c.args.setting.now in
     let labels = labels_whole hash keys s node_view c.nodes-nodes.result.now c.nodes_give_paths.ensures (c.nodes-nodes.ensures ∙ c.requires.root) in
-    rw (p.1, p.2) (c.in_err-keys.ensures.trail.0, tt, Stops-first hash _ _ _ (map (λ p. p.1) (scripts hash keys s)) _ (rw labels at c.in_err-keys.ensures.trail.2))
+    rw (p.1, p.2) (
+      c.in_err-keys.ensures.trail.0,
+      tt,
+      Stops-first hash _ _ _ (map (λ p. p.1) (scripts hash keys s)) _
+          (rw labels at c.in_err-keys.ensures.trail.2),
+    )
 
 pub returns-in_err-scripts-clause-trail : goal.returns-in_err-scripts-clause-trail
 returns-in_err-scripts-clause-trail g c =
@@ -35,7 +40,8 @@ returns-in_err-scripts-clause-trail g c =
     rw (p.1, p.2) (
       c.in_err-scripts.ensures.trail.0 ∙ c.in_ok-keys.ensures.trail.0,
       tt,
-      rw strings at (stops_then digest first _ _ _ _ _ (λ h. flat_map (λ node. scripts_of_node h keys s (map node_view nodes) (node_view node)) nodes) _ c.in_ok-keys.ensures.trail.0
+      rw strings at (stops_then digest first _ _ _ _ _
+          (λ h. flat_map (λ node. scripts_of_node h keys s (map node_view nodes) (node_view node)) nodes) _ c.in_ok-keys.ensures.trail.0
           (rw labels at c.in_ok-keys.ensures.trail.1) c.in_err-scripts.ensures.trail.2),
     )
 
@@ -48,7 +54,8 @@ returns-clause-keys g c =
 
 pub returns-clause-scripts : goal.returns-clause-scripts
 returns-clause-scripts g c =
-    scripts_whole (g.H.Hash32.digest_of c.args.trail.now.hasher) (g.K.KeySource.keys c.args.source.now) c.args.setting.now node_view c.nodes-nodes.result.now c.in_ok-scripts.scripts (c.nodes-nodes.ensures ∙ c.requires.root)
+    scripts_whole (g.H.Hash32.digest_of c.args.trail.now.hasher) (g.K.KeySource.keys c.args.source.now) c.args.setting.now node_view
+    c.nodes-nodes.result.now c.in_ok-scripts.scripts (c.nodes-nodes.ensures ∙ c.requires.root)
     (rw c.in_ok-keys.ensures.trail.0 at c.in_ok-scripts.ensures.scripts)
 
 pub returns-clause-trail : goal.returns-clause-trail
@@ -62,7 +69,8 @@ returns-clause-trail g c =
     let labels = labels_whole (digest first) keys s node_view nodes c.nodes_give_paths.ensures is in
     let strings = strings_whole (digest first) keys s node_view nodes c.nodes_give_scripts.ensures is in (
       c.in_ok-scripts.ensures.trail.0 ∙ c.in_ok-keys.ensures.trail.0,
-      rw strings at (hashed_then digest first _ _ _ _ _ (λ h. flat_map (λ node. scripts_of_node h keys s (map node_view nodes) (node_view node)) nodes) c.in_ok-keys.ensures.trail.0
+      rw strings at (hashed_then digest first _ _ _ _ _
+          (λ h. flat_map (λ node. scripts_of_node h keys s (map node_view nodes) (node_view node)) nodes) c.in_ok-keys.ensures.trail.0
           (rw labels at c.in_ok-keys.ensures.trail.1) c.in_ok-scripts.ensures.trail.1),
       tt,
     )

@@ -14,7 +14,12 @@ returns-in_err-init-clause-trail g c =
     let hash = g.H.Hash32.digest_of c.args.trail.now.hasher in
     let keys = g.K.KeySource.keys c.args.source.now in
     let s = c.args.setting.now in
-    rw (p.1, p.2) (c.in_err-init.ensures.trail.0, tt, Stops-first hash _ _ (unsigned_strings hash (initial_unsigned hash keys s)) (flat_map (λ p. unsigned_strings hash p.1) (path_transactions hash keys s)) _ c.in_err-init.ensures.trail.2)
+    rw (p.1, p.2) (
+      c.in_err-init.ensures.trail.0,
+      tt,
+      Stops-first hash _ _ (unsigned_strings hash (initial_unsigned hash keys s))
+          (flat_map (λ p. unsigned_strings hash p.1) (path_transactions hash keys s)) _ c.in_err-init.ensures.trail.2,
+    )
 
 pub returns-in_err-paths-clause-trail : goal.returns-in_err-paths-clause-trail
 returns-in_err-paths-clause-trail g c =
@@ -26,7 +31,8 @@ returns-in_err-paths-clause-trail g c =
     rw (p.1, p.2) (
       c.in_err-paths.ensures.trail.0 ∙ c.in_ok-init.ensures.trail.0,
       tt,
-      stops_then digest first _ _ _ _ (unsigned_strings (digest first) (initial_unsigned (digest first) keys s)) (λ h. flat_map (λ p. unsigned_strings h p.1) (path_transactions h keys s)) _
+      stops_then digest first _ _ _ _ (unsigned_strings (digest first) (initial_unsigned (digest first) keys s))
+          (λ h. flat_map (λ p. unsigned_strings h p.1) (path_transactions h keys s)) _
           c.in_ok-init.ensures.trail.0 c.in_ok-init.ensures.trail.1 c.in_err-paths.ensures.trail.2,
     )
 
@@ -37,7 +43,8 @@ returns-clause-trail g c =
     let keys = g.K.KeySource.keys c.args.source.now in
     let s = c.args.setting.now in (
       c.in_ok-paths.ensures.trail.0 ∙ c.in_ok-init.ensures.trail.0,
-      hashed_then digest first _ _ _ _ (unsigned_strings (digest first) (initial_unsigned (digest first) keys s)) (λ h. flat_map (λ p. unsigned_strings h p.1) (path_transactions h keys s))
+      hashed_then digest first _ _ _ _ (unsigned_strings (digest first) (initial_unsigned (digest first) keys s))
+          (λ h. flat_map (λ p. unsigned_strings h p.1) (path_transactions h keys s))
           c.in_ok-init.ensures.trail.0 c.in_ok-init.ensures.trail.1 c.in_ok-paths.ensures.trail.1,
       tt,
     )

@@ -12,5 +12,6 @@ invariant-loop-entry g l =
     let keys = g.K.KeySource.keys l.source in
     record {
       bound : list_all (λ d. is_bound l.setting.bound d.0) (deposits (drop l.entry-index l.entry-items)) ≡ true;
-      spends : l.spends ++ map (λ d. deposit hash keys l.setting d.0 d.1) (persistent (drop l.entry-index l.entry-items)) ≡ persistent_deposits hash keys l.setting;
+      spends : l.spends ++ map (λ d. deposit hash keys l.setting d.0 d.1) (persistent (drop l.entry-index l.entry-items))
+          ≡ persistent_deposits hash keys l.setting;
     }

@@ -11,6 +11,8 @@ invariant-loop-node g l =
     let source = g.K.KeySource.keys l.source in
     record {
       hasher : l.trail.hasher ≡ l.fn.trail.hasher;
-      keys : l.table ++ map (λ node. keys_of_node hash source l.setting (node_view node)) (drop l.node-index l.nodes) ≡ map (λ node. keys_of_node hash source l.setting (node_view node)) l.nodes;
-      trail : Hashed hash l.fn.trail.messages l.trail.messages (flat_map (λ node. labels_of_node source l.setting (node_view node)) (take l.node-index l.nodes));
+      keys : l.table ++ map (λ node. keys_of_node hash source l.setting (node_view node)) (drop l.node-index l.nodes)
+          ≡ map (λ node. keys_of_node hash source l.setting (node_view node)) l.nodes;
+      trail : Hashed hash l.fn.trail.messages l.trail.messages
+          (flat_map (λ node. labels_of_node source l.setting (node_view node)) (take l.node-index l.nodes));
     }

@@ -13,6 +13,8 @@ invariant-loop-party g l =
     record {
       label : (q : List ℕ) → named_for l.label q ≡ branch_label l.contract l.path q;
       hasher : l.trail.hasher ≡ l.fn.trail.hasher;
-      keys : l.keys ++ map (λ party. key_in hash source (branch_label l.contract l.path party)) (drop l.party-index l.parties) ≡ map (λ party. key_in hash source (branch_label l.contract l.path party)) l.parties;
-      trail : Hashed hash l.fn.trail.messages l.trail.messages (flat_map (λ party. label_strings source (branch_label l.contract l.path party)) (take l.party-index l.parties));
+      keys : l.keys ++ map (λ party. key_in hash source (branch_label l.contract l.path party)) (drop l.party-index l.parties)
+          ≡ map (λ party. key_in hash source (branch_label l.contract l.path party)) l.parties;
+      trail : Hashed hash l.fn.trail.messages l.trail.messages
+          (flat_map (λ party. label_strings source (branch_label l.contract l.path party)) (take l.party-index l.parties));
     }

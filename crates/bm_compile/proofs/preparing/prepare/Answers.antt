@@ -13,7 +13,12 @@ returns-in_err-txid-clause-trail g c =
     let p = err_from_is_err_and c.from_residual-in_err-txid.result c.from_residual-in_err-txid.ensures.1 in
     let hash = g.H.Hash32.digest_of c.args.trail.now.hasher in
     let tx = tx_of c.args.unsigned.now in
-    rw (p.1, p.2) (c.in_err-txid.ensures.trail.0, tt, Stops-first hash _ _ (txid_strings hash tx) (shared_strings hash tx ++ flat_map (spent_strings hash tx) c.args.unsigned.now.spends) _ (rw c.in_ok-tx.ensures at c.in_err-txid.ensures.trail.2))
+    rw (p.1, p.2) (
+      c.in_err-txid.ensures.trail.0,
+      tt,
+      Stops-first hash _ _ (txid_strings hash tx)
+          (shared_strings hash tx ++ flat_map (spent_strings hash tx) c.args.unsigned.now.spends) _ (rw c.in_ok-tx.ensures at c.in_err-txid.ensures.trail.2),
+    )
 
 pub returns-in_err-lists-clause-trail : goal.returns-in_err-lists-clause-trail
 returns-in_err-lists-clause-trail g c =
@@ -25,7 +30,8 @@ returns-in_err-lists-clause-trail g c =
     rw (p.1, p.2) (
       c.in_err-lists.ensures.trail.0 ∙ c.in_ok-txid.ensures.trail.0,
       tt,
-      stops_then digest c.args.trail.now.hasher _ _ _ _ (txid_strings (digest c.args.trail.now.hasher) tx) (λ h. shared_strings h tx ++ flat_map (spent_strings h tx) spends) _ c.in_ok-txid.ensures.trail.0
+      stops_then digest c.args.trail.now.hasher _ _ _ _ (txid_strings (digest c.args.trail.now.hasher) tx)
+          (λ h. shared_strings h tx ++ flat_map (spent_strings h tx) spends) _ c.in_ok-txid.ensures.trail.0
           (rw c.in_ok-tx.ensures at c.in_ok-txid.ensures.trail.1)
           (Stops-first hash _ _ (shared_strings hash tx) (flat_map (spent_strings hash tx) spends) _ (rw c.in_ok-tx.ensures at c.in_err-lists.ensures.trail.2)),
     )
@@ -40,9 +46,11 @@ returns-in_err-digests-clause-trail g c =
     rw (p.1, p.2) (
       c.in_err-digests.ensures.trail.0 ∙ same,
       tt,
-      stops_then digest c.args.trail.now.hasher _ _ _ _ (txid_strings (digest c.args.trail.now.hasher) tx) (λ h. shared_strings h tx ++ flat_map (spent_strings h tx) spends) _ c.in_ok-txid.ensures.trail.0
+      stops_then digest c.args.trail.now.hasher _ _ _ _ (txid_strings (digest c.args.trail.now.hasher) tx)
+          (λ h. shared_strings h tx ++ flat_map (spent_strings h tx) spends) _ c.in_ok-txid.ensures.trail.0
           (rw c.in_ok-tx.ensures at c.in_ok-txid.ensures.trail.1)
-          (stops_then digest c.txid.new.trail.hasher _ _ _ _ (shared_strings (digest c.txid.new.trail.hasher) tx) (λ h. flat_map (spent_strings h tx) spends) _ c.in_ok-lists.ensures.trail.0
+          (stops_then digest c.txid.new.trail.hasher _ _ _ _ (shared_strings (digest c.txid.new.trail.hasher) tx)
+          (λ h. flat_map (spent_strings h tx) spends) _ c.in_ok-lists.ensures.trail.0
           (rw c.in_ok-tx.ensures at c.in_ok-lists.ensures.trail.1)
           (rw (c.in_ok-tx.ensures, c.as_slice.ensures) at c.in_err-digests.ensures.trail.2)),
     )
@@ -54,9 +62,11 @@ returns-clause-trail g c =
     let spends = c.args.unsigned.now.spends in
     let same = c.in_ok-digests.ensures.trail.0 ∙ c.in_ok-lists.ensures.trail.0 ∙ c.in_ok-txid.ensures.trail.0 in (
       same,
-      hashed_then digest c.args.trail.now.hasher _ _ _ _ (txid_strings (digest c.args.trail.now.hasher) tx) (λ h. shared_strings h tx ++ flat_map (spent_strings h tx) spends) c.in_ok-txid.ensures.trail.0
+      hashed_then digest c.args.trail.now.hasher _ _ _ _ (txid_strings (digest c.args.trail.now.hasher) tx)
+          (λ h. shared_strings h tx ++ flat_map (spent_strings h tx) spends) c.in_ok-txid.ensures.trail.0
           (rw c.in_ok-tx.ensures at c.in_ok-txid.ensures.trail.1)
-          (hashed_then digest c.txid.new.trail.hasher _ _ _ _ (shared_strings (digest c.txid.new.trail.hasher) tx) (λ h. flat_map (spent_strings h tx) spends) c.in_ok-lists.ensures.trail.0
+          (hashed_then digest c.txid.new.trail.hasher _ _ _ _ (shared_strings (digest c.txid.new.trail.hasher) tx)
+          (λ h. flat_map (spent_strings h tx) spends) c.in_ok-lists.ensures.trail.0
           (rw c.in_ok-tx.ensures at c.in_ok-lists.ensures.trail.1)
           (rw (c.in_ok-tx.ensures, c.as_slice.ensures) at c.in_ok-digests.ensures.trail.1)),
       tt,

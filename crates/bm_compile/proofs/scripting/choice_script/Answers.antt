@@ -14,8 +14,12 @@ loop-number-preserved c =
     let old = c.loop-number.ops.items in
     let one = c.in_ok-branch_ops.field-0 in
     record {
-      made = λ hash keys e. mapped_get (λ m. branch_ops (node_demands hash keys c.args.setting.now (slice_get (map node_view c.args.nodes.now) m))) c.args.branches.now c.loop-number.number-index one.items (map (λ ops. ops.items) old) _ _
-          c.loop-number-test.true (c.in_ok-branch_ops.ensures.operations hash keys e) (ap (map (λ ops. ops.items)) c.in_ok-push.ensures.items ∙ map-append (λ ops. ops.items) old (one ∷ [])) (c.loop-number.invariant.made hash keys e);
+      made = λ hash keys e. mapped_get (λ m. branch_ops
+          (node_demands hash keys c.args.setting.now (slice_get (map node_view c.args.nodes.now) m))) c.args.branches.now
+          c.loop-number.number-index one.items (map (λ ops. ops.items) old) _ _
+          c.loop-number-test.true (c.in_ok-branch_ops.ensures.operations hash keys e)
+          (ap (map (λ ops. ops.items)) c.in_ok-push.ensures.items ∙ map-append (λ ops. ops.items) old (one ∷ []))
+          (c.loop-number.invariant.made hash keys e);
       short = rw c.in_ok-push.ensures.items (all_push _ old one c.loop-number.invariant.short c.in_ok-branch_ops.ensures.short);
     }
 

@@ -12,7 +12,8 @@ use Rattle.bm_compile.proofs.scripting.choice_script.Given as goal
 abbrev pub invariant-loop-number : goal.invariant-loop-number
 invariant-loop-number l = record {
   made : (hash : List ℕ → List ℕ) (all : Keys) → l.keys ≡ map (λ node. keys_of_node hash all l.setting (node_view node)) l.nodes →
-      map (λ ops. ops.items) l.ops.items ++ map (λ m. branch_ops (node_demands hash all l.setting (slice_get (map node_view l.nodes) m))) (drop l.number-index l.branches)
+      map (λ ops. ops.items) l.ops.items ++ map (λ m. branch_ops (node_demands hash all l.setting (slice_get (map node_view l.nodes) m)))
+      (drop l.number-index l.branches)
       ≡ map (λ m. branch_ops (node_demands hash all l.setting (slice_get (map node_view l.nodes) m))) l.branches;
   short : list_all (λ ops. list_all is_short_push ops.items) l.ops.items ≡ true;
 }

@@ -12,6 +12,8 @@ invariant-loop-node g l =
     let all = map node_view l.nodes in
     record {
       hasher : l.trail.hasher ≡ l.fn.trail.hasher;
-      scripts : l.scripts ++ map (λ node. script_of_node hash keys l.setting all (node_view node)) (drop l.node-index l.nodes) ≡ map (λ node. script_of_node hash keys l.setting all (node_view node)) l.nodes;
-      trail : Hashed hash l.fn.trail.messages l.trail.messages (flat_map (λ node. scripts_of_node hash keys l.setting all (node_view node)) (take l.node-index l.nodes));
+      scripts : l.scripts ++ map (λ node. script_of_node hash keys l.setting all (node_view node)) (drop l.node-index l.nodes)
+          ≡ map (λ node. script_of_node hash keys l.setting all (node_view node)) l.nodes;
+      trail : Hashed hash l.fn.trail.messages l.trail.messages
+          (flat_map (λ node. scripts_of_node hash keys l.setting all (node_view node)) (take l.node-index l.nodes));
     }

@@ -9,7 +9,8 @@ use Rattle.bm_compile.proofs.stacking.push_parts.Given as goal
 abbrev pub invariant-loop-value : goal.invariant-loop-value
 invariant-loop-value l = record {
   few : length l.rest ≤ 1024;
-  waits : (hash : List ℕ → List ℕ) (d : Unsigned) → l.txid ≡ txid hash (tx_of d) → parts_wait hash d 0 l.rest ++ reverse l.stack.items ≡ parts_wait hash d 0 l.parts ++ reverse l.initial.stack.items;
+  waits : (hash : List ℕ → List ℕ) (d : Unsigned) → l.txid ≡ txid hash (tx_of d) → parts_wait hash d 0 l.rest ++ reverse l.stack.items
+      ≡ parts_wait hash d 0 l.parts ++ reverse l.initial.stack.items;
 }
 
 abbrev pub decreases-loop-value : goal.decreases-loop-value

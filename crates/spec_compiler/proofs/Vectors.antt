@@ -1,4 +1,4 @@
--- Worked values of the definitions, each by computation alone.
+-- Test vectors of the definitions, each by computation alone.
 use Rattle.std.proofs.Common.{◌≡◌, ℕ, ◌+◌, ◌*◌, ◌%◌, List, [], ◌∷◌, ◌++◌, length, map, refl}
 use Rattle.std.specs.Prelude.{codes, fold, replicate, drop, Option, None, Some, pos, false}
 use Rattle.spec_terms.specs.Term.{always, auth, after, put_reveal, withdraw, split, Contract, no_branch, branch, no_part, part}
@@ -177,7 +177,8 @@ values d = map (λ o. o.value) d.outputs
 first_value : values (initial_unsigned weigh divides) ≡ 9 ∷ []
 first_value = refl
 
-later_values : map {B = List PathStep × List ℕ} (λ p. (p.0, values p.1)) (path_transactions weigh divides) ≡ (To 0 ∷ [], 5 ∷ (3 ∷ [])) ∷ ((To 0 ∷ (Into 0 ∷ (To 0 ∷ [])), 4 ∷ []) ∷ ((To 0 ∷ (Into 1 ∷ (To 0 ∷ [])), 2 ∷ []) ∷ []))
+later_values : map {B = List PathStep × List ℕ} (λ p. (p.0, values p.1)) (path_transactions weigh divides) ≡ (To 0 ∷ [], 5 ∷ (3 ∷ []))
+    ∷ ((To 0 ∷ (Into 0 ∷ (To 0 ∷ [])), 4 ∷ []) ∷ ((To 0 ∷ (Into 1 ∷ (To 0 ∷ [])), 2 ∷ []) ∷ []))
 later_values = refl
 
 -- each transaction is also found by its path
@@ -187,7 +188,8 @@ found = refl
 -- ---- what is waited for
 
 -- for the split and for each withdrawal A's signature
-needed : map (λ n. n.path) (needs weigh 0 divides.advert (compilation weigh divides).paths) ≡ (To 0 ∷ []) ∷ ((To 0 ∷ (Into 0 ∷ (To 0 ∷ []))) ∷ ((To 0 ∷ (Into 1 ∷ (To 0 ∷ []))) ∷ []))
+needed : map (λ n. n.path) (needs weigh 0 divides.advert (compilation weigh divides).paths) ≡ (To 0 ∷ [])
+    ∷ ((To 0 ∷ (Into 0 ∷ (To 0 ∷ []))) ∷ ((To 0 ∷ (Into 1 ∷ (To 0 ∷ []))) ∷ []))
 needed = refl
 
 -- each branch waits for the party that it doesn't ask

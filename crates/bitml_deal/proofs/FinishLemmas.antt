@@ -27,7 +27,7 @@ pub unfinished_is : {E : Type 0} (error : FinishError) (why : Option FinishRefus
     → IfOk r (λ reply. printed reply ≡ unless_refused why bytes)
 unfinished_is (finishes.Refused refusal) why bytes (Ok reply) e h = h ∙ sym (ap (λ o. unless_refused o bytes) e)
 unfinished_is finishes.Memory why bytes (Ok reply) e h = absurd h
-unfinished_is error why bytes (Err want) e h = tt
+unfinished_is error why bytes (Err requirement) e h = tt
 
 -- the signatures of a file, by the transactions
 pub given_is : (hash : List ℕ → List ℕ) (keys : Keys) (s : Instance) (ts : List Transaction) (text : Text) → ts ≡ transactions hash keys s

@@ -11,6 +11,7 @@ use Rattle.spec_text.specs.Refusals.{contract_of}
 use Rattle.spec_tool.specs.Answers.{ended}
 use Rattle.spec_tool.specs.Commands.{Printed}
 use Rattle.spec_tool.specs.Reads.{Read, Text, texts_read}
+use Rattle.spec_compiler.specs.Keyed.OwnScripts.{no_scripts}
 use Rattle.spec_deal.specs.declared.deal.Deal.{Deal}
 use Rattle.spec_deal.specs.Answers.{deal_text_answer, deal_read_answer, deal_answer}
 use Rattle.spec_deal.specs.Commands.{DealCommand, deal_files}
@@ -35,7 +36,7 @@ use Rattle.tool_shell.specs.Answered.{GivesUp}
 use Rattle.tool_shell.proofs.Ended.{ended_with}
 use Rattle.tool_shell.proofs.Seen.{some_command}
 use Rattle.bitml_deal.specs.Dealt.{Answers, AnswersOrGivesUp, CausedByTexts, Caused, Keeps, KeepsTaken}
-use Rattle.bitml_deal.specs.Dealt.{KeepsTexts, SignersTexts, IfFinished, Headline}
+use Rattle.bitml_deal.specs.Dealt.{KeepsTexts, SignersTexts, IfFinished, ReadsFiles, Headline}
 
 -- the theorems that are cited
 pub record Theorems : Type 0 where
@@ -50,6 +51,7 @@ pub record Theorems : Type 0 where
   pub signers : FilesForSigners
   pub once : NothingTwice
   pub verifier : IsEcdsa
+  pub files : ReadsFiles
   pub lists : MissingAndHeld
   pub starts : MayStart
   pub exactly : FinishesExactly
@@ -109,7 +111,7 @@ module _ (t : Theorems) (hash : List ℕ → List ℕ) (bytes : HashesBytes hash
       let keys = deal_keys deal in
       let s = deal_instance advert deal in
       let sized = t.sized secp256k1 hash advert deal_text deal d in
-      let settled = sized.settled (well_formed contract_text advert c) in
+      let applied = sized.applied (well_formed contract_text advert c) in
       record {
         gives_all = t.gives_all secp256k1 advert deal_text deal d;
         sized = sized;
@@ -117,7 +119,7 @@ module _ (t : Theorems) (hash : List ℕ → List ℕ) (bytes : HashesBytes hash
         verified = λ file given read. t.verified secp256k1 hash keys s file given read;
         planned = t.planned hash keys s;
         asks = t.asks hash keys s;
-        hashes = t.hashes hash (key_at deal.keys) s;
+        hashes = t.hashes hash (key_at deal.keys) no_scripts s;
         lists = λ given slot. t.lists hash keys s given slot;
         starts = λ given. t.starts hash keys s given;
         finishes = λ file given strings which l read shown there. record {
@@ -126,7 +128,7 @@ module _ (t : Theorems) (hash : List ℕ → List ℕ) (bytes : HashesBytes hash
               t.finished secp256k1 hash advert deal_text deal file given strings which l (well_formed contract_text advert c) d read shown there none;
         };
         opens = λ valid position contract stack there short. t.scripts hash keys valid s position contract stack sized.are_keys
-            (record { checked = settled.checked; committed = settled.committed; is_position = there }) short;
+            (record { checked = applied.checked; committed = applied.committed; is_position = there }) short;
         no_other_way = λ valid. t.no_other_way hash keys valid;
       }
 
@@ -177,6 +179,7 @@ module _ (t : Theorems) (hash : List ℕ → List ℕ) (bytes : HashesBytes hash
             finished = finished command a.reads;
             signers = signers_texts (texts_read a.reads);
             verifier = t.verifier;
+            files = t.files;
           });
           usage = λ e. (t.causes.usage secp256k1 hash command a.reads).0 (ended_with printed a.ends.went 2 (λ f. absurd (cc)) (sym e ∙ a.ends.status_is));
           unread = λ e.

@@ -46,8 +46,8 @@ pub collided_is : (hash here : List ℕ → List ℕ) (old new strings : List (L
     → here ≡ hash → old ≡ [] → error ≡ Collided → Stops hash old new strings error
     → Some p ≡ option_map (λ pair. collides (pair.0) (pair.1)) (evidence_of here new)
     → unless_collided (collision hash [] strings) inner ≡ p
-collided_is hash here old new strings inner p error same empty clash stops e =
-    let at : Stops hash [] new strings Collided = subst (λ (x : TrailError). Stops hash [] new strings x) clash
+collided_is hash here old new strings inner p error same empty collision_with stops e =
+    let at : Stops hash [] new strings Collided = subst (λ (x : TrailError). Stops hash [] new strings x) collision_with
     (subst (λ (ms : List (List ℕ)). Stops hash ms new strings error) empty stops) in
     let shows = stopped_shows hash [] new strings refl at in
     by_pair (collision hash [] strings)
@@ -71,4 +71,4 @@ refused_leads hash advert read messages (deals.Refused fault) (Ok (Refused reply
     λ answer. ap (with_deal hash answer advert) e ∙ sym h
 refused_leads hash advert read messages (deals.Refused fault) (Ok (Taken c)) e h = absurd h
 refused_leads hash advert read messages deals.Memory (Ok opening) e h = absurd h
-refused_leads hash advert read messages error (Err want) e h = tt
+refused_leads hash advert read messages error (Err requirement) e h = tt

@@ -29,6 +29,7 @@ use Rattle.spec_deal.specs.Slots.{Slot}
 use Rattle.spec_deal.specs.Verifier.{secp256k1}
 use Rattle.theory_deal.specs.Asked.{DealAsks}
 use Rattle.theory_deal.specs.Causes.{reads_deal, is_deal_refused, causes, first_status}
+use Rattle.theory_deal.specs.DealLines.{DealFilesAreRead}
 use Rattle.theory_deal.specs.Ecdsa.{IsEcdsa}
 use Rattle.theory_deal.specs.Files.{GivesAll, IsSized, are_points, AreVerified}
 use Rattle.theory_deal.specs.FinishAnswers.{finishes, IsFinishedText}
@@ -36,6 +37,8 @@ use Rattle.theory_deal.specs.Finished.{NoOtherWay}
 use Rattle.theory_deal.specs.ForSigners.{IsTaken, GivesSigners}
 use Rattle.theory_deal.specs.NothingTwice.{GivesOnce}
 use Rattle.theory_deal.specs.Plan.{IsPlanOfRuns}
+use Rattle.theory_deal.specs.SecretLines.{SecretFilesAreRead}
+use Rattle.theory_deal.specs.SignatureLines.{SignatureFilesAreRead}
 use Rattle.theory_deal.specs.Signatures.{ListsExactly, StartsExactly}
 use Rattle.theory_deal.specs.Whole.{AreRead, IsComplete, IsFinished}
 use Rattle.bm_io.specs.Counts.{RoseBy}
@@ -56,7 +59,7 @@ seen call = command call.command
 abbrev pub Answers : (List ℕ → List ℕ) → Option DealCommand → Around → Around → ℕ → Type 0
 Answers hash command before now status = AnswersBy (deal_answer secp256k1 hash command) (option_map deal_files command) before now status
 
--- the same, or want of memory
+-- the same, or out of memory
 abbrev pub AnswersOrGivesUp : (List ℕ → List ℕ) → Option DealCommand → Around → Around → ℕ → Type 0
 AnswersOrGivesUp hash command before now status =
     AnswersByOrGivesUp (deal_answer secp256k1 hash command) (option_map deal_files command) before now status
@@ -155,6 +158,14 @@ SignersTexts hash (Some texts) =
     (advert : Advert) (deal : Deal) (contract_file deal_file : List ℕ) → IsTaken secp256k1 hash texts advert deal
     → GivesSigners secp256k1 hash texts advert deal contract_file deal_file
 
+-- ---- files
+
+-- each file is what its lines say, or is refused at the first bad one, by its first reason
+pub record ReadsFiles : Type 0 where
+  pub deals : DealFilesAreRead
+  pub signatures : SignatureFilesAreRead
+  pub secrets : SecretFilesAreRead
+
 -- ---- the headline
 
 -- an answer with what is known of it
@@ -170,6 +181,8 @@ pub record Serves (hash : List ℕ → List ℕ) (command : Option DealCommand) 
   pub signers : SignersTexts hash (texts_read answers.reads)
   -- signatures are judged by the curve
   pub verifier : IsEcdsa
+  -- and each file is read by its lines
+  pub files : ReadsFiles
 
 -- what a call with this command does to what stands around it, and its status
 pub record Headline (hash : List ℕ → List ℕ) (command : Option DealCommand) (before now : Around) (status : ℕ) : Type 0 where
@@ -180,5 +193,5 @@ pub record Headline (hash : List ℕ → List ℕ) (command : Option DealCommand
   pub unread : status ≡ 3 → RoseBy 1 before.read_faults now.read_faults
   -- a fault of the sink is answered only where its count rose
   pub unwritten : status ≡ 4 → RoseBy 1 before.write_faults now.write_faults
-  -- memory is never wanting where the words are no command
+  -- memory never runs out where the words are no command
   pub memory : status ≡ 5 → is_some command ≡ true

@@ -35,7 +35,7 @@ pub record IsMade (hash : List ℕ → List ℕ) (c : Compiled) : Type 0 where
   pub signable : list_all is_signable c.made.transactions ≡ true
   pub scripts : c.made.scripts ≡ scripts hash (deal_keys c.deal) (deal_instance c.contract c.deal)
 
--- its strings were hashed, and none clashed
+-- its strings were hashed, and none collided
 abbrev pub HashedAll : (List ℕ → List ℕ) → List (List ℕ) → Compiled → Type 0
 HashedAll hash messages c = Hashed hash [] messages (deal_strings hash (deal_keys c.deal) (deal_instance c.contract c.deal))
 

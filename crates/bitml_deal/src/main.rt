@@ -1,4 +1,6 @@
-//! Compiles a contract with the keys, deposits and hashes of real wallets, and finishes its transactions by their signatures.
+//! The program behind `bitml deal`. It compiles a contract with the keys, deposits and hashes of real wallets, says
+//! which signatures are missing, and finishes transactions for the network. Its call `deal_tool` has one clause, which
+//! is all that the program promises.
 #![tactic(auto)]
 
 mod answering;

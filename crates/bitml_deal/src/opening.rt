@@ -52,7 +52,7 @@ fn deal_refused(alloc: Global, fault: &DealFault) -> Result<Reply, OutOfMemory>
 }
 
 /// What is replied where two strings of a trail collide.
-pub(crate) fn clash_reply<H: Hash32 + Drop>(
+pub(crate) fn collision_reply<H: Hash32 + Drop>(
     alloc: Global,
     trail: &Trail<H>,
 ) -> Result<Reply, OutOfMemory>
@@ -116,7 +116,7 @@ fn compile<H: Hash32 + Drop>(
                 },
             )
         }
-        Err(TrailError::Collided) => Ok(Opening::Refused(clash_reply(alloc, trail)?)),
+        Err(TrailError::Collided) => Ok(Opening::Refused(collision_reply(alloc, trail)?)),
         Err(TrailError::Memory) => Err(AllocError),
     }
 }

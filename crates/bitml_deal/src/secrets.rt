@@ -10,7 +10,7 @@ ghost use Rattle.bitml_deal.specs.Later as later;
 ghost use Rattle.bitml_deal.specs.Later.{Tells};
 ghost use Rattle.bitml_deal.specs.Opens.{HashedAll};
 
-use crate::opening::{Compiled, clash_reply};
+use crate::opening::{Compiled, collision_reply};
 use bm_hash::{Hash32, Trail};
 use deal_secrets::{SecretsError, Strings, put_secrets_refused, read_secrets};
 use spec_data::{Bytes, OutOfMemory};
@@ -51,7 +51,7 @@ fn secrets_of<H: Hash32 + Drop>(
     match read_secrets(alloc, trail, &compiled.contract, hashes, text) {
         Ok(strings) => Ok(Shown::Taken(strings)),
         Err(SecretsError::Refused(fault)) => Ok(Shown::Refused(secrets_refused(alloc, fault)?)),
-        Err(SecretsError::Collided) => Ok(Shown::Refused(clash_reply(alloc, trail)?)),
+        Err(SecretsError::Collided) => Ok(Shown::Refused(collision_reply(alloc, trail)?)),
         Err(SecretsError::Memory) => Err(AllocError),
     }
 }

@@ -17,10 +17,10 @@ use spec_data::{Bytes, OutOfMemory};
 use spec_tool::Reply;
 use std::alloc::Global;
 use theory_deal::{
-    deal_statuses_have_causes, deals_are_sized, deals_ask, deals_give_all, deals_hash,
-    false_without_one, files_for_signers, finish_answers, finish_theorem, finishes_exactly,
-    is_ecdsa, keys_are_points, may_start, missing_and_held, nothing_twice, plan_of_runs,
-    signatures_verify,
+    deal_files_are_read, deal_statuses_have_causes, deals_are_sized, deals_ask, deals_give_all,
+    deals_hash, false_without_one, files_for_signers, finish_answers, finish_theorem,
+    finishes_exactly, is_ecdsa, keys_are_points, may_start, missing_and_held, nothing_twice,
+    plan_of_runs, secret_files_are_read, signature_files_are_read, signatures_verify,
 };
 use theory_script::any_keys::script_theorem;
 use tool_shell::{Call, serve};
@@ -97,6 +97,9 @@ pub fn deal_tool<H: Hash32 + Drop, F: Files, S: Sink>(
     files_for_signers();
     nothing_twice();
     is_ecdsa();
+    deal_files_are_read();
+    signature_files_are_read();
+    secret_files_are_read();
     missing_and_held();
     may_start();
     finishes_exactly();

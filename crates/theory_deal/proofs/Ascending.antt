@@ -48,18 +48,18 @@ ascend_flat Q R f (x ∷ xs) h each across =
 
 -- ---- what stands before what
 
-in_split : {X : Type 0} (xs : List X) (y : X) → Is_in y xs → (front : List X) × (behind : List X) × (xs ≡ front ++ y ∷ behind)
+in_split : {X : Type 0} (xs : List X) (y : X) → Is_in y xs → (prefix : List X) × (behind : List X) × (xs ≡ prefix ++ y ∷ behind)
 in_split [] y h = absurd h
 in_split (x ∷ xs) y (inl e) = ([], xs, ap (λ z. z ∷ xs) (sym e))
 in_split (x ∷ xs) y (inr h) = let r = in_split xs y h in (x ∷ r.0, r.1, ap (λ zs. x ∷ zs) r.2)
 
-standing_from : {X : Type 0} (front xs : List X) → IsAscending (Precedes (front ++ xs)) xs
-standing_from front [] = tt
-standing_from {X} front (x ∷ xs) = (
+standing_from : {X : Type 0} (prefix xs : List X) → IsAscending (Precedes (prefix ++ xs)) xs
+standing_from prefix [] = tt
+standing_from {X} prefix (x ∷ xs) = (
   λ y i.
       let r = in_split xs y i in
-      record { front = front; between = r.0; behind = r.1; stands = ap (λ (zs : List X). front ++ x ∷ zs) r.2 },
-  subst (λ (zs : List X). IsAscending (Precedes zs) xs) (append_assoc front (x ∷ []) xs) (standing_from (front ++ x ∷ []) xs),
+      record { prefix = prefix; between = r.0; behind = r.1; stands = ap (λ (zs : List X). prefix ++ x ∷ zs) r.2 },
+  subst (λ (zs : List X). IsAscending (Precedes zs) xs) (append_assoc prefix (x ∷ []) xs) (standing_from (prefix ++ x ∷ []) xs),
 )
 
 -- each stands before all that stand behind it
@@ -71,13 +71,13 @@ standing xs = standing_from [] xs
 abbrev pub AreApart : {X : Type 0} → List X → Type 0
 AreApart {X} xs = IsAscending (λ (a b : X). a ≡ b → ⊥) xs
 
-apart_from : {X : Type 0} (front : List X) (x : X) (between : List X) (y : X) (behind : List X)
-    → AreApart (front ++ x ∷ (between ++ y ∷ behind)) → x ≡ y → ⊥
+apart_from : {X : Type 0} (prefix : List X) (x : X) (between : List X) (y : X) (behind : List X)
+    → AreApart (prefix ++ x ∷ (between ++ y ∷ behind)) → x ≡ y → ⊥
 apart_from [] x between y behind h = h.0 y (in_right y between (y ∷ behind) (inl refl))
-apart_from (z ∷ front) x between y behind h = apart_from front x between y behind h.1
+apart_from (z ∷ prefix) x between y behind h = apart_from prefix x between y behind h.1
 
 pub precedes_apart : {X : Type 0} (xs : List X) (x y : X) → AreApart xs → Precedes xs x y → x ≡ y → ⊥
-precedes_apart xs x y h p = apart_from p.front x p.between y p.behind (subst AreApart p.stands h)
+precedes_apart xs x y h p = apart_from p.prefix x p.between y p.behind (subst AreApart p.stands h)
 
 path_among : (path : List PathStep) (paths : List (List PathStep)) → Is_in path paths → is_path_among path paths ≡ true
 path_among path [] h = absurd h

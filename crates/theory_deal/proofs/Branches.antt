@@ -30,23 +30,23 @@ module _ (hash : List ℕ → List ℕ) (keys : Keys) (s : Instance) where
   by_position_end j (at_position here choice) = refl
   by_position_end j (at_branch here i b) = refl
 
-  of_position : (front : List PathStep) (x : Standing × Contract) (j : ℕ) (o : Option term.Guarded) (r : PathEnd)
-      → option_and_then (as_position hash keys s) (end_at hash keys s front) ≡ Some x → slice_get (branches x.1) j ≡ o
+  of_position : (prefix : List PathStep) (x : Standing × Contract) (j : ℕ) (o : Option term.Guarded) (r : PathEnd)
+      → option_and_then (as_position hash keys s) (end_at hash keys s prefix) ≡ Some x → slice_get (branches x.1) j ≡ o
       → option_map (at_branch x.0 j) o ≡ Some r → IfFound r
-  of_position front x j None r there is e = cc
-  of_position front x j (Some b) r there is e =
-      let stands = position_stands hash keys s front (x.0) (x.1) there in
+  of_position prefix x j None r there is e = cc
+  of_position prefix x j (Some b) r there is e =
+      let stands = position_stands hash keys s prefix (x.0) (x.1) there in
       subst IfFound (some_same e) (record {
         choice = x.1;
         stands = subst (λ (q : List PathStep). StandsAt hash keys s q (x.0) (x.1)) (sym stands.path) stands;
         is_branch = is;
       })
 
-  of_branch : (front : List PathStep) (j : ℕ) (o : Option (Standing × Contract)) (r : PathEnd)
-      → option_and_then (as_position hash keys s) (end_at hash keys s front) ≡ o
+  of_branch : (prefix : List PathStep) (j : ℕ) (o : Option (Standing × Contract)) (r : PathEnd)
+      → option_and_then (as_position hash keys s) (end_at hash keys s prefix) ≡ o
       → option_and_then (λ (x : Standing × Contract). branch_end x.0 x.1 j) o ≡ Some r → IfFound r
-  of_branch front j None r there e = cc
-  of_branch front j (Some x) r there e = of_position front x j (slice_get (branches x.1) j) r there refl e
+  of_branch prefix j None r there e = cc
+  of_branch prefix j (Some x) r there e = of_position prefix x j (slice_get (branches x.1) j) r there refl e
 
   of_part : (here : Standing) (i k : ℕ) (b c : term.Guarded) (r : PathEnd) → part_end hash keys s here i b k c ≡ Some r → IfFound r
   of_part here i k b (put_reveal puts reveals test next) r e = cc
@@ -64,17 +64,17 @@ module _ (hash : List ℕ → List ℕ) (keys : Keys) (s : Instance) where
       by_part None x = cc
       by_part (Some p) x = subst IfFound (some_same x) tt
 
-  found_next : (front : List PathStep) (step : PathStep) (p r : PathEnd) → end_at hash keys s front ≡ Some p
+  found_next : (prefix : List PathStep) (step : PathStep) (p r : PathEnd) → end_at hash keys s prefix ≡ Some p
       → next_end hash keys s step p ≡ Some r → IfFound r
-  found_next front (To j) p r there e =
-      of_branch front j (as_position hash keys s p) r (ap (option_and_then (as_position hash keys s)) there) (sym (by_position_end j p) ∙ e)
-  found_next front (Into k) (at_position here choice) r there e = cc
-  found_next front (Into k) (at_branch here i b) r there e = of_part here i k b (core b) r e
+  found_next prefix (To j) p r there e =
+      of_branch prefix j (as_position hash keys s p) r (ap (option_and_then (as_position hash keys s)) there) (sym (by_position_end j p) ∙ e)
+  found_next prefix (Into k) (at_position here choice) r there e = cc
+  found_next prefix (Into k) (at_branch here i b) r there e = of_part here i k b (core b) r e
 
-  one_more : (front : List PathStep) (step : PathStep) (p : PathEnd) → end_at hash keys s front ≡ Some p
-      → end_at hash keys s (front ++ step ∷ []) ≡ next_end hash keys s step p
-  one_more front step p h =
-      end_from-step hash keys s (at_position (root_standing hash keys s) s.advert.root) front step
+  one_more : (prefix : List PathStep) (step : PathStep) (p : PathEnd) → end_at hash keys s prefix ≡ Some p
+      → end_at hash keys s (prefix ++ step ∷ []) ≡ next_end hash keys s step p
+  one_more prefix step p h =
+      end_from-step hash keys s (at_position (root_standing hash keys s) s.advert.root) prefix step
       ∙ ap (option_and_then (next_end hash keys s step)) h
 
   by_next : (P : PathEnd → Type 0) (steps : List PathStep) (q : PathEnd) (o : Option PathEnd)
@@ -85,17 +85,17 @@ module _ (hash : List ℕ → List ℕ) (keys : Keys) (s : Instance) where
 
   -- what each step keeps is kept along a path
   pub along : (P : PathEnd → Type 0)
-      → ((front : List PathStep) (step : PathStep) (p r : PathEnd) → end_at hash keys s front ≡ Some p → P p
+      → ((prefix : List PathStep) (step : PathStep) (p r : PathEnd) → end_at hash keys s prefix ≡ Some p → P p
       → next_end hash keys s step p ≡ Some r → P r)
-      → (front steps : List PathStep) (p q : PathEnd) → end_at hash keys s front ≡ Some p → P p → end_from hash keys s p steps ≡ Some q → P q
-  along P next front [] p q there now e = subst P (some_same e) now
-  along P next front (step ∷ steps) p q there now e =
+      → (prefix steps : List PathStep) (p q : PathEnd) → end_at hash keys s prefix ≡ Some p → P p → end_from hash keys s p steps ≡ Some q → P q
+  along P next prefix [] p q there now e = subst P (some_same e) now
+  along P next prefix (step ∷ steps) p q there now e =
       by_next P steps q (next_end hash keys s step p)
-      (λ r is k. along P next (front ++ step ∷ []) steps r q (one_more front step p there ∙ is) (next front step p r there now is) k) e
+      (λ r is k. along P next (prefix ++ step ∷ []) steps r q (one_more prefix step p there ∙ is) (next prefix step p r there now is) k) e
 
   -- the branch at the end of a path
   pub branch_found : (path : List PathStep) (here : Standing) (i : ℕ) (b : term.Guarded)
       → end_at hash keys s path ≡ Some (at_branch here i b) → Found here i b
   branch_found path here i b e =
-      along IfFound (λ front step p r there now is. found_next front step p r there is)
+      along IfFound (λ prefix step p r there now is. found_next prefix step p r there is)
       [] path (at_position (root_standing hash keys s) s.advert.root) (at_branch here i b) refl tt e

@@ -71,7 +71,7 @@ module _ (hash : List ℕ → List ℕ) (keys : Keys) (s : Instance) where
     branch_shown b spent (p ∷ ps) h =
         let slot : Slot = record {
           which = names.At path;
-          draft = d;
+          pending = d;
           input = 0;
           spent = spent;
           label = branch_label s.contract path p;
@@ -153,7 +153,7 @@ module _ (hash : List ℕ → List ℕ) (keys : Keys) (s : Instance) where
 
 pub endorsements_of_runs : EndorsementsOfRuns
 endorsements_of_runs hash keys s =
-    let first = none_initial hash keys s 0 (initial_listed hash keys s).draft.spends (persistent s.advert.pre) in
+    let first = none_initial hash keys s 0 (initial_listed hash keys s).pending.spends (persistent s.advert.pre) in
     let later = paths_shown hash keys s (path_transactions hash keys s) in
     shown_append hash keys s (listed_slots s.advert (initial_listed hash keys s))
     (flat_map (listed_slots s.advert) (map (λ p. path_listed s (p.0) (p.1)) (path_transactions hash keys s)))

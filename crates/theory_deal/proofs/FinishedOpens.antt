@@ -1,4 +1,4 @@
--- Where a transaction is finished, every judge that accepts the given signatures finds the scripts of all its inputs true.
+-- Where a transaction is finished, every oracle that accepts the given signatures finds the scripts of all its inputs true.
 use Rattle.std.proofs.Common.{◌≡◌, ℕ, zero, suc, ◌+◌, List, [], ◌∷◌, ◌++◌, length, map, Bool}
 use Rattle.std.proofs.Common.{true, false, not, Option, Some, None, refl, sym, ap, ◌∙◌, subst, arith, cond}
 use Rattle.std.specs.Prelude.{◌&&◌, ◌==◌, slice_get, is_some}
@@ -6,7 +6,7 @@ use Rattle.std.specs.List.{list_all, find}
 use Rattle.std.specs.Option.{option_map, option_map_or, option_and_then}
 use Rattle.std.specs.Str.{bytes_eq}
 use Rattle.std.proofs.lemmas.Bool.{and_parts, and_from}
-use Rattle.spec_data.specs.Lists.{or_else}
+use Rattle.spec_data.specs.Lists.{or_else, look_up}
 use Rattle.spec_terms.specs.Term as term
 use Rattle.spec_terms.specs.Term.{Pred, always, Contract, branches}
 use Rattle.spec_terms.specs.Core.{core, reveals_of, test_of, puts_of}
@@ -14,7 +14,7 @@ use Rattle.spec_terms.specs.Advert.{Advert}
 use Rattle.spec_terms.specs.Parties.{participants}
 use Rattle.spec_terms.specs.Paths as paths
 use Rattle.spec_terms.specs.Paths.{Subterm, as_branch, subterm_from, at, contract_under}
-use Rattle.spec_terms.specs.Precondition.{Holding, persistent}
+use Rattle.spec_terms.specs.Precondition.{Holding, persistent, volatile}
 use Rattle.spec_terms.specs.Value.{holds}
 use Rattle.spec_terms.specs.declared.path.PathStep.{PathStep}
 use Rattle.spec_bitcoin.specs.declared.label.Label.{Label}
@@ -26,9 +26,9 @@ use Rattle.spec_compiler.specs.Witness.{witness_stack, witness_of}
 use Rattle.spec_compiler.specs.Keyed.Keys.{Keys, key_in}
 use Rattle.spec_compiler.specs.Keyed.Instance.{Instance, branch_path, branch_label, branch_keys, deposit_key}
 use Rattle.spec_compiler.specs.declared.unsigned.Spent.{Spent}
-use Rattle.spec_compiler.specs.Keyed.Transactions.{Standing, party_script, deposit, put_deposits, branch_unsigned}
+use Rattle.spec_compiler.specs.Keyed.Transactions.{Standing, party_script, deposit, holding_or_none, put_deposits, branch_unsigned}
 use Rattle.spec_compiler.specs.Keyed.ByPath.{PathEnd, at_position, at_branch, end_at, as_unsigned}
-use Rattle.spec_compiler.specs.Keyed.Statements.{are_valid, are_secrets, is_secret, is_short, secret_lengths, AreKeys, IsCompiled, Fills}
+use Rattle.spec_compiler.specs.Keyed.Statements.{are_valid, are_secrets, is_secret, is_short, secret_lengths, AreKeys, AreKeyDeposits, IsCompiled, Fills}
 use Rattle.spec_compiler.specs.Keyed.Endorsements.{put_owner}
 use Rattle.spec_tool.specs.declared.which.Which.{Which}
 use Rattle.spec_tool.specs.declared.which.Which.TheVariants as names
@@ -48,9 +48,10 @@ use Rattle.theory_script.proofs.Checked.{IsSound, AllSound, is_good}
 use Rattle.theory_script.proofs.Keyed.Stands.{some_same, IfAgrees, agrees_at}
 use Rattle.theory_script.proofs.Keyed.Witnesses.{witness_opens}
 use Rattle.theory_script.proofs.Scripts.Deposits.{deposit_meaning}
-use Rattle.theory_deal.specs.Finished.{Judge, accepts_one, IsSettled, are_short, do_fit, AllOpen, FinishedOpens}
+use Rattle.theory_deal.specs.Finished.{Oracle, accepts_one, IsApplied, are_short, do_fit, AllOpen, FinishedOpens}
 use Rattle.theory_deal.proofs.Branches.{Found, branch_found}
 use Rattle.theory_deal.proofs.Listed.{all_pass}
+use Rattle.theory_deal.proofs.OfKeys.{deposit_of_key}
 
 -- ---- lists
 
@@ -107,19 +108,19 @@ module _ (hash : List ℕ → List ℕ) (s : Instance) (strings : List Shown) (f
       subst (λ (n : List ℕ). is_secret hash x.bytes (digest_of s.hashes n) ≡ true) (bytes-true x.name name r.1)
       (all_in (λ (y : Shown). is_secret hash y.bytes (digest_of s.hashes y.name)) strings x fit r.0)
 
-  all_fit : (wanted : List (List ℕ)) → list_all (λ name. is_some (string_for strings name)) wanted ≡ true
-      → are_secrets hash (strings_of strings wanted) (map (digest_of s.hashes) wanted) ≡ true
+  all_fit : (required : List (List ℕ)) → list_all (λ name. is_some (string_for strings name)) required ≡ true
+      → are_secrets hash (strings_of strings required) (map (digest_of s.hashes) required) ≡ true
   all_fit [] h = refl
-  all_fit (name ∷ wanted) h =
-      let p = and_parts (is_some (string_for strings name)) (list_all (λ n. is_some (string_for strings n)) wanted) h in
-      and_from _ _ (one_fits name (find (λ (x : Shown). bytes_eq x.name name) strings) refl p.0) (all_fit wanted p.1)
+  all_fit (name ∷ required) h =
+      let p = and_parts (is_some (string_for strings name)) (list_all (λ n. is_some (string_for strings n)) required) h in
+      and_from _ _ (one_fits name (find (λ (x : Shown). bytes_eq x.name name) strings) refl p.0) (all_fit required p.1)
 
 -- ---- signatures
 
 -- what the input needs by the key of this label
 abbrev pub slot_of : Advert → Listed → ℕ → Spent → Label → Slot
 slot_of advert l k spent label =
-    record { which = l.which; draft = l.draft; input = k; spent = spent; label = label; verb = verb_of advert l.which label }
+    record { which = l.which; pending = l.pending; input = k; spent = spent; label = label; verb = verb_of advert l.which label }
 
 module _ (hash : List ℕ → List ℕ) (keys : Keys) (s : Instance) (given : List Signed) (short : are_short given ≡ true) where
   signature_short : (slot : Slot) → is_short (bytes_or_none (signature_for hash keys given slot)) ≡ true
@@ -136,13 +137,13 @@ module _ (hash : List ℕ → List ℕ) (keys : Keys) (s : Instance) (given : Li
   input_short l k spent (label ∷ signers) =
       and_from _ _ (signature_short (slot_of s.advert l k spent label)) (input_short l k spent signers)
 
-module _ (hash : List ℕ → List ℕ) (keys : Keys) (s : Instance) (given : List Signed) (judge : Judge) where
+module _ (hash : List ℕ → List ℕ) (keys : Keys) (s : Instance) (given : List Signed) (oracle : Oracle) where
   input_valid : (l : Listed) (k : ℕ) (spent : Spent) (signers : List Label)
-      → list_all (accepts_one hash keys given judge) (input_slots s.advert l k spent signers) ≡ true
-      → are_valid (judge k) (input_signatures hash keys s given l k spent signers) (map (key_in hash keys) signers) ≡ true
+      → list_all (accepts_one hash keys given oracle) (input_slots s.advert l k spent signers) ≡ true
+      → are_valid (oracle k) (input_signatures hash keys s given l k spent signers) (map (key_in hash keys) signers) ≡ true
   input_valid l k spent [] h = refl
   input_valid l k spent (label ∷ signers) h =
-      let p = and_parts _ (list_all (accepts_one hash keys given judge) (input_slots s.advert l k spent signers)) h in
+      let p = and_parts _ (list_all (accepts_one hash keys given oracle) (input_slots s.advert l k spent signers)) h in
       and_from _ _ p.0 (input_valid l k spent signers p.1)
 
   -- ---- deposits
@@ -160,28 +161,28 @@ module _ (hash : List ℕ → List ℕ) (keys : Keys) (s : Instance) (given : Li
   AreDeposits (spent ∷ spends) (signers ∷ others) = IsDeposit spent signers × AreDeposits spends others
 
   one_deposit : AreKeys hash keys → are_short given ≡ true → (l : Listed) (k : ℕ) (spent : Spent) (signers : List Label)
-      → IsDeposit spent signers → list_all (accepts_one hash keys given judge) (input_slots s.advert l k spent signers) ≡ true
-      → script_meaning hash (judge k) spent.script (items_of (input_signatures hash keys s given l k spent signers ++ spent.script ∷ []))
+      → IsDeposit spent signers → list_all (accepts_one hash keys given oracle) (input_slots s.advert l k spent signers) ≡ true
+      → script_meaning hash (oracle k) spent.script (items_of (input_signatures hash keys s given l k spent signers ++ spent.script ∷ []))
       ≡ true
   one_deposit are_keys short l k spent signers d h =
       let key = deposit_key hash keys d.party in
-      ap (script_meaning hash (judge k) spent.script) (items_before (input_signatures hash keys s given l k spent signers) spent.script)
+      ap (script_meaning hash (oracle k) spent.script) (items_before (input_signatures hash keys s given l k spent signers) spent.script)
       ∙ subst
       (λ (labels : List Label).
-      list_all (accepts_one hash keys given judge) (input_slots s.advert l k spent labels) ≡ true
-      → script_meaning hash (judge k) spent.script (input_signatures hash keys s given l k spent labels) ≡ true)
+      list_all (accepts_one hash keys given oracle) (input_slots s.advert l k spent labels) ≡ true
+      → script_meaning hash (oracle k) spent.script (input_signatures hash keys s given l k spent labels) ≡ true)
       (sym d.signs)
       (λ a.
-      ap (λ (bytes : List ℕ). script_meaning hash (judge k) bytes (input_signatures hash keys s given l k spent
+      ap (λ (bytes : List ℕ). script_meaning hash (oracle k) bytes (input_signatures hash keys s given l k spent
       (deposit_signer d.party))) d.script
-      ∙ deposit_meaning hash (judge k) key (input_signatures hash keys s given l k spent (deposit_signer d.party))
+      ∙ deposit_meaning hash (oracle k) key (input_signatures hash keys s given l k spent (deposit_signer d.party))
       (are_keys (labels.Deposit d.party)) (input_short hash keys s given short l k spent (deposit_signer d.party))
       ∙ input_valid l k spent (deposit_signer d.party) a)
       h
 
   deposits_open : AreKeys hash keys → are_short given ≡ true → (l : Listed) (k : ℕ) (spends : List Spent) (signers : List (List Label))
-      → AreDeposits spends signers → list_all (accepts_one hash keys given judge) (slots_from s.advert l k spends signers) ≡ true
-      → AllOpen hash judge k spends (deposit_witnesses hash keys s given l k spends signers)
+      → AreDeposits spends signers → list_all (accepts_one hash keys given oracle) (slots_from s.advert l k spends signers) ≡ true
+      → AllOpen hash oracle k spends (deposit_witnesses hash keys s given l k spends signers)
   deposits_open are_keys short l k [] [] d h = tt
   deposits_open are_keys short l k [] (x ∷ xs) d h = absurd d
   deposits_open are_keys short l k (spent ∷ spends) [] d h = absurd d
@@ -189,23 +190,26 @@ module _ (hash : List ℕ → List ℕ) (keys : Keys) (s : Instance) (given : Li
       let now = input_slots s.advert l k spent x in
       let later = slots_from s.advert l (k + 1) spends xs in (
         script_at_end (input_signatures hash keys s given l k spent x) spent.script,
-        one_deposit are_keys short l k spent x d.0 (all_left (accepts_one hash keys given judge) now later h),
-        deposits_open are_keys short l (k + 1) spends xs d.1 (all_later (accepts_one hash keys given judge) now later h),
+        one_deposit are_keys short l k spent x d.0 (all_left (accepts_one hash keys given oracle) now later h),
+        deposits_open are_keys short l (k + 1) spends xs d.1 (all_later (accepts_one hash keys given oracle) now later h),
       )
 
-  persistent_are : (ds : List (List ℕ × Holding))
+  persistent_are : AreKeyDeposits keys → (ds : List (List ℕ × Holding))
       → AreDeposits (map (λ d. deposit hash keys s d.0 d.1) ds) (map (λ d. deposit_signer (d.1).owner) ds)
-  persistent_are [] = tt
-  persistent_are (d ∷ ds) = (record { party = (d.1).owner; signs = refl; script = refl }, persistent_are ds)
+  persistent_are of_keys [] = tt
+  persistent_are of_keys (d ∷ ds) =
+      (record { party = (d.1).owner; signs = refl; script = deposit_of_key hash keys s d.0 d.1 of_keys }, persistent_are of_keys ds)
 
-  puts_are : (puts : List (List ℕ))
+  puts_are : AreKeyDeposits keys → (puts : List (List ℕ))
       → AreDeposits (put_deposits hash keys s puts) (map (λ name. deposit_signer (put_owner s.advert name)) puts)
-  puts_are [] = tt
-  puts_are (name ∷ puts) = (record { party = put_owner s.advert name; signs = refl; script = refl }, puts_are puts)
+  puts_are of_keys [] = tt
+  puts_are of_keys (name ∷ puts) =
+      let h = holding_or_none (look_up name (volatile s.advert.pre)) in
+      (record { party = put_owner s.advert name; signs = refl; script = deposit_of_key hash keys s name h of_keys }, puts_are of_keys puts)
 
   -- ---- the output of a position
 
-  module _ (strings : List Shown) (settled : IsSettled s) (are_keys : AreKeys hash keys) (short : are_short given ≡ true)
+  module _ (strings : List Shown) (applied : IsApplied s) (are_keys : AreKeys hash keys) (of_keys : AreKeyDeposits keys) (short : are_short given ≡ true)
       (fit : do_fit hash s strings ≡ true) (path : List PathStep) (here : Standing) (i : ℕ) (b : term.Guarded)
       (ends : end_at hash keys s path ≡ Some (at_branch here i b)) (same : branch_path here.position i ≡ path)
       (shows : list_all (λ name. is_some (string_for strings name)) (reveals_of (core b)) ≡ true)
@@ -214,7 +218,7 @@ module _ (hash : List ℕ → List ℕ) (keys : Keys) (s : Instance) (given : Li
     place = branch_found hash keys s path here i b ends
 
     compiled : IsCompiled s here.position place.choice
-    compiled = record { checked = settled.checked; committed = settled.committed; is_position = place.stands.branches }
+    compiled = record { checked = applied.checked; committed = applied.committed; is_position = place.stands.branches }
 
     no_test : length (reveals_of (core b)) ≡ 0 → test_of (core b) ≡ always
     no_test =
@@ -238,22 +242,22 @@ module _ (hash : List ℕ → List ℕ) (keys : Keys) (s : Instance) (given : Li
     signatures l = input_signatures hash keys s given l 0 here.output (map (branch_label s.contract path) (participants s.advert))
 
     branch_valid : (l : Listed)
-        → list_all (accepts_one hash keys given judge)
+        → list_all (accepts_one hash keys given oracle)
         (input_slots s.advert l 0 here.output (map (branch_label s.contract path) (participants s.advert)))
         ≡ true
-        → are_valid (judge 0) (signatures l) (branch_keys hash keys s (branch_path here.position i)) ≡ true
+        → are_valid (oracle 0) (signatures l) (branch_keys hash keys s (branch_path here.position i)) ≡ true
     branch_valid l h =
         ap
-        (λ (q : List PathStep). are_valid (judge 0) (signatures l) (branch_keys hash keys s q))
+        (λ (q : List PathStep). are_valid (oracle 0) (signatures l) (branch_keys hash keys s q))
         same
-        ∙ ap (are_valid (judge 0) (signatures l)) (sym (twice (key_in hash keys) (branch_label s.contract path) (participants s.advert)))
+        ∙ ap (are_valid (oracle 0) (signatures l)) (sym (twice (key_in hash keys) (branch_label s.contract path) (participants s.advert)))
         ∙ input_valid l 0 here.output (map (branch_label s.contract path) (participants s.advert)) h
 
     fills : (l : Listed)
-        → list_all (accepts_one hash keys given judge)
+        → list_all (accepts_one hash keys given oracle)
         (input_slots s.advert l 0 here.output (map (branch_label s.contract path) (participants s.advert)))
         ≡ true
-        → Fills hash keys (judge 0) s here.position place.choice i (signatures l) (strings_of strings (reveals_of (core b)))
+        → Fills hash keys (oracle 0) s here.position place.choice i (signatures l) (strings_of strings (reveals_of (core b)))
     fills l h = record {
       b = b;
       is_branch = place.is_branch;
@@ -282,25 +286,25 @@ module _ (hash : List ℕ → List ℕ) (keys : Keys) (s : Instance) (given : Li
         here.output.script
 
     first_opens : (l : Listed)
-        → list_all (accepts_one hash keys given judge)
+        → list_all (accepts_one hash keys given oracle)
         (input_slots s.advert l 0 here.output (map (branch_label s.contract path) (participants s.advert)))
         ≡ true
-        → script_meaning hash (judge 0) here.output.script
+        → script_meaning hash (oracle 0) here.output.script
         (items_of (branch_witness s strings (signatures l) (end_at hash keys s path)))
         ≡ true
     first_opens l h =
         ap
-        (script_meaning hash (judge 0) here.output.script)
+        (script_meaning hash (oracle 0) here.output.script)
         (ap items_of (witness_is l)
         ∙ items_before
         (witness_stack (signatures l) (strings_of strings (reveals_of (core b))) i (length (branches place.choice)))
         here.output.script)
         ∙ ap
         (λ (bytes : List ℕ).
-        script_meaning hash (judge 0) bytes
+        script_meaning hash (oracle 0) bytes
         (witness_stack (signatures l) (strings_of strings (reveals_of (core b))) i (length (branches place.choice))))
         place.stands.script
-        ∙ witness_opens hash keys (judge 0) s here.position place.choice i (signatures l) (strings_of strings (reveals_of (core b)))
+        ∙ witness_opens hash keys (oracle 0) s here.position place.choice i (signatures l) (strings_of strings (reveals_of (core b)))
         are_keys compiled (fills l h)
 
     abbrev made : Listed
@@ -309,8 +313,8 @@ module _ (hash : List ℕ → List ℕ) (keys : Keys) (s : Instance) (given : Li
     -- all inputs, by their signers
     abbrev Opens : List (List Label) → Type 0
     Opens signers =
-        list_all (accepts_one hash keys given judge) (slots_from s.advert made 0 made.draft.spends signers) ≡ true
-        → AllOpen hash judge 0 made.draft.spends (path_witnesses hash keys s given strings path made made.draft.spends signers)
+        list_all (accepts_one hash keys given oracle) (slots_from s.advert made 0 made.pending.spends signers) ≡ true
+        → AllOpen hash oracle 0 made.pending.spends (path_witnesses hash keys s given strings path made made.pending.spends signers)
 
     by_signers : Opens (branch_signers s.contract s.advert path b)
     by_signers h =
@@ -319,27 +323,27 @@ module _ (hash : List ℕ → List ℕ) (keys : Keys) (s : Instance) (given : Li
         let owners = map (λ name. deposit_signer (put_owner s.advert name)) (puts_of (core b)) in
         let later = slots_from s.advert made 1 puts owners in (
           first_script made,
-          first_opens made (all_left (accepts_one hash keys given judge) now later h),
-          deposits_open are_keys short made 1 puts owners (puts_are (puts_of (core b)))
-              (all_later (accepts_one hash keys given judge) now later h),
+          first_opens made (all_left (accepts_one hash keys given oracle) now later h),
+          deposits_open are_keys short made 1 puts owners (puts_are of_keys (puts_of (core b)))
+              (all_later (accepts_one hash keys given oracle) now later h),
         )
 
 -- ---- all transactions
 
-module _ (hash : List ℕ → List ℕ) (keys : Keys) (s : Instance) (given : List Signed) (strings : List Shown) (judge : Judge)
-    (are_keys : AreKeys hash keys) (settled : IsSettled s) (short : are_short given ≡ true) (fit : do_fit hash s strings ≡ true) where
+module _ (hash : List ℕ → List ℕ) (keys : Keys) (s : Instance) (given : List Signed) (strings : List Shown) (oracle : Oracle)
+    (are_keys : AreKeys hash keys) (of_keys : AreKeyDeposits keys) (applied : IsApplied s) (short : are_short given ≡ true) (fit : do_fit hash s strings ≡ true) where
   -- a transaction that isn't refused opens
   abbrev Opened : Listed → Type 0
   Opened l =
       finish_refusal hash keys s given strings l ≡ None
-      → list_all (accepts_one hash keys given judge) (slots_from s.advert l 0 l.draft.spends l.signers) ≡ true
-      → AllOpen hash judge 0 l.draft.spends (witnesses hash keys s given strings l l.which)
+      → list_all (accepts_one hash keys given oracle) (slots_from s.advert l 0 l.pending.spends l.signers) ≡ true
+      → AllOpen hash oracle 0 l.pending.spends (witnesses hash keys s given strings l l.which)
 
   initial_opens : Opened (initial_listed hash keys s)
   initial_opens refusal h =
       let l = initial_listed hash keys s in
-      deposits_open hash keys s given judge are_keys short l 0 l.draft.spends l.signers
-      (persistent_are hash keys s given judge (persistent s.advert.pre)) h
+      deposits_open hash keys s given oracle are_keys short l 0 l.pending.spends l.signers
+      (persistent_are hash keys s given oracle of_keys (persistent s.advert.pre)) h
 
   path_opens : (path : List PathStep) (here : Standing) (i : ℕ) (b : term.Guarded)
       → end_at hash keys s path ≡ Some (at_branch here i b) → branch_path here.position i ≡ path
@@ -360,9 +364,9 @@ module _ (hash : List ℕ → List ℕ) (keys : Keys) (s : Instance) (given : Li
       let shows : list_all (λ name. is_some (string_for strings name)) (reveals_of (core b)) ≡ true =
       all_pass (λ name. is_some (string_for strings name)) (reveals_of (core b)) (map_none refusals.Secret _ secret) in
       subst
-      (Opens hash keys s given judge strings settled are_keys short fit path here i b ends same shows predicate)
+      (Opens hash keys s given oracle strings applied are_keys of_keys short fit path here i b ends same shows predicate)
       (sym signers_there)
-      (by_signers hash keys s given judge strings settled are_keys short fit path here i b ends same shows predicate)
+      (by_signers hash keys s given oracle strings applied are_keys of_keys short fit path here i b ends same shows predicate)
       h
 
   by_ends : (path : List PathStep) (o : Option PathEnd) (q : Option Subterm) → end_at hash keys s path ≡ o
@@ -382,5 +386,5 @@ module _ (hash : List ℕ → List ℕ) (keys : Keys) (s : Instance) (given : Li
       by_ends path (end_at hash keys s path) (subterm_from (paths.position s.advert.root) path) refl refl (agrees_at hash keys s path) l e
 
 pub finished_opens : FinishedOpens
-finished_opens hash keys s given strings which l judge are_keys settled short fit e refusal h =
-    opened_at hash keys s given strings judge are_keys settled short fit which l e refusal h
+finished_opens hash keys s given strings which l oracle are_keys of_keys applied short fit e refusal h =
+    opened_at hash keys s given strings oracle are_keys of_keys applied short fit which l e refusal h

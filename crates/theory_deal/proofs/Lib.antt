@@ -2,30 +2,36 @@ mod Ascending
 pub mod Branches
 pub mod ByName
 mod Causes
+mod DealFiles
+mod DealLines
 mod Ecdsa
 mod EndorsementsOfRuns
 mod FinishAnswers
 mod FinishedOpens
+mod FirstOf
+pub mod OfKeys
 mod ForSigners
 mod InOrder
-mod Ledger
-mod Listed
+pub mod Ledger
+pub mod Listed
 mod NothingTwice
 mod PlanOfRuns
 mod Planned
-mod ReadAgain
-mod ReadBranches
-mod ReadDeals
-mod ReadSecrets
-mod ReadSignatures
+pub mod ReadAgain
+pub mod ReadBranches
+pub mod ReadDeals
+pub mod ReadSecrets
+pub mod ReadSignatures
 mod Scripts
+mod SecretLines
 mod Shapes
+mod SignatureLines
 mod Signing
 mod SigningOrder
 mod Transactions
 mod Unsigned
 mod Verified
 pub mod WellFormed
-mod Whole
-mod WholeDeals
-mod Widths
+pub mod Whole
+pub mod WholeDeals
+pub mod Widths

@@ -86,17 +86,17 @@ all_of_each p q xs f =
 pub may_start_exactly : MayStart
 may_start_exactly hash keys s given =
     let all = slots hash keys s in
-    let wants : Slot → Bool = λ slot. is_endorsement slot.verb in
+    let requirements : Slot → Bool = λ slot. is_endorsement slot.verb in
     let there = has hash keys given in
     record {
       endorsed = (
-        λ h slot c w. all_in there (filter wants all) slot h (filter_has wants all slot (in_from_contains all slot c) w),
-        λ f. all_of_each there wants all f,
+        λ h slot c w. all_in there (filter requirements all) slot h (filter_has requirements all slot (in_from_contains all slot c) w),
+        λ f. all_of_each there requirements all f,
       );
-      none = (λ h. all_pass there (filter wants all) h, λ h. none_fails there (filter wants all) h);
+      none = (λ h. all_pass there (filter requirements all) h, λ h. none_fails there (filter requirements all) h);
       first = λ slot e.
-          let r = found (λ y. not (there y)) (filter wants all) slot e in
-          let m = in_filter wants all slot r.0 in
+          let r = found (λ y. not (there y)) (filter requirements all) slot e in
+          let m = in_filter requirements all slot r.0 in
           (contains_from_in all slot m.0, m.1, from_not (there slot) r.1);
-      printed = λ h. ap gate_line (none_fails there (filter wants all) h);
+      printed = λ h. ap gate_line (none_fails there (filter requirements all) h);
     }

@@ -62,11 +62,11 @@ module _ (hash : List ℕ → List ℕ) (keys : Keys) (s : Instance) where
 
   inputs_shown : (l : Listed) (k : ℕ) (spends : List Spent) (signers : List (List Label)) → length signers ≡ length spends
       → shown (input_lines hash s.advert l k spends signers)
-      ≡ digest_lines (which_text l.which) k (map (digest_of_spent hash (tx_of l.draft)) spends)
+      ≡ digest_lines (which_text l.which) k (map (digest_of_spent hash (tx_of l.pending)) spends)
   inputs_shown l k [] signers h = refl
   inputs_shown l k (spent ∷ spends) [] h = cc
   inputs_shown l k (spent ∷ spends) (labels ∷ signers) h =
-      let digest = digest_of_spent hash (tx_of l.draft) spent in
+      let digest = digest_of_spent hash (tx_of l.pending) spent in
       let later = input_lines hash s.advert l (k + 1) spends signers in
       let n : length signers ≡ length spends = cc in
       ap (λ (x : List ℕ). 100 ∷ 105 ∷ 103 ∷ 101 ∷ 115 ∷ 116 ∷ 32 ∷ x)
@@ -76,19 +76,19 @@ module _ (hash : List ℕ → List ℕ) (keys : Keys) (s : Instance) where
       (λ (x : List ℕ). which_text l.which ++ (32 ∷ (decimal k ++ (32 ∷ (hex_text digest ++ 10 ∷ x)))))
       (signs_hidden (input_slots s.advert l k spent labels) later ∙ inputs_shown l (k + 1) spends signers n))
 
-  listed_shown : (l : Listed) (rest : List PlanLine) → length l.signers ≡ length l.draft.spends
-      → shown (listed_lines hash s.advert l ++ rest) ≡ prepared_lines (which_text l.which) (prepared hash l.draft) ++ shown rest
+  listed_shown : (l : Listed) (rest : List PlanLine) → length l.signers ≡ length l.pending.spends
+      → shown (listed_lines hash s.advert l ++ rest) ≡ prepared_lines (which_text l.which) (prepared hash l.pending) ++ shown rest
   listed_shown l rest h =
-      let id = hex_text (reverse (txid hash (tx_of l.draft))) in
-      let bytes = hex_text (stripped (tx_of l.draft)) in
+      let id = hex_text (reverse (txid hash (tx_of l.pending))) in
+      let bytes = hex_text (stripped (tx_of l.pending)) in
       shown_append (listed_lines hash s.advert l) rest
       ∙ ap
       (λ (x : List ℕ). x ++ shown rest)
       (ap (λ (x : List ℕ). 116 ∷ 120 ∷ 32 ∷ x)
-      (words_before (which_text l.which) id bytes (shown (input_lines hash s.advert l 0 l.draft.spends l.signers))
+      (words_before (which_text l.which) id bytes (shown (input_lines hash s.advert l 0 l.pending.spends l.signers))
       ∙ ap
       (λ (x : List ℕ). which_text l.which ++ (32 ∷ (id ++ (32 ∷ (bytes ++ 10 ∷ x)))))
-      (inputs_shown l 0 l.draft.spends l.signers h)))
+      (inputs_shown l 0 l.pending.spends l.signers h)))
 
   paths_shown : (es : List (List PathStep × Unsigned)) → AreRight (unsigned_at hash keys s) es
       → shown (flat_map (listed_lines hash s.advert) (map (λ p. path_listed s (p.0) (p.1)) es))

@@ -28,4 +28,4 @@ same_stripped tx ws =
     ap (λ (x : List ℕ). word tx.version ++ x ++ outputs_bytes tx.outputs ++ word tx.lock) same
 
 pub finished_is_planned : FinishedIsPlanned
-finished_is_planned hash keys s given strings l = same_stripped (tx_of l.draft) (witnesses hash keys s given strings l l.which)
+finished_is_planned hash keys s given strings l = same_stripped (tx_of l.pending) (witnesses hash keys s given strings l l.which)

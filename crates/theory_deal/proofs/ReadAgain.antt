@@ -36,6 +36,7 @@ use Rattle.theory_deal.proofs.Ledger.Funded.{funded_at}
 use Rattle.theory_deal.proofs.ReadDeals.{deals_are_sized}
 use Rattle.theory_deal.proofs.ReadSignatures.{signatures_are_shaped}
 use Rattle.theory_deal.proofs.Ledger.Verdicts.{IsFunded}
+use Rattle.theory_deal.proofs.OfKeys.{deal_of_keys, deal_payable}
 use Rattle.theory_deal.proofs.Whole.{strings_fit}
 use Rattle.theory_deal.proofs.WholeDeals.{deals_give_all}
 use Rattle.theory_deal.proofs.Widths.DealBytes.{deal_widths}
@@ -93,7 +94,7 @@ many (x ∷ xs) [] = ap suc (all xs)
     all (y ∷ ys) = ap suc (all ys)
 many (x ∷ xs) (w ∷ ws) = ap suc (many xs ws)
 
-fits : (hash : List ℕ → List ℕ) (keys : Keys) (s : Instance) (bytes : HashesBytes hash) (d : Unsigned) (ws : List (List (List ℕ))) → IsFunded d
+pub fits : (hash : List ℕ → List ℕ) (keys : Keys) (s : Instance) (bytes : HashesBytes hash) (d : Unsigned) (ws : List (List (List ℕ))) → IsFunded d
     → IsSmall hash bytes keys s d → AllByRecursion IsSpendable d.spends → AllByRecursion IsStack ws
     → IsTransaction (with_witnesses (tx_of d) ws)
 fits hash keys s bytes d ws funded small spends stacks =
@@ -114,8 +115,8 @@ fits hash keys s bytes d ws funded small spends stacks =
 
 -- ---- its bytes
 
-front_bytes : (a b : List ℕ) → IsBytes (a ++ b) → IsBytes a
-front_bytes a b h = subst IsBytes (take-append_seam a b) (IsBytes-take (length a) (a ++ b) h)
+prefix_bytes : (a b : List ℕ) → IsBytes (a ++ b) → IsBytes a
+prefix_bytes a b h = subst IsBytes (take-append_seam a b) (IsBytes-take (length a) (a ++ b) h)
 
 witnesses_are_bytes : (is : List TxIn) → AllByRecursion IsInput is → IsBytes (witnesses_bytes is)
 witnesses_are_bytes [] h = bytes_none
@@ -154,8 +155,8 @@ module _ (tx : Tx) (is : IsTransaction tx) where
       let outputs = outputs_bytes tx.outputs in
       let lock = word tx.lock in
       let all = stripped_is_bytes tx is in
-      let three = front_bytes (version ++ inputs ++ outputs) lock all in
-      let two = front_bytes (version ++ inputs) outputs three in
+      let three = prefix_bytes (version ++ inputs ++ outputs) lock all in
+      let two = prefix_bytes (version ++ inputs) outputs three in
       let rest = inputs ++ outputs ++ witnesses_bytes tx.inputs ++ lock in
       let rest_bytes : IsBytes rest =
       IsBytes-append (inputs ++ outputs ++ witnesses_bytes tx.inputs) lock
@@ -165,7 +166,7 @@ module _ (tx : Tx) (is : IsTransaction tx) where
       (IsBytes-back (version ++ inputs ++ outputs) lock all) in
       record {
         some = begins tx.version (0 ∷ (1 ∷ rest));
-        each = IsBytes-append version (0 ∷ (1 ∷ rest)) (front_bytes version inputs two)
+        each = IsBytes-append version (0 ∷ (1 ∷ rest)) (prefix_bytes version inputs two)
             (bytes_cons 0 (1 ∷ rest) (lit< tt) (bytes_cons 1 rest (lit< tt) rest_bytes));
       }
 
@@ -198,18 +199,18 @@ finished_is_read_again v hash advert deal_text deal file given strings which l b
     let keys = deal_keys deal in
     let s : Instance = deal_instance advert deal in
     let sized = deals_are_sized v hash advert deal_text deal deal_read in
-    let settled = sized.settled checked in
+    let applied = sized.applied checked in
     let widths = deal_widths v hash advert deal_text deal deal_read in
     let spends =
-    spendable_at hash bytes keys s settled (deals_give_all v advert deal_text deal deal_read).deposits widths.places sized.are_keys
+    spendable_at hash bytes keys s applied (deals_give_all v advert deal_text deal deal_read).deposits widths.places sized.are_keys (deal_of_keys deal)
     widths.keys widths.hashes which l there in
     let stacks =
     stacks_at hash keys s given strings (signature_bytes v hash keys s file given given_read) (secret_bytes hash keys s strings strings_read)
     (signatures_are_shaped v hash keys s file given given_read).short (strings_fit hash keys s strings strings_read) checked which l there
     spends in
     let ws = witnesses hash keys s given strings l l.which in
-    let tx : Tx = with_witnesses (tx_of l.draft) ws in
-    let is = fits hash keys s bytes l.draft ws (funded_at hash keys s checked which l there) (small_at hash bytes keys s checked which l there)
+    let tx : Tx = with_witnesses (tx_of l.pending) ws in
+    let is = fits hash keys s bytes l.pending ws (funded_at hash keys s checked which l there) (small_at hash bytes keys s (deal_payable deal) checked which l there)
     spends stacks in
     let spells : Spells (spelling tx) tx = record { same = refl; fits = is } in
     record {

@@ -306,7 +306,7 @@ module _ (v : Verifier) (advert : Advert) where
         let p = and_parts (is_given entries (needs.Key l)) (list_all (λ x. is_given entries (needs.Key x)) ls) h in
         and_from _ _ (one_point l p.0) (points ls p.1)
 
-    keys_given : find (λ what. not (is_given entries what)) (needed advert) ≡ None
+    pub keys_given : find (λ what. not (is_given entries what)) (needed advert) ≡ None
         → list_all (λ l. is_given entries (needs.Key l)) (needed_labels advert) ≡ true
     keys_given h =
         sym (all_map (is_given entries) needs.Key (needed_labels advert))
@@ -362,7 +362,7 @@ module _ (v : Verifier) (advert : Advert) where
             one_hash n (subst (λ (x : List ℕ). is_given entries (needs.Hash x) ≡ true) (sym (bytes-true n name e)) k)
         by_test false e m ih = ih m
 
-    secrets_given : find (λ what. not (is_given entries what)) (needed advert) ≡ None
+    pub secrets_given : find (λ what. not (is_given entries what)) (needed advert) ≡ None
         → list_all (λ name. is_given entries (needs.Hash name)) (needed_secrets advert) ≡ true
     secrets_given h =
         sym (all_map (is_given entries) needs.Hash (needed_secrets advert))
@@ -408,7 +408,7 @@ deals_are_sized v hash_of advert text deal e =
     let d = is_of v advert text deal e in
     subst (IsSized hash_of advert) d.same (record {
       are_keys = λ label. keys_long v advert d.entries d.fit (needed_labels advert) label;
-      settled = λ checked. record { checked = checked; committed = hashes_sized v advert d.entries d.fit d.none };
+      applied = λ checked. record { checked = checked; committed = hashes_sized v advert d.entries d.fit d.none };
     })
 
 pub keys_are_points : KeysArePoints

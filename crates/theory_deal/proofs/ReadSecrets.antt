@@ -6,7 +6,7 @@ use Rattle.std.specs.Str.{bytes_eq}
 use Rattle.std.proofs.lemmas.Bool.{and_from}
 use Rattle.spec_data.specs.Digits.{read_hex}
 use Rattle.spec_data.specs.Lists.{is_among}
-use Rattle.spec_data.specs.Messages.{noted, noted_all, clash}
+use Rattle.spec_data.specs.Messages.{noted, noted_all, collision_with}
 use Rattle.spec_compiler.specs.Scripts.{digest_of}
 use Rattle.spec_compiler.specs.Keyed.Instance.{Instance}
 use Rattle.spec_compiler.specs.Keyed.Statements.{is_secret}
@@ -50,8 +50,8 @@ module _ (hash : List ℕ → List ℕ) (s : Instance) where
   new_fits messages x None = by_test (has_length x.bytes) refl
     where
       by_test : (b : Bool) → has_length x.bytes ≡ b
-          → LineFits (cond b (hashed_line hash s x (clash hash messages x.bytes)) (bad reasons.Length))
-      by_test true e = hashed_fits x (clash hash messages x.bytes) e
+          → LineFits (cond b (hashed_line hash s x (collision_with hash messages x.bytes)) (bad reasons.Length))
+      by_test true e = hashed_fits x (collision_with hash messages x.bytes) e
       by_test false e = tt
 
   bytes_fit : (messages : List (List ℕ)) (taken : List Shown) (n : ℕ) (name : List ℕ) (o : Option (List ℕ))

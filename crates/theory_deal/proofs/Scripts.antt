@@ -1,4 +1,4 @@
--- The script of an input asks for the key of each signature that is wanted of it.
+-- The script of an input asks for the key of each signature that is needed of it.
 use Rattle.std.proofs.Common.{◌≡◌, ℕ, zero, suc, List, Option, Some, None, refl, sym, ap, subst, ◌∙◌}
 use Rattle.std.specs.Prelude.{slice_get}
 use Rattle.std.specs.Option.{option_map, option_and_then}
@@ -20,24 +20,26 @@ use Rattle.spec_compiler.specs.Keyed.Transactions.{Standing, deposit, holding_or
 use Rattle.spec_compiler.specs.Keyed.ByPath as by_path
 use Rattle.spec_compiler.specs.Keyed.ByPath.{PathEnd, end_at, as_unsigned, unsigned_at}
 use Rattle.spec_compiler.specs.Keyed.Endorsements.{put_owner}
+use Rattle.spec_compiler.specs.Keyed.Statements.{AreKeyDeposits}
 use Rattle.spec_tool.specs.declared.which.Which.{Which}
 use Rattle.spec_tool.specs.declared.which.Which.TheVariants as names
 use Rattle.spec_tool.specs.Keyed.Listed.{Listed, path_listed, listed_at}
 use Rattle.spec_deal.specs.declared.finish.Verb.{Verb}
 use Rattle.theory_script.proofs.Keyed.Stands.{some_same, IfAgrees, agrees_at}
 use Rattle.theory_deal.proofs.Branches.{branch_found}
+use Rattle.theory_deal.proofs.OfKeys.{deposit_of_key}
 use Rattle.theory_deal.proofs.Signing.{asks_exactly, map_at}
 use Rattle.theory_deal.specs.Scripts.{IsOfPosition, AsksForKey, ScriptsAsk}
 use Rattle.theory_deal.specs.Signing.{BranchBy, Signs}
 
-module _ (hash : List ℕ → List ℕ) (keys : Keys) (s : Instance) where
+module _ (hash : List ℕ → List ℕ) (keys : Keys) (s : Instance) (of_keys : AreKeyDeposits keys) where
   -- by the key of an owner
   owner_asks : (script : List ℕ) (label : Label) (party : List ℕ) → label ≡ labels.Deposit party
       → script ≡ deposit_script (key_in hash keys (labels.Deposit party)) → AsksForKey hash keys s script label
   owner_asks script label party e h = subst (AsksForKey hash keys s script) (sym e) h
 
   initial_asks : (d : Unsigned) (k : ℕ) (spent : Spent) (label : Label) (h : List ℕ × Holding)
-      → option_map (λ (l : Listed). l.draft) (listed_at hash keys s names.Init) ≡ Some d
+      → option_map (λ (l : Listed). l.pending) (listed_at hash keys s names.Init) ≡ Some d
       → slice_get d.spends k ≡ Some spent → slice_get (persistent s.advert.pre) k ≡ Some h
       → label ≡ labels.Deposit (h.1).owner → AsksForKey hash keys s spent.script label
   initial_asks d k spent label h there spends stands e =
@@ -45,7 +47,8 @@ module _ (hash : List ℕ → List ℕ) (keys : Keys) (s : Instance) where
       (subst (λ (x : Unsigned). slice_get x.spends k ≡ Some spent) (sym (some_same there)) spends) in
       let same : r.0 ≡ h = some_same (sym r.1 ∙ stands) in
       owner_asks spent.script label (h.1).owner e
-      (ap (λ (x : Spent). x.script) r.2 ∙ ap (λ (x : List ℕ × Holding). deposit_script (key_in hash keys (labels.Deposit (x.1).owner))) same)
+      (ap (λ (x : Spent). x.script) r.2 ∙ deposit_of_key hash keys s (r.0).0 (r.0).1 of_keys
+      ∙ ap (λ (x : List ℕ × Holding). deposit_script (key_in hash keys (labels.Deposit (x.1).owner))) same)
 
   -- ---- a path's
 
@@ -108,12 +111,13 @@ module _ (hash : List ℕ → List ℕ) (keys : Keys) (s : Instance) where
       let same : r.0 ≡ name = some_same (sym there ∙ stands) in
       owner_asks spent.script label (put_owner s.advert name) e
       (ap (λ (z : Spent). z.script) r.2
+      ∙ deposit_of_key hash keys s (r.0) (holding_or_none (look_up (r.0) (volatile s.advert.pre))) of_keys
       ∙ ap (λ (n : List ℕ). deposit_script (key_in hash keys (labels.Deposit (put_owner s.advert n)))) same)
 
   -- ---- all
 
   made_at : (path : List PathStep) (o : Option Unsigned) (d : Unsigned)
-      → option_map (λ (l : Listed). l.draft) (option_map (path_listed s path) o) ≡ Some d → o ≡ Some d
+      → option_map (λ (l : Listed). l.pending) (option_map (path_listed s path) o) ≡ Some d → o ≡ Some d
   made_at path None d e = cc
   made_at path (Some x) d e = e
 
@@ -124,7 +128,7 @@ module _ (hash : List ℕ → List ℕ) (keys : Keys) (s : Instance) where
   branch_asks path b d (suc k) spent label verb x spends h = put_asks path b d k spent label h.name x spends h.stands h.key
 
   each_asks : (which : Which) (k : ℕ) (label : Label) (verb : Verb) (d : Unsigned) (spent : Spent)
-      → option_map (λ (l : Listed). l.draft) (listed_at hash keys s which) ≡ Some d → slice_get d.spends k ≡ Some spent
+      → option_map (λ (l : Listed). l.pending) (listed_at hash keys s which) ≡ Some d → slice_get d.spends k ≡ Some spent
       → Signs s which k label verb → AsksForKey hash keys s spent.script label
   each_asks names.Init k label verb d spent there spends h = initial_asks d k spent label h.deposit there spends h.stands h.key
   each_asks (names.At path) k label verb d spent there spends h =
@@ -132,6 +136,6 @@ module _ (hash : List ℕ → List ℕ) (keys : Keys) (s : Instance) where
       (stands_there path h.0 d (made_at path (unsigned_at hash keys s path) d there) h.1) spends h.2
 
 pub scripts_ask : ScriptsAsk
-scripts_ask hash keys s slot c =
+scripts_ask hash keys s of_keys slot c =
     let a = (asks_exactly hash keys s slot).0 c in
-    each_asks hash keys s slot.which slot.input slot.label slot.verb slot.draft slot.spent a.there a.spends a.signs
+    each_asks hash keys s of_keys slot.which slot.input slot.label slot.verb slot.pending slot.spent a.there a.spends a.signs

@@ -36,9 +36,9 @@ strict_has_shape signature h =
 
 -- ---- the converse
 
-front : (xs ys : List ℕ) → take (length xs) (xs ++ ys) ≡ xs
-front [] ys = refl
-front (x ∷ xs) ys = ap (λ (zs : List ℕ). x ∷ zs) (front xs ys)
+prefix : (xs ys : List ℕ) → take (length xs) (xs ++ ys) ≡ xs
+prefix [] ys = refl
+prefix (x ∷ xs) ys = ap (λ (zs : List ℕ). x ∷ zs) (prefix xs ys)
 
 behind_all : (xs ys : List ℕ) (n : ℕ) → drop (length xs + n) (xs ++ ys) ≡ drop n ys
 behind_all [] ys n = let z : 0 + n ≡ n = omega arith in ap (λ (k : ℕ). drop k ys) z
@@ -47,7 +47,7 @@ behind_all (x ∷ xs) ys n =
     ap (λ (k : ℕ). drop k (x ∷ (xs ++ ys))) z ∙ behind_all xs ys n
 
 r_is : (r s : List ℕ) → r_of (shaped r s) ≡ r
-r_is r s = front r (2 ∷ length s ∷ (s ++ 1 ∷ []))
+r_is r s = prefix r (2 ∷ length s ∷ (s ++ 1 ∷ []))
 
 s_is : (r s : List ℕ) → s_of (shaped r s) ≡ s
 s_is r s =
@@ -65,7 +65,7 @@ s_is r s =
     ∙ behind_all head tail 2 in
     ap (λ (k : ℕ). take k (drop (length (r_of (shaped r s)) + 6) (shaped r s))) count
     ∙ ap (take (length s)) rest
-    ∙ front s (1 ∷ [])
+    ∙ prefix s (1 ∷ [])
 
 strict_shaped : (r s : List ℕ) → is_number r ≡ true → is_number s ≡ true → is_low s ≡ true → is_strict (shaped r s) ≡ true
 strict_shaped r s a b c =

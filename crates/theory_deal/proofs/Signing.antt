@@ -1,4 +1,4 @@
--- A signature is wanted exactly where the contract asks for it; endorsements are those of runs; held and missing are all.
+-- A signature is needed exactly where the contract asks for it; endorsements are those of runs; held and missing are all.
 use Rattle.std.proofs.Common.{◌≡◌, ℕ, zero, suc, ◌+◌, List, [], ◌∷◌, map, Bool, true, false, not, Option, Some, None, refl, sym, ap, subst, ◌∙◌, arith, inl, inr}
 use Rattle.std.specs.Prelude.{filter, slice_get, ◌||◌, cond}
 use Rattle.std.specs.List.{flat_map}
@@ -98,7 +98,7 @@ in_among name (n ∷ ns) (inr h) = by_test (bytes_eq n name) (in_among name ns h
 
 abbrev pub slot_of : Instance → Listed → ℕ → Spent → Label → Slot
 slot_of s l k spent label =
-    record { which = l.which; draft = l.draft; input = k; spent = spent; label = label; verb = verb_of s.advert l.which label }
+    record { which = l.which; pending = l.pending; input = k; spent = spent; label = label; verb = verb_of s.advert l.which label }
 
 module _ (s : Instance) (l : Listed) where
   -- it is of one of the inputs from number k on
@@ -296,19 +296,19 @@ module _ (s : Instance) where
 
 -- ---- a contract's signatures
 
-draft_of : (o : Option Listed) (d : Unsigned) → option_map (λ (l : Listed). l.draft) o ≡ Some d → (l : Listed) × (o ≡ Some l) × (l.draft ≡ d)
-draft_of None d e = cc
-draft_of (Some l) d e = (l, refl, some_same e)
+pending_of : (o : Option Listed) (d : Unsigned) → option_map (λ (l : Listed). l.pending) o ≡ Some d → (l : Listed) × (o ≡ Some l) × (l.pending ≡ d)
+pending_of None d e = cc
+pending_of (Some l) d e = (l, refl, some_same e)
 
 module _ (hash : List ℕ → List ℕ) (keys : Keys) (s : Instance) where
   -- what is known of the signatures of a transaction that a contract has
   asked_one : (l : Listed) (slot : Slot)
-      → option_map (λ (x : Listed). x.draft) (listed_at hash keys s l.which) ≡ Some l.draft
+      → option_map (λ (x : Listed). x.pending) (listed_at hash keys s l.which) ≡ Some l.pending
       → ((k : ℕ) (those : List Label) (label : Label) → slice_get l.signers k ≡ Some those → Is_in label those
       → Signs s l.which k label (verb_of s.advert l.which label))
       → Is_in slot (listed_slots s.advert l) → IsAsked hash keys s slot
   asked_one l slot there signs h =
-      let r = from_slots s l 0 l.draft.spends l.signers slot h in
+      let r = from_slots s l 0 l.pending.spends l.signers slot h in
       let z : 0 + r.j ≡ r.j = omega arith in
       subst (IsAsked hash keys s) (sym r.same)
       (subst (λ (n : ℕ). IsAsked hash keys s (slot_of s l n r.spent r.label)) (sym z)
@@ -319,8 +319,8 @@ module _ (hash : List ℕ → List ℕ) (keys : Keys) (s : Instance) where
   asked_paths [] slot right h = absurd h
   asked_paths (e ∷ es) slot right h =
       let l = path_listed s (e.0) (e.1) in
-      let there : option_map (λ (x : Listed). x.draft) (listed_at hash keys s (names.At (e.0))) ≡ Some (e.1) =
-      ap (λ (o : Option Unsigned). option_map (λ (x : Listed). x.draft) (option_map (path_listed s (e.0)) o)) right.0 in
+      let there : option_map (λ (x : Listed). x.pending) (listed_at hash keys s (names.At (e.0))) ≡ Some (e.1) =
+      ap (λ (o : Option Unsigned). option_map (λ (x : Listed). x.pending) (option_map (path_listed s (e.0)) o)) right.0 in
       elim (in_append slot (listed_slots s.advert l)
       (flat_map (listed_slots s.advert) (map (λ p. path_listed s (p.0) (p.1)) es)) h) [
         | inl a ↦ asked_one l slot there (path_by s (e.0)) a
@@ -345,38 +345,38 @@ module _ (hash : List ℕ → List ℕ) (keys : Keys) (s : Instance) where
         subst (λ (x : Listed). Among s x.signers names.Init k label verb) same (starter_among s k label verb h),
         ap (λ (x : Listed). x.which) (sym same),
       )
-  among_listed (names.At path) l k label verb e h = by_draft (unsigned_at hash keys s path) e
+  among_listed (names.At path) l k label verb e h = by_pending (unsigned_at hash keys s path) e
     where
-      by_draft : (o : Option Unsigned) → option_map (path_listed s path) o ≡ Some l
+      by_pending : (o : Option Unsigned) → option_map (path_listed s path) o ≡ Some l
           → Among s l.signers (names.At path) k label verb × (l.which ≡ names.At path)
-      by_draft None q = cc
-      by_draft (Some d) q =
+      by_pending None q = cc
+      by_pending (Some d) q =
           let same = some_same q in (
             subst (λ (x : Listed). Among s x.signers (names.At path) k label verb) same (path_among s path k label verb h),
             ap (λ (x : Listed). x.which) (sym same),
           )
 
-  wanted : (slot : Slot) → IsAsked hash keys s slot → Is_in slot (slots hash keys s)
-  wanted slot h =
-      let d = draft_of (listed_at hash keys s slot.which) slot.draft h.there in
+  required : (slot : Slot) → IsAsked hash keys s slot → Is_in slot (slots hash keys s)
+  required slot h =
+      let d = pending_of (listed_at hash keys s slot.which) slot.pending h.there in
       let l = d.0 in
       let r = among_listed slot.which l slot.input slot.label slot.verb d.1 h.signs in
       let a = r.0 in
       let z : 0 + slot.input ≡ slot.input = omega arith in
-      let spends : slice_get l.draft.spends slot.input ≡ Some slot.spent =
+      let spends : slice_get l.pending.spends slot.input ≡ Some slot.spent =
       subst (λ (x : Unsigned). slice_get x.spends slot.input ≡ Some slot.spent) (sym d.2) h.spends in
-      let one = to_slots s l 0 l.draft.spends l.signers slot.input slot.spent a.those slot.label spends a.signed_by a.one in
+      let one = to_slots s l 0 l.pending.spends l.signers slot.input slot.spent a.those slot.label spends a.signed_by a.one in
       let verb : verb_of s.advert l.which slot.label ≡ slot.verb =
       ap (λ (w : Which). verb_of s.advert w slot.label) r.1 ∙ sym a.is_verb in
       let same : slot_of s l (0 + slot.input) slot.spent slot.label ≡ slot =
-      (λ i. record { which = r.1 i; draft = d.2 i; input = z i; spent = slot.spent; label = slot.label; verb = verb i }) in
+      (λ i. record { which = r.1 i; pending = d.2 i; input = z i; spent = slot.spent; label = slot.label; verb = verb i }) in
       flat_in (listed_slots s.advert) (listed hash keys s) l slot (listed_in hash keys s slot.which l d.1)
       (subst (λ (x : Slot). Is_in x (listed_slots s.advert l)) same one)
 
 pub asks_exactly : AsksExactly
 asks_exactly hash keys s slot = (
   λ h. asked hash keys s slot (in_from_contains (slots hash keys s) slot h),
-  λ h. contains_from_in (slots hash keys s) slot (wanted hash keys s slot h),
+  λ h. contains_from_in (slots hash keys s) slot (required hash keys s slot h),
 )
 
 -- ---- those that are there

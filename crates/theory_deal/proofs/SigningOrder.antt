@@ -82,7 +82,7 @@ module _ (s : Instance) where
 
   -- its signatures are of this transaction
   which_of : (l : Listed) (slot : Slot) → Is_in slot (listed_slots s.advert l) → slot.which ≡ l.which
-  which_of l slot h = ap (λ (x : Slot). x.which) (from_slots s l 0 l.draft.spends l.signers slot h).same
+  which_of l slot h = ap (λ (x : Slot). x.which) (from_slots s l 0 l.pending.spends l.signers slot h).same
 
   -- ---- names without repetition
 
@@ -98,7 +98,7 @@ module _ (hash : List ℕ → List ℕ) (keys : Keys) (s : Instance) where
   each_ascends : (l : Listed) → Is_in l (listed hash keys s) → IsAscending (ComesBefore s) (listed_slots s.advert l)
   each_ascends l (inl e) =
       subst (λ (x : Listed). IsAscending (ComesBefore s) (listed_slots s.advert x)) (sym e)
-      (inputs_ascend s (initial_listed hash keys s) 0 (initial_listed hash keys s).draft.spends (initial_signers s.advert)
+      (inputs_ascend s (initial_listed hash keys s) 0 (initial_listed hash keys s).pending.spends (initial_signers s.advert)
       (initial_ascend s))
   each_ascends l (inr h) =
       let r = in_map (λ (p : List PathStep × Unsigned). path_listed s (p.0) (p.1)) (path_transactions hash keys s) l h in

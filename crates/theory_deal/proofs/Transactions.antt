@@ -5,6 +5,7 @@ use Rattle.std.specs.Option.{option_map}
 use Rattle.spec_terms.specs.Faults.{IsWellFormed}
 use Rattle.spec_terms.specs.declared.path.PathStep.{PathStep}
 use Rattle.spec_bitcoin.specs.declared.label.Label.{Label}
+use Rattle.spec_compiler.specs.Keyed.OwnScripts.{OwnScripts}
 use Rattle.spec_compiler.specs.Keyed.Keys.{Keys, given}
 use Rattle.spec_compiler.specs.Keyed.Hashed.{key_strings, unsigned_strings}
 use Rattle.spec_compiler.specs.Keyed.Instance.{Instance, people}
@@ -51,15 +52,15 @@ module _ (hash : List ℕ → List ℕ) (keys : Keys) (s : Instance) where
 
   -- ---- money
 
-  kept : (well : IsWellFormed s.advert) (which : Which) (l : Listed) → listed_at hash keys s which ≡ Some l → IsKept s.advert l.draft
-  kept well names.Init l e = subst (λ (x : Listed). IsKept s.advert x.draft) (some_same e) (initial_kept hash keys s well)
-  kept well (names.At path) l e = by_draft (unsigned_at hash keys s path) refl e
+  kept : (well : IsWellFormed s.advert) (which : Which) (l : Listed) → listed_at hash keys s which ≡ Some l → IsKept s.advert l.pending
+  kept well names.Init l e = subst (λ (x : Listed). IsKept s.advert x.pending) (some_same e) (initial_kept hash keys s well)
+  kept well (names.At path) l e = by_pending (unsigned_at hash keys s path) refl e
     where
-      by_draft : (o : Option Unsigned) → unsigned_at hash keys s path ≡ o → option_map (path_listed s path) o ≡ Some l
-          → IsKept s.advert l.draft
-      by_draft None h k = cc
-      by_draft (Some d) h k =
-          subst (λ (x : Listed). IsKept s.advert x.draft) (some_same k) (paths_kept hash keys s well path d h)
+      by_pending : (o : Option Unsigned) → unsigned_at hash keys s path ≡ o → option_map (path_listed s path) o ≡ Some l
+          → IsKept s.advert l.pending
+      by_pending None h k = cc
+      by_pending (Some d) h k =
+          subst (λ (x : Listed). IsKept s.advert x.pending) (some_same k) (paths_kept hash keys s well path d h)
 
 pub transactions_of_deals : PathsInOrder → TransactionsOfDeals
 transactions_of_deals in_order hash keys s =
@@ -81,15 +82,15 @@ transactions_of_deals in_order hash keys s =
 
 -- ---- what is hashed
 
-none_hashed : (key_of : Label → List ℕ) (s : Instance) (es : List (List PathStep × Unsigned))
-    → flat_map (λ p. key_strings (given key_of) s p.0) es ≡ []
-none_hashed key_of s [] = refl
-none_hashed key_of s (e ∷ es) = none_hashed key_of s es
+none_hashed : (key_of : Label → List ℕ) (own : OwnScripts) (s : Instance) (es : List (List PathStep × Unsigned))
+    → flat_map (λ p. key_strings (given key_of own) s p.0) es ≡ []
+none_hashed key_of own s [] = refl
+none_hashed key_of own s (e ∷ es) = none_hashed key_of own s es
 
 pub deals_hash : DealsHash
-deals_hash hash key_of s =
-    let keys = given key_of in
+deals_hash hash key_of own s =
+    let keys = given key_of own in
     let rest = map (λ p. p.1) (scripts hash keys s) ++ (unsigned_strings hash (initial_unsigned hash keys s)
     ++ flat_map (λ p. unsigned_strings hash p.1) (path_transactions hash keys s)) in
     ap (λ (x : List (List ℕ)). map (party_script hash keys) (people s) ++ (x ++ rest))
-    (sym (none_hashed key_of s (path_transactions hash keys s)))
+    (sym (none_hashed key_of own s (path_transactions hash keys s)))

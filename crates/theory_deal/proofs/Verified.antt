@@ -20,7 +20,7 @@ use Rattle.spec_deal.specs.Finished.{bytes_or_none}
 use Rattle.spec_deal.specs.Given.{is_for, has, signature_for}
 use Rattle.spec_deal.specs.SignatureFile.{verifies_if, is_verified, read_signatures}
 use Rattle.spec_deal.specs.Slots.{Slot, input_slots, slots_from, listed_slots, slots, slot_bytes, slot_key, slot_digest}
-use Rattle.spec_deal.specs.Transactions.{Wanted, input_wanted, inputs_wanted, all_wanted}
+use Rattle.spec_deal.specs.Transactions.{Required, input_required, inputs_required, all_required}
 use Rattle.spec_deal.specs.Transactions.{input, inputs, transaction, transactions}
 use Rattle.spec_deal.specs.Verifier.{Verifier}
 use Rattle.theory_calculus.specs.Members.{Is_in}
@@ -32,64 +32,64 @@ use Rattle.theory_deal.proofs.Listed.{may_start_exactly}
 use Rattle.theory_deal.proofs.ReadDeals.{there_found}
 use Rattle.theory_deal.proofs.ReadSignatures.{all_verified}
 use Rattle.theory_deal.specs.Files.{verifies, SignaturesVerify}
-use Rattle.theory_deal.specs.Finished.{Judge, accepts_one, accepts, digest_at, judge_by, Agrees}
+use Rattle.theory_deal.specs.Finished.{Oracle, accepts_one, accepts, digest_at, oracle_by, Agrees}
 
 map_append : {X Y : Type 0} (f : X → Y) (xs ys : List X) → map f (xs ++ ys) ≡ map f xs ++ map f ys
 map_append f [] ys = refl
 map_append f (x ∷ xs) ys = ap (λ zs. f x ∷ zs) (map_append f xs ys)
 
--- ---- what is wanted is what is needed
+-- ---- what is needed is what is needed
 
 module _ (hash : List ℕ → List ℕ) (keys : Keys) where
-  -- where the signature is wanted, and of which digest
-  abbrev wanted_of : Slot → Wanted
-  wanted_of slot = record {
+  -- where the signature is needed, and of which digest
+  abbrev required_of : Slot → Required
+  required_of slot = record {
     spot = record { tx = slot_bytes slot; input = slot.input; key = slot_key hash keys slot };
     digest = slot_digest hash slot;
   }
 
   of_labels : (advert : Advert) (l : Listed) (k : ℕ) (spent : Spent) (labels : List Label)
-      → input_wanted (stripped (tx_of l.draft)) k (input hash keys advert l spent labels)
-      ≡ map wanted_of (input_slots advert l k spent labels)
+      → input_required (stripped (tx_of l.pending)) k (input hash keys advert l spent labels)
+      ≡ map required_of (input_slots advert l k spent labels)
   of_labels advert l k spent [] = refl
   of_labels advert l k spent (label ∷ labels) =
       ap
-      (λ (ws : List Wanted).
+      (λ (ws : List Required).
       record {
-        spot = record { tx = stripped (tx_of l.draft); input = k; key = key_in hash keys label };
-        digest = digest_of_spent hash (tx_of l.draft) spent;
+        spot = record { tx = stripped (tx_of l.pending); input = k; key = key_in hash keys label };
+        digest = digest_of_spent hash (tx_of l.pending) spent;
       } ∷ ws)
       (of_labels advert l k spent labels)
 
   none_left : (advert : Advert) (l : Listed) (k : ℕ) (spends : List Spent)
-      → inputs_wanted (stripped (tx_of l.draft)) k (inputs hash keys advert l spends []) ≡ []
+      → inputs_required (stripped (tx_of l.pending)) k (inputs hash keys advert l spends []) ≡ []
   none_left advert l k [] = refl
   none_left advert l k (spent ∷ spends) = none_left advert l (k + 1) spends
 
   of_inputs : (advert : Advert) (l : Listed) (k : ℕ) (spends : List Spent) (signers : List (List Label))
-      → inputs_wanted (stripped (tx_of l.draft)) k (inputs hash keys advert l spends signers)
-      ≡ map wanted_of (slots_from advert l k spends signers)
+      → inputs_required (stripped (tx_of l.pending)) k (inputs hash keys advert l spends signers)
+      ≡ map required_of (slots_from advert l k spends signers)
   of_inputs advert l k [] signers = refl
   of_inputs advert l k (spent ∷ spends) [] = none_left advert l (k + 1) spends
   of_inputs advert l k (spent ∷ spends) (labels ∷ signers) =
       (λ i. of_labels advert l k spent labels i ++ of_inputs advert l (k + 1) spends signers i)
-      ∙ sym (map_append wanted_of (input_slots advert l k spent labels) (slots_from advert l (k + 1) spends signers))
+      ∙ sym (map_append required_of (input_slots advert l k spent labels) (slots_from advert l (k + 1) spends signers))
 
   of_listed : (advert : Advert) (ls : List Listed)
-      → all_wanted (map (transaction hash keys advert) ls) ≡ map wanted_of (flat_map (listed_slots advert) ls)
+      → all_required (map (transaction hash keys advert) ls) ≡ map required_of (flat_map (listed_slots advert) ls)
   of_listed advert [] = refl
   of_listed advert (l ∷ ls) =
-      (λ i. of_inputs advert l 0 l.draft.spends l.signers i ++ of_listed advert ls i)
-      ∙ sym (map_append wanted_of (listed_slots advert l) (flat_map (listed_slots advert) ls))
+      (λ i. of_inputs advert l 0 l.pending.spends l.signers i ++ of_listed advert ls i)
+      ∙ sym (map_append required_of (listed_slots advert l) (flat_map (listed_slots advert) ls))
 
-  wanted_is : (s : Instance) → all_wanted (transactions hash keys s) ≡ map wanted_of (slots hash keys s)
-  wanted_is s = of_listed s.advert (listed hash keys s)
+  required_is : (s : Instance) → all_required (transactions hash keys s) ≡ map required_of (slots hash keys s)
+  required_is s = of_listed s.advert (listed hash keys s)
 
   -- ---- signatures
 
-  -- a signature that is there, of those that verify wherever they are wanted
+  -- a signature that is there, of those that verify wherever they are needed
   good_at : (v : Verifier) (all : List Slot) (given : List Signed) (slot : Slot)
-      → list_all (is_verified v (map wanted_of all)) given ≡ true → Is_in slot all → has hash keys given slot ≡ true
+      → list_all (is_verified v (map required_of all)) given ≡ true → Is_in slot all → has hash keys given slot ≡ true
       → verifies v hash keys given slot ≡ true
   good_at v all given slot h here there =
       by_found (find (is_for hash keys slot) given) refl (there_found (is_for hash keys slot) given there)
@@ -106,8 +106,8 @@ module _ (hash : List ℕ → List ℕ) (keys : Keys) where
           let r = found (is_for hash keys slot) given g e in
           let good : Slot → Bool = λ x. not (is_for hash keys x g) || v.is_signature g.key (slot_digest hash x) g.signature in
           let each : list_all good all ≡ true =
-          sym (all_map (verifies_if v g) wanted_of all)
-          ∙ all_in (is_verified v (map wanted_of all)) given g h r.0 in
+          sym (all_map (verifies_if v g) required_of all)
+          ∙ all_in (is_verified v (map required_of all)) given g h r.0 in
           let signed = drop_not (is_for hash keys slot g) (v.is_signature g.key (slot_digest hash slot) g.signature) r.1
           (all_in good all slot each here) in
           let later = (and_parts (bytes_eq g.tx (slot_bytes slot)) _ r.1).1 in
@@ -118,8 +118,8 @@ module _ (hash : List ℕ → List ℕ) (keys : Keys) where
 pub signatures_verify : SignaturesVerify
 signatures_verify v hash keys s text given e =
     let all = slots hash keys s in
-    let h : list_all (is_verified v (map (wanted_of hash keys) all)) given ≡ true =
-    subst (λ (ws : List Wanted). list_all (is_verified v ws) given ≡ true) (wanted_is hash keys s)
+    let h : list_all (is_verified v (map (required_of hash keys) all)) given ≡ true =
+    subst (λ (ws : List Required). list_all (is_verified v ws) given ≡ true) (required_is hash keys s)
     (all_verified v hash keys s text given e) in
     let each : (slot : Slot) → Contains all slot → has hash keys given slot ≡ true → verifies v hash keys given slot ≡ true =
     λ slot c there. good_at hash keys v all given slot h (in_from_contains all slot c) there in
@@ -132,7 +132,7 @@ signatures_verify v hash keys s text given e =
       );
     }
 
--- ---- the judge of a transaction
+-- ---- the oracle of a transaction
 
 all_both : {X : Type 0} (p : X → Bool) (xs ys : List X) → list_all p (xs ++ ys) ≡ (list_all p xs && list_all p ys)
 all_both p [] ys = refl
@@ -169,8 +169,8 @@ cut (y ∷ ys) (suc k) x xs e =
 module _ (v : Verifier) (hash : List ℕ → List ℕ) (keys : Keys) (s : Instance) (given : List Signed) where
   -- of input k, which spends this
   same_input : (l : Listed) (k : ℕ) (spent : Spent) (labels : List Label)
-      → digest_at hash l k ≡ digest_of_spent hash (tx_of l.draft) spent
-      → list_all (accepts_one hash keys given (judge_by v hash l)) (input_slots s.advert l k spent labels)
+      → digest_at hash l k ≡ digest_of_spent hash (tx_of l.pending) spent
+      → list_all (accepts_one hash keys given (oracle_by v hash l)) (input_slots s.advert l k spent labels)
       ≡ list_all (verifies v hash keys given) (input_slots s.advert l k spent labels)
   same_input l k spent [] e = refl
   same_input l k spent (label ∷ labels) e =
@@ -180,39 +180,39 @@ module _ (v : Verifier) (hash : List ℕ → List ℕ) (keys : Keys) (s : Instan
       && same_input l k spent labels e i
 
   -- of the inputs from number k on
-  same_from : (l : Listed) (k : ℕ) (spends : List Spent) (signers : List (List Label)) → drop k l.draft.spends ≡ spends
-      → list_all (accepts_one hash keys given (judge_by v hash l)) (slots_from s.advert l k spends signers)
+  same_from : (l : Listed) (k : ℕ) (spends : List Spent) (signers : List (List Label)) → drop k l.pending.spends ≡ spends
+      → list_all (accepts_one hash keys given (oracle_by v hash l)) (slots_from s.advert l k spends signers)
       ≡ list_all (verifies v hash keys given) (slots_from s.advert l k spends signers)
   same_from l k [] signers e = refl
   same_from l k (spent ∷ spends) [] e = refl
   same_from l k (spent ∷ spends) (labels ∷ signers) e =
-      let r = cut l.draft.spends k spent spends e in
-      let here : digest_at hash l k ≡ digest_of_spent hash (tx_of l.draft) spent =
-      ap (λ (o : Option Spent). option_map_or (digest_of_spent hash (tx_of l.draft)) o []) r.0 in
+      let r = cut l.pending.spends k spent spends e in
+      let here : digest_at hash l k ≡ digest_of_spent hash (tx_of l.pending) spent =
+      ap (λ (o : Option Spent). option_map_or (digest_of_spent hash (tx_of l.pending)) o []) r.0 in
       let now = input_slots s.advert l k spent labels in
       let later = slots_from s.advert l (k + 1) spends signers in
-      all_both (accepts_one hash keys given (judge_by v hash l)) now later
+      all_both (accepts_one hash keys given (oracle_by v hash l)) now later
       ∙ (λ i. same_input l k spent labels here i && same_from l (k + 1) spends signers r.1 i)
       ∙ sym (all_both (verifies v hash keys given) now later)
 
   -- the verifier accepts all signatures of a transaction that are there
   pub accepts_read : (text : List ℕ) (which : Which) (l : Listed) → read_signatures v hash keys s text ≡ Ok given
       → listed_at hash keys s which ≡ Some l → list_all (has hash keys given) (listed_slots s.advert l) ≡ true
-      → accepts hash keys s given (judge_by v hash l) l ≡ true
+      → accepts hash keys s given (oracle_by v hash l) l ≡ true
   accepts_read text which l e there signed =
       let verified = signatures_verify v hash keys s text given e in
       let in_all : (slot : Slot) → Is_in slot (listed_slots s.advert l) → Contains (slots hash keys s) slot =
       λ slot i.
       contains_from_in (slots hash keys s) slot
       (in_flat (listed_slots s.advert) (listed hash keys s) l slot (listed_in hash keys s which l there) i) in
-      same_from l 0 l.draft.spends l.signers refl
+      same_from l 0 l.pending.spends l.signers refl
       ∙ all_by (has hash keys given) (verifies v hash keys given) (listed_slots s.advert l)
       (λ slot i h. verified.each slot (in_all slot i) h) signed
 
--- and so does every judge that agrees with it
+-- and so does every oracle that agrees with it
 pub agrees_accepts : (v : Verifier) (hash : List ℕ → List ℕ) (keys : Keys) (s : Instance) (given : List Signed) (l : Listed)
-    (judge : Judge) → Agrees v hash l judge → accepts hash keys s given (judge_by v hash l) l ≡ true
-    → accepts hash keys s given judge l ≡ true
-agrees_accepts v hash keys s given l judge agrees h =
-    all_by (accepts_one hash keys given (judge_by v hash l)) (accepts_one hash keys given judge) (listed_slots s.advert l)
+    (oracle : Oracle) → Agrees v hash l oracle → accepts hash keys s given (oracle_by v hash l) l ≡ true
+    → accepts hash keys s given oracle l ≡ true
+agrees_accepts v hash keys s given l oracle agrees h =
+    all_by (accepts_one hash keys given (oracle_by v hash l)) (accepts_one hash keys given oracle) (listed_slots s.advert l)
     (λ slot i k. agrees slot.input (bytes_or_none (signature_for hash keys given slot)) (slot_key hash keys slot) k) h

@@ -20,9 +20,10 @@ use Rattle.spec_deal.specs.declared.entry.Shown.{Shown}
 use Rattle.spec_deal.specs.SecretFile.{string_for}
 use Rattle.spec_deal.specs.Setting.{deal_keys, deal_instance}
 use Rattle.spec_deal.specs.Slots.{Slot, listed_slots}
-use Rattle.theory_deal.specs.Finished.{Judge, accepts, judge_by, do_fit, AllOpen}
+use Rattle.theory_deal.specs.Finished.{Oracle, accepts, oracle_by, do_fit, AllOpen}
 use Rattle.theory_deal.specs.Whole.{IsComplete, FinishesExactly, AreRead, FinishTheorem}
 use Rattle.theory_deal.proofs.FinishedOpens.{first_none, second_none, map_none, finished_opens}
+use Rattle.theory_deal.proofs.OfKeys.{deal_of_keys}
 use Rattle.theory_deal.proofs.Listed.{all_pass, none_fails}
 use Rattle.theory_deal.proofs.Planned.{finished_is_planned}
 use Rattle.theory_deal.proofs.ReadDeals.{deals_are_sized}
@@ -91,17 +92,17 @@ finish_theorem v hash advert deal_text deal file given strings which l checked d
     let sized = deals_are_sized v hash advert deal_text deal deal_read in
     let shaped = signatures_are_shaped v hash keys s file given given_read in
     let complete = complete_if hash keys s given strings l refusal in
-    let opens : (judge : Judge) → accepts hash keys s given judge l ≡ true
-    → AllOpen hash judge 0 l.draft.spends (witnesses hash keys s given strings l l.which) =
-    λ judge accepted.
-    finished_opens hash keys s given strings which l judge sized.are_keys (sized.settled checked) shaped.short
+    let opens : (oracle : Oracle) → accepts hash keys s given oracle l ≡ true
+    → AllOpen hash oracle 0 l.pending.spends (witnesses hash keys s given strings l l.which) =
+    λ oracle accepted.
+    finished_opens hash keys s given strings which l oracle sized.are_keys (deal_of_keys deal) (sized.applied checked) shaped.short
     (strings_fit hash keys s strings strings_read) there refusal accepted in
     let accepted = accepts_read v hash keys s given file which l given_read there complete.signed in
     record {
       printed = ap (λ r. unless_refused r (spelling (finished hash keys s given strings l))) refusal;
       planned = finished_is_planned hash keys s given strings l;
       opens = opens;
-      verified = opens (judge_by v hash l) accepted;
-      agreed = λ judge agrees. opens judge (agrees_accepts v hash keys s given l judge agrees accepted);
+      verified = opens (oracle_by v hash l) accepted;
+      agreed = λ oracle agrees. opens oracle (agrees_accepts v hash keys s given l oracle agrees accepted);
       endorsed = complete.endorsed;
     }

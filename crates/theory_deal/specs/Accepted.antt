@@ -1,4 +1,4 @@
--- The ledger's verdict on a transaction, with any judge of signatures in the place of the book of ideal ones; and what is claimed of it:
+-- The ledger's verdict on a transaction, with any oracle of signatures in the place of the book of ideal ones; and what is claimed of it:
 -- it accepts each finished transaction where the spent outputs are live and the lock is reached.
 use Rattle.std.specs.Prelude.{◌≡◌, ℕ, ◌+◌, ◌<◌, ◌≤◌, List, [], ◌∷◌, length, map, Bool, true, not, ◌&&◌, ◌==◌, Option, Some, None, Ok, slice_get}
 use Rattle.std.specs.List.{Contains, list_any}
@@ -39,38 +39,38 @@ use Rattle.spec_deal.specs.Finished.{finished, finish_refusal}
 use Rattle.spec_deal.specs.Setting.{deal_keys, deal_instance}
 use Rattle.spec_deal.specs.SignatureFile.{read_signatures}
 use Rattle.spec_deal.specs.Verifier.{Verifier}
-use Rattle.theory_deal.specs.Finished.{Judge, accepts, Agrees}
+use Rattle.theory_deal.specs.Finished.{Oracle, accepts, Agrees}
 use Rattle.theory_deal.specs.Whole.{AreRead}
 
--- ---- a verdict by a judge
+-- ---- a verdict by an oracle
 
--- the conditions on input k, which spends this output, in their order; its script asks the judge
-abbrev pub judged_row : (List ℕ → List ℕ) → Judge → ℕ → TxIn → TxOut → List (Bool × Refusal)
-judged_row hash judge k input output =
+-- the conditions on input k, which spends this output, in their order; its script asks the oracle
+abbrev pub judged_row : (List ℕ → List ℕ) → Oracle → ℕ → TxIn → TxOut → List (Bool × Refusal)
+judged_row hash oracle k input output =
     (not (length input.script_sig == 0), ScriptSigNotEmpty k)
     ∷ (not (pays_to_script output.script && is_filled input.witness), NotWitnessScript k)
     ∷ (not (bytes_eq (hash (script_of input.witness)) (program_of output.script)), ScriptMismatch k)
     ∷ (list_any is_long (items_of input.witness), ItemTooLong k)
-    ∷ (not (script_meaning hash (judge k) (script_of input.witness) (items_of input.witness)), ScriptFalse k)
+    ∷ (not (script_meaning hash (oracle k) (script_of input.witness) (items_of input.witness)), ScriptFalse k)
     ∷ []
 
 -- the refusal of input k; none where its output isn't live
-abbrev pub judged_input : (List ℕ → List ℕ) → Judge → List Entry → ℕ → TxIn → Option Refusal
-judged_input hash judge live k input =
-    option_and_then (λ p. first_reason (judged_row hash judge k input p.1)) (at_place live input.prev)
+abbrev pub judged_input : (List ℕ → List ℕ) → Oracle → List Entry → ℕ → TxIn → Option Refusal
+judged_input hash oracle live k input =
+    option_and_then (λ p. first_reason (judged_row hash oracle k input p.1)) (at_place live input.prev)
 
 -- the first refusal of an input, counted from k
-abbrev pub judged_inputs : (List ℕ → List ℕ) → Judge → List Entry → ℕ → List TxIn → Option Refusal
-judged_inputs hash judge live k [] = None
-judged_inputs hash judge live k (i ∷ is) = or_else (judged_input hash judge live k i) (judged_inputs hash judge live (k + 1) is)
+abbrev pub judged_inputs : (List ℕ → List ℕ) → Oracle → List Entry → ℕ → List TxIn → Option Refusal
+judged_inputs hash oracle live k [] = None
+judged_inputs hash oracle live k (i ∷ is) = or_else (judged_input hash oracle live k i) (judged_inputs hash oracle live (k + 1) is)
 
 -- the first refusal that holds
-abbrev pub judged_refusal : (List ℕ → List ℕ) → Judge → ℕ → List Entry → Tx → Option Refusal
-judged_refusal hash judge tip live tx =
-    or_else (first_reason (whole_row tip live tx)) (judged_inputs hash judge live 0 tx.inputs)
+abbrev pub judged_refusal : (List ℕ → List ℕ) → Oracle → ℕ → List Entry → Tx → Option Refusal
+judged_refusal hash oracle tip live tx =
+    or_else (first_reason (whole_row tip live tx)) (judged_inputs hash oracle live 0 tx.inputs)
 
-abbrev pub judged_verdict : (List ℕ → List ℕ) → Judge → Chain → Tx → Verdict
-judged_verdict hash judge chain tx = verdict_for chain tx (judged_refusal hash judge chain.tip chain.live tx)
+abbrev pub judged_verdict : (List ℕ → List ℕ) → Oracle → Chain → Tx → Verdict
+judged_verdict hash oracle chain tx = verdict_for chain tx (judged_refusal hash oracle chain.tip chain.live tx)
 
 -- ---- judges by digest
 
@@ -79,20 +79,20 @@ abbrev pub digest_on : (List ℕ → List ℕ) → List Entry → Tx → ℕ →
 digest_on hash live tx k =
     option_map_or (λ input. digest hash tx input (script_of input.witness) (spent_value live input)) (slice_get tx.inputs k) []
 
--- the judge of a ledger on which these signatures and keys are valid for a digest
-abbrev pub judge_on : (List ℕ → List ℕ → List ℕ → Bool) → (List ℕ → List ℕ) → List Entry → Tx → Judge
-judge_on valid hash live tx = λ k signature key. valid (digest_on hash live tx k) signature key
+-- the oracle of a ledger on which these signatures and keys are valid for a digest
+abbrev pub oracle_on : (List ℕ → List ℕ → List ℕ → Bool) → (List ℕ → List ℕ) → List Entry → Tx → Oracle
+oracle_on valid hash live tx = λ k signature key. valid (digest_on hash live tx k) signature key
 
 -- by the book of ideal signatures this is the verdict of the ledger
 abbrev pub VerdictByBook : Type 0
 VerdictByBook =
     (hash : List ℕ → List ℕ) (book : List Pair) (chain : Chain) (tx : Tx)
-    → judged_verdict hash (judge_on (is_valid book) hash chain.live tx) chain tx ≡ verdict hash book chain tx
+    → judged_verdict hash (oracle_on (is_valid book) hash chain.live tx) chain tx ≡ verdict hash book chain tx
 
 -- the verdict of a ledger whose signatures a verifier finds good: for secp256k1 that of Bitcoin's consensus, as far as it is defined here
 abbrev pub verdict_by : Verifier → (List ℕ → List ℕ) → Chain → Tx → Verdict
 verdict_by v hash chain tx =
-    judged_verdict hash (judge_on (λ digest signature key. v.is_signature key digest signature) hash chain.live tx) chain tx
+    judged_verdict hash (oracle_on (λ digest signature key. v.is_signature key digest signature) hash chain.live tx) chain tx
 
 -- ---- finished transactions
 
@@ -111,26 +111,26 @@ accepted_on chain tx = Accepted (map (spent_number chain.live) tx.inputs) (numbe
 -- on each ledger on which what it spends is live, and at each height from its lock on, the verdict accepts it
 pub record IsAccepted (v : Verifier) (hash : List ℕ → List ℕ) (keys : Keys) (s : Instance) (given : List Signed) (strings : List Shown)
     (l : Listed) : Type 0 where
-  -- this verdict is the ledger's, with a judge in the place of the book of ideal signatures
+  -- this verdict is the ledger's, with an oracle in the place of the book of ideal signatures
   pub by_book : (book : List Pair) (chain : Chain)
-      → judged_verdict hash (judge_on (is_valid book) hash chain.live (finished hash keys s given strings l)) chain
+      → judged_verdict hash (oracle_on (is_valid book) hash chain.live (finished hash keys s given strings l)) chain
       (finished hash keys s given strings l)
       ≡ verdict hash book chain (finished hash keys s given strings l)
-  -- by every judge that accepts the given signatures
-  pub judged : (judge : Judge) (chain : Chain) → accepts hash keys s given judge l ≡ true → AreLive hash chain.live l.draft.spends
-      → l.draft.lock ≤ chain.tip
-      → judged_verdict hash judge chain (finished hash keys s given strings l) ≡ accepted_on chain (finished hash keys s given strings l)
-  -- by every judge that agrees with the verifier
-  pub agreed : (judge : Judge) (chain : Chain) → Agrees v hash l judge → AreLive hash chain.live l.draft.spends → l.draft.lock ≤ chain.tip
-      → judged_verdict hash judge chain (finished hash keys s given strings l) ≡ accepted_on chain (finished hash keys s given strings l)
+  -- by every oracle that accepts the given signatures
+  pub judged : (oracle : Oracle) (chain : Chain) → accepts hash keys s given oracle l ≡ true → AreLive hash chain.live l.pending.spends
+      → l.pending.lock ≤ chain.tip
+      → judged_verdict hash oracle chain (finished hash keys s given strings l) ≡ accepted_on chain (finished hash keys s given strings l)
+  -- by every oracle that agrees with the verifier
+  pub agreed : (oracle : Oracle) (chain : Chain) → Agrees v hash l oracle → AreLive hash chain.live l.pending.spends → l.pending.lock ≤ chain.tip
+      → judged_verdict hash oracle chain (finished hash keys s given strings l) ≡ accepted_on chain (finished hash keys s given strings l)
   -- by the verifier itself, of the digests that the ledger asks for, with nothing asked of it
-  pub verified : (chain : Chain) → AreLive hash chain.live l.draft.spends → l.draft.lock ≤ chain.tip
+  pub verified : (chain : Chain) → AreLive hash chain.live l.pending.spends → l.pending.lock ≤ chain.tip
       → verdict_by v hash chain (finished hash keys s given strings l) ≡ accepted_on chain (finished hash keys s given strings l)
   -- there is such a ledger at each height
-  pub possible : (tip : ℕ) → (chain : Chain) × (chain.tip ≡ tip) × AreLive hash chain.live l.draft.spends
+  pub possible : (tip : ℕ) → (chain : Chain) × (chain.tip ≡ tip) × AreLive hash chain.live l.pending.spends
   -- and before its lock none accepts it
-  pub early : (judge : Judge) (chain : Chain) → AreLive hash chain.live l.draft.spends → chain.tip < l.draft.lock
-      → judged_verdict hash judge chain (finished hash keys s given strings l) ≡ Refused NotFinal
+  pub early : (oracle : Oracle) (chain : Chain) → AreLive hash chain.live l.pending.spends → chain.tip < l.pending.lock
+      → judged_verdict hash oracle chain (finished hash keys s given strings l) ≡ Refused NotFinal
 
 -- of every well-formed contract and all files that are taken, where none of its deposits is made by the contract itself
 abbrev pub AcceptedTheorem : Type 0

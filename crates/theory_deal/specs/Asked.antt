@@ -4,6 +4,7 @@ use Rattle.std.specs.List.{Contains}
 use Rattle.spec_compiler.specs.Keyed.Keys.{Keys}
 use Rattle.spec_compiler.specs.Keyed.Instance.{Instance}
 use Rattle.spec_compiler.specs.Keyed.Endorsements.{needed}
+use Rattle.spec_compiler.specs.Keyed.Statements.{AreKeyDeposits}
 use Rattle.spec_deal.specs.declared.signed.Signed.{Signed}
 use Rattle.spec_deal.specs.Given.{has, missing, held, endorsements}
 use Rattle.spec_deal.specs.Slots.{Slot, slots}
@@ -14,10 +15,10 @@ use Rattle.theory_deal.specs.Transactions.{AreTransactions}
 
 pub record DealAsks (hash : List ℕ → List ℕ) (keys : Keys) (s : Instance) : Type 0 where
   pub transactions : AreTransactions hash keys s
-  -- a signature is wanted exactly where the contract asks for it
+  -- a signature is needed exactly where the contract asks for it
   pub exactly : (slot : Slot) → Contains (slots hash keys s) slot ↔ IsAsked hash keys s slot
-  -- and the script of its input asks for its key
-  pub keyed : (slot : Slot) → Contains (slots hash keys s) slot → AsksForKey hash keys s slot.spent.script slot.label
+  -- and the script of its input asks for its key, where all deposits are of keys
+  pub keyed : AreKeyDeposits keys → (slot : Slot) → Contains (slots hash keys s) slot → AsksForKey hash keys s slot.spent.script slot.label
   pub order : AreInOrder hash keys s
   -- the endorsements are those that an honest party in a run waits for
   pub endorsed : map (need_of hash keys) (endorsements hash keys s) ≡ needed hash keys s

@@ -21,7 +21,7 @@ use Rattle.spec_deal.specs.Setting.{deal_keys, deal_instance}
 use Rattle.spec_deal.specs.Shape.{is_strict}
 use Rattle.spec_deal.specs.SignatureFile.{read_signatures}
 use Rattle.spec_deal.specs.Verifier.{Verifier}
-use Rattle.theory_deal.specs.Finished.{IsSettled, are_short, do_fit}
+use Rattle.theory_deal.specs.Finished.{IsApplied, are_short, do_fit}
 
 -- a deal has a key for each label, a place for each deposit and a hash for each secret that the contract needs, in order
 pub record GivesAll (advert : Advert) (deal : Deal) : Type 0 where
@@ -35,7 +35,7 @@ DealsGiveAll = (v : Verifier) (advert : Advert) (text : List ℕ) (deal : Deal) 
 -- the keys of a deal have 33 bytes, and its hashes 32
 pub record IsSized (hash : List ℕ → List ℕ) (advert : Advert) (deal : Deal) : Type 0 where
   pub are_keys : AreKeys hash (deal_keys deal)
-  pub settled : IsWellFormed advert → IsSettled (deal_instance advert deal)
+  pub applied : IsWellFormed advert → IsApplied (deal_instance advert deal)
 
 abbrev pub DealsAreSized : Type 0
 DealsAreSized = (v : Verifier) (hash : List ℕ → List ℕ) (advert : Advert) (text : List ℕ) (deal : Deal) → read_deal v advert text ≡ Ok deal

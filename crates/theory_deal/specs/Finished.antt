@@ -1,4 +1,4 @@
--- What is claimed of finished transactions: their scripts are true for every judge of signatures that accepts those given, and false where
+-- What is claimed of finished transactions: their scripts are true for every oracle of signatures that accepts those given, and false where
 -- a signature is missing.
 use Rattle.std.specs.Prelude.{◌≡◌, ℕ, ◌+◌, List, [], ◌∷◌, Bool, true, false, Some, None}
 use Rattle.std.specs.List.{list_all, list_any}
@@ -16,7 +16,7 @@ use Rattle.spec_compiler.specs.Keyed.Keys.{Keys, key_in}
 use Rattle.spec_compiler.specs.Keyed.Instance.{Instance, people, branch_path, branch_label, position_script}
 use Rattle.spec_compiler.specs.declared.unsigned.Spent.{Spent}
 use Rattle.spec_compiler.specs.Keyed.Transactions.{tx_of, digest_of_spent}
-use Rattle.spec_compiler.specs.Keyed.Statements.{AreKeys, IsCompiled, has_size, is_short, is_secret}
+use Rattle.spec_compiler.specs.Keyed.Statements.{AreKeys, AreKeyDeposits, IsCompiled, has_size, is_short, is_secret}
 use Rattle.spec_tool.specs.declared.which.Which.{Which}
 use Rattle.spec_tool.specs.Keyed.Listed.{Listed, listed_at}
 use Rattle.spec_deal.specs.declared.signed.Signed.{Signed}
@@ -31,34 +31,34 @@ use Rattle.std.specs.Option.{option_map_or}
 -- ---- judges
 
 -- which signature is valid for which key, at each input
-abbrev pub Judge : Type 0
-Judge = ℕ → List ℕ → List ℕ → Bool
+abbrev pub Oracle : Type 0
+Oracle = ℕ → List ℕ → List ℕ → Bool
 
--- whether a judge accepts the signature that is given for this
-abbrev pub accepts_one : (List ℕ → List ℕ) → Keys → List Signed → Judge → Slot → Bool
-accepts_one hash keys given judge slot =
-    judge slot.input (bytes_or_none (signature_for hash keys given slot)) (slot_key hash keys slot)
+-- whether an oracle accepts the signature that is given for this
+abbrev pub accepts_one : (List ℕ → List ℕ) → Keys → List Signed → Oracle → Slot → Bool
+accepts_one hash keys given oracle slot =
+    oracle slot.input (bytes_or_none (signature_for hash keys given slot)) (slot_key hash keys slot)
 
 -- whether it accepts all that are given for a transaction
-abbrev pub accepts : (List ℕ → List ℕ) → Keys → Instance → List Signed → Judge → Listed → Bool
-accepts hash keys s given judge l = list_all (accepts_one hash keys given judge) (listed_slots s.advert l)
+abbrev pub accepts : (List ℕ → List ℕ) → Keys → Instance → List Signed → Oracle → Listed → Bool
+accepts hash keys s given oracle l = list_all (accepts_one hash keys given oracle) (listed_slots s.advert l)
 
 -- the digest that signatures of input k are of
 abbrev pub digest_at : (List ℕ → List ℕ) → Listed → ℕ → List ℕ
-digest_at hash l k = option_map_or (digest_of_spent hash (tx_of l.draft)) (slice_get l.draft.spends k) []
+digest_at hash l k = option_map_or (digest_of_spent hash (tx_of l.pending)) (slice_get l.pending.spends k) []
 
--- the judge that finds valid what a verifier finds good for the digest of the input
-abbrev pub judge_by : Verifier → (List ℕ → List ℕ) → Listed → Judge
-judge_by v hash l = λ k signature key. v.is_signature key (digest_at hash l k) signature
+-- the oracle that finds valid what a verifier finds good for the digest of the input
+abbrev pub oracle_by : Verifier → (List ℕ → List ℕ) → Listed → Oracle
+oracle_by v hash l = λ k signature key. v.is_signature key (digest_at hash l k) signature
 
--- a judge agrees with a verifier where it accepts all that the verifier finds good
-abbrev pub Agrees : Verifier → (List ℕ → List ℕ) → Listed → Judge → Type 0
-Agrees v hash l judge = (k : ℕ) (signature key : List ℕ) → judge_by v hash l k signature key ≡ true → judge k signature key ≡ true
+-- an oracle agrees with a verifier where it accepts all that the verifier finds good
+abbrev pub Agrees : Verifier → (List ℕ → List ℕ) → Listed → Oracle → Type 0
+Agrees v hash l oracle = (k : ℕ) (signature key : List ℕ) → oracle_by v hash l k signature key ≡ true → oracle k signature key ≡ true
 
 -- ---- what is given
 
 -- the contract passed the check, and each of its secrets has a hash of 32 bytes
-pub record IsSettled (s : Instance) : Type 0 where
+pub record IsApplied (s : Instance) : Type 0 where
   pub checked : IsWellFormed s.advert
   pub committed : list_all (λ name. has_size 32 (digest_of s.hashes name)) (names_of (secrets s.advert.pre)) ≡ true
 
@@ -73,29 +73,30 @@ do_fit hash s strings = list_all (λ (x : Shown). is_secret hash x.bytes (digest
 -- ---- what follows
 
 -- from input k on: a witness for each input, which ends with the script of what it spends, and whose other items make the script true
-abbrev pub AllOpen : (List ℕ → List ℕ) → Judge → ℕ → List Spent → List (List (List ℕ)) → Type 0
-AllOpen hash judge k [] [] = Unit {0}
-AllOpen hash judge k [] (witness ∷ others) = ⊥
-AllOpen hash judge k (spent ∷ spends) [] = ⊥
-AllOpen hash judge k (spent ∷ spends) (witness ∷ others) =
-    (script_of witness ≡ spent.script) × (script_meaning hash (judge k) spent.script (items_of witness) ≡ true)
-    × AllOpen hash judge (k + 1) spends others
+abbrev pub AllOpen : (List ℕ → List ℕ) → Oracle → ℕ → List Spent → List (List (List ℕ)) → Type 0
+AllOpen hash oracle k [] [] = Unit {0}
+AllOpen hash oracle k [] (witness ∷ others) = ⊥
+AllOpen hash oracle k (spent ∷ spends) [] = ⊥
+AllOpen hash oracle k (spent ∷ spends) (witness ∷ others) =
+    (script_of witness ≡ spent.script) × (script_meaning hash (oracle k) spent.script (items_of witness) ≡ true)
+    × AllOpen hash oracle (k + 1) spends others
 
--- where a transaction is finished, every judge that accepts the given signatures finds the scripts of all its inputs true
+-- where a transaction is finished and all deposits are of keys, every oracle that accepts the given signatures finds the scripts of all its
+-- inputs true
 abbrev pub FinishedOpens : Type 0
 FinishedOpens =
     (hash : List ℕ → List ℕ) (keys : Keys) (s : Instance) (given : List Signed) (strings : List Shown) (which : Which) (l : Listed)
-    (judge : Judge)
-    → AreKeys hash keys → IsSettled s → are_short given ≡ true → do_fit hash s strings ≡ true
+    (oracle : Oracle)
+    → AreKeys hash keys → AreKeyDeposits keys → IsApplied s → are_short given ≡ true → do_fit hash s strings ≡ true
     → listed_at hash keys s which ≡ Some l → finish_refusal hash keys s given strings l ≡ None
-    → accepts hash keys s given judge l ≡ true
-    → AllOpen hash judge 0 l.draft.spends (witnesses hash keys s given strings l l.which)
+    → accepts hash keys s given oracle l ≡ true
+    → AllOpen hash oracle 0 l.pending.spends (witnesses hash keys s given strings l l.which)
 
 -- without witnesses a finished transaction has the bytes of the plan's
 abbrev pub FinishedIsPlanned : Type 0
 FinishedIsPlanned =
     (hash : List ℕ → List ℕ) (keys : Keys) (s : Instance) (given : List Signed) (strings : List Shown) (l : Listed)
-    → stripped (finished hash keys s given strings l) ≡ stripped (tx_of l.draft)
+    → stripped (finished hash keys s given strings l) ≡ stripped (tx_of l.pending)
 
 -- ---- no other way
 

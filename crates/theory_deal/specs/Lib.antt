@@ -16,3 +16,7 @@ pub mod Asked
 pub mod Scripts
 pub mod NothingTwice
 pub mod Ecdsa
+pub mod FirstOf
+pub mod SecretLines
+pub mod DealLines
+pub mod SignatureLines

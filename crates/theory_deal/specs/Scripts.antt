@@ -9,6 +9,7 @@ use Rattle.spec_bitcoin.specs.declared.label.Label.TheVariants as labels
 use Rattle.spec_bitcoin.specs.Keys.{deposit_script}
 use Rattle.spec_compiler.specs.Keyed.Keys.{Keys, key_in}
 use Rattle.spec_compiler.specs.Keyed.Instance.{Instance, branch_path, position_script}
+use Rattle.spec_compiler.specs.Keyed.Statements.{AreKeyDeposits}
 use Rattle.spec_deal.specs.Slots.{Slot, slots}
 
 -- the script is that of a position, and the path is that of one of its branches
@@ -27,6 +28,7 @@ abbrev pub AsksForKey : (List ℕ → List ℕ) → Keys → Instance → List �
 AsksForKey hash keys s script (labels.Deposit party) = script ≡ deposit_script (key_in hash keys (labels.Deposit party))
 AsksForKey hash keys s script (labels.Branch contract path party) = IsOfPosition hash keys s path script
 
+-- where all deposits are of keys
 abbrev pub ScriptsAsk : Type 0
-ScriptsAsk = (hash : List ℕ → List ℕ) (keys : Keys) (s : Instance) (slot : Slot) → Contains (slots hash keys s) slot
-    → AsksForKey hash keys s slot.spent.script slot.label
+ScriptsAsk = (hash : List ℕ → List ℕ) (keys : Keys) (s : Instance) → AreKeyDeposits keys → (slot : Slot)
+    → Contains (slots hash keys s) slot → AsksForKey hash keys s slot.spent.script slot.label

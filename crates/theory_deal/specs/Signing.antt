@@ -61,11 +61,11 @@ Signs s (names.At path) k label verb = (b : Guarded) × (at s.advert.root path �
 
 -- the contract has the transaction, its input spends this, and the key of the label signs it by that event
 pub record IsAsked (hash : List ℕ → List ℕ) (keys : Keys) (s : Instance) (slot : Slot) : Type 0 where
-  pub there : option_map (λ (l : Listed). l.draft) (listed_at hash keys s slot.which) ≡ Some slot.draft
-  pub spends : slice_get slot.draft.spends slot.input ≡ Some slot.spent
+  pub there : option_map (λ (l : Listed). l.pending) (listed_at hash keys s slot.which) ≡ Some slot.pending
+  pub spends : slice_get slot.pending.spends slot.input ≡ Some slot.spent
   pub signs : Signs s slot.which slot.input slot.label slot.verb
 
--- a signature is wanted exactly where it is asked for so
+-- a signature is needed exactly where it is asked for so
 abbrev pub AsksExactly : Type 0
 AsksExactly = (hash : List ℕ → List ℕ) (keys : Keys) (s : Instance) (slot : Slot)
     → Contains (slots hash keys s) slot ↔ IsAsked hash keys s slot
@@ -95,7 +95,7 @@ IsParted {X} test (x ∷ xs) there others =
     ((rest : List X) × (test x ≡ true) × (there ≡ x ∷ rest) × IsParted test xs rest others)
     ⊎ ((rest : List X) × (test x ≡ false) × (others ≡ x ∷ rest) × IsParted test xs there rest)
 
--- the signatures that are held and those that are missing part those that are wanted
+-- the signatures that are held and those that are missing part those that are needed
 abbrev pub HeldAndMissing : Type 0
 HeldAndMissing = (hash : List ℕ → List ℕ) (keys : Keys) (s : Instance) (given : List Signed)
     → IsParted (has hash keys given) (slots hash keys s) (held hash keys s given) (missing hash keys s given)

@@ -9,10 +9,10 @@ use Rattle.theory_deal.specs.Transactions.{all_names}
 
 -- one stands before another in a list
 pub record Precedes {X : Type 0} (xs : List X) (x y : X) : Type 0 where
-  pub front : List X
+  pub prefix : List X
   pub between : List X
   pub behind : List X
-  pub stands : xs ≡ front ++ x ∷ (between ++ y ∷ behind)
+  pub stands : xs ≡ prefix ++ x ∷ (between ++ y ∷ behind)
 
 -- a signature is of an earlier transaction, of an earlier input of the same, or of the same input by an earlier participant
 abbrev pub ComesBefore : Instance → Slot → Slot → Type 0

@@ -6,6 +6,7 @@ use Rattle.spec_terms.specs.Term.{Contract}
 use Rattle.spec_terms.specs.Faults.{IsWellFormed}
 use Rattle.spec_terms.specs.Order.{branch_paths}
 use Rattle.spec_bitcoin.specs.declared.label.Label.{Label}
+use Rattle.spec_compiler.specs.Keyed.OwnScripts.{OwnScripts}
 use Rattle.spec_compiler.specs.Keyed.Keys.{Keys, given}
 use Rattle.spec_compiler.specs.Keyed.Hashed.{compiled_strings}
 use Rattle.spec_compiler.specs.Keyed.Instance.{Instance, people}
@@ -30,12 +31,12 @@ pub record AreTransactions (hash : List ℕ → List ℕ) (keys : Keys) (s : Ins
   -- each is the one that the contract has under its name
   pub each : (l : Listed) → Contains (listed hash keys s) l ↔ (listed_at hash keys s l.which ≡ Some l)
   -- of a contract that passed the check each pays out all that it spends but the fee
-  pub money : IsWellFormed s.advert → (l : Listed) → Contains (listed hash keys s) l → IsKept s.advert l.draft
+  pub money : IsWellFormed s.advert → (l : Listed) → Contains (listed hash keys s) l → IsKept s.advert l.pending
 
 abbrev pub TransactionsOfDeals : Type 0
 TransactionsOfDeals = (hash : List ℕ → List ℕ) (keys : Keys) (s : Instance) → AreTransactions hash keys s
 
 -- what is hashed for a deal is the script of each participant's deposits, and then what is hashed to compile its contract at given keys
 abbrev pub DealsHash : Type 0
-DealsHash = (hash : List ℕ → List ℕ) (key_of : Label → List ℕ) (s : Instance)
-    → deal_strings hash (given key_of) s ≡ map (party_script hash (given key_of)) (people s) ++ compiled_strings hash (given key_of) s
+DealsHash = (hash : List ℕ → List ℕ) (key_of : Label → List ℕ) (own : OwnScripts) (s : Instance)
+    → deal_strings hash (given key_of own) s ≡ map (party_script hash (given key_of own)) (people s) ++ compiled_strings hash (given key_of own) s

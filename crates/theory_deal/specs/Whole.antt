@@ -26,7 +26,7 @@ use Rattle.spec_deal.specs.Setting.{deal_keys, deal_instance}
 use Rattle.spec_deal.specs.SignatureFile.{read_signatures}
 use Rattle.spec_deal.specs.Slots.{listed_slots}
 use Rattle.spec_deal.specs.Verifier.{Verifier}
-use Rattle.theory_deal.specs.Finished.{Judge, accepts, judge_by, Agrees, AllOpen}
+use Rattle.theory_deal.specs.Finished.{Oracle, accepts, oracle_by, Agrees, AllOpen}
 
 -- ---- refusals
 
@@ -54,20 +54,20 @@ FinishesExactly =
 abbrev pub AreRead : (List ℕ → List ℕ) → Keys → Instance → List Shown → Type 0
 AreRead hash keys s strings = (strings ≡ []) ⊎ ((text : List ℕ) × (read_secrets hash keys s text ≡ shows strings))
 
--- what is printed is the plan's transaction with witnesses on which every input's script is true, for every judge that accepts the given
+-- what is printed is the plan's transaction with witnesses on which every input's script is true, for every oracle that accepts the given
 -- signatures, and so for the verifier that read them; the initial one is printed only where every endorsement is there
 pub record IsFinished (v : Verifier) (hash : List ℕ → List ℕ) (keys : Keys) (s : Instance) (given : List Signed) (strings : List Shown)
     (l : Listed) : Type 0 where
   pub printed : finished_answer hash keys s l given strings
       ≡ prints 0 (hex_text (spelling (finished hash keys s given strings l)) ++ newline)
-  pub planned : stripped (finished hash keys s given strings l) ≡ stripped (tx_of l.draft)
-  pub opens : (judge : Judge) → accepts hash keys s given judge l ≡ true
-      → AllOpen hash judge 0 l.draft.spends (witnesses hash keys s given strings l l.which)
+  pub planned : stripped (finished hash keys s given strings l) ≡ stripped (tx_of l.pending)
+  pub opens : (oracle : Oracle) → accepts hash keys s given oracle l ≡ true
+      → AllOpen hash oracle 0 l.pending.spends (witnesses hash keys s given strings l l.which)
   -- by the verifier itself, with nothing asked of it
-  pub verified : AllOpen hash (judge_by v hash l) 0 l.draft.spends (witnesses hash keys s given strings l l.which)
-  -- and by every judge that takes what it finds good
-  pub agreed : (judge : Judge) → Agrees v hash l judge
-      → AllOpen hash judge 0 l.draft.spends (witnesses hash keys s given strings l l.which)
+  pub verified : AllOpen hash (oracle_by v hash l) 0 l.pending.spends (witnesses hash keys s given strings l l.which)
+  -- and by every oracle that takes what it finds good
+  pub agreed : (oracle : Oracle) → Agrees v hash l oracle
+      → AllOpen hash oracle 0 l.pending.spends (witnesses hash keys s given strings l l.which)
   pub endorsed : l.which ≡ names.Init → may_start hash keys s given ≡ true
 
 -- of every well-formed contract and all files that are taken

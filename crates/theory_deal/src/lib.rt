@@ -1,9 +1,12 @@
-//! What follows of deals: each theorem is the contract of a function that does nothing.
+//! Theorems on deals: what a taken file gives, which signatures are missing, when the start may be signed, and that a
+//! finished transaction's scripts are true. `deal_tool` has most of them in its clause. Each is the contract of a
+//! function that does nothing.
 #![tactic(auto)]
 
 ghost use Rattle.theory_deal.specs.Accepted.{VerdictByBook, AcceptedTheorem};
 ghost use Rattle.theory_deal.specs.Asked.{DealsAsk};
 ghost use Rattle.theory_deal.specs.Causes.{DealCausesTheorem};
+ghost use Rattle.theory_deal.specs.DealLines.{DealFilesAreRead};
 ghost use Rattle.theory_deal.specs.Ecdsa.{IsEcdsa};
 ghost use Rattle.theory_deal.specs.Files.{DealsAreSized, DealsGiveAll, KeysArePoints, SecretsFit, SignaturesAreShaped, SignaturesVerify};
 ghost use Rattle.theory_deal.specs.FinishAnswers.{FinishAnswers};
@@ -13,7 +16,9 @@ ghost use Rattle.theory_deal.specs.NothingTwice.{NothingTwice};
 ghost use Rattle.theory_deal.specs.Plan.{PlanOfRuns};
 ghost use Rattle.theory_deal.specs.Printed.{ReadAgainTheorem};
 ghost use Rattle.theory_deal.specs.Scripts.{ScriptsAsk};
+ghost use Rattle.theory_deal.specs.SecretLines.{SecretFilesAreRead};
 ghost use Rattle.theory_deal.specs.Shapes.{ShapeExactly, ShapeIsShort};
+ghost use Rattle.theory_deal.specs.SignatureLines.{SignatureFilesAreRead};
 ghost use Rattle.theory_deal.specs.Signatures.{MissingAndHeld, MayStart};
 ghost use Rattle.theory_deal.specs.Signing.{AsksExactly, EndorsementsOfRuns, HeldAndMissing};
 ghost use Rattle.theory_deal.specs.SigningOrder.{SignaturesInOrder};
@@ -46,17 +51,17 @@ pub fn files_for_signers()
     transactions_of_deals();
 }
 
-/// A signature is wanted exactly where a transaction of the contract asks for it: of this input, by this key, by this event of a run.
+/// A signature is needed exactly where a transaction of the contract asks for it: of this input, by this key, by this event of a run.
 pub fn asks_exactly()
     ensures { AsksExactly }
 {}
 
-/// The script of an input asks for the key of each signature that is wanted of it.
+/// The script of an input asks for the key of each signature that is needed of it.
 pub fn scripts_ask()
     ensures { ScriptsAsk }
 {}
 
-/// Signatures are wanted in the order of the text, none of them twice.
+/// Signatures are needed in the order of the text, none of them twice.
 pub fn signatures_in_order()
     ensures { SignaturesInOrder }
 {
@@ -68,7 +73,7 @@ pub fn endorsements_of_runs()
     ensures { EndorsementsOfRuns }
 {}
 
-/// The signatures that are held and those that are missing part those that are wanted.
+/// The signatures that are held and those that are missing part those that are needed.
 pub fn held_and_missing()
     ensures { HeldAndMissing }
 {}
@@ -95,7 +100,7 @@ pub fn plan_of_runs()
     ensures { PlanOfRuns }
 {}
 
-/// Where a transaction is finished, every judge of signatures that accepts the given ones finds the scripts of all its inputs true.
+/// Where a transaction is finished, every oracle of signatures that accepts the given ones finds the scripts of all its inputs true.
 pub fn finished_opens()
     ensures { FinishedOpens }
 {}
@@ -105,7 +110,7 @@ pub fn finished_is_planned()
     ensures { FinishedIsPlanned }
 {}
 
-/// A script is false for every judge that finds no signature of one of its signers.
+/// A script is false for every oracle that finds no signature of one of its signers.
 pub fn false_without_one()
     ensures { FalseWithoutOne }
 {}
@@ -134,6 +139,23 @@ pub fn signatures_verify()
 /// Each string of a file of secrets that is taken fits its secret.
 pub fn secrets_fit()
     ensures { SecretsFit }
+{}
+
+/// A file of signatures comes to what its lines come to, input by input and signature by signature; it is refused at its first bad line, by
+/// the first reason there.
+pub fn signature_files_are_read()
+    ensures { SignatureFilesAreRead }
+{}
+
+/// A deal file comes to what its lines come to, each by its words, and to the first thing that is needed and that no line gives; it is
+/// refused at its first bad line, by the first reason there.
+pub fn deal_files_are_read()
+    ensures { DealFilesAreRead }
+{}
+
+/// A file of secrets comes to what its lines come to, each by its words; it is refused at its first bad line, by the first reason there.
+pub fn secret_files_are_read()
+    ensures { SecretFilesAreRead }
 {}
 
 /// A deal that is taken gives all that its contract needs, in order.
@@ -171,7 +193,7 @@ pub fn finish_theorem()
     ensures { FinishTheorem }
 {}
 
-/// By the book of ideal signatures, the verdict by a judge is that of the ledger.
+/// By the book of ideal signatures, the verdict by an oracle is that of the ledger.
 pub fn verdict_by_book()
     ensures { VerdictByBook }
 {}

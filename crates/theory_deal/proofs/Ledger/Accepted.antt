@@ -16,8 +16,8 @@ use Rattle.spec_deal.specs.Setting.{deal_keys, deal_instance}
 use Rattle.spec_deal.specs.Verifier.{Verifier}
 use Rattle.theory_world.proofs.Ledger.Acceptable.{with-bare}
 use Rattle.theory_world.proofs.Ledger.Bare.{same_preimage}
-use Rattle.theory_deal.specs.Finished.{Judge, judge_by, Agrees, AllOpen}
-use Rattle.theory_deal.specs.Accepted.{judge_on, AreLive, AcceptedTheorem}
+use Rattle.theory_deal.specs.Finished.{Oracle, oracle_by, Agrees, AllOpen}
+use Rattle.theory_deal.specs.Accepted.{oracle_on, AreLive, AcceptedTheorem}
 use Rattle.theory_deal.proofs.Ledger.ByBook.{verdict_by_book}
 use Rattle.theory_deal.proofs.Ledger.DifferentOutputs.{apart_at}
 use Rattle.theory_deal.proofs.Ledger.Funded.{funded_at}
@@ -40,26 +40,26 @@ digest_with hash tx ws x w script value =
 
 module _ (hash : List ℕ → List ℕ) (live : List Entry) (tx : Tx) (all : List (List (List ℕ))) where
   -- the digest of input k, of those that spend these
-  same_digest : (judge : Judge) (j k : ℕ) (xs : List Spent) (ws : List (List (List ℕ))) → AllOpen hash judge j xs ws → Lie hash live xs
+  same_digest : (oracle : Oracle) (j k : ℕ) (xs : List Spent) (ws : List (List (List ℕ))) → AllOpen hash oracle j xs ws → Lie hash live xs
       → option_map_or (λ input. digest hash (with_witnesses tx all) input (script_of input.witness) (spent_value live input))
       (slice_get (witnessed (map input_of xs) ws) k) []
       ≡ option_map_or (digest_of_spent hash tx) (slice_get xs k) []
-  same_digest judge j k [] [] o h = refl
-  same_digest judge j k [] (w ∷ ws) o h = absurd o
-  same_digest judge j k (x ∷ xs) [] o h = absurd o
-  same_digest judge j zero (x ∷ xs) (w ∷ ws) o h =
+  same_digest oracle j k [] [] o h = refl
+  same_digest oracle j k [] (w ∷ ws) o h = absurd o
+  same_digest oracle j k (x ∷ xs) [] o h = absurd o
+  same_digest oracle j zero (x ∷ xs) (w ∷ ws) o h =
       let worth = one_worth hash live x (record (input_of x) { witness = w }) refl (lies hash live x h.0) in
       (λ i. digest hash (with_witnesses tx all) (record (input_of x) { witness = w }) (o.0 i) (worth i))
       ∙ digest_with hash tx all x w x.script x.value
-  same_digest judge j (suc k) (x ∷ xs) (w ∷ ws) o h = same_digest judge (j + 1) k xs ws o.2 h.1
+  same_digest oracle j (suc k) (x ∷ xs) (w ∷ ws) o h = same_digest oracle (j + 1) k xs ws o.2 h.1
 
 -- so a verifier's judge on the ledger agrees with the verifier
-agrees_on : (v : Verifier) (hash : List ℕ → List ℕ) (live : List Entry) (l : Listed) (judge : Judge) (ws : List (List (List ℕ)))
-    → AllOpen hash judge 0 l.draft.spends ws → AreLive hash live l.draft.spends
-    → Agrees v hash l (judge_on (λ digest signature key. v.is_signature key digest signature) hash live (with_witnesses (tx_of l.draft) ws))
-agrees_on v hash live l judge ws opens there k signature key good =
+agrees_on : (v : Verifier) (hash : List ℕ → List ℕ) (live : List Entry) (l : Listed) (oracle : Oracle) (ws : List (List (List ℕ)))
+    → AllOpen hash oracle 0 l.pending.spends ws → AreLive hash live l.pending.spends
+    → Agrees v hash l (oracle_on (λ digest signature key. v.is_signature key digest signature) hash live (with_witnesses (tx_of l.pending) ws))
+agrees_on v hash live l oracle ws opens there k signature key good =
     ap (λ (d : List ℕ). v.is_signature key d signature)
-    (same_digest hash live (tx_of l.draft) ws judge 0 k l.draft.spends ws opens (lie_of hash live l.draft.spends there))
+    (same_digest hash live (tx_of l.pending) ws oracle 0 k l.pending.spends ws opens (lie_of hash live l.pending.spends there))
     ∙ good
 
 -- ---- the whole
@@ -70,7 +70,7 @@ finished_accepted v hash advert deal_text deal file given strings which l size c
     let s : Instance = deal_instance advert deal in
     let done = finish_theorem v hash advert deal_text deal file given strings which l checked deal_read given_read strings_read there refusal in
     let ws = witnesses hash keys s given strings l l.which in
-    let whole : IsWhole l.draft = record {
+    let whole : IsWhole l.pending = record {
       funded = funded_at hash keys s checked which l there;
       apart = apart_at hash keys s checked
           (record {
@@ -83,16 +83,16 @@ finished_accepted v hash advert deal_text deal file given strings which l size c
     witnesses_short hash keys s given strings (signatures_are_shaped v hash keys s file given given_read).short
     (strings_fit hash keys s strings strings_read) l l.which in
     record {
-      by_book = λ book chain. verdict_by_book hash book chain (with_witnesses (tx_of l.draft) ws);
-      judged = λ judge chain accepted live reached.
-          accepts_open hash judge chain l.draft ws whole live size reached (done.opens judge accepted) short;
-      agreed = λ judge chain agrees live reached.
-          accepts_open hash judge chain l.draft ws whole live size reached (done.agreed judge agrees) short;
+      by_book = λ book chain. verdict_by_book hash book chain (with_witnesses (tx_of l.pending) ws);
+      judged = λ oracle chain accepted live reached.
+          accepts_open hash oracle chain l.pending ws whole live size reached (done.opens oracle accepted) short;
+      agreed = λ oracle chain agrees live reached.
+          accepts_open hash oracle chain l.pending ws whole live size reached (done.agreed oracle agrees) short;
       verified = λ chain live reached.
-          let tx = with_witnesses (tx_of l.draft) ws in
-          let judge = judge_on (λ digest signature key. v.is_signature key digest signature) hash chain.live tx in
-          accepts_open hash judge chain l.draft ws whole live size reached
-          (done.agreed judge (agrees_on v hash chain.live l (judge_by v hash l) ws done.verified live)) short;
-      possible = some_ledger hash l.draft.spends whole.apart;
-      early = λ judge chain live early. refuses_early hash judge chain l.draft ws whole live early;
+          let tx = with_witnesses (tx_of l.pending) ws in
+          let oracle = oracle_on (λ digest signature key. v.is_signature key digest signature) hash chain.live tx in
+          accepts_open hash oracle chain l.pending ws whole live size reached
+          (done.agreed oracle (agrees_on v hash chain.live l (oracle_by v hash l) ws done.verified live)) short;
+      possible = some_ledger hash l.pending.spends whole.apart;
+      early = λ oracle chain live early. refuses_early hash oracle chain l.pending ws whole live early;
     }

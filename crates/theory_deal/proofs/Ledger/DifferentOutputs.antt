@@ -139,12 +139,13 @@ module _ (hash : List ℕ → List ℕ) (keys : Keys) (s : Instance) where
       branch_apart =
           repeats_by_place (map input_of (branch_unsigned hash keys s here i b).spends)
           ∙ ap (λ ps. twice (here.output.outpoint ∷ ps)) (put_places (puts_of (core b)))
-          ∙ or_from _ _ (all_elsewhere (puts_of (core b)) (puts_needed hash keys s well path here i b ends)) (none_twice (puts_of (core b)) (puts_needed hash keys s well path here i b ends) (puts_different hash keys s well path here i b ends))
+          ∙ or_from _ _ (all_elsewhere (puts_of (core b)) (puts_needed hash keys s well path here i b ends))
+          (none_twice (puts_of (core b)) (puts_needed hash keys s well path here i b ends) (puts_different hash keys s well path here i b ends))
 
     -- ---- all transactions
 
     abbrev Apart : Listed → Type 0
-    Apart l = has_repeat (map input_of l.draft.spends) ≡ false
+    Apart l = has_repeat (map input_of l.pending.spends) ≡ false
 
     by_ends : (path : List PathStep) (o : Option PathEnd) → end_at hash keys s path ≡ o → (l : Listed)
         → option_map (path_listed s path) (option_and_then (as_unsigned hash keys s) o) ≡ Some l → Apart l

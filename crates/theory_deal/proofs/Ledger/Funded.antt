@@ -46,7 +46,8 @@ core_bare (withdraw party) = refl
 core_bare (split parts) = refl
 
 -- what a branch makes
-makes_some : (hash : List ℕ → List ℕ) (keys : Keys) (s : Instance) (path : List PathStep) (v : ℕ) (c : term.Guarded) → is_bare c ≡ true → is_readable_branch c ≡ true
+makes_some : (hash : List ℕ → List ℕ) (keys : Keys) (s : Instance) (path : List PathStep) (v : ℕ) (c : term.Guarded) → is_bare c ≡ true
+    → is_readable_branch c ≡ true
     → 0 < length (core_outputs hash keys s path v c)
 makes_some hash keys s path v (auth party body) h r = cc
 makes_some hash keys s path v (after height body) h r = cc
@@ -123,12 +124,12 @@ module _ (hash : List ℕ → List ℕ) (keys : Keys) (s : Instance) (well : IsW
   -- ---- all transactions
 
   by_ends : (path : List PathStep) (o : Option PathEnd) → end_at hash keys s path ≡ o → (l : Listed)
-      → option_map (path_listed s path) (option_and_then (as_unsigned hash keys s) o) ≡ Some l → IsFunded l.draft
+      → option_map (path_listed s path) (option_and_then (as_unsigned hash keys s) o) ≡ Some l → IsFunded l.pending
   by_ends path None ends l e = cc
   by_ends path (Some (at_position here choice)) ends l e = cc
   by_ends path (Some (at_branch here i b)) ends l e =
-      subst (λ (x : Listed). IsFunded x.draft) (some_same e) (branch_funded path here i b ends)
+      subst (λ (x : Listed). IsFunded x.pending) (some_same e) (branch_funded path here i b ends)
 
-  pub funded_at : (which : Which) (l : Listed) → listed_at hash keys s which ≡ Some l → IsFunded l.draft
-  funded_at names.Init l e = subst (λ (x : Listed). IsFunded x.draft) (some_same e) initial_funded
+  pub funded_at : (which : Which) (l : Listed) → listed_at hash keys s which ≡ Some l → IsFunded l.pending
+  funded_at names.Init l e = subst (λ (x : Listed). IsFunded x.pending) (some_same e) initial_funded
   funded_at (names.At path) l e = by_ends path (end_at hash keys s path) refl l e

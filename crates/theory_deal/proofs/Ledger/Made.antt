@@ -43,7 +43,7 @@ module _ (hash : List ℕ → List ℕ) (keys : Keys) (s : Instance) where
   pub record IsMade (place : OutPoint) : Type 0 where
     pub by_which : Listed
     pub among : Is_in by_which (listed hash keys s)
-    pub id : txid hash (tx_of by_which.draft) ≡ place.txid
+    pub id : txid hash (tx_of by_which.pending) ≡ place.txid
 
   abbrev IfMade : PathEnd → Type 0
   IfMade (at_position here choice) = IsMade here.output.outpoint
@@ -65,24 +65,24 @@ module _ (hash : List ℕ → List ℕ) (keys : Keys) (s : Instance) where
       by_branch None k = cc
       by_branch (Some b) k = subst IfMade (some_same k) made
 
-  from_continued : (front : List PathStep) (here : Standing) (i : ℕ) (b c : term.Guarded) (p : Standing × Contract)
-      → unsigned_at hash keys s front ≡ Some (branch_unsigned hash keys s here i b) → continued_end hash keys s here i b c ≡ Some p
+  from_continued : (prefix : List PathStep) (here : Standing) (i : ℕ) (b c : term.Guarded) (p : Standing × Contract)
+      → unsigned_at hash keys s prefix ≡ Some (branch_unsigned hash keys s here i b) → continued_end hash keys s here i b c ≡ Some p
       → IsMade p.0.output.outpoint
-  from_continued front here i b (put_reveal puts reveals test next) p there e =
+  from_continued prefix here i b (put_reveal puts reveals test next) p there e =
       subst (λ (q : Standing × Contract). IsMade q.0.output.outpoint) (some_same e)
-      (path_makes front (branch_unsigned hash keys s here i b) 0 there)
-  from_continued front here i b (withdraw party) p there e = cc
-  from_continued front here i b (split parts) p there e = cc
-  from_continued front here i b (auth party body) p there e = cc
-  from_continued front here i b (after height body) p there e = cc
+      (path_makes prefix (branch_unsigned hash keys s here i b) 0 there)
+  from_continued prefix here i b (withdraw party) p there e = cc
+  from_continued prefix here i b (split parts) p there e = cc
+  from_continued prefix here i b (auth party body) p there e = cc
+  from_continued prefix here i b (after height body) p there e = cc
 
-  from_part : (front : List PathStep) (here : Standing) (i k : ℕ) (b c : term.Guarded) (r : PathEnd)
-      → unsigned_at hash keys s front ≡ Some (branch_unsigned hash keys s here i b) → part_end hash keys s here i b k c ≡ Some r → IfMade r
-  from_part front here i k b (put_reveal puts reveals test next) r there e = cc
-  from_part front here i k b (withdraw party) r there e = cc
-  from_part front here i k b (auth party body) r there e = cc
-  from_part front here i k b (after height body) r there e = cc
-  from_part front here i k b (split parts) r there e = by_part (slice_get (parts_list parts) k) e
+  from_part : (prefix : List PathStep) (here : Standing) (i k : ℕ) (b c : term.Guarded) (r : PathEnd)
+      → unsigned_at hash keys s prefix ≡ Some (branch_unsigned hash keys s here i b) → part_end hash keys s here i b k c ≡ Some r → IfMade r
+  from_part prefix here i k b (put_reveal puts reveals test next) r there e = cc
+  from_part prefix here i k b (withdraw party) r there e = cc
+  from_part prefix here i k b (auth party body) r there e = cc
+  from_part prefix here i k b (after height body) r there e = cc
+  from_part prefix here i k b (split parts) r there e = by_part (slice_get (parts_list parts) k) e
     where
       by_part : (o : Option (ℕ × Contract))
           → option_map
@@ -91,22 +91,22 @@ module _ (hash : List ℕ → List ℕ) (keys : Keys) (s : Instance) where
           o ≡ Some r
           → IfMade r
       by_part None x = cc
-      by_part (Some p) x = subst IfMade (some_same x) (path_makes front (branch_unsigned hash keys s here i b) k there)
+      by_part (Some p) x = subst IfMade (some_same x) (path_makes prefix (branch_unsigned hash keys s here i b) k there)
 
-  next_made : (front : List PathStep) (step : PathStep) (p r : PathEnd) → end_at hash keys s front ≡ Some p → IfMade p
+  next_made : (prefix : List PathStep) (step : PathStep) (p r : PathEnd) → end_at hash keys s prefix ≡ Some p → IfMade p
       → next_end hash keys s step p ≡ Some r → IfMade r
-  next_made front (To j) (at_position here choice) r there made e = from_branch_end here choice j r made e
-  next_made front (Into k) (at_position here choice) r there made e = cc
-  next_made front (Into k) (at_branch here i b) r there made e =
-      from_part front here i k b (core b) r (ap (option_and_then (as_unsigned hash keys s)) there) e
-  next_made front (To j) (at_branch here i b) r there made e = by_continued (continued_end hash keys s here i b (core b)) refl e
+  next_made prefix (To j) (at_position here choice) r there made e = from_branch_end here choice j r made e
+  next_made prefix (Into k) (at_position here choice) r there made e = cc
+  next_made prefix (Into k) (at_branch here i b) r there made e =
+      from_part prefix here i k b (core b) r (ap (option_and_then (as_unsigned hash keys s)) there) e
+  next_made prefix (To j) (at_branch here i b) r there made e = by_continued (continued_end hash keys s here i b (core b)) refl e
     where
       by_continued : (o : Option (Standing × Contract)) → continued_end hash keys s here i b (core b) ≡ o
           → option_and_then (λ (p : Standing × Contract). branch_end p.0 p.1 j) o ≡ Some r → IfMade r
       by_continued None is k = cc
       by_continued (Some p) is k =
           from_branch_end (p.0) (p.1) j r
-          (from_continued front here i b (core b) p (ap (option_and_then (as_unsigned hash keys s)) there) is) k
+          (from_continued prefix here i b (core b) p (ap (option_and_then (as_unsigned hash keys s)) there) is) k
 
   -- the output of the position of a branch
   pub position_made : (path : List PathStep) (here : Standing) (i : ℕ) (b : term.Guarded)
@@ -121,5 +121,5 @@ module _ (hash : List ℕ → List ℕ) (keys : Keys) (s : Instance) where
       let unmade = none_found (λ (q : List ℕ × OutPoint). is_made_here hash keys s (q.1)) s.bound p
       (none_mapped (λ (q : List ℕ × OutPoint). q.0) _ none) i in
       both_ways _ unmade
-      (any_in (λ (l : Listed). bytes_eq (txid hash (tx_of l.draft)) p.1.txid) (listed hash keys s) made.by_which made.among
+      (any_in (λ (l : Listed). bytes_eq (txid hash (tx_of l.pending)) p.1.txid) (listed hash keys s) made.by_which made.among
       (ap (λ x. bytes_eq x p.1.txid) made.id ∙ bytes_refl p.1.txid))

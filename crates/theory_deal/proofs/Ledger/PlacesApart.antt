@@ -37,7 +37,7 @@ use Rattle.theory_deal.proofs.ReadDeals.{there_found, fits, entry_fits, AllFit, 
 -- ---- entries
 
 -- each value is given once
-abbrev EachOnce : List Entry → Type 0
+abbrev pub EachOnce : List Entry → Type 0
 EachOnce entries = (x y : Entry) → Is_in x entries → Is_in y entries → x.value ≡ y.value → x ≡ y
 
 -- none of these gives its value
@@ -124,11 +124,11 @@ module _ (v : Verifier) (advert : Advert) where
       by_test false false true = hash_new entries n words
       by_test false false false = tt
 
-  abbrev IfOnce : Result (List Entry) DealFault → Type 0
+  abbrev pub IfOnce : Result (List Entry) DealFault → Type 0
   IfOnce (Ok entries) = EachOnce entries
   IfOnce (Err fault) = Unit {0}
 
-  entries_once : (entries : List Entry) (n : ℕ) (lines : List (List ℕ)) → EachOnce entries → IfOnce (read_entries v advert entries n lines)
+  pub entries_once : (entries : List Entry) (n : ℕ) (lines : List (List ℕ)) → EachOnce entries → IfOnce (read_entries v advert entries n lines)
   entries_once entries n [] h = h
   entries_once entries n (line ∷ lines) h =
       by_line (line_says v advert entries n (words_of line)) (line_new entries n (words_of line)) (entries_once entries (n + 1) lines h)

@@ -45,10 +45,10 @@ module _ (hash : List ℕ → List ℕ) (keys : Keys) (s : Instance) (given : Li
   one_string name None e = refl
   one_string name (Some x) e = string_short hash s strings fit x (found (λ (y : Shown). bytes_eq y.name name) strings x e).0
 
-  strings_short : (wanted : List (List ℕ)) → list_all is_short (strings_of strings wanted) ≡ true
+  strings_short : (required : List (List ℕ)) → list_all is_short (strings_of strings required) ≡ true
   strings_short [] = refl
-  strings_short (name ∷ wanted) =
-      and_from _ _ (one_string name (find (λ (x : Shown). bytes_eq x.name name) strings) refl) (strings_short wanted)
+  strings_short (name ∷ required) =
+      and_from _ _ (one_string name (find (λ (x : Shown). bytes_eq x.name name) strings) refl) (strings_short required)
 
   deposits_short : (l : Listed) (k : ℕ) (spends : List Spent) (signers : List (List Label))
       → AllShort (deposit_witnesses hash keys s given l k spends signers)
@@ -81,5 +81,5 @@ module _ (hash : List ℕ → List ℕ) (keys : Keys) (s : Instance) (given : Li
   )
 
   pub witnesses_short : (l : Listed) (which : Which) → AllShort (witnesses hash keys s given strings l which)
-  witnesses_short l names.Init = deposits_short l 0 l.draft.spends l.signers
-  witnesses_short l (names.At path) = path_short path l l.draft.spends l.signers
+  witnesses_short l names.Init = deposits_short l 0 l.pending.spends l.signers
+  witnesses_short l (names.At path) = path_short path l l.pending.spends l.signers

@@ -30,7 +30,7 @@ use Rattle.theory_calculus.specs.Members.{Is_in}
 use Rattle.theory_calculus.proofs.Members.{contains_from_in}
 use Rattle.theory_calculus.proofs.Names.{bytes_refl}
 use Rattle.theory_world.proofs.Ledger.Acceptable.{none_reason}
-use Rattle.theory_deal.specs.Finished.{Judge, AllOpen}
+use Rattle.theory_deal.specs.Finished.{Oracle, AllOpen}
 use Rattle.theory_deal.specs.Accepted.{judged_row, judged_input, judged_inputs, judged_refusal, judged_verdict, output_at, AreLive}
 use Rattle.theory_deal.specs.Accepted.{accepted_on}
 
@@ -99,27 +99,27 @@ module _ (hash : List ℕ → List ℕ) (live : List Entry) where
           let same : p.1 ≡ pays hash x.script x.value = cc in
           record { number = p.0; entry = e ∙ (λ i. Some (p.0, same i)) }
 
-  module _ (size : IsHash hash) (judge : Judge) where
+  module _ (size : IsHash hash) (oracle : Oracle) where
     one_fine : (k : ℕ) (x : Spent) (witness : List (List ℕ)) → Lies x → script_of witness ≡ x.script
-        → script_meaning hash (judge k) x.script (items_of witness) ≡ true → list_all is_short (items_of witness) ≡ true
-        → judged_input hash judge live k (record (input_of x) { witness = witness }) ≡ None
+        → script_meaning hash (oracle k) x.script (items_of witness) ≡ true → list_all is_short (items_of witness) ≡ true
+        → judged_input hash oracle live k (record (input_of x) { witness = witness }) ≡ None
     one_fine k x witness l script opens short =
         let i = record (input_of x) { witness = witness } in
         let output = pays hash x.script x.value in
         let program : pays_to_script output.script ≡ true = eq-eqb (length (hash x.script)) 32 (size x.script) in
-        let filled = open_filled hash (judge k) x.script witness script opens in
+        let filled = open_filled hash (oracle k) x.script witness script opens in
         let both : (pays_to_script output.script && is_filled witness) ≡ true = and_from _ _ program filled in
         let match : bytes_eq (hash (script_of witness)) (program_of output.script) ≡ true =
         ap (λ (s : List ℕ). bytes_eq (hash s) (hash x.script)) script ∙ bytes_refl (hash x.script) in
-        let true_one : script_meaning hash (judge k) (script_of witness) (items_of witness) ≡ true =
-        ap (λ (s : List ℕ). script_meaning hash (judge k) s (items_of witness)) script ∙ opens in
-        ap (option_and_then (λ p. first_reason (judged_row hash judge k i p.1))) l.entry
-        ∙ none_reason (judged_row hash judge k i output)
+        let true_one : script_meaning hash (oracle k) (script_of witness) (items_of witness) ≡ true =
+        ap (λ (s : List ℕ). script_meaning hash (oracle k) s (items_of witness)) script ∙ opens in
+        ap (option_and_then (λ p. first_reason (judged_row hash oracle k i p.1))) l.entry
+        ∙ none_reason (judged_row hash oracle k i output)
         (refl, (ap not both, (ap not match, (no_long (items_of witness) short, (ap not true_one, tt)))))
 
     -- no input is refused
-    inputs_fine : (k : ℕ) (xs : List Spent) (ws : List (List (List ℕ))) → Lie hash live xs → AllOpen hash judge k xs ws → AllShort ws
-        → judged_inputs hash judge live k (witnessed (map input_of xs) ws) ≡ None
+    inputs_fine : (k : ℕ) (xs : List Spent) (ws : List (List (List ℕ))) → Lie hash live xs → AllOpen hash oracle k xs ws → AllShort ws
+        → judged_inputs hash oracle live k (witnessed (map input_of xs) ws) ≡ None
     inputs_fine k [] [] h o s = refl
     inputs_fine k [] (w ∷ ws) h o s = absurd o
     inputs_fine k (x ∷ xs) [] h o s = absurd o
@@ -215,7 +215,7 @@ is_less m n h = grind (arith, nat_tests, h)
 by_tests : (a b c d : Bool) → c ≡ false → d ≡ false → (a && (b && (c || d))) ≡ false
 by_tests a b c d p q = grind (arith, p, q)
 
-module _ (hash : List ℕ → List ℕ) (judge : Judge) (chain : Chain) (d : Unsigned) (ws : List (List (List ℕ))) (w : IsWhole d)
+module _ (hash : List ℕ → List ℕ) (oracle : Oracle) (chain : Chain) (d : Unsigned) (ws : List (List (List ℕ))) (w : IsWhole d)
     (live : AreLive hash chain.live d.spends) where
   there : Lie hash chain.live d.spends
   there = lie_of hash chain.live d.spends live
@@ -245,8 +245,8 @@ module _ (hash : List ℕ → List ℕ) (judge : Judge) (chain : Chain) (d : Uns
       not_less (spent_total chain.live is) (total_of d.outputs) (omega (arith, t, e))
 
   -- from the lock on, the verdict accepts what opens
-  pub accepts_open : IsHash hash → d.lock ≤ chain.tip → AllOpen hash judge 0 d.spends ws → AllShort ws
-      → judged_verdict hash judge chain (with_witnesses (tx_of d) ws) ≡ accepted_on chain (with_witnesses (tx_of d) ws)
+  pub accepts_open : IsHash hash → d.lock ≤ chain.tip → AllOpen hash oracle 0 d.spends ws → AllShort ws
+      → judged_verdict hash oracle chain (with_witnesses (tx_of d) ws) ≡ accepted_on chain (with_witnesses (tx_of d) ws)
   accepts_open size reached opens short =
       let tx = with_witnesses (tx_of d) ws in
       let final : is_not_final chain.tip tx ≡ false =
@@ -254,13 +254,13 @@ module _ (hash : List ℕ → List ℕ) (judge : Judge) (chain : Chain) (d : Uns
       (not_less chain.tip d.lock reached) (not_less last_height d.lock w.funded.height) in
       let whole = none_reason (whole_row chain.tip chain.live tx)
       (some_input, (some_output, (none_twice, (all_there, (not_much, (paid, (final, tt))))))) in
-      let inputs = inputs_fine hash chain.live size judge 0 d.spends ws there opens short in
-      let none : judged_refusal hash judge chain.tip chain.live tx ≡ None =
-      (λ j. or_else (whole j) (judged_inputs hash judge chain.live 0 is)) ∙ inputs in
+      let inputs = inputs_fine hash chain.live size oracle 0 d.spends ws there opens short in
+      let none : judged_refusal hash oracle chain.tip chain.live tx ≡ None =
+      (λ j. or_else (whole j) (judged_inputs hash oracle chain.live 0 is)) ∙ inputs in
       ap (verdict_for chain tx) none
 
   -- before it, it is refused for its lock
-  pub refuses_early : chain.tip < d.lock → judged_verdict hash judge chain (with_witnesses (tx_of d) ws) ≡ Refused NotFinal
+  pub refuses_early : chain.tip < d.lock → judged_verdict hash oracle chain (with_witnesses (tx_of d) ws) ≡ Refused NotFinal
   refuses_early early =
       let tx = with_witnesses (tx_of d) ws in
       let locked : not (d.lock == 0) ≡ true = ap not (ne_eqb d.lock 0 (λ e. omega (arith, early, e))) in
@@ -269,4 +269,4 @@ module _ (hash : List ℕ → List ℕ) (judge : Judge) (chain : Chain) (d : Uns
       let bound : is_not_final chain.tip tx ≡ true = rw (binds, locked, less) refl in
       let row : first_reason (whole_row chain.tip chain.live tx) ≡ Some NotFinal =
       rw (some_input, some_output, none_twice, all_there, not_much, paid, bound) refl in
-      ap (λ r. verdict_for chain tx (or_else r (judged_inputs hash judge chain.live 0 is))) row
+      ap (λ r. verdict_for chain tx (or_else r (judged_inputs hash oracle chain.live 0 is))) row

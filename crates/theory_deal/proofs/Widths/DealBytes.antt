@@ -36,7 +36,7 @@ use Rattle.theory_calculus.specs.Members.{Is_in}
 use Rattle.theory_calculus.proofs.Members.{in_append, found}
 use Rattle.theory_text.proofs.Lines.Decimals.{number_less}
 use Rattle.theory_text.proofs.Lines.Hex.{read_hex_is}
-use Rattle.theory_listed.proofs.Digests.{BytesIn}
+use Rattle.theory_psbt_listed.proofs.Digests.{BytesIn}
 use Rattle.theory_deal.proofs.ReadDeals.{is_of}
 use Rattle.theory_deal.proofs.Widths.ScriptBytes.{KeysOfBytes}
 

@@ -2,7 +2,7 @@
 use Rattle.std.proofs.Common.{◌≡◌, ℕ, suc, ◌+◌, ◌≤◌, List, [], ◌∷◌, length, map, true, Option, Some, None, refl, sym, ap, subst, arith}
 use Rattle.std.specs.Prelude.{◌&&◌, nat_le}
 use Rattle.std.specs.List.{AllByRecursion}
-use Rattle.std.specs.Option.{option_map, option_and_then}
+use Rattle.std.specs.Option.{option_map, option_map_or, option_and_then}
 use Rattle.std.proofs.lemmas.Bool.{and_parts}
 use Rattle.std.proofs.lemmas.Bool.Decides.{nat_tests}
 use Rattle.std.proofs.lemmas.List.Sums.{sum_by-cons}
@@ -20,13 +20,15 @@ use Rattle.spec_terms.specs.declared.path.PathStep.{PathStep}
 use Rattle.spec_terms.specs.declared.pre.Pre.{Pre}
 use Rattle.spec_terms.specs.declared.pre.Pre.TheVariants.{Persistent, Volatile, Secret}
 use Rattle.spec_bitcoin.specs.declared.tx.TxOut.{TxOut}
-use Rattle.spec_bitcoin.specs.Spelling.{IsOutput}
+use Rattle.spec_bitcoin.specs.Spelling.{IsString, IsOutput}
+use Rattle.spec_bitcoin.specs.Keys.{pay_to}
 use Rattle.spec_bitcoin.specs.Verdict.{total_of}
-use Rattle.spec_compiler.specs.Keyed.Keys.{Keys}
+use Rattle.spec_compiler.specs.Keyed.Keys.{Keys, own_payee}
 use Rattle.spec_compiler.specs.Keyed.Instance.{Instance, branch_path, position_script}
 use Rattle.spec_compiler.specs.declared.unsigned.Unsigned.{Unsigned}
-use Rattle.spec_compiler.specs.Keyed.Transactions.{Standing, pays, party_script, part_position, part_outputs, core_outputs}
+use Rattle.spec_compiler.specs.Keyed.Transactions.{Standing, pays, party_script, pays_party, part_position, part_outputs, core_outputs}
 use Rattle.spec_compiler.specs.Keyed.Transactions.{deposit, put_deposits, branch_unsigned, initial_unsigned}
+use Rattle.spec_compiler.specs.Keyed.Statements.{ArePayable}
 use Rattle.spec_compiler.specs.Keyed.ByPath.{PathEnd, at_position, at_branch, end_at, as_unsigned}
 use Rattle.spec_tool.specs.declared.which.Which.{Which}
 use Rattle.spec_tool.specs.declared.which.Which.TheVariants as names
@@ -64,32 +66,46 @@ few_persistent (Secret party name ∷ pre) = few_persistent pre
 
 -- ---- outputs
 
--- it pays to the hash of a script
-record IsPay (hash : List ℕ → List ℕ) (o : TxOut) : Type 0 where
-  script : List ℕ
-  is : o ≡ pays hash script o.value
+-- its script can be spelled
+abbrev HasScript : TxOut → Type 0
+HasScript o = IsString o.script
 
 module _ (hash : List ℕ → List ℕ) (bytes : HashesBytes hash) where
-  outputs_fit : (os : List TxOut) → AllByRecursion (IsPay hash) os → total_of os ≤ max_money → AllByRecursion IsOutput os
+  pays_script : (script : List ℕ) (value : ℕ) → HasScript (pays hash script value)
+  pays_script script value = (output_fits hash bytes script 0 (omega arith)).script
+
+  outputs_fit : (os : List TxOut) → AllByRecursion HasScript os → total_of os ≤ max_money → AllByRecursion IsOutput os
   outputs_fit [] h l = tt
   outputs_fit (o ∷ os) h l =
       let sum = sum_by-cons (λ (x : TxOut). x.value) o os in (
-        subst IsOutput (sym h.0.is) (output_fits hash bytes h.0.script o.value (omega (arith, sum, l))),
+        record { value = omega (arith, sum, l); script = h.0 },
         outputs_fit os h.1 (omega (arith, sum, l)),
       )
 
   module _ (keys : Keys) (s : Instance) where
-    parts_pay : (path : List PathStep) (k : ℕ) (ps : Parts) → AllByRecursion (IsPay hash) (part_outputs hash keys s path k ps)
+    parts_pay : (path : List PathStep) (k : ℕ) (ps : Parts) → AllByRecursion HasScript (part_outputs hash keys s path k ps)
     parts_pay path k no_part = tt
     parts_pay path k (part v c ps) =
-        (record { script = position_script hash keys s (part_position path k) c; is = refl }, parts_pay path (k + 1) ps)
+        (pays_script (position_script hash keys s (part_position path k) c) v, parts_pay path (k + 1) ps)
 
-    core_pays : (path : List PathStep) (v : ℕ) (c : term.Guarded) → AllByRecursion (IsPay hash) (core_outputs hash keys s path v c)
-    core_pays path v (put_reveal puts reveals test next) = (record { script = position_script hash keys s path next; is = refl }, tt)
-    core_pays path v (withdraw party) = (record { script = party_script hash keys party; is = refl }, tt)
-    core_pays path v (split parts) = parts_pay path 0 parts
-    core_pays path v (auth party body) = tt
-    core_pays path v (after height body) = tt
+    -- a party is paid at a script of its own, or at that of its key
+    party_pays : ArePayable keys → (party : List ℕ) (v : ℕ) → HasScript (pays_party hash keys party v)
+    party_pays payable party v = by_own (own_payee keys party) refl
+      where
+        by_own : (o : Option (List ℕ)) → own_payee keys party ≡ o
+            → IsString (option_map_or (λ own. own) o (pay_to (hash (party_script hash keys party))))
+        by_own None e = pays_script (party_script hash keys party) v
+        by_own (Some script) e =
+            let p = payable party script e in
+            let few = p.few in
+            record { bytes = p.bytes; size = omega (arith, few) }
+
+    core_pays : ArePayable keys → (path : List PathStep) (v : ℕ) (c : term.Guarded) → AllByRecursion HasScript (core_outputs hash keys s path v c)
+    core_pays payable path v (put_reveal puts reveals test next) = (pays_script (position_script hash keys s path next) v, tt)
+    core_pays payable path v (withdraw party) = (party_pays payable party v, tt)
+    core_pays payable path v (split parts) = parts_pay path 0 parts
+    core_pays payable path v (auth party body) = tt
+    core_pays payable path v (after height body) = tt
 
     many_parts : (path : List PathStep) (k : ℕ) (ps : Parts) → length (part_outputs hash keys s path k ps) ≡ length (parts_list ps)
     many_parts path k no_part = refl
@@ -114,7 +130,7 @@ module _ (hash : List ℕ → List ℕ) (bytes : HashesBytes hash) where
       pub outputs : length d.outputs ≤ 64
       pub fit : total_of d.outputs ≤ max_money → AllByRecursion IsOutput d.outputs
 
-    module _ (well : IsWellFormed s.advert) where
+    module _ (payable : ArePayable keys) (well : IsWellFormed s.advert) where
       initial_small : IsSmall (initial_unsigned hash keys s)
       initial_small =
           let many = many_deposits (persistent s.advert.pre) in
@@ -125,7 +141,7 @@ module _ (hash : List ℕ → List ℕ) (bytes : HashesBytes hash) where
             inputs = omega (arith, many, fewer, all, few);
             outputs = omega arith;
             fit = outputs_fit (initial_unsigned hash keys s).outputs
-                (record { script = position_script hash keys s [] s.advert.root; is = refl }, tt);
+                (pays_script (position_script hash keys s [] s.advert.root) 0, tt);
           }
         where
           many_deposits : (ds : List (List ℕ × Holding)) → length (map (λ d. deposit hash keys s d.0 d.1) ds) ≡ length ds
@@ -144,7 +160,7 @@ module _ (hash : List ℕ → List ℕ) (bytes : HashesBytes hash) where
             outputs = core_few (branch_path here.position i) here.output.value (core b)
                 (core_readable b (branch_reads hash keys s well path here i b e));
             fit = outputs_fit (branch_unsigned hash keys s here i b).outputs
-                (core_pays (branch_path here.position i) here.output.value (core b));
+                (core_pays payable (branch_path here.position i) here.output.value (core b));
           }
         where
           many_puts : (puts : List (List ℕ)) → length (put_deposits hash keys s puts) ≡ length puts
@@ -152,12 +168,12 @@ module _ (hash : List ℕ → List ℕ) (bytes : HashesBytes hash) where
           many_puts (n ∷ puts) = ap suc (many_puts puts)
 
       by_ends : (path : List PathStep) (o : Option PathEnd) → end_at hash keys s path ≡ o → (l : Listed)
-          → option_map (path_listed s path) (option_and_then (as_unsigned hash keys s) o) ≡ Some l → IsSmall l.draft
+          → option_map (path_listed s path) (option_and_then (as_unsigned hash keys s) o) ≡ Some l → IsSmall l.pending
       by_ends path None ends l e = cc
       by_ends path (Some (at_position here choice)) ends l e = cc
       by_ends path (Some (at_branch here i b)) ends l e =
-          subst (λ (x : Listed). IsSmall x.draft) (some_same e) (branch_small path here i b ends)
+          subst (λ (x : Listed). IsSmall x.pending) (some_same e) (branch_small path here i b ends)
 
-      pub small_at : (which : Which) (l : Listed) → listed_at hash keys s which ≡ Some l → IsSmall l.draft
-      small_at names.Init l e = subst (λ (x : Listed). IsSmall x.draft) (some_same e) initial_small
+      pub small_at : (which : Which) (l : Listed) → listed_at hash keys s which ≡ Some l → IsSmall l.pending
+      small_at names.Init l e = subst (λ (x : Listed). IsSmall x.pending) (some_same e) initial_small
       small_at (names.At path) l e = by_ends path (end_at hash keys s path) refl l e

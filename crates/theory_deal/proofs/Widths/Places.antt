@@ -19,7 +19,7 @@ use Rattle.spec_bitcoin.specs.declared.tx.OutPoint.{OutPoint}
 use Rattle.spec_bitcoin.specs.Spelling.{IsPlace, IsString, stripped}
 use Rattle.spec_compiler.specs.Keyed.Keys.{Keys}
 use Rattle.spec_compiler.specs.Keyed.Instance.{Instance, branch_path}
-use Rattle.spec_compiler.specs.Keyed.Statements.{AreKeys, IsCompiled}
+use Rattle.spec_compiler.specs.Keyed.Statements.{AreKeys, AreKeyDeposits, IsCompiled}
 use Rattle.spec_compiler.specs.declared.unsigned.Spent.{Spent}
 use Rattle.spec_compiler.specs.declared.unsigned.Unsigned.{Unsigned}
 use Rattle.spec_compiler.specs.Keyed.Transactions.{Standing, tx_of, output_outpoint, deposit, outpoint_or_none, put_deposits, branch_unsigned}
@@ -34,10 +34,11 @@ use Rattle.theory_calculus.proofs.Members.{get_below}
 use Rattle.theory_calculus.proofs.Names.{persistent_deposit, in_named, looked_in, named_looked}
 use Rattle.theory_script.proofs.Keyed.Stands.{some_same}
 use Rattle.theory_world.proofs.Labels.{core_readable}
-use Rattle.theory_listed.proofs.Digests.{BytesIn}
-use Rattle.theory_deal.specs.Finished.{IsSettled}
+use Rattle.theory_psbt_listed.proofs.Digests.{BytesIn}
+use Rattle.theory_deal.specs.Finished.{IsApplied}
 use Rattle.theory_deal.proofs.Branches.{along, branch_found}
 use Rattle.theory_deal.proofs.ReadBranches.{branch_reads, puts_needed}
+use Rattle.theory_deal.proofs.OfKeys.{deposit_of_key}
 use Rattle.theory_deal.proofs.Widths.ScriptBytes.{KeysOfBytes, position_string, party_string}
 
 -- what is spent lies at a place, and its script can stand in a witness
@@ -45,7 +46,7 @@ pub record IsSpendable (x : Spent) : Type 0 where
   pub place : IsPlace x.outpoint
   pub script : IsString x.script
 
-module _ (hash : List ℕ → List ℕ) (bytes : HashesBytes hash) (keys : Keys) (s : Instance) (settled : IsSettled s)
+module _ (hash : List ℕ → List ℕ) (bytes : HashesBytes hash) (keys : Keys) (s : Instance) (applied : IsApplied s)
     (bound : names_of s.bound ≡ needed_deposits s.advert) (places : (d : List ℕ × OutPoint) → Is_in d s.bound → IsPlace (d.1)) where
   -- ---- places
 
@@ -105,13 +106,13 @@ module _ (hash : List ℕ → List ℕ) (bytes : HashesBytes hash) (keys : Keys)
           let small : k < 2 ^ 32 = grind (arith, nat_tests, few, below) in
           subst IfPlace (some_same x) (made_place (branch_unsigned hash keys s here i b) k small)
 
-  next_place : (front : List PathStep) (step : PathStep) (p r : PathEnd) → end_at hash keys s front ≡ Some p → IfPlace p
+  next_place : (prefix : List PathStep) (step : PathStep) (p r : PathEnd) → end_at hash keys s prefix ≡ Some p → IfPlace p
       → next_end hash keys s step p ≡ Some r → IfPlace r
-  next_place front (To j) (at_position here choice) r there now e = at_end here choice j r now e
-  next_place front (Into k) (at_position here choice) r there now e = cc
-  next_place front (Into k) (at_branch here i b) r there now e =
-      at_part here i k b (core b) r (core_readable b (branch_reads hash keys s settled.checked front here i b there)) e
-  next_place front (To j) (at_branch here i b) r there now e = by_continued (continued_end hash keys s here i b (core b)) refl e
+  next_place prefix (To j) (at_position here choice) r there now e = at_end here choice j r now e
+  next_place prefix (Into k) (at_position here choice) r there now e = cc
+  next_place prefix (Into k) (at_branch here i b) r there now e =
+      at_part here i k b (core b) r (core_readable b (branch_reads hash keys s applied.checked prefix here i b there)) e
+  next_place prefix (To j) (at_branch here i b) r there now e = by_continued (continued_end hash keys s here i b (core b)) refl e
     where
       by_continued : (o : Option (Standing × Contract)) → continued_end hash keys s here i b (core b) ≡ o
           → option_and_then (λ (p : Standing × Contract). branch_end p.0 p.1 j) o ≡ Some r → IfPlace r
@@ -126,12 +127,15 @@ module _ (hash : List ℕ → List ℕ) (bytes : HashesBytes hash) (keys : Keys)
 
   -- ---- with scripts
 
-  module _ (are_keys : AreKeys hash keys) (key_bytes : KeysOfBytes hash keys) (hashes : BytesIn s.hashes) where
+  module _ (are_keys : AreKeys hash keys) (of_keys : AreKeyDeposits keys) (key_bytes : KeysOfBytes hash keys) (hashes : BytesIn s.hashes) where
     abbrev pub AreSpendable : List Spent → Type 0
     AreSpendable xs = AllByRecursion IsSpendable xs
 
     one_deposit : (n : List ℕ) (h : Holding) → is_among n (needed_deposits s.advert) ≡ true → IsSpendable (deposit hash keys s n h)
-    one_deposit n h k = record { place = named_place n k; script = party_string hash keys are_keys key_bytes h.owner }
+    one_deposit n h k = record {
+      place = named_place n k;
+      script = subst IsString (sym (deposit_of_key hash keys s n h of_keys)) (party_string hash keys are_keys key_bytes h.owner);
+    }
 
     persistent_spendable : (ds : List (List ℕ × Holding)) → ((d : List ℕ × Holding) → Is_in d ds → Is_in d (deposits s.advert.pre))
         → AreSpendable (map (λ d. deposit hash keys s d.0 d.1) ds)
@@ -153,24 +157,24 @@ module _ (hash : List ℕ → List ℕ) (bytes : HashesBytes hash) (keys : Keys)
     branch_spendable path here i b e =
         let found = branch_found hash keys s path here i b e in
         let compiled : IsCompiled s here.position found.choice = record {
-          checked = settled.checked;
-          committed = settled.committed;
+          checked = applied.checked;
+          committed = applied.committed;
           is_position = found.stands.branches;
         } in
         let script = position_string hash keys are_keys key_bytes s hashes here.position found.choice compiled in (
           record { place = position_place path here i b e; script = subst IsString (sym found.stands.script) script },
-          puts_spendable (puts_of (core b)) (puts_needed hash keys s settled.checked path here i b e),
+          puts_spendable (puts_of (core b)) (puts_needed hash keys s applied.checked path here i b e),
         )
 
     by_ends : (path : List PathStep) (o : Option PathEnd) → end_at hash keys s path ≡ o → (l : Listed)
-        → option_map (path_listed s path) (option_and_then (as_unsigned hash keys s) o) ≡ Some l → AreSpendable l.draft.spends
+        → option_map (path_listed s path) (option_and_then (as_unsigned hash keys s) o) ≡ Some l → AreSpendable l.pending.spends
     by_ends path None ends l e = cc
     by_ends path (Some (at_position here choice)) ends l e = cc
     by_ends path (Some (at_branch here i b)) ends l e =
-        subst (λ (x : Listed). AreSpendable x.draft.spends) (some_same e) (branch_spendable path here i b ends)
+        subst (λ (x : Listed). AreSpendable x.pending.spends) (some_same e) (branch_spendable path here i b ends)
 
-    pub spendable_at : (which : Which) (l : Listed) → listed_at hash keys s which ≡ Some l → AreSpendable l.draft.spends
+    pub spendable_at : (which : Which) (l : Listed) → listed_at hash keys s which ≡ Some l → AreSpendable l.pending.spends
     spendable_at names.Init l e =
-        subst (λ (x : Listed). AreSpendable x.draft.spends) (some_same e)
+        subst (λ (x : Listed). AreSpendable x.pending.spends) (some_same e)
         (persistent_spendable (persistent s.advert.pre) (persistent_deposit s.advert.pre))
     spendable_at (names.At path) l e = by_ends path (end_at hash keys s path) refl l e

@@ -31,7 +31,7 @@ use Rattle.spec_compiler.specs.Scripts.{formula_ops, test_ops, reveal_ops, revea
 use Rattle.spec_compiler.specs.Scripts.{Demands, branch_ops, digest_of, output_ops, demands_from}
 use Rattle.theory_bitcoin.proofs.Exact.{bytes_none, bytes_cons}
 use Rattle.theory_script.proofs.Keyed.Opened.{no_limit_met}
-use Rattle.theory_listed.proofs.Digests.{BytesIn, all_joined, digest_bytes}
+use Rattle.theory_psbt_listed.proofs.Digests.{BytesIn, all_joined, digest_bytes}
 
 -- what the operation pushes is of bytes, or its code is a byte
 abbrev PushesBytes : Op → Type 0

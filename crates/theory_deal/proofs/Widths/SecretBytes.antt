@@ -6,7 +6,7 @@ use Rattle.std.specs.Str.{bytes_eq}
 use Rattle.spec_data.specs.Digits.{read_hex}
 use Rattle.spec_data.specs.Hashes.{IsBytes}
 use Rattle.spec_data.specs.Lists.{is_among}
-use Rattle.spec_data.specs.Messages.{noted, noted_all, clash}
+use Rattle.spec_data.specs.Messages.{noted, noted_all, collision_with}
 use Rattle.spec_compiler.specs.Keyed.Keys.{Keys}
 use Rattle.spec_compiler.specs.Keyed.Instance.{Instance}
 use Rattle.spec_compiler.specs.Scripts.{digest_of}
@@ -60,8 +60,8 @@ module _ (hash : List ℕ → List ℕ) (s : Instance) where
   new_bytes messages shown (Some earlier) h = tt
   new_bytes messages shown None h = by_test (has_length shown.bytes)
     where
-      by_test : (b : Bool) → LineBytes (cond b (hashed_line hash s shown (clash hash messages shown.bytes)) (bad reasons.Length))
-      by_test true = hashed_bytes shown (clash hash messages shown.bytes) h
+      by_test : (b : Bool) → LineBytes (cond b (hashed_line hash s shown (collision_with hash messages shown.bytes)) (bad reasons.Length))
+      by_test true = hashed_bytes shown (collision_with hash messages shown.bytes) h
       by_test false = tt
 
   word_bytes : (messages : List (List ℕ)) (taken : List Shown) (n : ℕ) (name word : List ℕ) (o : Option (List ℕ)) → read_hex word ≡ o

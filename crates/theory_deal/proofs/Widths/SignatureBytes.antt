@@ -18,15 +18,15 @@ use Rattle.spec_deal.specs.declared.signed.Signed.{Signed}
 use Rattle.spec_deal.specs.declared.transaction.Input.{Input}
 use Rattle.spec_deal.specs.declared.transaction.Transaction.{Transaction}
 use Rattle.spec_deal.specs.Shape.{is_strict}
-use Rattle.spec_deal.specs.SignatureFile.{Taken, same_place, is_wanted, is_verified, refused_second, taken_once, take_signature}
+use Rattle.spec_deal.specs.SignatureFile.{Taken, same_place, is_required, is_verified, refused_second, taken_once, take_signature}
 use Rattle.spec_deal.specs.SignatureFile.{take_signatures, spent_fits, script_fits, witness_fits, final_signature, take_input, take_inputs}
 use Rattle.spec_deal.specs.SignatureFile.{has_bytes, take_transaction, take_psbt, take_bytes, take_words, take_lines, read_signatures}
 use Rattle.spec_deal.specs.Sizes.{most_signature_bytes}
-use Rattle.spec_deal.specs.Transactions.{Wanted, all_wanted, transactions}
+use Rattle.spec_deal.specs.Transactions.{Required, all_required, transactions}
 use Rattle.spec_deal.specs.Verifier.{Verifier}
 use Rattle.theory_calculus.specs.Members.{Is_in}
 use Rattle.theory_calculus.proofs.Members.{in_append}
-use Rattle.theory_listed.proofs.Digests.{all_joined}
+use Rattle.theory_psbt_listed.proofs.Digests.{all_joined}
 use Rattle.theory_psbt.specs.Fitting.{IsSignature, IsStack, IsKnown}
 use Rattle.theory_psbt.proofs.Base64OnlyWritten.{bytes_only}
 use Rattle.theory_psbt.proofs.ReadFits.{read_fits}
@@ -73,69 +73,69 @@ module _ (v : Verifier) where
       by_test false true = tt
       by_test false false = tt
 
-  one : (wanted : List Wanted) (given : List Signed) (g : Signed) → SignedBytes given → IsBytes g.signature
-      → IfBytes (take_signature v wanted given g)
-  one wanted given g h k = by_test (is_wanted wanted g) (is_strict g.signature)
+  one : (required : List Required) (given : List Signed) (g : Signed) → SignedBytes given → IsBytes g.signature
+      → IfBytes (take_signature v required given g)
+  one required given g h k = by_test (is_required required g) (is_strict g.signature)
     where
       by_test : (a b : Bool)
           → IfBytes (cond (not a) (Err (reasons.Key g.input)) (cond (not b) (Err (reasons.Signature g.input))
-          (taken_once (is_verified v wanted g) given g (find (λ earlier. same_place earlier g) given))))
+          (taken_once (is_verified v required g) given g (find (λ earlier. same_place earlier g) given))))
       by_test false b = tt
       by_test true false = tt
-      by_test true true = once given g (find (λ earlier. same_place earlier g) given) (is_verified v wanted g) h k
+      by_test true true = once given g (find (λ earlier. same_place earlier g) given) (is_verified v required g) h k
 
-  several : (wanted : List Wanted) (tx : List ℕ) (k : ℕ) (given : List Signed) (ps : List Pairing) → SignedBytes given
-      → AllByRecursion PairBytes ps → IfBytes (take_signatures v wanted tx k given ps)
-  several wanted tx k given [] h all = h
-  several wanted tx k given (p ∷ ps) h all =
-      by_taken (take_signature v wanted given (record { tx = tx; input = k; key = p.0; signature = p.1 }))
-      (one wanted given (record { tx = tx; input = k; key = p.0; signature = p.1 }) h all.0) (λ more m. several wanted tx k more ps m all.1)
+  several : (required : List Required) (tx : List ℕ) (k : ℕ) (given : List Signed) (ps : List Pairing) → SignedBytes given
+      → AllByRecursion PairBytes ps → IfBytes (take_signatures v required tx k given ps)
+  several required tx k given [] h all = h
+  several required tx k given (p ∷ ps) h all =
+      by_taken (take_signature v required given (record { tx = tx; input = k; key = p.0; signature = p.1 }))
+      (one required given (record { tx = tx; input = k; key = p.0; signature = p.1 }) h all.0) (λ more m. several required tx k more ps m all.1)
     where
-      by_taken : (r : Taken) → IfBytes r → ((more : List Signed) → SignedBytes more → IfBytes (take_signatures v wanted tx k more ps))
-          → IfBytes {E = SignatureReason} (elim r [ Ok more ↦ take_signatures v wanted tx k more ps | Err reason ↦ Err reason ])
+      by_taken : (r : Taken) → IfBytes r → ((more : List Signed) → SignedBytes more → IfBytes (take_signatures v required tx k more ps))
+          → IfBytes {E = SignatureReason} (elim r [ Ok more ↦ take_signatures v required tx k more ps | Err reason ↦ Err reason ])
       by_taken (Ok more) m go = go more m
       by_taken (Err reason) m go = tt
 
-  one_input : (wanted : List Wanted) (tx : List ℕ) (k : ℕ) (given : List Signed) (i : Input) (input : PsbtInput) → SignedBytes given
-      → IsKnown input → IfBytes (take_input v wanted tx k given i input)
-  one_input wanted tx k given i input h known =
+  one_input : (required : List Required) (tx : List ℕ) (k : ℕ) (given : List Signed) (i : Input) (input : PsbtInput) → SignedBytes given
+      → IsKnown input → IfBytes (take_input v required tx k given i input)
+  one_input required tx k given i input h known =
       by_test (spent_fits i.output input.spent) (script_fits i.spent.script input.script)
       (witness_fits i.spent.script input.witness)
     where
       by_test : (a b c : Bool)
           → IfBytes (cond (not a) (Err (reasons.Spent k)) (cond (not b) (Err (reasons.Script k)) (cond (not c) (Err (reasons.Witness k))
-          (take_signatures v wanted tx k given (input.partial ++ final_signature i.spent.script input.witness)))))
+          (take_signatures v required tx k given (input.partial ++ final_signature i.spent.script input.witness)))))
       by_test false b c = tt
       by_test true false c = tt
       by_test true true false = tt
       by_test true true true =
-          several wanted tx k given (input.partial ++ final_signature i.spent.script input.witness) h
+          several required tx k given (input.partial ++ final_signature i.spent.script input.witness) h
           (all_joined PairBytes input.partial (final_signature i.spent.script input.witness) (partial_bytes input.partial known.partial)
           (final_bytes i.spent.script input.witness known.witness))
 
-  inputs : (wanted : List Wanted) (tx : List ℕ) (k : ℕ) (given : List Signed) (is : List Input) (ins : List PsbtInput) → SignedBytes given
-      → AllByRecursion IsKnown ins → IfBytes (take_inputs v wanted tx k given is ins)
-  inputs wanted tx k given [] ins h all = h
-  inputs wanted tx k given (i ∷ is) [] h all = h
-  inputs wanted tx k given (i ∷ is) (input ∷ ins) h all =
-      by_taken (take_input v wanted tx k given i input) (one_input wanted tx k given i input h all.0)
-      (λ more m. inputs wanted tx (k + 1) more is ins m all.1)
+  inputs : (required : List Required) (tx : List ℕ) (k : ℕ) (given : List Signed) (is : List Input) (ins : List PsbtInput) → SignedBytes given
+      → AllByRecursion IsKnown ins → IfBytes (take_inputs v required tx k given is ins)
+  inputs required tx k given [] ins h all = h
+  inputs required tx k given (i ∷ is) [] h all = h
+  inputs required tx k given (i ∷ is) (input ∷ ins) h all =
+      by_taken (take_input v required tx k given i input) (one_input required tx k given i input h all.0)
+      (λ more m. inputs required tx (k + 1) more is ins m all.1)
     where
-      by_taken : (r : Taken) → IfBytes r → ((more : List Signed) → SignedBytes more → IfBytes (take_inputs v wanted tx (k + 1) more is ins))
-          → IfBytes {E = SignatureReason} (elim r [ Ok more ↦ take_inputs v wanted tx (k + 1) more is ins | Err reason ↦ Err reason ])
+      by_taken : (r : Taken) → IfBytes r → ((more : List Signed) → SignedBytes more → IfBytes (take_inputs v required tx (k + 1) more is ins))
+          → IfBytes {E = SignatureReason} (elim r [ Ok more ↦ take_inputs v required tx (k + 1) more is ins | Err reason ↦ Err reason ])
       by_taken (Ok more) m go = go more m
       by_taken (Err reason) m go = tt
 
-  of_transaction : (wanted : List Wanted) (given : List Signed) (p : Psbt) (o : Option Transaction) → SignedBytes given
-      → AllByRecursion IsKnown p.inputs → IfBytes (take_transaction v wanted given p o)
-  of_transaction wanted given p None h all = tt
-  of_transaction wanted given p (Some t) h all = inputs wanted (stripped p.tx) 0 given t.inputs p.inputs h all
+  of_transaction : (required : List Required) (given : List Signed) (p : Psbt) (o : Option Transaction) → SignedBytes given
+      → AllByRecursion IsKnown p.inputs → IfBytes (take_transaction v required given p o)
+  of_transaction required given p None h all = tt
+  of_transaction required given p (Some t) h all = inputs required (stripped p.tx) 0 given t.inputs p.inputs h all
 
   of_bytes : (ts : List Transaction) (given : List Signed) (bytes : List ℕ) (o : Option Psbt) → SignedBytes given → IsBytes bytes
       → psbt_of bytes ≡ o → IfBytes (take_psbt v ts given o)
   of_bytes ts given bytes None h b e = tt
   of_bytes ts given bytes (Some p) h b e =
-      of_transaction (all_wanted ts) given p (find (has_bytes (stripped p.tx)) ts) h (read_fits bytes p b e).inputs
+      of_transaction (all_required ts) given p (find (has_bytes (stripped p.tx)) ts) h (read_fits bytes p b e).inputs
 
   of_word : (ts : List Transaction) (given : List Signed) (word : List ℕ) (o : Option (List ℕ)) → SignedBytes given → base64_bytes word ≡ o
       → IfBytes (take_bytes v ts given o)

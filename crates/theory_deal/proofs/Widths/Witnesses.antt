@@ -43,7 +43,7 @@ use Rattle.theory_calculus.proofs.Faultless.{no_limit}
 use Rattle.theory_calculus.proofs.Members.{get_below, all_in, found}
 use Rattle.theory_script.proofs.Checked.{reveals_known}
 use Rattle.theory_run.proofs.Widths.Putting.{no_more}
-use Rattle.theory_listed.proofs.Digests.{all_joined}
+use Rattle.theory_psbt_listed.proofs.Digests.{all_joined}
 use Rattle.theory_psbt.specs.Fitting.{IsStack}
 use Rattle.theory_script.proofs.Keyed.Stands.{some_same}
 use Rattle.theory_deal.specs.Finished.{are_short, do_fit}
@@ -129,13 +129,13 @@ module _ (hash : List ℕ → List ℕ) (keys : Keys) (s : Instance) (given : Li
           let there = (found (λ (y : Shown). bytes_eq y.name name) strings x e).0 in
           record { bytes = shown x there; size = small x.bytes (string_short hash s strings fit x there) }
 
-  secret_strings : (wanted : List (List ℕ)) → Strings (strings_of strings wanted)
+  secret_strings : (required : List (List ℕ)) → Strings (strings_of strings required)
   secret_strings [] = tt
-  secret_strings (name ∷ wanted) = (secret_string name, secret_strings wanted)
+  secret_strings (name ∷ required) = (secret_string name, secret_strings required)
 
-  as_many_secrets : (wanted : List (List ℕ)) → length (strings_of strings wanted) ≡ length wanted
+  as_many_secrets : (required : List (List ℕ)) → length (strings_of strings required) ≡ length required
   as_many_secrets [] = refl
-  as_many_secrets (name ∷ wanted) = ap suc (as_many_secrets wanted)
+  as_many_secrets (name ∷ required) = ap suc (as_many_secrets required)
 
   -- ---- witnesses
 
@@ -173,9 +173,9 @@ module _ (hash : List ℕ → List ℕ) (keys : Keys) (s : Instance) (given : Li
   branch_stack path signatures (Some (at_position here choice)) e h few f = record { few = lit< tt; each = tt }
   branch_stack path signatures (Some (at_branch here i b)) e h few f =
       let known = f here i b e in
-      let wanted = reveals_of (core b) in
+      let required = reveals_of (core b) in
       let n = choices_at s here.position in
-      let texts = strings_of strings wanted in
+      let texts = strings_of strings required in
       let later = reverse texts ++ reverse (selectors i n) in
       let stack = reverse signatures ++ later in
       let a = length-append stack (here.output.script ∷ []) in
@@ -184,7 +184,7 @@ module _ (hash : List ℕ → List ℕ) (keys : Keys) (s : Instance) (given : Li
       let p = length-reverse signatures in
       let q = length-reverse texts in
       let r = length-reverse (selectors i n) in
-      let u = as_many_secrets wanted in
+      let u = as_many_secrets required in
       let w = few_selectors i n in
       let x = known.0.number in
       let y = known.0.reveals in
@@ -192,7 +192,7 @@ module _ (hash : List ℕ → List ℕ) (keys : Keys) (s : Instance) (given : Li
         few = omega (arith, a, c, d, p, q, r, u, w, x, y, few);
         each = all_joined IsString stack (here.output.script ∷ [])
             (all_joined IsString (reverse signatures) later (all_reversed signatures h)
-            (all_joined IsString (reverse texts) (reverse (selectors i n)) (all_reversed texts (secret_strings wanted))
+            (all_joined IsString (reverse texts) (reverse (selectors i n)) (all_reversed texts (secret_strings required))
             (all_reversed (selectors i n) (selector_strings i n))))
             (known.1, tt);
       }
@@ -203,7 +203,8 @@ module _ (hash : List ℕ → List ℕ) (keys : Keys) (s : Instance) (given : Li
     few_people : length (participants s.advert) ≤ 16
     few_people = by_test (nat_le (length (participants s.advert)) most_participants) refl (no_limit s.advert well).0
       where
-        by_test : (t : Bool) → nat_le (length (participants s.advert)) most_participants ≡ t → (if t then None else Some (places.Count (length (participants s.advert)))) ≡ None
+        by_test : (t : Bool) → nat_le (length (participants s.advert)) most_participants ≡ t
+            → (if t then None else Some (places.Count (length (participants s.advert)))) ≡ None
             → length (participants s.advert) ≤ 16
         by_test true e k = grind (arith, nat_tests, e)
         by_test false e k = cc
@@ -259,25 +260,25 @@ module _ (hash : List ℕ → List ℕ) (keys : Keys) (s : Instance) (given : Li
     script_at (at_branch here i b) = here.output.script
 
     of_path : (path : List PathStep) (o : Option PathEnd) → end_at hash keys s path ≡ o → (l : Listed)
-        → option_map (path_listed s path) (option_and_then (as_unsigned hash keys s) o) ≡ Some l → AllByRecursion IsSpendable l.draft.spends
+        → option_map (path_listed s path) (option_and_then (as_unsigned hash keys s) o) ≡ Some l → AllByRecursion IsSpendable l.pending.spends
         → AllByRecursion IsStack (witnesses hash keys s given strings l l.which)
     of_path path None ends l e h = cc
     of_path path (Some (at_position here choice)) ends l e h = cc
     of_path path (Some (at_branch here i b)) ends l e h =
         let made = path_listed s path (branch_unsigned hash keys s here i b) in
         let same : made ≡ l = some_same e in
-        let spendable = subst (λ (x : Listed). AllByRecursion IsSpendable x.draft.spends) (sym same) h in
+        let spendable = subst (λ (x : Listed). AllByRecursion IsSpendable x.pending.spends) (sym same) h in
         subst (λ (x : Listed). AllByRecursion IsStack (witnesses hash keys s given strings x x.which)) same
-        (path_stacks path made made.draft.spends made.signers spendable (path_few path (at s.advert.root path))
+        (path_stacks path made made.pending.spends made.signers spendable (path_few path (at s.advert.root path))
         (λ other j c f. subst IsString (ap script_at (some_same (sym ends ∙ f))) spendable.0.script))
 
     -- the witnesses of a finished transaction
-    pub stacks_at : (which : Which) (l : Listed) → listed_at hash keys s which ≡ Some l → AllByRecursion IsSpendable l.draft.spends
+    pub stacks_at : (which : Which) (l : Listed) → listed_at hash keys s which ≡ Some l → AllByRecursion IsSpendable l.pending.spends
         → AllByRecursion IsStack (witnesses hash keys s given strings l l.which)
     stacks_at names.Init l e h =
         let made = initial_listed hash keys s in
         let same : made ≡ l = some_same e in
-        let spendable = subst (λ (x : Listed). AllByRecursion IsSpendable x.draft.spends) (sym same) h in
+        let spendable = subst (λ (x : Listed). AllByRecursion IsSpendable x.pending.spends) (sym same) h in
         subst (λ (x : Listed). AllByRecursion IsStack (witnesses hash keys s given strings x x.which)) same
-        (deposit_stacks made 0 made.draft.spends made.signers spendable (holders_few (persistent s.advert.pre)))
+        (deposit_stacks made 0 made.pending.spends made.signers spendable (holders_few (persistent s.advert.pre)))
     stacks_at (names.At path) l e h = of_path path (end_at hash keys s path) refl l e h

@@ -38,4 +38,4 @@ returns-in-Err-Collided-clause-leads g c = λ answer.
     collided_is hash (digest c.compile_deal.new.trail.hasher) c.args.trail.now.messages c.compile_deal.new.trail.messages
     (deal_strings hash keys s) (unless_circular (circular hash keys s) (answer keys s)) _ c.in-Err-Collided.field-0
     (ap digest c.in-Err-Collided.ensures.trail.0)
-    c.requires.new c.in-Err-Collided.field-0-is c.in-Err-Collided.ensures.trail.2 c.in_ok-clash_reply-in-Err-Collided.ensures
+    c.requires.new c.in-Err-Collided.field-0-is c.in-Err-Collided.ensures.trail.2 c.in_ok-collision_reply-in-Err-Collided.ensures

@@ -21,6 +21,11 @@ returns g c =
       signers = c.files_for_signers.ensures;
       once = c.nothing_twice.ensures;
       verifier = c.is_ecdsa.ensures;
+      files = record {
+        deals = c.deal_files_are_read.ensures;
+        signatures = c.signature_files_are_read.ensures;
+        secrets = c.secret_files_are_read.ensures;
+      };
       lists = c.missing_and_held.ensures;
       starts = c.may_start.ensures;
       exactly = c.finishes_exactly.ensures;

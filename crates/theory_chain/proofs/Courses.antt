@@ -36,7 +36,7 @@ collided_refused a b f e = cc
 module _ (hash : List ℕ → List ℕ) (s : Instance) (ts : List Transaction) (fault : Option ChainFault) (tip : ℕ) where
   -- what comes of a transaction, by whether its strings collide and whether it is bad
   abbrev goes : Course → Confirmed → List Confirmed → Option (List ℕ × List ℕ) → Option ChainReason → Followed
-  goes course c cs clash bad = elim clash [
+  goes course c cs collision_with bad = elim collision_with [
     | Some pair ↦ collided (pair.0) (pair.1)
     | None ↦ elim bad [
       | Some reason ↦ refused (faults.Line c.line reason)
@@ -44,8 +44,8 @@ module _ (hash : List ℕ → List ℕ) (s : Instance) (ts : List Transaction) (
     ]
   ]
 
-  abbrev clash_of : Course → Confirmed → Option (List ℕ × List ℕ)
-  clash_of course c = collision hash course.messages (transaction_strings hash c.tx)
+  abbrev collision_of : Course → Confirmed → Option (List ℕ × List ℕ)
+  collision_of course c = collision hash course.messages (transaction_strings hash c.tx)
 
   abbrev bad_by : Course → Confirmed → Option ChainReason
   bad_by course c = refusal hash s ts course.state c.height c.tx
@@ -70,20 +70,20 @@ module _ (hash : List ℕ → List ℕ) (s : Instance) (ts : List Transaction) (
           (refl, p.0, p.1)
       by_fault (Some f) k = absurd (refused_stands last top f k)
   followed (c ∷ cs) course last top e =
-      by_clash (followed cs (gone_on hash s ts course c) last top) (clash_of course c) refl e
+      by_one_collision (followed cs (gone_on hash s ts course c) last top) (collision_of course c) refl e
     where
-      by_bad : FollowedLater (gone_on hash s ts course c) cs last top → (o : Option ChainReason) → clash_of course c ≡ None → bad_by course c ≡ o
+      by_bad : FollowedLater (gone_on hash s ts course c) cs last top → (o : Option ChainReason) → collision_of course c ≡ None → bad_by course c ≡ o
           → goes course c cs None o ≡ stands last top → (fault ≡ None) × (tip ≡ top) × LeadsTo hash s ts course (c ∷ cs) last
       by_bad later (Some reason) k b h = absurd (refused_stands last top (faults.Line c.line reason) h)
       by_bad later None k b h =
           let p = later h in
           (p.0, p.1, (k, b, p.2))
 
-      by_clash : FollowedLater (gone_on hash s ts course c) cs last top → (o : Option (List ℕ × List ℕ)) → clash_of course c ≡ o
+      by_one_collision : FollowedLater (gone_on hash s ts course c) cs last top → (o : Option (List ℕ × List ℕ)) → collision_of course c ≡ o
           → goes course c cs o (bad_by course c) ≡ stands last top
           → (fault ≡ None) × (tip ≡ top) × LeadsTo hash s ts course (c ∷ cs) last
-      by_clash later (Some pair) k h = absurd (collided_stands (pair.0) (pair.1) last top h)
-      by_clash later None k h = by_bad later (bad_by course c) k refl h
+      by_one_collision later (Some pair) k h = absurd (collided_stands (pair.0) (pair.1) last top h)
+      by_one_collision later None k h = by_bad later (bad_by course c) k refl h
 
   pub leads : (cs : List Confirmed) (course last : Course) → LeadsTo hash s ts course cs last
       → follow hash s ts fault tip course cs ≡ at_end fault tip last
@@ -109,27 +109,29 @@ module _ (hash : List ℕ → List ℕ) (s : Instance) (ts : List Transaction) (
       by_fault None k = absurd (stands_refused course tip f k)
       by_fault (Some g) k = inr (ap Some (same g k), (course, refl))
   refused_there (c ∷ cs) course f e =
-      by_clash (refused_there cs (gone_on hash s ts course c) f) (clash_of course c) refl e
+      by_one_collision (refused_there cs (gone_on hash s ts course c) f) (collision_of course c) refl e
     where
       same : (reason : ChainReason) → refused (faults.Line c.line reason) ≡ refused f → f ≡ faults.Line c.line reason
       same reason k = cc
 
-      further : clash_of course c ≡ None → bad_by course c ≡ None
+      further : collision_of course c ≡ None → bad_by course c ≡ None
           → IsBadThere hash s ts (gone_on hash s ts course c) cs f
           ⊎ ((fault ≡ Some f) × ((last : Course) × LeadsTo hash s ts (gone_on hash s ts course c) cs last))
           → IsBadThere hash s ts course (c ∷ cs) f ⊎ ((fault ≡ Some f) × ((last : Course) × LeadsTo hash s ts course (c ∷ cs) last))
       further k b (inl h) = inl (k, inr (b, h))
       further k b (inr h) = inr (h.0, (h.1.0, (k, b, h.1.1)))
 
-      by_bad : RefusedLater (gone_on hash s ts course c) cs f → (o : Option ChainReason) → clash_of course c ≡ None → bad_by course c ≡ o → goes course c cs None o ≡ refused f
+      by_bad : RefusedLater (gone_on hash s ts course c) cs f → (o : Option ChainReason) → collision_of course c ≡ None → bad_by course c
+          ≡ o → goes course c cs None o ≡ refused f
           → IsBadThere hash s ts course (c ∷ cs) f ⊎ ((fault ≡ Some f) × ((last : Course) × LeadsTo hash s ts course (c ∷ cs) last))
       by_bad later (Some reason) k b h = inl (k, inl (reason, b, same reason h))
       by_bad later None k b h = further k b (later h)
 
-      by_clash : RefusedLater (gone_on hash s ts course c) cs f → (o : Option (List ℕ × List ℕ)) → clash_of course c ≡ o → goes course c cs o (bad_by course c) ≡ refused f
+      by_one_collision : RefusedLater (gone_on hash s ts course c) cs f → (o : Option (List ℕ × List ℕ)) → collision_of course c ≡ o
+          → goes course c cs o (bad_by course c) ≡ refused f
           → IsBadThere hash s ts course (c ∷ cs) f ⊎ ((fault ≡ Some f) × ((last : Course) × LeadsTo hash s ts course (c ∷ cs) last))
-      by_clash later (Some pair) k h = absurd (collided_refused (pair.0) (pair.1) f h)
-      by_clash later None k h = by_bad later (bad_by course c) k refl h
+      by_one_collision later (Some pair) k h = absurd (collided_refused (pair.0) (pair.1) f h)
+      by_one_collision later None k h = by_bad later (bad_by course c) k refl h
 
   pub bad_there : (cs : List Confirmed) (course : Course) (f : ChainFault) → IsBadThere hash s ts course cs f
       → follow hash s ts fault tip course cs ≡ refused f
@@ -137,7 +139,8 @@ module _ (hash : List ℕ → List ℕ) (s : Instance) (ts : List Transaction) (
   bad_there (c ∷ cs) course f h = by (bad_there cs (gone_on hash s ts course c) f) h.1
     where
       by : (IsBadThere hash s ts (gone_on hash s ts course c) cs f
-          → follow hash s ts fault tip (gone_on hash s ts course c) cs ≡ refused f) → ((reason : ChainReason) × (bad_by course c ≡ Some reason) × (f ≡ faults.Line c.line reason))
+          → follow hash s ts fault tip (gone_on hash s ts course c) cs ≡ refused f)
+          → ((reason : ChainReason) × (bad_by course c ≡ Some reason) × (f ≡ faults.Line c.line reason))
           ⊎ ((bad_by course c ≡ None) × IsBadThere hash s ts (gone_on hash s ts course c) cs f)
           → follow hash s ts fault tip course (c ∷ cs) ≡ refused f
       by later (inl r) = (λ i. goes course c cs (h.0 i) (r.1 i)) ∙ ap refused (sym r.2)

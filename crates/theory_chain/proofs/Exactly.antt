@@ -1,4 +1,4 @@
--- Nothing is wanting exactly where a transaction can come.
+-- Nothing is missing exactly where a transaction can come.
 use Rattle.std.proofs.Common.{◌≡◌, ℕ, ◌≤◌, List, [], ◌∷◌, ◌++◌, length, map, Bool, true, false, Option, Some, None, refl, sym, ap, subst, ◌∙◌, cond, arith, inl, inr}
 use Rattle.std.specs.Prelude.{◌⊎◌, if◌then◌else◌, not, ◌&&◌, ◌||◌, ◌==◌, nat_lt, filter, is_some}
 use Rattle.std.specs.List.{list_all, list_any, flat_map}
@@ -29,9 +29,9 @@ use Rattle.theory_calculus.specs.Members.{Is_in}
 use Rattle.theory_calculus.proofs.Members.{in_append, in_filter, filter_has, all_in, contains_from_in}
 use Rattle.theory_script.proofs.Keyed.Transactions.{AreRight, transactions_right}
 use Rattle.theory_deal.specs.Whole.{IsComplete, FinishesExactly}
-use Rattle.spec_chain.specs.declared.want.Want.TheVariants as wants
+use Rattle.spec_chain.specs.declared.requirement.Requirement.TheVariants as requirements
 use Rattle.spec_chain.specs.Outputs.{is_deposit}
-use Rattle.spec_chain.specs.Wanting.{lock_of, height_wants, is_needed_for, signature_want, signature_wants, deposits_needed, deposits_wanting, secrets_wanting, secret_want, gone_wants, is_false, predicate_wants, wanting}
+use Rattle.spec_chain.specs.Outstanding.{lock_of, height_requirements, is_needed_for, signature_requirement, signature_requirements, deposits_needed, deposits_outstanding, secrets_outstanding, secret_requirement, gone_requirements, is_false, predicate_requirements, outstanding}
 use Rattle.theory_chain.specs.Prospects.{CanCome, CanExactly, SuppliedComes}
 use Rattle.theory_chain.proofs.Needs.{of_listed, listed_name, named_is, can_comes}
 
@@ -85,7 +85,7 @@ module _ (hash : List ℕ → List ℕ) (keys : Keys) (s : Instance) where
   path_there (p ∷ es) right l (inr h) = path_there es right.1 l h
 
   -- each transaction is the one of its name
-  there_by_name : (l : Listed) → Is_in l (listed hash keys s) → listed_at hash keys s l.which ≡ Some l
+  pub there_by_name : (l : Listed) → Is_in l (listed hash keys s) → listed_at hash keys s l.which ≡ Some l
   there_by_name l (inl e) = subst (λ (x : Listed). listed_at hash keys s x.which ≡ Some x) (sym e) refl
   there_by_name l (inr h) = path_there (path_transactions hash keys s) (transactions_right hash keys s) l h
 
@@ -100,8 +100,8 @@ module _ (hash : List ℕ → List ℕ) (keys : Keys) (s : Instance) where
 
   module _ (given : List Signed) (strings : List Shown) (which : Which) (l : Listed)
       (named : listed_at hash keys s which ≡ Some l) (complete : IsComplete hash keys s given strings l) where
-    clash : (slot : Slot) → not (has hash keys given slot) ≡ true → has hash keys given slot ≡ true → ⊥
-    clash slot e k = by (has hash keys given slot) e k
+    collision_with : (slot : Slot) → not (has hash keys given slot) ≡ true → has hash keys given slot ≡ true → ⊥
+    collision_with slot e k = by (has hash keys given slot) e k
       where
         by : (b : Bool) → not b ≡ true → b ≡ true → ⊥
         by true f g = cc
@@ -127,13 +127,13 @@ module _ (hash : List ℕ → List ℕ) (keys : Keys) (s : Instance) where
         by_test true m n = own_there slot h (same_from slot.which names.Init m ∙ e)
         by_test false m n = endorsed_there slot h (sym e) n
 
-    no_signature : signature_wants hash keys s given which ≡ []
+    no_signature : signature_requirements hash keys s given which ≡ []
     no_signature =
-        ap (map signature_want) (none_passing (is_needed_for which) (missing hash keys s given) (λ slot h needed.
+        ap (map signature_requirement) (none_passing (is_needed_for which) (missing hash keys s given) (λ slot h needed.
         let r = in_filter (λ x. not (has hash keys given x)) (slots hash keys s) slot h in
-        clash slot r.1 (needed_there which refl slot r.0 needed)))
+        collision_with slot r.1 (needed_there which refl slot r.0 needed)))
 
-    no_secret : secrets_wanting s strings which ≡ []
+    no_secret : secrets_outstanding s strings which ≡ []
     no_secret =
         none_failing (λ a. is_some (string_for strings a)) (revealed_by (which_branch s which))
         (subst (λ (w : Which). list_all (λ a. is_some (string_for strings a)) (revealed_by (which_branch s w)) ≡ true)
@@ -148,15 +148,15 @@ module _ (hash : List ℕ → List ℕ) (keys : Keys) (s : Instance) where
         by_test false true k = refl
         by_test false false k = cc
 
-    no_predicate : predicate_wants s strings which ≡ []
+    no_predicate : predicate_requirements s strings which ≡ []
     no_predicate =
-        ap (λ (xs : List (List ℕ)). if is_false strings xs (which_branch s which) then wants.PredicateFalse ∷ [] else []) no_secret
-        ∙ ap (λ (b : Bool). cond b (wants.PredicateFalse ∷ []) [])
+        ap (λ (xs : List (List ℕ)). if is_false strings xs (which_branch s which) then requirements.PredicateFalse ∷ [] else []) no_secret
+        ∙ ap (λ (b : Bool). cond b (requirements.PredicateFalse ∷ []) [])
         (isnt_false (which_branch s which)
         (subst (λ (w : Which). predicate_refusal strings (which_branch s w) ≡ None) (listed_name hash keys s which l named) complete.holds))
 
-not_above : (tip lock : ℕ) → lock ≤ tip → (if nat_lt tip lock then wants.Height lock ∷ [] else []) ≡ []
-not_above tip lock h = ap (λ (b : Bool). cond b (wants.Height lock ∷ []) []) (isnt tip lock h)
+not_above : (tip lock : ℕ) → lock ≤ tip → (if nat_lt tip lock then requirements.Height lock ∷ [] else []) ≡ []
+not_above tip lock h = ap (λ (b : Bool). cond b (requirements.Height lock ∷ []) []) (isnt tip lock h)
   where
     isnt : (a b : ℕ) → b ≤ a → nat_lt a b ≡ false
     isnt a b k = grind (arith, nat_tests)
@@ -165,50 +165,50 @@ pub can_exactly : FinishesExactly → CanExactly
 can_exactly finishes_exactly hash keys s given strings state tip which l named =
     (can_comes finishes_exactly hash keys s given strings state tip which l named, λ c. back c)
   where
-    back : CanCome hash keys s given strings state tip which l → wanting hash keys s given strings state tip which ≡ []
+    back : CanCome hash keys s given strings state tip which l → outstanding hash keys s given strings state tip which ≡ []
     back c =
         let complete = (finishes_exactly hash keys s given strings l).0 c.finishes in
-        let heights : height_wants (transactions hash keys s) tip which ≡ []
-        = subst (λ (o : Option Transaction). (if nat_lt tip (lock_of o) then wants.Height (lock_of o) ∷ [] else []) ≡ [])
-        (sym (named_is hash keys s which l named)) (not_above tip l.draft.lock c.final) in
-        let deposits : deposits_wanting s state which ≡ []
+        let heights : height_requirements (transactions hash keys s) tip which ≡ []
+        = subst (λ (o : Option Transaction). (if nat_lt tip (lock_of o) then requirements.Height (lock_of o) ∷ [] else []) ≡ [])
+        (sym (named_is hash keys s which l named)) (not_above tip l.pending.lock c.final) in
+        let deposits : deposits_outstanding s state which ≡ []
         = none_failing (λ x. list_any (is_deposit x) state.live) (deposits_needed s which) c.funded in
         let signatures = no_signature hash keys s given strings which l named complete in
         let secrets = no_secret hash keys s given strings which l named complete in
         let predicate = no_predicate hash keys s given strings which l named complete in
-        λ i. heights i ++ (signatures i ++ (map wants.Deposit (deposits i) ++ (map (secret_want s) (secrets i)
-        ++ (gone_wants (deposits i) ++ predicate i))))
+        λ i. heights i ++ (signatures i ++ (map requirements.Deposit (deposits i) ++ (map (secret_requirement s) (secrets i)
+        ++ (gone_requirements (deposits i) ++ predicate i))))
 
 -- ---- what is supplied
 
 pub supplied_comes : SuppliedComes
 supplied_comes hash keys s given strings state tip which l named c =
-    by_false (is_false strings (secrets_wanting s strings which) (which_branch s which)) refl
+    by_false (is_false strings (secrets_outstanding s strings which) (which_branch s which)) refl
   where
-    heights : height_wants (transactions hash keys s) tip which ≡ []
+    heights : height_requirements (transactions hash keys s) tip which ≡ []
     heights =
-        subst (λ (o : Option Transaction). (if nat_lt tip (lock_of o) then wants.Height (lock_of o) ∷ [] else []) ≡ [])
-        (sym (named_is hash keys s which l named)) (not_above tip l.draft.lock c.final)
+        subst (λ (o : Option Transaction). (if nat_lt tip (lock_of o) then requirements.Height (lock_of o) ∷ [] else []) ≡ [])
+        (sym (named_is hash keys s which l named)) (not_above tip l.pending.lock c.final)
 
     isnt : (b : Bool) → not b ≡ true → b ≡ true → ⊥
     isnt true e k = cc
     isnt false e k = cc
 
-    signatures : signature_wants hash keys s given which ≡ []
+    signatures : signature_requirements hash keys s given which ≡ []
     signatures =
-        ap (map signature_want) (none_passing (is_needed_for which) (missing hash keys s given) (λ slot h needed.
+        ap (map signature_requirement) (none_passing (is_needed_for which) (missing hash keys s given) (λ slot h needed.
         let r = in_filter (λ x. not (has hash keys given x)) (slots hash keys s) slot h in
         isnt (has hash keys given slot) r.1 (c.signed slot (contains_from_in (slots hash keys s) slot r.0) needed)))
 
-    secrets : secrets_wanting s strings which ≡ []
+    secrets : secrets_outstanding s strings which ≡ []
     secrets = none_failing (λ a. is_some (string_for strings a)) (revealed_by (which_branch s which)) c.told
 
-    by_false : (b : Bool) → is_false strings (secrets_wanting s strings which) (which_branch s which) ≡ b
-        → (wanting hash keys s given strings state tip which ≡ [])
-        ⊎ (wanting hash keys s given strings state tip which ≡ wants.PredicateFalse ∷ [])
+    by_false : (b : Bool) → is_false strings (secrets_outstanding s strings which) (which_branch s which) ≡ b
+        → (outstanding hash keys s given strings state tip which ≡ [])
+        ⊎ (outstanding hash keys s given strings state tip which ≡ requirements.PredicateFalse ∷ [])
     by_false true e =
-        inr (λ i. heights i ++ (signatures i ++ (map wants.Deposit (c.funded i) ++ (map (secret_want s) (secrets i)
-        ++ (gone_wants (c.funded i) ++ cond (e i) (wants.PredicateFalse ∷ []) [])))))
+        inr (λ i. heights i ++ (signatures i ++ (map requirements.Deposit (c.funded i) ++ (map (secret_requirement s) (secrets i)
+        ++ (gone_requirements (c.funded i) ++ cond (e i) (requirements.PredicateFalse ∷ []) [])))))
     by_false false e =
-        inl (λ i. heights i ++ (signatures i ++ (map wants.Deposit (c.funded i) ++ (map (secret_want s) (secrets i)
-        ++ (gone_wants (c.funded i) ++ cond (e i) (wants.PredicateFalse ∷ []) [])))))
+        inl (λ i. heights i ++ (signatures i ++ (map requirements.Deposit (c.funded i) ++ (map (secret_requirement s) (secrets i)
+        ++ (gone_requirements (c.funded i) ++ cond (e i) (requirements.PredicateFalse ∷ []) [])))))

@@ -5,4 +5,9 @@ pub mod Needs
 pub mod Stays
 pub mod Exactly
 pub mod ReadOver
-pub mod WantLines
+pub mod RequirementLines
+pub mod Deals
+pub mod Runs
+pub mod ChainRuns
+pub mod Nevers
+pub mod Ledgers

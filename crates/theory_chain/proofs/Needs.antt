@@ -1,4 +1,4 @@
--- A transaction for which nothing is wanting is finished, final and funded.
+-- A transaction for which nothing is missing is finished, final and funded.
 use Rattle.std.proofs.Common.{◌≡◌, ℕ, ◌+◌, ◌≤◌, List, [], ◌∷◌, ◌++◌, length, map, Bool, true, false, Option, Some, None, refl, sym, ap, subst, ◌∙◌, cond, arith, inl, inr}
 use Rattle.std.specs.Prelude.{◌⊎◌, if◌then◌else◌, option_map, not, ◌&&◌, ◌||◌, ◌==◌, nat_lt, filter, is_some}
 use Rattle.std.specs.List.{list_all, list_any, flat_map}
@@ -34,10 +34,10 @@ use Rattle.theory_calculus.proofs.Members.{in_left, in_right, in_append, in_filt
 use Rattle.theory_script.specs.Keyed.Listed.{at_path}
 use Rattle.theory_deal.proofs.ByName.{listed_in, listed_path}
 use Rattle.theory_deal.specs.Whole.{FinishesExactly}
-use Rattle.spec_chain.specs.declared.want.Want.TheVariants as wants
+use Rattle.spec_chain.specs.declared.requirement.Requirement.TheVariants as requirements
 use Rattle.spec_chain.specs.Following.{State}
 use Rattle.spec_chain.specs.Outputs.{is_deposit, transaction_named}
-use Rattle.spec_chain.specs.Wanting.{lock_of, height_wants, is_needed_for, signature_want, signature_wants, deposits_needed, deposits_wanting, secrets_wanting, secret_want, gone_wants, is_false, predicate_wants, wanting}
+use Rattle.spec_chain.specs.Outstanding.{lock_of, height_requirements, is_needed_for, signature_requirement, signature_requirements, deposits_needed, deposits_outstanding, secrets_outstanding, secret_requirement, gone_requirements, is_false, predicate_requirements, outstanding}
 use Rattle.theory_chain.specs.Prospects.{CanCome}
 
 -- ---- lists of which nothing is left
@@ -108,7 +108,7 @@ module _ (advert : Advert) (l : Listed) where
       by later (inr i) = later i
 
   pub of_listed : (slot : Slot) → Is_in slot (listed_slots advert l) → slot.which ≡ l.which
-  of_listed slot h = of_inputs 0 l.draft.spends l.signers slot h
+  of_listed slot h = of_inputs 0 l.pending.spends l.signers slot h
 
 -- ---- transactions by name
 
@@ -170,18 +170,18 @@ module _ (hash : List ℕ → List ℕ) (keys : Keys) (s : Instance) where
           named_path path (path_transactions hash keys s) d (listed_path hash keys s path ∙ h)
           ∙ ap (λ (x : Listed). Some (transaction hash keys s.advert x)) (same k)
 
--- ---- what is wanting
+-- ---- what is missing
 
-reached : (tip lock : ℕ) → (if nat_lt tip lock then wants.Height lock ∷ [] else []) ≡ [] → lock ≤ tip
+reached : (tip lock : ℕ) → (if nat_lt tip lock then requirements.Height lock ∷ [] else []) ≡ [] → lock ≤ tip
 reached tip lock e = by_test (nat_lt tip lock) refl e
   where
-    by_test : (b : Bool) → nat_lt tip lock ≡ b → cond b (wants.Height lock ∷ []) [] ≡ [] → lock ≤ tip
+    by_test : (b : Bool) → nat_lt tip lock ≡ b → cond b (requirements.Height lock ∷ []) [] ≡ [] → lock ≤ tip
     by_test true k h = cc
     by_test false k h = grind (arith, nat_tests)
 
 module _ (hash : List ℕ → List ℕ) (keys : Keys) (s : Instance) (given : List Signed) where
-  -- a signature that is needed and isn't wanting is there
-  there : (which : Which) → signature_wants hash keys s given which ≡ [] → (slot : Slot) → Is_in slot (slots hash keys s)
+  -- a signature that is needed and isn't missing is there
+  there : (which : Which) → signature_requirements hash keys s given which ≡ [] → (slot : Slot) → Is_in slot (slots hash keys s)
       → is_needed_for which slot ≡ true → has hash keys given slot ≡ true
   there which none slot h needed = by_test (has hash keys given slot) refl
     where
@@ -189,18 +189,19 @@ module _ (hash : List ℕ → List ℕ) (keys : Keys) (s : Instance) (given : Li
       by_test true e = refl
       by_test false e =
           absurd (none_in slot (filter (is_needed_for which) (missing hash keys s given))
-          (map_nil signature_want (filter (is_needed_for which) (missing hash keys s given)) none)
+          (map_nil signature_requirement (filter (is_needed_for which) (missing hash keys s given)) none)
           (filter_has (is_needed_for which) (missing hash keys s given) slot
           (filter_has (λ x. not (has hash keys given x)) (slots hash keys s) slot h (ap not e)) needed))
 
-  endorsed : (which : Which) → signature_wants hash keys s given which ≡ [] → which ≡ names.Init → may_start hash keys s given ≡ true
+  endorsed : (which : Which) → signature_requirements hash keys s given which ≡ [] → which ≡ names.Init → may_start hash keys s given ≡ true
   endorsed which none e =
       each_all (has hash keys given) (endorsements hash keys s) (λ slot h.
       let r = in_filter (λ x. is_endorsement x.verb) (slots hash keys s) slot h in
       there which none slot r.0 (needed slot which e r.1))
     where
       needed : (slot : Slot) (w : Which) → w ≡ names.Init → is_endorsement slot.verb ≡ true → is_needed_for w slot ≡ true
-      needed slot w same k = subst (λ (x : Which). is_needed_for x slot ≡ true) (sym same) (either (same_which slot.which names.Init) (is_endorsement slot.verb) k)
+      needed slot w same k =
+          subst (λ (x : Which). is_needed_for x slot ≡ true) (sym same) (either (same_which slot.which names.Init) (is_endorsement slot.verb) k)
         where
           either : (a b : Bool) → b ≡ true → (a || b) ≡ true
           either true b h = refl
@@ -210,7 +211,7 @@ module _ (hash : List ℕ → List ℕ) (keys : Keys) (s : Instance) (given : Li
   own names.Init slot e = ap (λ (w : Which). same_which w names.Init || is_endorsement slot.verb) e
   own (names.At path) slot e = ap (λ (w : Which). same_which w (names.At path)) e ∙ same_self (names.At path)
 
-  signed : (which : Which) (l : Listed) → listed_at hash keys s which ≡ Some l → signature_wants hash keys s given which ≡ []
+  signed : (which : Which) (l : Listed) → listed_at hash keys s which ≡ Some l → signature_requirements hash keys s given which ≡ []
       → list_all (has hash keys given) (listed_slots s.advert l) ≡ true
   signed which l named none =
       each_all (has hash keys given) (listed_slots s.advert l) (λ slot h.
@@ -218,31 +219,31 @@ module _ (hash : List ℕ → List ℕ) (keys : Keys) (s : Instance) (given : Li
       (in_flat (listed_slots s.advert) (listed hash keys s) l slot (listed_in hash keys s which l named) h)
       (own which slot (of_listed s.advert l slot h ∙ listed_name hash keys s which l named)))
 
--- a predicate that isn't wanting isn't false
-held : (strings : List Shown) (wanting : List (List ℕ)) (b : Option term.Guarded) → wanting ≡ []
-    → (if is_false strings wanting b then wants.PredicateFalse ∷ [] else []) ≡ [] → predicate_refusal strings b ≡ None
-held strings wanting None e h = refl
-held strings wanting (Some b) e h =
+-- a predicate that isn't missing isn't false
+held : (strings : List Shown) (outstanding : List (List ℕ)) (b : Option term.Guarded) → outstanding ≡ []
+    → (if is_false strings outstanding b then requirements.PredicateFalse ∷ [] else []) ≡ [] → predicate_refusal strings b ≡ None
+held strings outstanding None e h = refl
+held strings outstanding (Some b) e h =
     by_test (length (revealed_by (Some b)) == 0) (predicate_holds strings b)
-    (subst (λ (xs : List (List ℕ)). (if is_false strings xs (Some b) then wants.PredicateFalse ∷ [] else []) ≡ []) e h)
+    (subst (λ (xs : List (List ℕ)). (if is_false strings xs (Some b) then requirements.PredicateFalse ∷ [] else []) ≡ []) e h)
   where
-    by_test : (c d : Bool) → cond (not c && (true && not d)) (wants.PredicateFalse ∷ []) [] ≡ []
+    by_test : (c d : Bool) → cond (not c && (true && not d)) (requirements.PredicateFalse ∷ []) [] ≡ []
         → cond (not c && not d) (Some refusals.Predicate) None ≡ None
     by_test true d k = refl
     by_test false true k = refl
     by_test false false k = cc
 
--- no deposit is wanting where nothing is
-pub nothing_wanting : (hash : List ℕ → List ℕ) (keys : Keys) (s : Instance) (given : List Signed) (strings : List Shown) (state : State)
-    (tip : ℕ) (which : Which) → wanting hash keys s given strings state tip which ≡ [] → deposits_wanting s state which ≡ []
-nothing_wanting hash keys s given strings state tip which none =
-    let heights = height_wants (transactions hash keys s) tip which in
-    let signatures = signature_wants hash keys s given which in
-    let deposits = map wants.Deposit (deposits_wanting s state which) in
-    let secrets = map (secret_want s) (secrets_wanting s strings which) in
-    let gone = gone_wants (deposits_wanting s state which) in
-    let predicate = predicate_wants s strings which in
-    map_nil wants.Deposit (deposits_wanting s state which)
+-- no deposit is missing where nothing is
+pub nothing_outstanding : (hash : List ℕ → List ℕ) (keys : Keys) (s : Instance) (given : List Signed) (strings : List Shown) (state : State)
+    (tip : ℕ) (which : Which) → outstanding hash keys s given strings state tip which ≡ [] → deposits_outstanding s state which ≡ []
+nothing_outstanding hash keys s given strings state tip which none =
+    let heights = height_requirements (transactions hash keys s) tip which in
+    let signatures = signature_requirements hash keys s given which in
+    let deposits = map requirements.Deposit (deposits_outstanding s state which) in
+    let secrets = map (secret_requirement s) (secrets_outstanding s strings which) in
+    let gone = gone_requirements (deposits_outstanding s state which) in
+    let predicate = predicate_requirements s strings which in
+    map_nil requirements.Deposit (deposits_outstanding s state which)
     (left_none deposits (secrets ++ (gone ++ predicate))
     (right_none signatures (deposits ++ (secrets ++ (gone ++ predicate)))
     (right_none heights (signatures ++ (deposits ++ (secrets ++ (gone ++ predicate)))) none)))
@@ -251,24 +252,24 @@ abbrev CanComes : Type 0
 CanComes =
     (hash : List ℕ → List ℕ) (keys : Keys) (s : Instance) (given : List Signed) (strings : List Shown) (state : State) (tip : ℕ)
     (which : Which) (l : Listed)
-    → listed_at hash keys s which ≡ Some l → wanting hash keys s given strings state tip which ≡ []
+    → listed_at hash keys s which ≡ Some l → outstanding hash keys s given strings state tip which ≡ []
     → CanCome hash keys s given strings state tip which l
 
 pub can_comes : FinishesExactly → CanComes
 can_comes finishes_exactly hash keys s given strings state tip which l named none =
     let name = listed_name hash keys s which l named in
-    let heights = height_wants (transactions hash keys s) tip which in
-    let signatures = signature_wants hash keys s given which in
-    let deposits = map wants.Deposit (deposits_wanting s state which) in
-    let secrets = map (secret_want s) (secrets_wanting s strings which) in
-    let gone = gone_wants (deposits_wanting s state which) in
-    let predicate = predicate_wants s strings which in
+    let heights = height_requirements (transactions hash keys s) tip which in
+    let signatures = signature_requirements hash keys s given which in
+    let deposits = map requirements.Deposit (deposits_outstanding s state which) in
+    let secrets = map (secret_requirement s) (secrets_outstanding s strings which) in
+    let gone = gone_requirements (deposits_outstanding s state which) in
+    let predicate = predicate_requirements s strings which in
     let after_heights = right_none heights (signatures ++ (deposits ++ (secrets ++ (gone ++ predicate)))) none in
     let after_signatures = right_none signatures (deposits ++ (secrets ++ (gone ++ predicate))) after_heights in
     let after_deposits = right_none deposits (secrets ++ (gone ++ predicate)) after_signatures in
     let after_secrets = right_none secrets (gone ++ predicate) after_deposits in
     let no_signature = left_none signatures (deposits ++ (secrets ++ (gone ++ predicate))) after_heights in
-    let no_secret = map_nil (secret_want s) (secrets_wanting s strings which) (left_none secrets (gone ++ predicate) after_deposits) in
+    let no_secret = map_nil (secret_requirement s) (secrets_outstanding s strings which) (left_none secrets (gone ++ predicate) after_deposits) in
     record {
       finishes = (finishes_exactly hash keys s given strings l).1 (record {
         endorsed = λ e. endorsed hash keys s given which no_signature (sym name ∙ e);
@@ -276,14 +277,14 @@ can_comes finishes_exactly hash keys s given strings state tip which l named non
         shown = subst (λ (w : Which). list_all (λ a. is_some (string_for strings a)) (revealed_by (which_branch s w)) ≡ true) (sym name)
             (none_fail (λ a. is_some (string_for strings a)) (revealed_by (which_branch s which)) no_secret);
         holds = subst (λ (w : Which). predicate_refusal strings (which_branch s w) ≡ None) (sym name)
-            (held strings (secrets_wanting s strings which) (which_branch s which) no_secret
+            (held strings (secrets_outstanding s strings which) (which_branch s which) no_secret
             (right_none gone predicate after_secrets));
       });
-      final = reached tip l.draft.lock
-          (subst (λ (o : Option Transaction). (if nat_lt tip (lock_of o) then wants.Height (lock_of o) ∷ [] else []) ≡ [])
+      final = reached tip l.pending.lock
+          (subst (λ (o : Option Transaction). (if nat_lt tip (lock_of o) then requirements.Height (lock_of o) ∷ [] else []) ≡ [])
           (named_is hash keys s which l named)
           (left_none heights (signatures ++ (deposits ++ (secrets ++ (gone ++ predicate)))) none));
       funded = none_fail (λ x. list_any (is_deposit x) state.live) (deposits_needed s which)
-          (map_nil wants.Deposit (deposits_wanting s state which)
+          (map_nil requirements.Deposit (deposits_outstanding s state which)
           (left_none deposits (secrets ++ (gone ++ predicate)) after_signatures));
     }

@@ -25,11 +25,11 @@ use Rattle.spec_chain.specs.Chain.{Course, gone_on, opening_course}
 use Rattle.spec_chain.specs.ChainFile.{read_chain}
 use Rattle.spec_chain.specs.Following.{State, items_in, is_string_of, string_shown, is_newly_shown, newly_shown, strings_shown, outputs_made, places_spent}
 use Rattle.spec_chain.specs.Outputs.{is_position, is_deposit, is_there, without, without_all}
-use Rattle.spec_chain.specs.Wanting.{deposits_needed}
+use Rattle.spec_chain.specs.Outstanding.{deposits_needed}
 use Rattle.theory_chain.specs.Follows.{LeadsTo}
 use Rattle.theory_chain.specs.Prospects.{KnownFit, GoneNeverComes}
 use Rattle.theory_chain.proofs.Courses.{followed_exactly, further}
-use Rattle.theory_chain.proofs.Needs.{none_fail, nothing_wanting}
+use Rattle.theory_chain.proofs.Needs.{none_fail, nothing_outstanding}
 
 -- ---- strings
 
@@ -175,4 +175,4 @@ gone_never_comes hash keys s text longer more course later tip top given strings
     gone (all_before (deposits_needed s which) course.state.live later.state.live
     (λ x h. stays_gone x hash s ts p.0 course later p.1 h)
     (none_fail (λ x. list_any (is_deposit x) later.state.live) (deposits_needed s which)
-    (nothing_wanting hash keys s given strings later.state top which none)))
+    (nothing_outstanding hash keys s given strings later.state top which none)))

@@ -2,4 +2,9 @@ pub mod Files
 pub mod Follows
 pub mod Prospects
 pub mod Aside
-pub mod Wants
+pub mod Requirements
+pub mod ChainSteps
+pub mod Deals
+pub mod Runs
+pub mod Nevers
+pub mod Ledgers

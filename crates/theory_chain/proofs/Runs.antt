@@ -1,0 +1,11 @@
+pub mod Kept
+pub mod Agreed
+pub mod Shown
+pub mod Left
+pub mod Tracking
+pub mod Taking
+pub mod Beginning
+pub mod Going
+pub mod All
+pub mod Leaving
+pub mod Gone

@@ -1,4 +1,4 @@
--- The contract and the run of the worked values: an escrow in which a mediator decides, for a part of the money.
+-- The contract and the run of the test vectors: an escrow in which a mediator decides, for a part of the money.
 use Rattle.std.specs.Prelude.{ℕ, List, [], ◌∷◌, ◌++◌, map, codes}
 use Rattle.spec_terms.specs.Term.{Guarded, auth, after, withdraw, split, Contract, no_branch, branch, no_part, part}
 use Rattle.spec_terms.specs.Advert.{Advert}
@@ -6,7 +6,7 @@ use Rattle.spec_terms.specs.declared.pre.Pre.TheVariants.{Persistent}
 use Rattle.spec_run.specs.declared.event.Event.{Event}
 use Rattle.spec_run.specs.declared.event.Event.TheVariants as events
 use Rattle.spec_run.specs.Setup.{Setup}
-use Rattle.spec_tool.proofs.WorkedHash.{small_hash}
+use Rattle.spec_tool.proofs.HashVectors.{small_hash}
 
 -- texts, one after another
 abbrev pub pieces : List (List ℕ) → List ℕ

@@ -1,9 +1,9 @@
 mod Escrow
-mod Worked
-mod WorkedRun
-mod WorkedPage
-mod WorkedPut
-mod WorkedRivals
-mod WorkedGuess
-mod WorkedLottery
-mod WorkedParts
+mod Vectors
+mod OneRunVectors
+mod PageVectors
+mod PutVectors
+mod RivalVectors
+mod GuessVectors
+mod LotteryVectors
+mod PartVectors

@@ -1,7 +1,7 @@
 -- What the cells of both tables of a page have in common: a column for each party, then the contract's, what is elsewhere, and the fees.
-use Rattle.std.specs.Prelude.{ℕ, ◌+◌, min, nat_lt, List, [], ◌∷◌, ◌++◌, Bool, if◌then◌else◌, codes}
+use Rattle.std.specs.Prelude.{ℕ, ◌+◌, ◌==◌, min, nat_lt, List, [], ◌∷◌, ◌++◌, length, Bool, if◌then◌else◌, codes}
 use Rattle.std.specs.Fmt.{decimal}
-use Rattle.spec_page.specs.Html.{Element, element, Content, nothing, words, inner, classed, said}
+use Rattle.spec_page.specs.Html.{Element, element, Content, nothing, words, inner, content_text, all_of, classed, said}
 
 -- the columns: the parties, and whether anything is ever elsewhere
 pub record Columns : Type 0 where
@@ -12,13 +12,13 @@ pub record Columns : Type 0 where
 abbrev pub party_look : ℕ → List ℕ
 party_look n = codes "p" ++ decimal (min n 6)
 
--- a cell of a sum, whose column is named where the paper is narrow; an empty one has no look
+-- what a cell of a sum has, in which so many bytes stand: its column is named where the paper is narrow; an empty one has no look
+abbrev pub cell_attributes : List ℕ → List ℕ → ℕ → List (List ℕ × List ℕ)
+cell_attributes look name size =
+    if size == 0 then [] else (codes "class", codes "sum" ++ look) ∷ (codes "data-of", name) ∷ []
+
 abbrev pub sum_cell : List ℕ → List ℕ → Content → Element
-sum_cell look name nothing = element (codes "td") [] nothing
-sum_cell look name (words text others) =
-    element (codes "td") ((codes "class", codes "sum" ++ look) ∷ (codes "data-of", name) ∷ []) (words text others)
-sum_cell look name (inner first others) =
-    element (codes "td") ((codes "class", codes "sum" ++ look) ∷ (codes "data-of", name) ∷ []) (inner first others)
+sum_cell look name inside = element (codes "td") (cell_attributes look name (length (content_text inside))) inside
 
 abbrev pub party_cell : ℕ → List ℕ → Content → Element
 party_cell n party inside = sum_cell (codes " " ++ party_look n) party inside
@@ -54,12 +54,15 @@ party_head n party = classed (codes "th") (codes "name " ++ party_look n) (said 
 abbrev pub plain_head : List ℕ → Element
 plain_head text = element (codes "th") [] (words text nothing)
 
+-- those behind the heads of the parties
+abbrev pub last_heads : Columns → List ℕ → List ℕ → List ℕ → List Element
+last_heads c contract elsewhere fees = plain_head contract ∷ (if_elsewhere c (plain_head elsewhere) ++ plain_head fees ∷ [])
+
 -- a row that says what the columns are
-abbrev pub head_cells : Columns → List ℕ → List ℕ → List ℕ → List ℕ → List Element
-head_cells c what contract elsewhere fees =
-    plain_head []
-    ∷ plain_head what
-    ∷ (each_party party_head c ++ (plain_head contract ∷ (if_elsewhere c (plain_head elsewhere) ++ plain_head fees ∷ [])))
+abbrev pub head_row : Columns → List ℕ → List ℕ → List ℕ → List ℕ → Element
+head_row c what contract elsewhere fees =
+    classed (codes "tr") (codes "head")
+    (all_of (plain_head [] ∷ plain_head what ∷ (each_party party_head c ++ last_heads c contract elsewhere fees)))
 
 -- ---- the table
 

@@ -9,7 +9,6 @@ use Rattle.spec_run.specs.declared.event.Event.{Event}
 use Rattle.spec_run.specs.declared.event.Event.TheVariants as events
 use Rattle.spec_run.specs.Setup.{Setup}
 use Rattle.spec_text.specs.Canonical.{joined}
-use Rattle.spec_text.specs.RunText.{event_text}
 use Rattle.spec_text.specs.StepText.{branch_text}
 use Rattle.spec_tool.specs.declared.which.Which.{Which}
 use Rattle.spec_tool.specs.declared.which.Which.TheVariants.{Init, At}
@@ -42,6 +41,9 @@ placed_text several n i (Some p) = contract_text several p.contract ++ path_text
 
 abbrev pub way_text : Bool → List Place → ℕ → ℕ → List ℕ
 way_text several places n i = placed_text several n i (place_of n places)
+
+abbrev pub advertise_text : Bool → ℕ → List ℕ
+advertise_text several k = contract_text several k ++ codes "advertise"
 
 -- what a party does for a contract
 abbrev pub does_text : Bool → ℕ → List ℕ → List ℕ → List ℕ
@@ -87,7 +89,7 @@ raw_text several bytes (m ∷ ms) = codes "a transaction: fire " ++ move_text se
 
 -- an event and its steps, where these outputs stand for positions
 abbrev pub event_words : Bool → List Place → List Step → Event → List ℕ
-event_words several places ss (events.Advertise k bs) = event_text (events.Advertise k bs)
+event_words several places ss (events.Advertise k bs) = advertise_text several k
 event_words several places ss (events.Commit k a ds) = does_text several k a (codes " commits")
 event_words several places ss (events.Endorse k a) = does_text several k a (codes " endorses")
 event_words several places ss (events.Init k a) = does_text several k a (codes " inits")

@@ -6,8 +6,9 @@ pub mod Balances
 pub mod ReasonWords
 pub mod EventWords
 pub mod Folds
-pub mod Stops
 pub mod Outlooks
+pub mod Stops
+pub mod Picture
 pub mod Timeline
 pub mod Html
 pub mod Style

@@ -9,8 +9,6 @@ use Rattle.spec_calculus.specs.declared.step.Step.{Step}
 use Rattle.spec_calculus.specs.declared.step.Step.TheVariants as steps
 use Rattle.spec_calculus.specs.Configuration.{Configuration}
 use Rattle.spec_run.specs.Setup.{Setup}
-use Rattle.spec_run.specs.World.{World}
-use Rattle.spec_run.specs.Event.{opening_world}
 use Rattle.spec_run.specs.Translation.{Turn, opening_configuration}
 use Rattle.spec_tool.specs.declared.which.Which.{Which}
 use Rattle.spec_tool.specs.declared.which.Which.TheVariants.{Init, At}
@@ -89,25 +87,64 @@ abbrev pub moves_by : List Place → List Step → List Move
 moves_by places [] = []
 moves_by places (s ∷ ss) = onto_moves (step_move places s) (moves_by places ss)
 
+-- ---- agreements
+
+-- a party agrees to a transaction
+pub record Agreement : Type 0 where
+  pub party : List ℕ
+  pub move : Move
+
+abbrev pub agreement : List ℕ → Move → Agreement
+agreement party x = record { party = party; move = x }
+
+-- the agreement that a step is, if it is one
+abbrev pub step_agreement : List Place → Step → Option Agreement
+step_agreement places (steps.AuthBranch a n i) = option_map (agreement a) (branch_move places n i)
+step_agreement places (steps.Init k) = None
+step_agreement places (steps.PutReveal n i) = None
+step_agreement places (steps.Withdraw n i) = None
+step_agreement places (steps.Split n i) = None
+step_agreement places (steps.Delay n) = None
+step_agreement places (steps.AuthMove a action) = None
+step_agreement places (steps.Move action) = None
+step_agreement places (steps.Advertise k bs) = None
+step_agreement places (steps.Commit k a ls) = None
+step_agreement places (steps.AuthInit k a x) = None
+step_agreement places (steps.Reveal k a s) = None
+
+abbrev pub onto_agreements : Option Agreement → List Agreement → List Agreement
+onto_agreements None agreements = agreements
+onto_agreements (Some a) agreements = a ∷ agreements
+
+-- those that these steps are
+abbrev pub agreements_by : List Place → List Step → List Agreement
+agreements_by places [] = []
+agreements_by places (s ∷ ss) = onto_agreements (step_agreement places s) (agreements_by places ss)
+
 -- ---- moments
 
 pub record Moment : Type 0 where
   pub configuration : Configuration
-  pub world : World
   -- all outputs that stand for a position, or did
   pub places : List Place
   -- the transactions that were taken, in order
   pub taken : List Move
+  -- and those that were agreed to
+  pub agreed : List Agreement
 
 -- before any event
 abbrev pub first_moment : Setup → Moment
-first_moment s = record { configuration = opening_configuration s; world = opening_world s; places = []; taken = [] }
+first_moment s = record { configuration = opening_configuration s; places = []; taken = []; agreed = [] }
+
+-- after steps that led to this configuration
+abbrev pub after_steps_to : Moment → List Step → Configuration → Moment
+after_steps_to m ss g = record {
+  configuration = g;
+  places = with_active m.places g.active;
+  taken = m.taken ++ moves_by m.places ss;
+  agreed = m.agreed ++ agreements_by m.places ss;
+}
 
 -- after an event
 abbrev pub after_turn : Moment → Turn → Moment
-after_turn m t = record {
-  configuration = t.configuration;
-  world = t.world;
-  places = with_active m.places t.configuration.active;
-  taken = m.taken ++ moves_by m.places t.steps;
-}
+after_turn m t = after_steps_to m t.steps t.configuration

@@ -1,70 +1,179 @@
--- What can be done at a moment of a run, and on whom something waits.
-use Rattle.std.specs.Prelude.{ℕ, List, [], map, filter, flat_map, Bool, false, not, Option, Some, None}
+-- What can be done at a moment of a run, and on whom something waits, by the calculus.
+use Rattle.std.specs.Prelude.{ℕ, ◌+◌, ◌-◌, ◌==◌, take, List, [], ◌∷◌, ◌++◌, map, filter, flat_map, length, Bool, not, ◌&&◌, if◌then◌else◌, codes}
 use Rattle.std.specs.List.{list_any}
-use Rattle.spec_terms.specs.Core.{core}
+use Rattle.spec_terms.specs.Advert.{Advert}
+use Rattle.spec_terms.specs.Parties.{participants}
+use Rattle.spec_terms.specs.Precondition.{deposits, persistent, secrets}
 use Rattle.spec_terms.specs.Term as term
+use Rattle.spec_terms.specs.declared.path.PathStep.{PathStep}
+use Rattle.spec_terms.specs.declared.path.PathStep.TheVariants.{Branch as To}
+use Rattle.spec_calculus.specs.declared.parts.ActiveContract.{ActiveContract}
 use Rattle.spec_calculus.specs.declared.step.Step.TheVariants as steps
 use Rattle.spec_calculus.specs.Configuration.{Configuration}
-use Rattle.spec_calculus.specs.Offers.{is_enabled, taking}
+use Rattle.spec_calculus.specs.Beginning.{is_advertised, has_committed, have_committed}
+use Rattle.spec_calculus.specs.Branches.{active_at}
+use Rattle.spec_calculus.specs.Offers.{is_enabled, branches_of}
 use Rattle.spec_calculus.specs.Steps.{branch_at}
-use Rattle.spec_run.specs.declared.event.Event.{Event}
-use Rattle.spec_run.specs.declared.event.Event.TheVariants as events
-use Rattle.spec_run.specs.Setup.{Setup}
-use Rattle.spec_run.specs.World.{World}
-use Rattle.spec_run.specs.Values.{is_refused}
-use Rattle.spec_run.specs.Event.{draft}
-use Rattle.spec_next.specs.declared.want.Want.{Want}
-use Rattle.spec_next.specs.Candidates.{all_candidates}
-use Rattle.spec_next.specs.Prospects.{is_ahead, is_for}
-use Rattle.spec_next.specs.Wants.{wants_of}
-use Rattle.spec_page.specs.Moments.{Moment}
+use Rattle.spec_run.specs.Setup.{Setup, is_declared}
+use Rattle.spec_run.specs.Steps.{is_awaited}
+use Rattle.spec_next.specs.declared.requirement.Requirement.{Requirement}
+use Rattle.spec_next.specs.Bindings.{bindings_for}
+use Rattle.spec_next.specs.Candidates.{has_started, actives_of}
+use Rattle.spec_next.specs.Prospects.{is_never, is_for}
+use Rattle.spec_next.specs.Requirements.{unmet, agreed, started, asked_by_branch}
+use Rattle.spec_text.specs.Canonical.{joined}
+use Rattle.spec_tool.specs.declared.which.Which.TheVariants.{Init, At}
+use Rattle.spec_page.specs.declared.event_row.Look.{Look}
+use Rattle.spec_page.specs.declared.event_row.Look.TheVariants as looks
+use Rattle.spec_page.specs.Figures.{sum_text}
+use Rattle.spec_page.specs.Moments.{Move, move, Moment}
+use Rattle.spec_page.specs.Statuses.{is_among_moves, offered, has_begun, is_barred}
 use Rattle.spec_page.specs.Balances.{columns}
-use Rattle.spec_page.specs.EventWords.{are_several, event_words}
+use Rattle.spec_page.specs.EventWords.{are_several, move_text, advertise_text, does_text, shows_text}
 
--- whether the calculus lets a branch be taken
-abbrev pub is_open_way : Configuration → ℕ → ℕ → Option term.Guarded → Bool
-is_open_way g n i None = false
-is_open_way g n i (Some b) = list_any (is_enabled g) (taking n i (core b))
+-- a transaction that is offered
+abbrev pub fire_words : Bool → Moment → Move → List (List ℕ)
+fire_words several m x = if is_among_moves x (offered m) then (codes "fire " ++ move_text several x) ∷ [] else []
 
-abbrev pub is_passed : Setup → World → Event → Bool
-is_passed s w e = not (is_refused (draft s w e).outcome)
+-- ---- before a contract begins
 
--- Whether an event can be done now: a transaction of a contract by the calculus, all else by the definition of runs.
-abbrev pub can : Setup → Configuration → World → Event → Bool
-can s g w (events.FireInit k) = is_enabled g (steps.Init k)
-can s g w (events.Fire n i) = is_open_way g n i (branch_at g n i)
-can s g w (events.Advertise k bs) = is_passed s w (events.Advertise k bs)
-can s g w (events.Commit k a ds) = is_passed s w (events.Commit k a ds)
-can s g w (events.Endorse k a) = is_passed s w (events.Endorse k a)
-can s g w (events.Init k a) = is_passed s w (events.Init k a)
-can s g w (events.Authorise a n i) = is_passed s w (events.Authorise a n i)
-can s g w (events.Reveal k a secret) = is_passed s w (events.Reveal k a secret)
-can s g w (events.Post bytes) = is_passed s w (events.Post bytes)
-can s g w (events.Sign b l d) = is_passed s w (events.Sign b l d)
-can s g w (events.Give a inputs outputs) = is_passed s w (events.Give a inputs outputs)
-can s g w (events.Append bytes) = is_passed s w (events.Append bytes)
-can s g w (events.Mine n) = is_passed s w (events.Mine n)
+-- it is advertised with the deposits that fit
+abbrev pub advertise_words : Bool → Configuration → ℕ → Advert → List (List ℕ)
+advertise_words several g k a =
+    if is_enabled g (steps.Advertise k (bindings_for g.deposits (deposits a.pre))) then advertise_text several k ∷ [] else []
 
--- the events that the contracts have ahead, as `bitml next` lists them
-abbrev pub ahead : Setup → Moment → List Event
-ahead s m = filter (is_ahead s m.world) (all_candidates s m.configuration m.world)
+abbrev pub may_commit : Setup → Configuration → ℕ → List ℕ → Bool
+may_commit s g k party = is_declared s party && not (has_committed g.committed k party)
 
--- those that can be done
-abbrev pub possible : Setup → Moment → List Event
-possible s m = filter (can s m.configuration m.world) (ahead s m)
+abbrev pub commit_words : Setup → Configuration → ℕ → List (List ℕ) → List (List ℕ)
+commit_words s g k people = map (λ p. does_text (are_several s) k p (codes " commits")) (filter (may_commit s g k) people)
 
--- what the others lack
-abbrev pub lacking : Setup → Moment → List Want
-lacking s m =
-    flat_map (λ e. wants_of s m.configuration m.world e) (filter (λ e. not (can s m.configuration m.world e)) (ahead s m))
+-- once all have committed, the owners of its deposits sign
+abbrev pub sign_words : Bool → Configuration → ℕ → Advert → List (List ℕ) → List (List ℕ)
+sign_words several g k a people =
+    if have_committed g.committed k people
+    then map (λ p. does_text several k p (codes " signs")) (filter (λ p. not (has_started g k (persistent a.pre) p)) people)
+    else []
 
--- in words
+abbrev pub begin_words : Setup → Moment → ℕ → Advert → List (List ℕ)
+begin_words s m k a =
+    if is_advertised m.configuration.advertised k
+    then commit_words s m.configuration k (participants a)
+    ++ (sign_words (are_several s) m.configuration k a (participants a) ++ fire_words (are_several s) m (move k Init))
+    else advertise_words (are_several s) m.configuration k a
+
+-- ---- once it has begun
+
+-- the secrets that can be revealed
+abbrev pub reveal_words : Configuration → ℕ → Advert → List (List ℕ)
+reveal_words g k a =
+    map (λ x. shows_text (x.1) (x.0)) (filter (λ x. is_enabled g (steps.Reveal k (x.1) (x.0))) (secrets a.pre))
+
+abbrev pub agree_text : Bool → Move → List ℕ → List ℕ
+agree_text several x party = party ++ (codes " agrees to " ++ move_text several x)
+
+-- branch i of an active contract: those of these people who are asked agree, and then it is taken
+abbrev pub branch_words : Bool → Moment → List (List ℕ) → ActiveContract → ℕ → term.Guarded → List (List ℕ)
+branch_words several m people a i b =
+    map (agree_text several (move a.contract (At (a.position ++ To i ∷ []))))
+    (filter (is_awaited m.configuration a.number i b) people)
+    ++ fire_words several m (move a.contract (At (a.position ++ To i ∷ [])))
+
+abbrev pub branches_words : Bool → Moment → List (List ℕ) → ActiveContract → ℕ → List term.Guarded → List (List ℕ)
+branches_words several m people a i [] = []
+branches_words several m people a i (b ∷ bs) =
+    branch_words several m people a i b ++ branches_words several m people a (i + 1) bs
+
+abbrev pub active_words : Bool → Moment → List (List ℕ) → ActiveContract → List (List ℕ)
+active_words several m people a = branches_words several m people a 0 (branches_of m.configuration.contracts a)
+
+-- nothing comes of secrets where nothing is left of the contract
+abbrev pub going_words : Bool → Moment → ℕ → Advert → List ActiveContract → List (List ℕ)
+going_words several m k a [] = []
+going_words several m k a (x ∷ xs) =
+    reveal_words m.configuration k a ++ flat_map (active_words several m (participants a)) (x ∷ xs)
+
+-- ---- all
+
+-- what can be done of contract k
+abbrev pub contract_words : Setup → Moment → ℕ → Advert → List (List ℕ)
+contract_words s m k a =
+    if has_begun m k then going_words (are_several s) m k a (actives_of m.configuration k)
+    else if is_barred m k then []
+    else begin_words s m k a
+
+-- of the contracts from number k on
+abbrev pub words_from : Setup → Moment → ℕ → List Advert → List (List ℕ)
+words_from s m k [] = []
+words_from s m k (a ∷ as') = contract_words s m k a ++ words_from s m (k + 1) as'
+
 abbrev pub possible_words : Setup → Moment → List (List ℕ)
-possible_words s m = map (event_words (are_several s) m.places []) (possible s m)
+possible_words s m = words_from s m 0 s.contracts
 
--- the participants on whom one of them waits
-abbrev pub awaited_of : List (List ℕ) → List Want → List (List ℕ)
-awaited_of people wants = filter (λ party. list_any (λ want. is_for want party) wants) people
+-- ---- on whom something waits
+
+-- where something never comes, nothing else is missing
+abbrev pub unless_never : List Requirement → List Requirement
+unless_never requirements = if list_any is_never requirements then [] else requirements
+
+abbrev pub beginning_lacks : Configuration → ℕ → Advert → List Requirement
+beginning_lacks g k a = unmet (agreed g k ++ started g k (persistent a.pre))
+
+abbrev pub branch_lacks : List (List ℕ) → Configuration → ℕ → ℕ → List Requirement
+branch_lacks honest g n i = unless_never (unmet (asked_by_branch honest g n i (active_at g.active n) (branch_at g n i)))
+
+abbrev pub branches_lack : List (List ℕ) → Configuration → ℕ → ℕ → List term.Guarded → List Requirement
+branches_lack honest g n i [] = []
+branches_lack honest g n i (b ∷ bs) = branch_lacks honest g n i ++ branches_lack honest g n (i + 1) bs
+
+abbrev pub active_lacks : List (List ℕ) → Configuration → ActiveContract → List Requirement
+active_lacks honest g a = branches_lack honest g a.number 0 (branches_of g.contracts a)
+
+-- what contract k lacks to begin or to go on
+abbrev pub contract_lacks : Setup → Moment → ℕ → Advert → List Requirement
+contract_lacks s m k a =
+    if has_begun m k then flat_map (active_lacks s.header.honest m.configuration) (actives_of m.configuration k)
+    else if is_barred m k then []
+    else beginning_lacks m.configuration k a
+
+abbrev pub lacks_from : Setup → Moment → ℕ → List Advert → List Requirement
+lacks_from s m k [] = []
+lacks_from s m k (a ∷ as') = contract_lacks s m k a ++ lacks_from s m (k + 1) as'
+
+-- the participants on whom something waits
+abbrev pub awaited_of : List (List ℕ) → List Requirement → List (List ℕ)
+awaited_of people requirements = filter (λ party. list_any (λ requirement. is_for requirement party) requirements) people
 
 abbrev pub awaited : Setup → Moment → List (List ℕ)
-awaited s m = awaited_of (columns s) (lacking s m)
+awaited s m = awaited_of (columns s) (lacks_from s m 0 s.contracts)
+
+-- ---- in words
+
+abbrev pub awaited_text : List (List ℕ) → List ℕ
+awaited_text [] = []
+awaited_text (p ∷ ps) = codes "; waits for " ++ joined (codes ", ") (p ∷ ps)
+
+-- so many events are named
+abbrev pub most_named : ℕ
+most_named = 12
+
+abbrev pub others_text : ℕ → List ℕ
+others_text n = if n == 0 then [] else codes ", and " ++ (sum_text n ++ codes " more")
+
+abbrev pub possible_text : List (List ℕ) → List ℕ
+possible_text [] = codes "nothing"
+possible_text (e ∷ es) =
+    joined (codes ", ") (take most_named (e ∷ es)) ++ others_text (length (e ∷ es) - most_named)
+
+abbrev pub outlook_text : Setup → Moment → List ℕ
+outlook_text s m = possible_text (possible_words s m) ++ awaited_text (awaited s m)
+
+-- behind a halt nothing comes
+abbrev pub stop_outlook : Setup → Moment → Look → List ℕ
+stop_outlook s m looks.Halt = codes "nothing, the run is halted"
+stop_outlook s m looks.Start = outlook_text s m
+stop_outlook s m looks.Blocks = outlook_text s m
+stop_outlook s m looks.Done = outlook_text s m
+stop_outlook s m looks.Accepted = outlook_text s m
+stop_outlook s m looks.Refused = outlook_text s m
+stop_outlook s m looks.More = outlook_text s m

@@ -1,15 +1,14 @@
 -- The rows of a run, as HTML.
-use Rattle.std.specs.Prelude.{ℕ, ◌+◌, List, [], ◌∷◌, ◌++◌, map, nat_lt, Bool, true, false, ◌==◌, if◌then◌else◌, Option, Some, None, codes}
+use Rattle.std.specs.Prelude.{ℕ, List, [], ◌∷◌, ◌++◌, flat_map, nat_lt, Bool, true, false, ◌==◌, if◌then◌else◌, Option, Some, None, slice_get, unwrap_or, codes}
 use Rattle.std.specs.Fmt.{decimal}
 use Rattle.std.specs.Str.{bytes_eq}
-use Rattle.spec_text.specs.Canonical.{joined}
 use Rattle.spec_page.specs.declared.event_row.EventRow.{EventRow}
 use Rattle.spec_page.specs.declared.event_row.Money.{Money}
 use Rattle.spec_page.specs.declared.event_row.Look.{Look}
 use Rattle.spec_page.specs.declared.event_row.Look.TheVariants as looks
 use Rattle.spec_page.specs.Figures.{sum_text}
 use Rattle.spec_page.specs.Html.{Element, element, Content, nothing, words, inner, all_of, classed, said}
-use Rattle.spec_page.specs.Cells.{Columns, path_cell, sum_cell, party_cell, if_elsewhere, head_cells}
+use Rattle.spec_page.specs.Cells.{Columns, path_cell, sum_cell, party_cell, each_party, if_elsewhere, head_row}
 
 -- ---- attributes
 
@@ -35,7 +34,8 @@ row_id first looks.Halt = codes "halt"
 -- all sums, in the order of the bar
 abbrev pub money_text : Money → List ℕ
 money_text m =
-    joined (codes " ") (map decimal (m.parties ++ (m.contracts ∷ m.elsewhere ∷ m.fees ∷ [])))
+    flat_map (λ v. decimal v ++ codes " ") m.parties
+    ++ (decimal m.contracts ++ (codes " " ++ (decimal m.elsewhere ++ (codes " " ++ decimal m.fees))))
 
 -- `12`, or `12-15`
 abbrev pub range_text : ℕ → ℕ → List ℕ
@@ -107,24 +107,21 @@ abbrev pub is_actor : Option (List ℕ) → List ℕ → Bool
 is_actor None party = false
 is_actor (Some who) party = bytes_eq who party
 
--- of each party what it has now, and had before the row, if there is one before
-abbrev pub party_cells : Option (List ℕ) → ℕ → List (List ℕ) → Option (List ℕ) → List ℕ → List Element
-party_cells who n [] before now = []
-party_cells who n (p ∷ ps) before [] = []
-party_cells who n (p ∷ ps) None (v ∷ vs) =
-    party_cell n p (changed None v (mark (is_actor who p))) ∷ party_cells who (n + 1) ps None vs
-party_cells who n (p ∷ ps) (Some []) (v ∷ vs) =
-    party_cell n p (changed None v (mark (is_actor who p))) ∷ party_cells who (n + 1) ps (Some []) vs
-party_cells who n (p ∷ ps) (Some (u ∷ us)) (v ∷ vs) =
-    party_cell n p (changed (Some u) v (mark (is_actor who p))) ∷ party_cells who (n + 1) ps (Some us) vs
+-- what the party of this number has, and had before, where there is a row before
+abbrev pub sum_at : ℕ → Money → ℕ
+sum_at n m = unwrap_or (slice_get m.parties n) 0
+
+abbrev pub sum_before : ℕ → Option Money → Option ℕ
+sum_before n None = None
+sum_before n (Some m) = Some (sum_at n m)
+
+abbrev pub party_sum : Option (List ℕ) → Option Money → Money → ℕ → List ℕ → Element
+party_sum who before now n party =
+    party_cell n party (changed (sum_before n before) (sum_at n now) (mark (is_actor who party)))
 
 abbrev pub field : (Money → ℕ) → Option Money → Option ℕ
 field f None = None
 field f (Some m) = Some (f m)
-
-abbrev pub parties_before : Option Money → Option (List ℕ)
-parties_before None = None
-parties_before (Some m) = Some m.parties
 
 abbrev pub last_sums : Columns → Option Money → Money → List Element
 last_sums c before now =
@@ -140,15 +137,14 @@ event_element c count before r =
     element (codes "tr") (row_attributes count r)
     (all_of (path_cell (number_text r r.look)
     ∷ words_cell r
-    ∷ (party_cells r.actor 0 c.parties (parties_before before) r.money.parties ++ last_sums c before r.money)))
+    ∷ (each_party (party_sum r.actor before r.money) c ++ last_sums c before r.money)))
 
 abbrev pub event_elements : Columns → ℕ → Option Money → List EventRow → List Element
 event_elements c count before [] = []
 event_elements c count before (r ∷ rs) = event_element c count before r ∷ event_elements c count (Some r.money) rs
 
 abbrev pub run_head : Columns → Element
-run_head c =
-    classed (codes "tr") (codes "head") (all_of (head_cells c (codes "the run") (codes "contract") (codes "elsewhere") (codes "fees")))
+run_head c = head_row c (codes "the run") (codes "contract") (codes "elsewhere") (codes "fees")
 
 -- all sums at the end; together they are the deposits
 abbrev pub end_element : Columns → Money → Element
@@ -156,7 +152,7 @@ end_element c m =
     classed (codes "tr") (codes "total")
     (all_of (element (codes "td") [] nothing
     ∷ classed (codes "td") (codes "what") (said (codes "at the end"))
-    ∷ (party_cells None 0 c.parties None m.parties ++ last_sums c None m)))
+    ∷ (each_party (party_sum None None m) c ++ last_sums c None m)))
 
 -- the rows of a run of so many events, which left this money
 unfoldable pub run_elements : Columns → ℕ → List EventRow → Money → List Element

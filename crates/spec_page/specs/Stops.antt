@@ -8,7 +8,7 @@ use Rattle.spec_run.specs.declared.event.Event.TheVariants as events
 use Rattle.spec_run.specs.declared.outcome.Outcome.{Outcome}
 use Rattle.spec_run.specs.declared.outcome.Outcome.TheVariants as outcomes
 use Rattle.spec_run.specs.Setup.{Setup}
-use Rattle.spec_run.specs.Draft.{Halt, Collided, Guessed}
+use Rattle.spec_run.specs.Pending.{Halt, Collided, Guessed}
 use Rattle.spec_run.specs.Event.{opening_collision}
 use Rattle.spec_run.specs.Translation.{Turn, Course, last_or, course}
 use Rattle.spec_text.specs.Canonical.{joined}
@@ -18,7 +18,9 @@ use Rattle.spec_page.specs.declared.event_row.Look.{Look}
 use Rattle.spec_page.specs.declared.event_row.Look.TheVariants as looks
 use Rattle.spec_page.specs.Figures.{sum_text}
 use Rattle.spec_page.specs.Moments.{Moment, first_moment, after_turn}
+use Rattle.spec_page.specs.Statuses.{looks_from}
 use Rattle.spec_page.specs.Balances.{money_at}
+use Rattle.spec_page.specs.Outlooks.{stop_outlook}
 use Rattle.spec_page.specs.ReasonWords.{refused_text}
 use Rattle.spec_page.specs.EventWords.{are_several, contract_text, event_words, actor}
 use Rattle.spec_page.specs.Folds.{Fold, is_plain, turn_line, folded}
@@ -140,6 +142,8 @@ stop s first last look words note lines who m = record {
     actor = who;
     height = m.configuration.time;
     money = money_at s m.configuration;
+    looks = looks_from m 0 s.contracts;
+    outlook = stop_outlook s m look;
   };
   moment = m;
 }
@@ -241,3 +245,6 @@ stops_from s None c = stops_in s c
 -- the stops of a run
 abbrev pub stops : Setup → List Event → List Stop
 stops s es = stops_from s (opening_collision s) (course s es)
+
+abbrev pub rows_of : List Stop → List EventRow
+rows_of sts = map (λ st. st.row) sts

@@ -5,9 +5,9 @@ use Rattle.std.specs.Prelude.{ℕ, List, ◌++◌, codes}
 abbrev pub style_0 : List ℕ
 style_0 =
     codes ":root{--fg:#1f2328;--mut:#59636e;--bg:#fff;--line:#d1d9e0;--edge:#818b98;--soft:#f6f8fa;--ok:#1a7f37;--okbg:#dafbe1;"
-    ++ (codes "--now:#0969da;--nowbg:#ddf4ff;--bad:#cf222e;--on:#fff;--c0:#0969da;--c1:#bc4c00;--c2:#8250df;--c3:#1b7c83;--c4:#bf3989;"
+    ++ (codes "--now:#0969da;--nowbg:#ddf4ff;--bad:#cf222e;--on:#fff;--c0:#0969da;--c1:#b84a00;--c2:#7c4fdb;--c3:#1a737a;--c4:#ba3686;"
     ++ (codes "--c5:#7d4e00;--c6:#59636e;color-scheme:light dark}"
-    ++ (codes "@media(prefers-color-scheme:dark){:root{--fg:#e6edf3;--mut:#9198a1;--bg:#0d1117;--line:#30363d;--edge:#656c76;--soft:#151b23;"
+    ++ (codes "@media(prefers-color-scheme:dark){:root{--fg:#e6edf3;--mut:#9198a1;--bg:#0d1117;--line:#30363d;--edge:#707983;--soft:#151b23;"
     ++ (codes "--ok:#3fb950;--okbg:#12321f;--now:#58a6ff;--nowbg:#121d2f;--bad:#ff7b72;--on:#0d1117;--c0:#58a6ff;--c1:#f0883e;--c2:#bc8cff;"
     ++ (codes "--c3:#39c5cf;--c4:#f778ba;--c5:#d4a72c;--c6:#9198a1}}"
     ++ (codes "*{box-sizing:border-box}"
@@ -56,7 +56,7 @@ style_3 =
     ++ (codes ".ev{cursor:pointer}.ev.blocks{background:var(--soft)}.ev.refused .what{color:var(--mut)}.ev em{color:var(--bad);"
     ++ (codes "font-style:normal}.ev.accepted .path{color:var(--ok);font-weight:bold}"
     ++ (codes ".ev.later td{color:var(--mut)}.ev.later .sum{visibility:hidden}.ev.here{outline:2px solid var(--now);outline-offset:-2px}"
-    ++ (codes ".dot:before{content:'\\25CF';font-size:10px;color:var(--c)}"
+    ++ (codes ".dot:before{content:'\\25CF';margin-left:4px;font-size:10px;color:var(--c)}"
     ++ (codes ".wide th{padding:14px 2px 5px;font-size:12px}.wide th.name{max-width:84px}.wide td{padding:3px 2px}.wide .sum{width:auto;"
     ++ (codes "font-size:11.5px}.wide .what{min-width:200px}.wide i{padding:1px 2px}.turned th.name{writing-mode:vertical-rl;text-align:left;"
     ++ (codes "vertical-align:bottom;max-width:none;white-space:nowrap}"

@@ -1,30 +1,11 @@
 -- How what changes in the course of a run is told to the script of a page: from which row on it has which look.
-use Rattle.std.specs.Prelude.{ℕ, ◌+◌, zero, suc, List, [], ◌∷◌, ◌++◌, map, if◌then◌else◌, codes}
+use Rattle.std.specs.Prelude.{ℕ, ◌+◌, ◌==◌, List, [], ◌∷◌, ◌++◌, map, if◌then◌else◌, Option, Some, None, codes, slice_get, unwrap_or}
 use Rattle.std.specs.Fmt.{decimal}
 use Rattle.std.specs.Str.{bytes_eq}
 use Rattle.spec_run.specs.Translation.{last_or}
-use Rattle.spec_text.specs.Canonical.{joined}
+use Rattle.spec_page.specs.declared.event_row.EventRow.{EventRow}
 use Rattle.spec_page.specs.declared.status.Status.{Status}
 use Rattle.spec_page.specs.declared.status.Status.TheVariants.{Open, Offered, Taken, Met, Gone}
-
--- a text, and the number of the row from which on it holds
-pub record Change : Type 0 where
-  pub row : ℕ
-  pub text : List ℕ
-
-abbrev pub change : ℕ → List ℕ → Change
-change row text = record { row = row; text = text }
-
--- the texts that differ from the one before, of those from row n on, behind this one
-abbrev pub changes_from : ℕ → List ℕ → List (List ℕ) → List Change
-changes_from n last [] = []
-changes_from n last (t ∷ ts) =
-    if bytes_eq last t then changes_from (n + 1) last ts else change n t ∷ changes_from (n + 1) t ts
-
--- the first of the texts of the rows, and then each that differs from the one before
-abbrev pub changes : List (List ℕ) → List Change
-changes [] = []
-changes (t ∷ ts) = change 0 t ∷ changes_from 1 t ts
 
 -- ---- looks
 
@@ -35,36 +16,56 @@ status_word Taken = codes "taken"
 status_word Met = codes "met"
 status_word Gone = codes "gone"
 
--- `0:open 9:offered`
-abbrev pub change_text : Change → List ℕ
-change_text c = decimal c.row ++ (codes ":" ++ c.text)
+-- `9:offered`
+abbrev pub look_at : ℕ → List ℕ → List ℕ
+look_at row word = decimal row ++ (codes ":" ++ word)
 
-abbrev pub looks_text : List Change → List ℕ
-looks_text cs = joined (codes " ") (map change_text cs)
+-- where a look differs from the one before, with a space before it
+abbrev pub change_of_look : ℕ → List ℕ → List ℕ → List ℕ
+change_of_look n last word = if bytes_eq last word then [] else codes " " ++ look_at n word
 
--- how a status goes on from row to row, and how it ends
+-- those of the rows from number n on that differ from the one before; this one stands before them
+abbrev pub later_looks : ℕ → List ℕ → List Status → List ℕ
+later_looks n last [] = []
+later_looks n last (s ∷ ss) = change_of_look n last (status_word s) ++ later_looks (n + 1) (status_word s) ss
+
+-- how a status goes on from row to row: `0:open 9:offered`
 abbrev pub statuses_text : List Status → List ℕ
-statuses_text ss = looks_text (changes (map status_word ss))
+statuses_text [] = []
+statuses_text (s ∷ ss) = look_at 0 (status_word s) ++ later_looks 1 (status_word s) ss
 
+-- how it ends
 abbrev pub end_word : List Status → List ℕ
 end_word ss = last_or (codes "open") (map status_word ss)
 
+-- where part k of those that have a look stands, by the looks of a row
+abbrev pub look_in : ℕ → List Status → Status
+look_in k looks = unwrap_or (slice_get looks k) Open
+
+-- and how it goes on from row to row
+abbrev pub looks_of : ℕ → List EventRow → List Status
+looks_of k rows = map (λ r. look_in k r.looks) rows
+
 -- ---- texts of which one is shown
 
+-- the number of the first of these, numbered from n on, that isn't this text
+abbrev pub next_change : ℕ → List ℕ → List (List ℕ) → Option ℕ
+next_change n text [] = None
+next_change n text (t ∷ ts) = if bytes_eq text t then next_change (n + 1) text ts else Some n
+
 -- until the next begins
-abbrev pub until : List Change → List ℕ
-until [] = []
-until (c ∷ cs) = codes " " ++ (decimal c.row ++ codes ":off")
+abbrev pub until : Option ℕ → List ℕ
+until None = []
+until (Some n) = codes " " ++ (decimal n ++ codes ":off")
 
 abbrev pub off_before : ℕ → List ℕ
-off_before zero = []
-off_before (suc n) = codes "0:off "
+off_before n = if n == 0 then [] else codes "0:off "
 
--- when a change's text is shown that these follow
-abbrev pub shown_text : Change → List Change → List ℕ
-shown_text c later = off_before c.row ++ (decimal c.row ++ (codes ":on" ++ until later))
+-- when the text of row n is shown, before which another was, until this row
+abbrev pub shown_text : ℕ → Option ℕ → List ℕ
+shown_text n next = off_before n ++ (decimal n ++ (codes ":on" ++ until next))
 
 -- at the end the last is shown
-abbrev pub shown_word : List Change → List ℕ
-shown_word [] = codes "on"
-shown_word (c ∷ cs) = codes "off"
+abbrev pub shown_word : Option ℕ → List ℕ
+shown_word None = codes "on"
+shown_word (Some n) = codes "off"

@@ -1,6 +1,6 @@
 -- The rows of a contract of BitML, in the order of its text: for each branch what it waits for and whom it pays. A position that is left to
 -- anyone, and only pays a party, has no row: what it pays stands in the row that leads to it.
-use Rattle.std.specs.Prelude.{ℕ, ◌+◌, ◌-◌, zero, suc, List, [], ◌∷◌, ◌++◌, map, Bool, true, false, if◌then◌else◌, Option, Some, None}
+use Rattle.std.specs.Prelude.{ℕ, ◌+◌, ◌-◌, ◌==◌, List, [], ◌∷◌, ◌++◌, map, Bool, true, false, if◌then◌else◌, Option, Some, None}
 use Rattle.spec_data.specs.Lists.{look_up}
 use Rattle.spec_terms.specs.Term.{Pred, always, both, negation, equal, less, Guarded, auth, after, put_reveal, withdraw, split}
 use Rattle.spec_terms.specs.Term.{Contract, no_branch, branch, Parts, no_part, part}
@@ -45,8 +45,7 @@ puts_condition name (Some d) = Puts d.owner d.value name
 
 -- a height that is 0 is no condition
 abbrev pub block_conditions : ℕ → List Condition
-block_conditions zero = []
-block_conditions (suc n) = Block (suc n) ∷ []
+block_conditions height = if height == 0 then [] else Block height ∷ []
 
 -- neither is a predicate that is always true
 abbrev pub test_conditions : Pred → List Condition

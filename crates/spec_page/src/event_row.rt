@@ -1,5 +1,6 @@
 //! The rows of a run. Sums are in satoshi, heights in blocks.
 
+use crate::status::Status;
 use spec_data::{Bytes, Name, Seq};
 
 /// Where the money is.
@@ -58,6 +59,11 @@ pub struct EventRow {
     pub actor: Option<Name>,
     pub height: u32,
     pub money: Money,
+    /// Where all parts of the contracts stand that have a look, in order: of each contract its initial transaction, and then of each
+    /// branch the branch, its conditions and its payments.
+    pub looks: Seq<Status>,
+    /// What can be done now, and on whom something waits.
+    pub outlook: Bytes,
 }
 
 impl Drop for EventRow {
@@ -72,6 +78,8 @@ impl Drop for EventRow {
             actor: _,
             height: _,
             money: _,
+            looks: _,
+            outlook: _,
         } = self;
     }
 }

@@ -2,9 +2,11 @@
 #![tactic(auto)]
 
 pub mod event_row;
+pub mod picture;
 pub mod status;
 pub mod way_row;
 
 pub use event_row::{EventRow, Look, Money};
+pub use picture::{Picture, Sheet};
 pub use status::Status;
 pub use way_row::{Condition, Payment, Stake, WayRow};

@@ -5,3 +5,5 @@ mod Whole
 mod Formed
 mod Runs
 mod Told
+mod Numbered
+mod Left

@@ -15,7 +15,7 @@ use Rattle.spec_run.specs.declared.event.Event.{Event}
 use Rattle.spec_run.specs.declared.outcome.Record.{Record}
 use Rattle.spec_run.specs.Setup.{Setup}
 use Rattle.spec_run.specs.World.{World}
-use Rattle.spec_run.specs.Draft.{Halt}
+use Rattle.spec_run.specs.Pending.{Halt}
 use Rattle.spec_run.specs.Event.{opening_collision, opening_world}
 use Rattle.spec_run.specs.Statements.{IsRun, HoldsFrom}
 use Rattle.spec_run.specs.Translation.{Turn, Course, record_in, opening_configuration, course}

@@ -10,10 +10,10 @@ use Rattle.spec_text.specs.OutcomeText.{outcome_text}
 use Rattle.spec_text.specs.Lines.{lines_of}
 use Rattle.theory_text.proofs.Lines.LineBytes.{lined}
 use Rattle.spec_text.specs.Words.{all_of}
-use Rattle.theory_report.specs.Lines.{Said, said_by}
-use Rattle.theory_report.specs.Lines as line
-use Rattle.theory_report.proofs.Texts.{said_line}
-use Rattle.theory_report.proofs.LinesRead.{text_back}
+use Rattle.theory_play_text.specs.Lines.{Said, said_by}
+use Rattle.theory_play_text.specs.Lines as line
+use Rattle.theory_play_text.proofs.Texts.{said_line}
+use Rattle.theory_play_text.proofs.LinesRead.{text_back}
 use Rattle.spec_page.specs.Folds.{turn_line}
 use Rattle.theory_page.specs.Tells.{LinesTellTurns}
 

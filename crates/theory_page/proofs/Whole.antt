@@ -29,7 +29,8 @@ shares d (p ∷ ps) = share d p + shares d ps
 held-cons : (d : Deposit) (ds : List Deposit) (party : List ℕ) → held_by (d ∷ ds) party ≡ share d party + held_by ds party
 held-cons d ds party = by_test (owner_eq d.owner (Party party))
   where
-    by_test : (mine : Bool) → sum_by value_of (cond mine (d ∷ filter (λ e. owner_eq e.owner (Party party)) ds) (filter (λ e. owner_eq e.owner (Party party)) ds))
+    by_test : (mine : Bool) → sum_by value_of
+        (cond mine (d ∷ filter (λ e. owner_eq e.owner (Party party)) ds) (filter (λ e. owner_eq e.owner (Party party)) ds))
         ≡ cond mine d.value 0 + sum_by value_of (filter (λ e. owner_eq e.owner (Party party)) ds)
     by_test true = sum_by-cons value_of d (filter (λ e. owner_eq e.owner (Party party)) ds)
     by_test false = omega arith

@@ -2,7 +2,7 @@
 use Rattle.std.specs.Prelude.{◌≡◌, ℕ, List}
 use Rattle.spec_run.specs.Translation.{Turn}
 use Rattle.spec_page.specs.Folds.{turn_line}
-use Rattle.theory_report.specs.Printable.{IsSpelledEvent, IsOutcome}
+use Rattle.theory_play_text.specs.Printable.{IsSpelledEvent, IsOutcome}
 
 -- an event of a run file with these parties, and an outcome of numbers within eight bytes and of names as contract text may have them
 pub record IsTold (parties : List (List ℕ)) (t : Turn) : Type 0 where

@@ -2,6 +2,7 @@
 #![tactic(auto)]
 
 ghost use Rattle.spec_page.specs.Statements.{PagesAreWellFormed, TextsAreSafe, RowsShowBranches, AllRowsHoldEvents, MoneyIsWhole, RowsAreWhole};
+ghost use Rattle.theory_page.specs.Shows.{RowsShowLooks, FoldsHaveMoments};
 ghost use Rattle.theory_page.specs.Tells.{LinesTellTurns};
 ghost use Rattle.theory_run.specs.Sound.{RunsAreSound};
 
@@ -48,4 +49,14 @@ pub fn rows_are_whole()
 /// The lines of a row tell its events and their outcomes: equal lines are of equal events with equal outcomes.
 pub fn lines_tell_turns()
     ensures { LinesTellTurns }
+{}
+
+/// In every row of a run each part of a contract has the look that it has at the row's moment, by the number at which a page looks it up.
+pub fn rows_show_looks()
+    ensures { RowsShowLooks }
+{}
+
+/// The moment of each row is what the events up to its last one left.
+pub fn folds_have_moments()
+    ensures { FoldsHaveMoments }
 {}

@@ -15,7 +15,7 @@ use Rattle.spec_compiler.specs.Keyed.Instance.{position_script}
 use Rattle.spec_run.specs.declared.event.Event.{Event}
 use Rattle.spec_run.specs.declared.event.Event.TheVariants as events
 use Rattle.spec_run.specs.Setup.{Setup}
-use Rattle.spec_tool.proofs.WorkedHash.{small_hash}
+use Rattle.spec_tool.proofs.HashVectors.{small_hash}
 use Rattle.spec_page.specs.Html.{attribute_text}
 use Rattle.spec_page.specs.Style.{style_text}
 use Rattle.spec_page.specs.Script.{script_text}
@@ -96,108 +96,139 @@ before_table =
     codes "</style>\n" ∷
     codes "</head>\n" ∷
     codes "<body><h1>rivals<small>2,500,000 satoshi in deposits</small></h1>\n" ∷
-    codes "<div class=\"bar\" title=\"where the money is\"><div class=\"p0\" style=\"flex-grow:698000\"><span>Seller</span>" ∷
-    codes "</div><div class=\"p1\" style=\"flex-grow:998000\"><span>Ann</span></div><div class=\"p2\" " ∷
-    codes "style=\"flex-grow:799000\"><span>Bob</span></div><div class=\"in\" style=\"flex-grow:0\"><span>contract</span>" ∷
-    codes "</div><div class=\"out\" style=\"flex-grow:0\"><span>elsewhere</span></div><div class=\"fee\" " ∷
-    codes "style=\"flex-grow:5000\"><span>fees</span></div></div>\n" ∷
-    codes "<div class=\"ctl\"><input type=\"range\" id=\"range\" min=\"0\" max=\"9\" value=\"9\" aria-label=\"event\"><output " ∷
-    codes "id=\"said\"></output></div>\n" ∷
-    codes "<div class=\"now\"><b>can now:</b> <p class=\"off\" data-at=\"0:on 2:off\">advertise 0 goods=#0 price=#1, " ∷
-    codes "advertise 1 goods=#0 price=#2; waits for Seller, Ann, Bob</p>\n" ∷
-    codes "<p class=\"off\" data-at=\"0:off 2:on 3:off\">fire 0:init, advertise 1 goods=#0 price=#2; waits for Seller, " ∷
-    codes "Bob</p>\n" ∷
+    codes "<div class=\"bar\" title=\"where the money is\"><div class=\"p0\" style=\"flex-grow:698000\">" ∷
+    codes "<span>Seller</span></div><div class=\"p1\" style=\"flex-grow:998000\"><span>Ann</span></div><div " ∷
+    codes "class=\"p2\" style=\"flex-grow:799000\"><span>Bob</span></div><div class=\"in\" style=\"flex-grow:0\">" ∷
+    codes "<span>contract</span></div><div class=\"out\" style=\"flex-grow:0\"><span>elsewhere</span></div><div " ∷
+    codes "class=\"fee\" style=\"flex-grow:5000\"><span>fees</span></div></div>\n" ∷
+    codes "<div class=\"ctl\"><input type=\"range\" id=\"range\" min=\"0\" max=\"9\" value=\"9\" " ∷
+    codes "aria-label=\"event\"><output id=\"said\"></output></div>\n" ∷
+    codes "<div class=\"now\"><b>can now:</b> <p class=\"off\" data-at=\"0:on 2:off\">0:advertise, 1:advertise; " ∷
+    codes "waits for Seller, Ann, Bob</p>\n" ∷
+    codes "<p class=\"off\" data-at=\"0:off 2:on 3:off\">fire 0:init, 1:advertise; waits for Seller, Bob</p>\n" ∷
     codes "<p class=\"off\" data-at=\"0:off 3:on 4:off\">fire 0:init, fire 1:init</p>\n" ∷
     codes "<p class=\"off\" data-at=\"0:off 4:on 7:off\">fire 0:r.0</p>\n" ∷
     codes "<p class=\"off\" data-at=\"0:off 7:on 8:off\">fire 0:r.0/0.0, fire 0:r.0/1.0</p>\n" ∷
     codes "<p class=\"off\" data-at=\"0:off 8:on 9:off\">fire 0:r.0/1.0</p>\n" ∷
     codes "<p class=\"on\" data-at=\"0:off 9:on\">nothing</p>\n" ∷
     codes "</div>\n" ∷
+    codes "<div class=\"scroll\">" ∷
     [])
 
 -- the rows
 abbrev table : List ℕ
 table =
     pieces (
-    codes "<div class=\"scroll\"><table class=\"few\"><tbody><tr class=\"head\"><th></th><th>contract 0, fee 1,000 a " ∷
-    codes "transaction</th><th class=\"name p0\">Seller</th><th class=\"name p1\">Ann</th><th class=\"name p2\">Bob</th>" ∷
-    codes "<th></th><th></th></tr>\n" ∷
-    codes "<tr class=\"way d0 taken\" data-at=\"0:open 2:offered 4:taken\"><td class=\"path\"><bdi>0:init</bdi></td><td " ∷
-    codes "class=\"what\">all sign; each puts in</td><td class=\"sum p0\" data-of=\"Seller\"><i class=\"taken\" " ∷
-    codes "data-at=\"0:open 2:offered 4:taken\">1,000,000</i> </td><td class=\"sum p1\" data-of=\"Ann\"><i class=\"taken\" " ∷
-    codes "data-at=\"0:open 2:offered 4:taken\">700,000</i> </td><td></td><td></td><td></td></tr>\n" ∷
-    codes "<tr class=\"way d0 taken\" data-at=\"0:open 4:offered 7:taken\"><td class=\"path\"><bdi>0:r.0</bdi></td><td " ∷
-    codes "class=\"what\"><span class=\"any\">anyone</span></td><td class=\"sum p0\" data-of=\"Seller\"><i class=\"taken\" " ∷
-    codes "data-at=\"0:open 7:offered 8:taken\">698,000</i> </td><td class=\"sum p1\" data-of=\"Ann\"><i class=\"taken\" " ∷
-    codes "data-at=\"0:open 7:offered 9:taken\">998,000</i> </td><td></td><td></td><td></td></tr>\n" ∷
+    codes "<table class=\"few\"><tbody><tr class=\"head\"><th></th><th>contract 0, fee 1,000 a transaction</th><th " ∷
+    codes "class=\"name p0\">Seller</th><th class=\"name p1\">Ann</th><th class=\"name p2\">Bob</th><th></th><th>" ∷
+    codes "</th></tr>\n" ∷
+    codes "<tr class=\"way d0 taken\" data-at=\"0:open 2:offered 4:taken\"><td class=\"path\"><bdi>0:init</bdi>" ∷
+    codes "</td><td class=\"what\">all sign; each puts in</td><td class=\"sum p0\" data-of=\"Seller\"><i " ∷
+    codes "class=\"taken\" data-at=\"0:open 2:offered 4:taken\">1,000,000</i> </td><td class=\"sum p1\" " ∷
+    codes "data-of=\"Ann\"><i class=\"taken\" data-at=\"0:open 2:offered 4:taken\">700,000</i> </td><td></td><td>" ∷
+    codes "</td><td></td></tr>\n" ∷
+    codes "<tr class=\"way d0 taken\" data-at=\"0:open 4:offered 7:taken\"><td class=\"path\"><bdi>0:r.0</bdi></td>" ∷
+    codes "<td class=\"what\"><span class=\"any\">anyone</span></td><td class=\"sum p0\" data-of=\"Seller\"><i " ∷
+    codes "class=\"taken\" data-at=\"0:open 7:offered 8:taken\">698,000</i> </td><td class=\"sum p1\" " ∷
+    codes "data-of=\"Ann\"><i class=\"taken\" data-at=\"0:open 7:offered 9:taken\">998,000</i> </td><td></td><td>" ∷
+    codes "</td><td></td></tr>\n" ∷
     codes "</tbody><tbody><tr class=\"head\"><th></th><th>contract 1, fee 1,000 a transaction</th><th class=\"name " ∷
     codes "p0\">Seller</th><th class=\"name p1\">Ann</th><th class=\"name p2\">Bob</th><th></th><th></th></tr>\n" ∷
-    codes "<tr class=\"way d0 open\" data-at=\"0:open 3:offered 4:open\"><td class=\"path\"><bdi>1:init</bdi></td><td " ∷
-    codes "class=\"what\">all sign; each puts in</td><td class=\"sum p0\" data-of=\"Seller\"><i class=\"open\" " ∷
-    codes "data-at=\"0:open 3:offered 4:open\">1,000,000</i> </td><td></td><td class=\"sum p2\" data-of=\"Bob\"><i " ∷
-    codes "class=\"open\" data-at=\"0:open 3:offered 4:open\">800,000</i> </td><td></td><td></td></tr>\n" ∷
-    codes "<tr class=\"way d0 open\" data-at=\"0:open\"><td class=\"path\"><bdi>1:r.0</bdi></td><td class=\"what\"><span " ∷
-    codes "class=\"any\">anyone</span></td><td class=\"sum p0\" data-of=\"Seller\"><i class=\"open\" data-at=\"0:open\">" ∷
-    codes "798,000</i> </td><td></td><td class=\"sum p2\" data-of=\"Bob\"><i class=\"open\" data-at=\"0:open\">998,000</i> " ∷
-    codes "</td><td></td><td></td></tr>\n" ∷
-    codes "</tbody><tbody><tr class=\"head\"><th></th><th>the run</th><th class=\"name p0\">Seller</th><th class=\"name " ∷
-    codes "p1\">Ann</th><th class=\"name p2\">Bob</th><th>contract</th><th>fees</th></tr>\n" ∷
+    codes "<tr class=\"way d0 gone\" data-at=\"0:open 3:offered 4:gone\"><td class=\"path\"><bdi>1:init</bdi></td>" ∷
+    codes "<td class=\"what\">all sign; each puts in</td><td class=\"sum p0\" data-of=\"Seller\"><i class=\"gone\" " ∷
+    codes "data-at=\"0:open 3:offered 4:gone\">1,000,000</i> </td><td></td><td class=\"sum p2\" data-of=\"Bob\"><i " ∷
+    codes "class=\"gone\" data-at=\"0:open 3:offered 4:gone\">800,000</i> </td><td></td><td></td></tr>\n" ∷
+    codes "<tr class=\"way d0 gone\" data-at=\"0:open 4:gone\"><td class=\"path\"><bdi>1:r.0</bdi></td><td " ∷
+    codes "class=\"what\"><span class=\"any\">anyone</span></td><td class=\"sum p0\" data-of=\"Seller\"><i " ∷
+    codes "class=\"gone\" data-at=\"0:open 4:gone\">798,000</i> </td><td></td><td class=\"sum p2\" data-of=\"Bob\">" ∷
+    codes "<i class=\"gone\" data-at=\"0:open 4:gone\">998,000</i> </td><td></td><td></td></tr>\n" ∷
+    codes "</tbody><tbody><tr class=\"head\"><th></th><th>the run</th><th class=\"name p0\">Seller</th><th " ∷
+    codes "class=\"name p1\">Ann</th><th class=\"name p2\">Bob</th><th>contract</th><th>fees</th></tr>\n" ∷
     codes "<tr class=\"ev start\" id=\"start\" data-first=\"0\" data-money=\"1000000 700000 800000 0 0 0\" " ∷
-    codes "data-said=\"before the run, height 0\"><td class=\"path\"><bdi></bdi></td><td class=\"what\" title=\"\">the " ∷
-    codes "deposits</td><td class=\"sum p0\" data-of=\"Seller\">1,000,000</td><td class=\"sum p1\" data-of=\"Ann\">" ∷
-    codes "700,000</td><td class=\"sum p2\" data-of=\"Bob\">800,000</td><td class=\"sum\" data-of=\"contract\">0</td><td " ∷
-    codes "class=\"sum\" data-of=\"fees\">0</td></tr>\n" ∷
+    codes "data-said=\"before the run, height 0\"><td class=\"path\"><bdi></bdi></td><td class=\"what\" " ∷
+    codes "title=\"\">the deposits</td><td class=\"sum p0\" data-of=\"Seller\">1,000,000</td><td class=\"sum p1\" " ∷
+    codes "data-of=\"Ann\">700,000</td><td class=\"sum p2\" data-of=\"Bob\">800,000</td><td class=\"sum\" " ∷
+    codes "data-of=\"contract\">0</td><td class=\"sum\" data-of=\"fees\">0</td></tr>\n" ∷
     codes "<tr class=\"ev blocks\" id=\"event-1\" data-first=\"1\" data-money=\"1000000 700000 800000 0 0 0\" " ∷
     codes "data-said=\"event 1 of 21, height 880,000\"><td class=\"path\"><bdi>1</bdi></td><td class=\"what\" " ∷
-    codes "title=\"mine 880000\ndone\">880,000 blocks <span class=\"note\">height 880,000</span></td><td></td><td></td>" ∷
-    codes "<td></td><td></td><td></td></tr>\n" ∷
+    codes "title=\"mine 880000\n" ∷
+    codes "done\">880,000 blocks <span class=\"note\">height 880,000</span></td><td></td><td></td><td></td><td>" ∷
+    codes "</td><td></td></tr>\n" ∷
     codes "<tr class=\"ev done\" id=\"event-2\" data-first=\"2\" data-money=\"1000000 700000 800000 0 0 0\" " ∷
     codes "data-said=\"event 2-8 of 21, height 880,000\"><td class=\"path\"><bdi>2-8</bdi></td><td class=\"what\" " ∷
-    codes "title=\"advertise 0 goods=#0 price=#1\ndone\ncommit 0 Seller\ndone\ncommit 0 Ann\ndone\nendorse 0 " ∷
-    codes "Seller\ndone\nendorse 0 Ann\ndone\ninit 0 Seller\ndone\ninit 0 Ann\ndone\">0:advertise, commit, endorse, " ∷
-    codes "init</td><td></td><td></td><td></td><td></td><td></td></tr>\n" ∷
+    codes "title=\"advertise 0 goods=#0 price=#1\n" ∷
+    codes "done\n" ∷
+    codes "commit 0 Seller\n" ∷
+    codes "done\n" ∷
+    codes "commit 0 Ann\n" ∷
+    codes "done\n" ∷
+    codes "endorse 0 Seller\n" ∷
+    codes "done\n" ∷
+    codes "endorse 0 Ann\n" ∷
+    codes "done\n" ∷
+    codes "init 0 Seller\n" ∷
+    codes "done\n" ∷
+    codes "init 0 Ann\n" ∷
+    codes "done\">0:advertise, commit, endorse, init</td><td></td><td></td><td></td><td></td><td></td></tr>\n" ∷
     codes "<tr class=\"ev done\" id=\"event-9\" data-first=\"9\" data-money=\"1000000 700000 800000 0 0 0\" " ∷
-    codes "data-said=\"event 9-15 of 21, height 880,000\"><td class=\"path\"><bdi>9-15</bdi></td><td class=\"what\" " ∷
-    codes "title=\"advertise 1 goods=#0 price=#2\ndone\ncommit 1 Seller\ndone\ncommit 1 Bob\ndone\nendorse 1 " ∷
-    codes "Seller\ndone\nendorse 1 Bob\ndone\ninit 1 Seller\ndone\ninit 1 Bob\ndone\">1:advertise, commit, endorse, " ∷
-    codes "init</td><td></td><td></td><td></td><td></td><td></td></tr>\n" ∷
+    codes "data-said=\"event 9-15 of 21, height 880,000\"><td class=\"path\"><bdi>9-15</bdi></td><td " ∷
+    codes "class=\"what\" title=\"advertise 1 goods=#0 price=#2\n" ∷
+    codes "done\n" ∷
+    codes "commit 1 Seller\n" ∷
+    codes "done\n" ∷
+    codes "commit 1 Bob\n" ∷
+    codes "done\n" ∷
+    codes "endorse 1 Seller\n" ∷
+    codes "done\n" ∷
+    codes "endorse 1 Bob\n" ∷
+    codes "done\n" ∷
+    codes "init 1 Seller\n" ∷
+    codes "done\n" ∷
+    codes "init 1 Bob\n" ∷
+    codes "done\">1:advertise, commit, endorse, init</td><td></td><td></td><td></td><td></td><td></td></tr>\n" ∷
     codes "<tr class=\"ev accepted\" id=\"event-16\" data-first=\"16\" data-money=\"0 0 800000 1699000 0 1000\" " ∷
     codes "data-said=\"event 16 of 21, height 880,000\"><td class=\"path\"><bdi>16</bdi></td><td class=\"what\" " ∷
-    codes "title=\"fire init 0\naccepted spends #0 #1 makes #3 1699000 lock 0\">fire 0:init</td><td class=\"sum p0\" " ∷
+    codes "title=\"fire init 0\n" ∷
+    codes "accepted spends #0 #1 makes #3 1699000 lock 0\">fire 0:init</td><td class=\"sum p0\" " ∷
     codes "data-of=\"Seller\">0</td><td class=\"sum p1\" data-of=\"Ann\">0</td><td></td><td class=\"sum\" " ∷
     codes "data-of=\"contract\">1,699,000</td><td class=\"sum\" data-of=\"fees\">1,000</td></tr>\n" ∷
     codes "<tr class=\"ev refused\" id=\"event-17\" data-first=\"17\" data-money=\"0 0 800000 1699000 0 1000\" " ∷
     codes "data-said=\"event 17 of 21, height 880,000\"><td class=\"path\"><bdi>17</bdi></td><td class=\"what\" " ∷
-    codes "title=\"fire init 1\nrefused MissingInput 0\">fire 1:init <em>refused, MissingInput 0: what it spends is " ∷
-    codes "not there</em></td><td></td><td></td><td></td><td></td><td></td></tr>\n" ∷
+    codes "title=\"fire init 1\n" ∷
+    codes "refused MissingInput 0\">fire 1:init <em>refused, MissingInput 0: what it spends is not there</em></td>" ∷
+    codes "<td></td><td></td><td></td><td></td><td></td></tr>\n" ∷
     codes "<tr class=\"ev accepted\" id=\"event-18\" data-first=\"18\" data-money=\"0 0 799000 1699000 0 2000\" " ∷
     codes "data-said=\"event 18 of 21, height 880,000\"><td class=\"path\"><bdi>18</bdi></td><td class=\"what\" " ∷
-    codes "title=\"give Bob #2 -&gt; Bob 799000\naccepted spends #2 makes #4 799000 lock 0\">Bob gives Bob " ∷
-    codes "799,000</td><td></td><td></td><td class=\"sum p2\" data-of=\"Bob\">799,000<span class=\"dot\"></span></td><td>" ∷
-    codes "</td><td class=\"sum\" data-of=\"fees\">2,000</td></tr>\n" ∷
+    codes "title=\"give Bob #2 -&gt; Bob 799000\n" ∷
+    codes "accepted spends #2 makes #4 799000 lock 0\">Bob gives Bob 799,000</td><td></td><td></td><td class=\"sum " ∷
+    codes "p2\" data-of=\"Bob\">799,000<span class=\"dot\"></span></td><td></td><td class=\"sum\" " ∷
+    codes "data-of=\"fees\">2,000</td></tr>\n" ∷
     codes "<tr class=\"ev accepted\" id=\"event-19\" data-first=\"19\" data-money=\"0 0 799000 1698000 0 3000\" " ∷
     codes "data-said=\"event 19 of 21, height 880,000\"><td class=\"path\"><bdi>19</bdi></td><td class=\"what\" " ∷
-    codes "title=\"fire #3 0\naccepted spends #3 makes #5 699000 #6 999000 lock 0\">fire 0:r.0</td><td></td><td></td>" ∷
-    codes "<td></td><td class=\"sum\" data-of=\"contract\">1,698,000</td><td class=\"sum\" data-of=\"fees\">3,000</td></tr>" ∷
-    codes "\n" ∷
-    codes "<tr class=\"ev accepted\" id=\"event-20\" data-first=\"20\" data-money=\"698000 0 799000 999000 0 4000\" " ∷
-    codes "data-said=\"event 20 of 21, height 880,000\"><td class=\"path\"><bdi>20</bdi></td><td class=\"what\" " ∷
-    codes "title=\"fire #5 0\naccepted spends #5 makes #7 698000 lock 0\">fire 0:r.0/0.0</td><td class=\"sum p0\" " ∷
+    codes "title=\"fire #3 0\n" ∷
+    codes "accepted spends #3 makes #5 699000 #6 999000 lock 0\">fire 0:r.0</td><td></td><td></td><td></td><td " ∷
+    codes "class=\"sum\" data-of=\"contract\">1,698,000</td><td class=\"sum\" data-of=\"fees\">3,000</td></tr>\n" ∷
+    codes "<tr class=\"ev accepted\" id=\"event-20\" data-first=\"20\" data-money=\"698000 0 799000 999000 0 " ∷
+    codes "4000\" data-said=\"event 20 of 21, height 880,000\"><td class=\"path\"><bdi>20</bdi></td><td " ∷
+    codes "class=\"what\" title=\"fire #5 0\n" ∷
+    codes "accepted spends #5 makes #7 698000 lock 0\">fire 0:r.0/0.0</td><td class=\"sum p0\" " ∷
     codes "data-of=\"Seller\">698,000</td><td></td><td></td><td class=\"sum\" data-of=\"contract\">999,000</td><td " ∷
     codes "class=\"sum\" data-of=\"fees\">4,000</td></tr>\n" ∷
-    codes "<tr class=\"ev accepted\" id=\"event-21\" data-first=\"21\" data-money=\"698000 998000 799000 0 0 5000\" " ∷
-    codes "data-said=\"event 21 of 21, height 880,000\"><td class=\"path\"><bdi>21</bdi></td><td class=\"what\" " ∷
-    codes "title=\"fire #6 0\naccepted spends #6 makes #8 998000 lock 0\">fire 0:r.0/1.0</td><td></td><td class=\"sum " ∷
-    codes "p1\" data-of=\"Ann\">998,000</td><td></td><td class=\"sum\" data-of=\"contract\">0</td><td class=\"sum\" " ∷
+    codes "<tr class=\"ev accepted\" id=\"event-21\" data-first=\"21\" data-money=\"698000 998000 799000 0 0 " ∷
+    codes "5000\" data-said=\"event 21 of 21, height 880,000\"><td class=\"path\"><bdi>21</bdi></td><td " ∷
+    codes "class=\"what\" title=\"fire #6 0\n" ∷
+    codes "accepted spends #6 makes #8 998000 lock 0\">fire 0:r.0/1.0</td><td></td><td class=\"sum p1\" " ∷
+    codes "data-of=\"Ann\">998,000</td><td></td><td class=\"sum\" data-of=\"contract\">0</td><td class=\"sum\" " ∷
     codes "data-of=\"fees\">5,000</td></tr>\n" ∷
-    codes "<tr class=\"total\"><td></td><td class=\"what\">at the end</td><td class=\"sum p0\" data-of=\"Seller\">" ∷
-    codes "698,000</td><td class=\"sum p1\" data-of=\"Ann\">998,000</td><td class=\"sum p2\" data-of=\"Bob\">799,000</td>" ∷
-    codes "<td class=\"sum\" data-of=\"contract\">0</td><td class=\"sum\" data-of=\"fees\">5,000</td></tr>\n" ∷
+    codes "<tr class=\"total\"><td></td><td class=\"what\">at the end</td><td class=\"sum p0\" " ∷
+    codes "data-of=\"Seller\">698,000</td><td class=\"sum p1\" data-of=\"Ann\">998,000</td><td class=\"sum p2\" " ∷
+    codes "data-of=\"Bob\">799,000</td><td class=\"sum\" data-of=\"contract\">0</td><td class=\"sum\" " ∷
+    codes "data-of=\"fees\">5,000</td></tr>\n" ∷
     codes "</tbody></table></div>\n" ∷
     codes "<details><summary>the contract's text</summary><pre>{Seller:! 1000000 @ goods | Ann:! 700000 @ price} " ∷
-    codes "fee 1000 split [699000 -&gt; withdraw Seller, 999000 -&gt; withdraw Ann]\n{Seller:! 1000000 @ goods | " ∷
-    codes "Bob:! 800000 @ price} fee 1000 split [799000 -&gt; withdraw Seller, 999000 -&gt; withdraw Bob]</pre>" ∷
-    codes "</details>\n" ∷
+    codes "fee 1000 split [699000 -&gt; withdraw Seller, 999000 -&gt; withdraw Ann]\n" ∷
+    codes "{Seller:! 1000000 @ goods | Bob:! 800000 @ price} fee 1000 split [799000 -&gt; withdraw Seller, 999000 " ∷
+    codes "-&gt; withdraw Bob]</pre></details>\n" ∷
     codes "<script>" ∷
     [])
 

@@ -1,4 +1,4 @@
--- Worked values of the run of an escrow: its rows, where the money is behind each, and what can be done.
+-- Test vectors of the run of an escrow: its rows, where the money is behind each, and what can be done.
 use Rattle.std.proofs.Common.{◌≡◌, ℕ, List, [], ◌∷◌, refl, Some, None, Option}
 use Rattle.std.specs.Prelude.{codes, map}
 use Rattle.std.specs.Fmt.{digits}
@@ -12,7 +12,9 @@ use Rattle.spec_compiler.specs.Keyed.Instance.{position_script}
 use Rattle.spec_page.specs.declared.event_row.Look.{Look}
 use Rattle.spec_page.specs.declared.event_row.Look.TheVariants as looks
 use Rattle.spec_page.specs.Stops.{Stop, stops}
-use Rattle.spec_page.proofs.Escrow.{setup, mediated, mediator}
+use Rattle.spec_run.specs.declared.event.Event.{Event}
+use Rattle.spec_run.specs.declared.event.Event.TheVariants as events
+use Rattle.spec_page.proofs.Escrow.{setup, mediated, buyer, seller, mediator}
 
 -- ---- rows
 
@@ -37,3 +39,27 @@ rows_of_escrow : map said_by (stops setup mediated)
 unfolding digits label_text stripped marked compact places_list sequences_list outputs_list preimage position_script script_meaning
     ops_of number_of_item signed_bytes item_of_number
 rows_of_escrow = refl
+
+-- ---- what can be done before a contract begins
+
+-- two commit, and then all have; what is refused stands between
+abbrev half_begun : List Event
+half_begun =
+    events.Advertise 0 ((codes "price", 0) ∷ (codes "s", 1) ∷ (codes "m", 2) ∷ [])
+    ∷ events.Commit 0 buyer []
+    ∷ events.Fire 9 0
+    ∷ events.Commit 0 seller []
+    ∷ events.Commit 0 mediator []
+    ∷ events.Fire 9 1
+    ∷ []
+
+outlooks_before : map {B = List ℕ} (λ st. st.row.outlook) (stops setup half_begun)
+    ≡ codes "advertise; waits for Buyer, Seller, Mediator"
+    ∷ codes "Seller commits, Mediator commits; waits for Buyer, Seller, Mediator"
+    ∷ codes "Seller commits, Mediator commits; waits for Buyer, Seller, Mediator"
+    ∷ codes "Buyer signs, Seller signs, Mediator signs; waits for Buyer, Seller, Mediator"
+    ∷ codes "Buyer signs, Seller signs, Mediator signs; waits for Buyer, Seller, Mediator"
+    ∷ []
+unfolding digits label_text stripped marked compact places_list sequences_list outputs_list preimage position_script script_meaning
+    ops_of number_of_item signed_bytes item_of_number
+outlooks_before = refl

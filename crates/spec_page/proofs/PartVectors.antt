@@ -1,4 +1,4 @@
--- Worked values of what the worked pages don't have: rare conditions, words of each kind of event, rows that are shared or left out.
+-- Test vectors of what the worked pages don't have: rare conditions, words of each kind of event, rows that are shared or left out.
 use Rattle.std.proofs.Common.{◌≡◌, ℕ, List, [], ◌∷◌, ◌++◌, refl, Some, None}
 use Rattle.std.specs.Prelude.{codes, true, false, map}
 use Rattle.std.specs.Fmt.{digits}
@@ -14,7 +14,7 @@ use Rattle.spec_run.specs.declared.event.Event.TheVariants as events
 use Rattle.spec_run.specs.declared.outcome.Outcome.{Outcome}
 use Rattle.spec_run.specs.declared.outcome.Outcome.TheVariants.{Done, Refused}
 use Rattle.spec_run.specs.declared.outcome.Reason.TheVariants as reason
-use Rattle.spec_run.specs.Draft.{Collided}
+use Rattle.spec_run.specs.Pending.{Collided}
 use Rattle.spec_run.specs.Event.{opening_world}
 use Rattle.spec_run.specs.Translation.{Turn, opening_configuration}
 use Rattle.spec_tool.specs.declared.which.Which.TheVariants.{At}
@@ -26,7 +26,7 @@ use Rattle.spec_page.specs.ReasonWords.{refused_text}
 use Rattle.spec_page.specs.EventWords.{event_words, actor}
 use Rattle.spec_page.specs.Folds.{Fold, folded}
 use Rattle.spec_page.specs.Stops.{thinned, fold_words, fold_lines, more_text, halt_text, held_in}
-use Rattle.spec_page.specs.Page.{possible_text, awaited_text}
+use Rattle.spec_page.specs.Outlooks.{possible_text, awaited_text}
 use Rattle.spec_page.proofs.Escrow.{setup, buyer, seller, mediator}
 
 -- ---- looks

@@ -1,4 +1,4 @@
--- Worked values: sums, the rows of a contract, and texts.
+-- Test vectors: sums, the rows of a contract, and texts.
 use Rattle.std.proofs.Common.{◌≡◌, [], ◌∷◌, ◌++◌, refl, Some, None}
 use Rattle.std.specs.Prelude.{codes, true, false, nat_le, length}
 use Rattle.std.specs.Fmt.{digits}
@@ -8,7 +8,8 @@ use Rattle.spec_page.specs.declared.way_row.Condition.TheVariants.{Agrees, Block
 use Rattle.spec_page.specs.declared.way_row.WayRow.TheVariants.{Choice, Way}
 use Rattle.spec_page.specs.Figures.{sum_text}
 use Rattle.spec_page.specs.Ways.{stakes, way_rows}
-use Rattle.spec_page.specs.Timeline.{statuses_text, changes, change, shown_text}
+use Rattle.spec_page.specs.Timeline.{statuses_text, next_change, shown_text}
+use Rattle.spec_page.specs.Page.{outlook_elements, outlook_element}
 use Rattle.spec_page.specs.Html.{element, void, raw, nothing, words, inner, attribute_text, escaped, element_text, is_well_formed}
 use Rattle.spec_page.specs.Style.{style_text}
 use Rattle.spec_page.specs.Script.{script_text}
@@ -61,10 +62,14 @@ status_line : statuses_text (Open ∷ Open ∷ Offered ∷ Offered ∷ Taken ∷
 unfolding digits
 status_line = refl
 
-second_text : changes (codes "a" ∷ codes "a" ∷ codes "b" ∷ codes "a" ∷ []) ≡ change 0 (codes "a") ∷ change 2 (codes "b") ∷ change 3 (codes "a") ∷ []
+second_text : outlook_elements (codes "a" ∷ codes "a" ∷ codes "b" ∷ codes "a" ∷ [])
+    ≡ outlook_element 0 (codes "a") (Some 2) ∷ outlook_element 2 (codes "b") (Some 3) ∷ outlook_element 3 (codes "a") None ∷ []
 second_text = refl
 
-text_between : shown_text (change 2 (codes "b")) (change 3 (codes "a") ∷ []) ≡ codes "0:off 2:on 3:off"
+no_other_text : next_change 4 (codes "a") (codes "a" ∷ codes "a" ∷ []) ≡ None
+no_other_text = refl
+
+text_between : shown_text 2 (Some 3) ≡ codes "0:off 2:on 3:off"
 unfolding digits
 text_between = refl
 

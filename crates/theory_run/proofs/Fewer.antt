@@ -6,10 +6,10 @@ use Rattle.std.specs.Option.{option_map, option_or}
 use Rattle.std.specs.Str.{bytes_eq}
 use Rattle.std.proofs.lemmas.Bool.{or_cases}
 use Rattle.spec_data.specs.Lists.{is_among}
-use Rattle.spec_data.specs.Messages.{noted, noted_all, is_twin, clash, collision}
+use Rattle.spec_data.specs.Messages.{noted, noted_all, is_twin, collision_with, collision}
 use Rattle.theory_calculus.proofs.Names.{bytes-true, bytes_refl}
 use Rattle.theory_calculus.proofs.Faultless.{map_none}
-use Rattle.theory_world.specs.KeptApart.{NoClash}
+use Rattle.theory_world.specs.KeptApart.{NoCollision}
 use Rattle.theory_world.proofs.Hashed.{among_head, among_tail, noted_more, noted_new, noted_back}
 
 -- each of these strings is one of those
@@ -52,25 +52,25 @@ either_none (Some x) b h = cc
 
 -- ---- nothing collides
 
-clash_none : (hash : List ℕ → List ℕ) (ms : List (List ℕ)) (m : List ℕ) → find (is_twin hash m) ms ≡ None → clash hash ms m ≡ None
-clash_none hash ms m h = ap (option_map (λ earlier. (earlier, m))) h
+collision_none : (hash : List ℕ → List ℕ) (ms : List (List ℕ)) (m : List ℕ) → find (is_twin hash m) ms ≡ None → collision_with hash ms m ≡ None
+collision_none hash ms m h = ap (option_map (λ earlier. (earlier, m))) h
 
-clash_within : (hash : List ℕ → List ℕ) (xs ys : List (List ℕ)) (m : List ℕ) → Within xs ys → clash hash ys m ≡ None
-    → clash hash xs m ≡ None
-clash_within hash xs ys m h c =
+collision_kept_within : (hash : List ℕ → List ℕ) (xs ys : List (List ℕ)) (m : List ℕ) → Within xs ys → collision_with hash ys m ≡ None
+    → collision_with hash xs m ≡ None
+collision_kept_within hash xs ys m h c =
     let none = map_none _ (find (is_twin hash m) ys) c in
-    clash_none hash xs m (none_found (is_twin hash m) xs (λ u i. none_passes (is_twin hash m) ys u none (h u i)))
+    collision_none hash xs m (none_found (is_twin hash m) xs (λ u i. none_passes (is_twin hash m) ys u none (h u i)))
 
 pub collision_within : (hash : List ℕ → List ℕ) (xs ys ts : List (List ℕ)) → Within xs ys → collision hash ys ts ≡ None
     → collision hash xs ts ≡ None
 collision_within hash xs ys [] h c = refl
 collision_within hash xs ys (t ∷ ts) h c =
-    let both = either_none (clash hash ys t) (collision hash (noted ys t) ts) c in
-    ap (λ o. option_or o (collision hash (noted xs t) ts)) (clash_within hash xs ys t h both.0)
+    let both = either_none (collision_with hash ys t) (collision hash (noted ys t) ts) c in
+    ap (λ o. option_or o (collision hash (noted xs t) ts)) (collision_kept_within hash xs ys t h both.0)
     ∙ collision_within hash (noted xs t) (noted ys t) ts (noted_within xs ys t h) both.1
 
 -- a message that is there has no twin
-no_twin : (hash : List ℕ → List ℕ) (ms : List (List ℕ)) (m u : List ℕ) → NoClash hash ms → is_among m ms ≡ true → is_among u ms ≡ true
+no_twin : (hash : List ℕ → List ℕ) (ms : List (List ℕ)) (m u : List ℕ) → NoCollision hash ms → is_among m ms ≡ true → is_among u ms ≡ true
     → is_twin hash m u ≡ false
 no_twin hash ms m u n i j = by_test (bytes_eq (hash u) (hash m)) refl
   where
@@ -84,10 +84,10 @@ noted_there : (ms : List (List ℕ)) (m : List ℕ) → is_among m ms ≡ true �
 noted_there ms m h = rw h refl
 
 -- messages that were noted are hashed again
-pub again_calm : (hash : List ℕ → List ℕ) (ms ts : List (List ℕ)) → NoClash hash ms → Within ts ms → collision hash ms ts ≡ None
+pub again_calm : (hash : List ℕ → List ℕ) (ms ts : List (List ℕ)) → NoCollision hash ms → Within ts ms → collision hash ms ts ≡ None
 again_calm hash ms [] n h = refl
 again_calm hash ms (t ∷ ts) n h =
     let here = h t (among_head t ts) in
-    let none = clash_none hash ms t (none_found (is_twin hash t) ms (λ u i. no_twin hash ms t u n here i)) in
+    let none = collision_none hash ms t (none_found (is_twin hash t) ms (λ u i. no_twin hash ms t u n here i)) in
     ap (λ o. option_or o (collision hash (noted ms t) ts)) none
     ∙ (ap (λ xs. collision hash xs ts) (noted_there ms t here) ∙ again_calm hash ms ts n (λ u i. h u (among_tail u t ts i)))

@@ -10,8 +10,8 @@ use Rattle.spec_run.specs.declared.outcome.Record.{Record}
 use Rattle.spec_run.specs.Setup.{Setup}
 use Rattle.spec_data.specs.Messages.{collision}
 use Rattle.spec_run.specs.World.{World}
-use Rattle.spec_run.specs.Draft.{Draft, guess, settled, settle}
-use Rattle.spec_run.specs.Event.{draft, goes_on, opening_world, played_from, played}
+use Rattle.spec_run.specs.Pending.{Pending, guess, applied, apply}
+use Rattle.spec_run.specs.Event.{pending, goes_on, opening_world, played_from, played}
 use Rattle.spec_run.specs.Translation.{Turn, turn_of, turns_from, world_after, record_in, opening_configuration, course, last_or, last_configuration, last_world}
 use Rattle.spec_run.specs.Conditions.{IsEvent}
 use Rattle.spec_run.specs.Statements.{Claim, HoldsFrom, HoldsThroughout}
@@ -21,33 +21,33 @@ use Rattle.theory_run.proofs.Facts.KeptSecrets.{Begins}
 
 -- ---- what is posted stays
 
-find_front : (p : List ℕ → Bool) (xs ys : List (List ℕ)) → list_any p xs ≡ true → find p (xs ++ ys) ≡ find p xs
-find_front p [] ys h = cc
-find_front p (x ∷ xs) ys h = by_test (p x) h (find_front p xs ys)
+find_prefix : (p : List ℕ → Bool) (xs ys : List (List ℕ)) → list_any p xs ≡ true → find p (xs ++ ys) ≡ find p xs
+find_prefix p [] ys h = cc
+find_prefix p (x ∷ xs) ys h = by_test (p x) h (find_prefix p xs ys)
   where
     by_test : (b : Bool) → (b || list_any p xs) ≡ true → (list_any p xs ≡ true → find p (xs ++ ys) ≡ find p xs)
         → cond b (Some x) (find p (xs ++ ys)) ≡ cond b (Some x) (find p xs)
     by_test true e ih = refl
     by_test false e ih = ih e
 
-begins_front : (z xs ys : List (List ℕ)) → Begins z (xs ++ ys) → Begins z xs
-begins_front z xs ys b =
-    record { first = λ p h. b.first p (any-append p xs ys ∙ or_left (list_any p xs) (list_any p ys) h) ∙ find_front p xs ys h }
+begins_prefix : (z xs ys : List (List ℕ)) → Begins z (xs ++ ys) → Begins z xs
+begins_prefix z xs ys b =
+    record { first = λ p h. b.first p (any-append p xs ys ∙ or_left (list_any p xs) (list_any p ys) h) ∙ find_prefix p xs ys h }
 
 -- the strings posted so far begin those of the run
 pub posted_begins : (s : Setup) (es : List Event) (w : World) → Begins (world_after w (played_from s w es).passed).posted w.posted
 posted_begins s [] w = record { first = λ p h. refl }
 posted_begins s (e ∷ es) w =
-    let d = draft s w e in
+    let d = pending s w e in
     by_answer d (collision s.hash w.hashed d.hashes) (guess s w.posted d.posts d.allowed) (posted_begins s es)
   where
-    by_answer : (d : Draft) (c : Option (List ℕ × List ℕ)) (g : Option HeldSecret)
+    by_answer : (d : Pending) (c : Option (List ℕ × List ℕ)) (g : Option HeldSecret)
         → ((next : World) → Begins (world_after next (played_from s next es).passed).posted next.posted)
-        → Begins (world_after w (goes_on e (settle w d c g) (λ next. played_from s next es)).passed).posted w.posted
+        → Begins (world_after w (goes_on e (apply w d c g) (λ next. played_from s next es)).passed).posted w.posted
     by_answer d (Some pair) g ih = record { first = λ p h. refl }
     by_answer d None (Some held) ih = record { first = λ p h. refl }
     by_answer d None None ih =
-        begins_front (world_after (settled w d) (played_from s (settled w d) es).passed).posted w.posted d.posts (ih (settled w d))
+        begins_prefix (world_after (applied w d) (played_from s (applied w d) es).passed).posted w.posted d.posts (ih (applied w d))
 
 -- ---- the run
 
@@ -59,8 +59,8 @@ turn_at s z g w e = turn_of s z g w (passing s w e)
 -- posts these strings
 pub record Keeps (s : Setup) (claim : Claim) (kept : List Record → Configuration → World → Type 0) (z : List (List ℕ)) : Type 0 where
   pub step : (before : List Record) (g : Configuration) (w : World) (e : Event) → kept before g w → IsEvent s e
-      → collision s.hash w.hashed (draft s w e).hashes ≡ None → guess s w.posted (draft s w e).posts (draft s w e).allowed ≡ None
-      → Begins z (settled w (draft s w e)).posted
+      → collision s.hash w.hashed (pending s w e).hashes ≡ None → guess s w.posted (pending s w e).posts (pending s w e).allowed ≡ None
+      → Begins z (applied w (pending s w e)).posted
       → claim before g w (turn_at s z g w e)
       × kept (before ++ record_in (turn_at s z g w e) ∷ []) (turn_at s z g w e).configuration (turn_at s z g w e).world
 
@@ -80,21 +80,21 @@ module _ (s : Setup) (claim : Claim) (kept : List Record → Configuration → W
       → HoldsFrom (claims_and_keeps claim kept) before g w (turns_from s z g w (played_from s w es).passed)
   follows [] before g w is k end = tt
   follows (e ∷ es) before g w is k end =
-      let d = draft s w e in
+      let d = pending s w e in
       by_answer (collision s.hash w.hashed d.hashes) (guess s w.posted d.posts d.allowed) refl refl end
       (λ b' g' w'. follows es b' g' w' is.1)
     where
-      by_answer : (c : Option (List ℕ × List ℕ)) (u : Option HeldSecret) → collision s.hash w.hashed (draft s w e).hashes ≡ c
-          → guess s w.posted (draft s w e).posts (draft s w e).allowed ≡ u
-          → (world_after w (goes_on e (settle w (draft s w e) c u) (λ next. played_from s next es)).passed).posted ≡ z
+      by_answer : (c : Option (List ℕ × List ℕ)) (u : Option HeldSecret) → collision s.hash w.hashed (pending s w e).hashes ≡ c
+          → guess s w.posted (pending s w e).posts (pending s w e).allowed ≡ u
+          → (world_after w (goes_on e (apply w (pending s w e) c u) (λ next. played_from s next es)).passed).posted ≡ z
           → ((b' : List Record) (g' : Configuration) (w' : World) → kept b' g' w' → (world_after w' (played_from s w' es).passed).posted ≡ z
           → HoldsFrom (claims_and_keeps claim kept) b' g' w' (turns_from s z g' w' (played_from s w' es).passed))
           → HoldsFrom (claims_and_keeps claim kept) before g w
-          (turns_from s z g w (goes_on e (settle w (draft s w e) c u) (λ next. played_from s next es)).passed)
+          (turns_from s z g w (goes_on e (apply w (pending s w e) c u) (λ next. played_from s next es)).passed)
       by_answer (Some pair) u ec eu en go = tt
       by_answer None (Some held) ec eu en go = tt
       by_answer None None ec eu en go =
-          let next = settled w (draft s w e) in
+          let next = applied w (pending s w e) in
           let t = turn_at s z g w e in
           let within = subst (λ y. Begins y next.posted) en (posted_begins s es next) in
           let r = keeps.step before g w e k is.0 ec eu within in

@@ -12,3 +12,6 @@ pub mod Tracking
 pub mod Widths
 pub mod Worlds
 pub mod Soundness
+pub mod Locks
+pub mod OwnEvents
+pub mod Witnesses

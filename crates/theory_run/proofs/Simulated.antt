@@ -9,9 +9,9 @@ use Rattle.spec_run.specs.Setup.{Setup}
 use Rattle.spec_data.specs.Messages.{collision}
 use Rattle.spec_run.specs.World.{World}
 use Rattle.spec_run.specs.Conditions.{IsSetup, IsEvent}
-use Rattle.spec_run.specs.Draft.{settled, guess}
+use Rattle.spec_run.specs.Pending.{applied, guess}
 use Rattle.spec_run.specs.Secrets.{all_secrets}
-use Rattle.spec_run.specs.Event.{draft, opening_world}
+use Rattle.spec_run.specs.Event.{pending, opening_world}
 use Rattle.spec_run.specs.Steps.{steps_of}
 use Rattle.spec_run.specs.Translation.{Turn, record_in, opening_configuration, course, last_or, in_order}
 use Rattle.spec_run.specs.Agreement.{Agree}
@@ -32,21 +32,21 @@ module _ (s : Setup) (setup : IsSetup s) (z : List (List ℕ)) (g : Configuratio
   apart : different_secrets (all_secrets s) ≡ true
   apart = all_different s setup.contracts
 
-  module _ (e : Event) (is : IsEvent s e) (calm : collision s.hash w.hashed (draft s w e).hashes ≡ None)
-      (unguessed : guess s w.posted (draft s w e).posts (draft s w e).allowed ≡ None)
-      (begins : Begins z (settled w (draft s w e)).posted) where
+  module _ (e : Event) (is : IsEvent s e) (calm : collision s.hash w.hashed (pending s w e).hashes ≡ None)
+      (unguessed : guess s w.posted (pending s w e).posts (pending s w e).allowed ≡ None)
+      (begins : Begins z (applied w (pending s w e)).posted) where
     abbrev next : World
-    next = settled w (draft s w e)
+    next = applied w (pending s w e)
 
     abbrev there : Configuration
-    there = after_steps g (steps_of s z g w (settled w (draft s w e)) e (draft s w e))
+    there = after_steps g (steps_of s z g w (applied w (pending s w e)) e (pending s w e))
 
-    pub followed : IsTracked s z g w e (draft s w e)
+    pub followed : IsTracked s z g w e (pending s w e)
     followed =
         tracked_after s setup z apart g w kept.tracks kept.books.book (fits s setup g w kept.books)
         (checks s setup g w kept.books) kept.books.promises.named e is calm unguessed begins
 
-    pub run_after : KeptRun s z (after_steps g (steps_of s z g w (settled w (draft s w e)) e (draft s w e))) (settled w (draft s w e))
+    pub run_after : KeptRun s z (after_steps g (steps_of s z g w (applied w (pending s w e)) e (pending s w e))) (applied w (pending s w e))
     run_after = record { tracks = followed.tracks; books = keeps_after s setup z g w kept.books e is calm }
 
     pub simulates : IsSimulated s g (turn_at s z g w e)

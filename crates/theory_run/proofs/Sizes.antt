@@ -16,8 +16,8 @@ use Rattle.theory_world.proofs.Ledger.Preimages.{few_outputs}
 long_tail : (x y : List ℕ) → length y ≤ length (x ++ y)
 long_tail x y = let a = length-append x y in omega (arith, a)
 
-long_front : (x y : List ℕ) → length x ≤ length (x ++ y)
-long_front x y = let a = length-append x y in omega (arith, a)
+long_prefix : (x y : List ℕ) → length x ≤ length (x ++ y)
+long_prefix x y = let a = length-append x y in omega (arith, a)
 
 -- there are no more inputs than bytes of inputs
 pub few_inputs : (is : List TxIn) → length is ≤ length (flat_map input_bytes is)
@@ -43,18 +43,18 @@ short tx = by_mark (is_marked tx.inputs)
         let places = inputs_bytes tx.inputs ++ outputs_bytes tx.outputs in
         let rest = places ++ witnesses_bytes tx.inputs ++ word tx.lock in
         let a = long_tail (word tx.version) (0 ∷ 1 ∷ rest) in
-        let b = long_front (places ++ witnesses_bytes tx.inputs) (word tx.lock) in
-        let c = long_front places (witnesses_bytes tx.inputs) in
+        let b = long_prefix (places ++ witnesses_bytes tx.inputs) (word tx.lock) in
+        let c = long_prefix places (witnesses_bytes tx.inputs) in
         let d = long_tail (inputs_bytes tx.inputs) (outputs_bytes tx.outputs) in
         let e = long_tail (compact (length tx.outputs)) (flat_map output_bytes tx.outputs) in
-        let f = long_front (inputs_bytes tx.inputs) (outputs_bytes tx.outputs) in
+        let f = long_prefix (inputs_bytes tx.inputs) (outputs_bytes tx.outputs) in
         let h = long_tail (compact (length tx.inputs)) (flat_map input_bytes tx.inputs) in
         record { inputs = omega (arith, a, b, c, f, h); outputs = omega (arith, a, b, c, d, e) }
     by_mark false =
-        let b = long_front (word tx.version ++ inputs_bytes tx.inputs ++ outputs_bytes tx.outputs) (word tx.lock) in
+        let b = long_prefix (word tx.version ++ inputs_bytes tx.inputs ++ outputs_bytes tx.outputs) (word tx.lock) in
         let c = long_tail (word tx.version ++ inputs_bytes tx.inputs) (outputs_bytes tx.outputs) in
         let e = long_tail (compact (length tx.outputs)) (flat_map output_bytes tx.outputs) in
-        let f = long_front (word tx.version ++ inputs_bytes tx.inputs) (outputs_bytes tx.outputs) in
+        let f = long_prefix (word tx.version ++ inputs_bytes tx.inputs) (outputs_bytes tx.outputs) in
         let h = long_tail (word tx.version) (inputs_bytes tx.inputs) in
         let i = long_tail (compact (length tx.inputs)) (flat_map input_bytes tx.inputs) in
         record { inputs = omega (arith, b, f, h, i); outputs = omega (arith, b, c, e) }

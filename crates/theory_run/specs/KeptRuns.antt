@@ -3,7 +3,7 @@ use Rattle.std.specs.Prelude.{ℕ, List}
 use Rattle.spec_calculus.specs.Configuration.{Configuration}
 use Rattle.spec_run.specs.Setup.{Setup}
 use Rattle.spec_run.specs.World.{World}
-use Rattle.theory_world.specs.KeptApart.{NoClash}
+use Rattle.theory_world.specs.KeptApart.{NoCollision}
 use Rattle.theory_run.specs.KeptBook.{KeptBook}
 use Rattle.theory_run.specs.KeptPromises.{KeptPromises}
 use Rattle.theory_run.specs.KeptLabels.{KeptLabels}
@@ -14,7 +14,7 @@ pub record KeptBooks (s : Setup) (g : Configuration) (w : World) : Type 0 where
   pub book : KeptBook s g w
   pub promises : KeptPromises s w
   pub labels : KeptLabels s w
-  pub clear : NoClash s.hash w.hashed
+  pub clear : NoCollision s.hash w.hashed
 
 -- and the configuration tracks the world, where these strings are posted in the whole run
 pub record KeptRun (s : Setup) (z : List (List ℕ)) (g : Configuration) (w : World) : Type 0 where

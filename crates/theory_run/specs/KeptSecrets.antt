@@ -10,7 +10,7 @@ use Rattle.spec_run.specs.Setup.{Setup, is_honest, held_secret}
 use Rattle.spec_run.specs.World.{Promise, World, has_promised}
 use Rattle.spec_run.specs.Committing.{secrets_at, is_secret_long, used_digests}
 use Rattle.spec_run.specs.Secrets.{all_secrets, digest_at, shown, lengths_in_run}
-use Rattle.theory_world.specs.KeptApart.{NoClash, Once}
+use Rattle.theory_world.specs.KeptApart.{NoCollision, Once}
 
 -- whether a secret stands in the list
 abbrev pub has_secret : Revealed → List Revealed → Bool
@@ -34,7 +34,7 @@ pub record KeptSecrets (s : Setup) (z : List (List ℕ)) (g : Configuration) (w 
   pub known : (x : Revealed) → is_some (digest_at w.promises x) ≡ true → has_secret x (all_secrets s) ≡ true
   pub own : (x : Revealed) → is_honest s x.party ≡ true
       → is_own s w.hashed (held_secret s x.party x.secret) (digest_at w.promises x) ≡ true
-  pub clear : NoClash s.hash w.hashed
+  pub clear : NoCollision s.hash w.hashed
   pub heard : (t : List ℕ) → is_among t w.posted ≡ true → is_among t w.hashed ≡ true
   pub once : Once w.promises
   -- an honest party's secret is posted only where its digest is committed

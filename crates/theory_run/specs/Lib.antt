@@ -7,3 +7,6 @@ pub mod KeptLabels
 pub mod KeptSecrets
 pub mod Tracks
 pub mod KeptRuns
+pub mod Locks
+pub mod OwnEvents
+pub mod Witnesses

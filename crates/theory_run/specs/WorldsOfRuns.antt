@@ -32,11 +32,11 @@ use Rattle.theory_run.specs.OwnSignatures.{own_pairs_in}
 
 -- the strings that a run hashes: those of its opening, then those of its events, up to the first halt
 abbrev pub hashed_in : Setup → List Event → List (List ℕ)
-hashed_in s es = opening_strings s ++ flat_map (λ p. p.draft.hashes) (played s es).passed
+hashed_in s es = opening_strings s ++ flat_map (λ p. p.pending.hashes) (played s es).passed
 
 -- the strings that a run posts
 abbrev pub posted_in : Setup → List Event → List (List ℕ)
-posted_in s es = flat_map (λ p. p.draft.posts) (played s es).passed
+posted_in s es = flat_map (λ p. p.pending.posts) (played s es).passed
 
 -- each string that was hashed is noted once, in turn, and no two have one digest; what was posted is among them
 pub record HasMessages (s : Setup) (es : List Event) (w : World) : Type 0 where

@@ -1,9 +1,14 @@
-//! What follows of runs: each theorem is the contract of a function that does nothing.
+//! The main theorems on runs: ledger and calculus agree after every event, honest parties act only by their own events,
+//! and a run halts only by showing why. A few definitions are said here a second time in other words, so that a wrong
+//! one is noticed. Each theorem is the contract of a function that does nothing.
 #![tactic(auto)]
 
 ghost use Rattle.spec_run.specs.Statements.{SimulationTheorem, LicenceTheorem, HonestDepositsTheorem, HaltsTheorem};
 ghost use Rattle.theory_run.specs.WorldsOfRuns.{WorldsOfRuns, WorldsOfTurns};
 ghost use Rattle.theory_run.specs.Sound.{RunsAreSound};
+ghost use Rattle.theory_run.specs.Locks.{LockIsReached, BranchesWait};
+ghost use Rattle.theory_run.specs.OwnEvents.{OnlyOwnEvents};
+ghost use Rattle.theory_run.specs.Witnesses.{WitnessesArePosted};
 
 /// Every run of events is, step by step, a legal run of the calculus, and configuration and world
 /// agree at the opening and after every event.
@@ -45,4 +50,27 @@ pub fn worlds_of_turns()
 /// keeps money, and nothing is more than all money.
 pub fn runs_are_sound()
     ensures { RunsAreSound }
+{}
+
+// ---- definitions said another way, so that a wrong one is refused
+
+/// A time has reached a branch's lock exactly where it has reached every height above the branch's core.
+pub fn locks_are_reached()
+    ensures { LockIsReached }
+{}
+
+/// A branch is taken only at a time that has reached each height above its core.
+pub fn branches_wait()
+    ensures { BranchesWait }
+{}
+
+/// Each step that an honest party authorises is licensed by one event alone: the party's own, of the
+/// same contract, output, branch, secret or move.
+pub fn only_own_events()
+    ensures { OnlyOwnEvents }
+{}
+
+/// An accepted transaction posts each item of the witness of each of its inputs, and nothing else.
+pub fn witnesses_are_posted()
+    ensures { WitnessesArePosted }
 {}

@@ -31,12 +31,12 @@ use Rattle.spec_run.specs.Ledger.{live_from, spend_from, made_from}
 use Rattle.theory_bitcoin.specs.Apart.{bare_input}
 use Rattle.theory_calculus.specs.Members.{Is_in}
 use Rattle.theory_calculus.proofs.Members.{get_below}
-use Rattle.theory_world.specs.KeptApart.{NoClash}
+use Rattle.theory_world.specs.KeptApart.{NoCollision}
 use Rattle.theory_world.specs.Transactions.{HeardLists, IsNumbered, NoScripts}
 use Rattle.theory_world.proofs.Ledger.Preimages.{heard_lists, double-apart}
 use Rattle.theory_world.proofs.Ledger.Bare.{stripped-apart, inputless_apart}
 use Rattle.theory_world.proofs.Ledger.Accepting.{IsSpent, AllSpent, Accepting, HeardAll, heard_bytes, heard_bytes_hash, heard_shared, heard_input, later_strings, first_strings}
-use Rattle.theory_world.proofs.Later.{SameOutput, get-spent, get-front, get-split, get-made}
+use Rattle.theory_world.proofs.Later.{SameOutput, get-spent, get-prefix, get-split, get-made}
 use Rattle.spec_calculus.specs.Branches.{has_branch_authorised}
 use Rattle.theory_world.proofs.Ledger.Outputs.{length-spend_from}
 use Rattle.theory_run.specs.KeptBook.{KeptBook, HeldFine, BranchCause, SpentFor, AllSpentFor, From, opening_id}
@@ -49,11 +49,14 @@ in_strings f (x ∷ is) i t (inl e) l = first_strings f x is t (subst (λ y. is_
 in_strings f (x ∷ is) i t (inr k) l = later_strings f x is t (in_strings f is i t k l)
 
 -- the strings of an input are among those of all
-pub all_strings_of : (s : Setup) (w : World) (tx : Tx) (i : TxIn) (t : List ℕ) → Is_in i tx.inputs → is_among t (input_strings s.hash (live_from 0 w.outputs) tx i) ≡ true → is_among t (flat_map (input_strings s.hash (live_from 0 w.outputs) tx) tx.inputs) ≡ true
+pub all_strings_of : (s : Setup) (w : World) (tx : Tx) (i : TxIn) (t : List ℕ) → Is_in i tx.inputs
+    → is_among t (input_strings s.hash (live_from 0 w.outputs) tx i) ≡ true
+    → is_among t (flat_map (input_strings s.hash (live_from 0 w.outputs) tx) tx.inputs) ≡ true
 all_strings_of s w tx i t k l = in_strings (input_strings s.hash (live_from 0 w.outputs) tx) tx.inputs i t k l
 
 -- an input of a list, and its number
-pub spent_at : (s : Setup) (w : World) (tx : Tx) (ns : List ℕ) (is : List TxIn) (i : TxIn) → AllSpent s w tx ns is → Is_in i is → (n : ℕ) × (has_number n ns ≡ true) × IsSpent s w tx n i
+pub spent_at : (s : Setup) (w : World) (tx : Tx) (ns : List ℕ) (is : List TxIn) (i : TxIn) → AllSpent s w tx ns is → Is_in i is → (n : ℕ)
+    × (has_number n ns ≡ true) × IsSpent s w tx n i
 spent_at s w tx [] [] i h k = absurd k
 spent_at s w tx [] (x ∷ is) i h k = absurd h
 spent_at s w tx (n ∷ ns) [] i h k = absurd h
@@ -82,7 +85,8 @@ spent_for_in s w tx [] i h k = absurd k
 spent_for_in s w tx (x ∷ is) i h (inl e) = subst (SpentFor s w tx) (sym e) h.0
 spent_for_in s w tx (x ∷ is) i h (inr k) = spent_for_in s w tx is i h.1 k
 
-module _ (s : Setup) (size : HashesBytes s.hash) (g : Configuration) (w : World) (kept : KeptBook s g w) (fit : TransactionsFit s w) (check : Checked s w) (hs : List (List ℕ)) (clear : NoClash s.hash hs) (sub : (t : List ℕ) → is_among t w.hashed ≡ true → is_among t hs ≡ true)
+module _ (s : Setup) (size : HashesBytes s.hash) (g : Configuration) (w : World) (kept : KeptBook s g w) (fit : TransactionsFit s w)
+    (check : Checked s w) (hs : List (List ℕ)) (clear : NoCollision s.hash hs) (sub : (t : List ℕ) → is_among t w.hashed ≡ true → is_among t hs ≡ true)
     (tx : Tx) (fits : IsNumbered tx) (spent : List ℕ) (acc : Accepting s w tx spent) (all : HeardAll s w hs tx) where
   pub scripts_none : NoScripts tx.inputs
   scripts_none = no_scripts s w tx spent tx.inputs acc.spends
@@ -134,7 +138,8 @@ module _ (s : Setup) (size : HashesBytes s.hash) (g : Configuration) (w : World)
     -- an output of the next world is an old one or a new one
     pub data Place (n : ℕ) (o : Output) : Type 0 where
       old : (p : Output) → slice_get w.outputs n ≡ Some p → SameOutput p o → (o.live ≡ true → p.live ≡ true) → Place n o
-      new : (m : ℕ) (x : TxOut) → slice_get tx.outputs m ≡ Some x → n ≡ length w.outputs + m → o ≡ record { outpoint = record { txid = txid s.hash tx; vout = m }; value = x.value; script = x.script; live = true; holds = held m } → Place n o
+      new : (m : ℕ) (x : TxOut) → slice_get tx.outputs m ≡ Some x → n ≡ length w.outputs + m → o
+          ≡ record { outpoint = record { txid = txid s.hash tx; vout = m }; value = x.value; script = x.script; live = true; holds = held m } → Place n o
 
     pub where_is : (n : ℕ) (o : Output) → slice_get next.outputs n ≡ Some o → Place n o
     where_is n o h = elim (get-split (spend_from 0 spent w.outputs) (made_from held (txid s.hash tx) 0 tx.outputs) n o (subst (λ os. slice_get os n ≡ Some o) outs h)) [
@@ -144,9 +149,18 @@ module _ (s : Setup) (size : HashesBytes s.hash) (g : Configuration) (w : World)
       where
         by_test : (p : Output) → slice_get w.outputs n ≡ Some p → (t : Bool) → (if t then record p { live = false } else p) ≡ o → Place n o
         by_test p e true q = old p e (record { outpoint = ap (λ (x : Output). x.outpoint) (sym q); script = ap (λ (x : Output). x.script) (sym q); value = ap (λ (x : Output). x.value) (sym q); holds = ap (λ (x : Output). x.holds) (sym q); dead = λ x. ap (λ (x : Output). x.live) (sym q) }) (λ l. let d = ap (λ (x : Output). x.live) (sym q) in absurd (both_ways _ d l))
-        by_test p e false q = old p e (record { outpoint = ap (λ (x : Output). x.outpoint) (sym q); script = ap (λ (x : Output). x.script) (sym q); value = ap (λ (x : Output). x.value) (sym q); holds = ap (λ (x : Output). x.holds) (sym q); dead = λ x. ap (λ (x : Output). x.live) (sym q) ∙ x }) (λ l. ap (λ (x : Output). x.live) q ∙ l)
+        by_test p e false q = old p e (record {
+          outpoint = ap (λ (x : Output). x.outpoint) (sym q);
+          script = ap (λ (x : Output). x.script)
+              (sym q);
+          value = ap (λ (x : Output). x.value) (sym q);
+          holds = ap (λ (x : Output). x.holds) (sym q);
+          dead = λ x. ap
+              (λ (x : Output). x.live) (sym q) ∙ x;
+        }) (λ l. ap (λ (x : Output). x.live) q ∙ l)
 
-        by_old : (r : Option Output) → slice_get w.outputs n ≡ r → option_map (λ (p : Output). if has_number (n + 0) spent then record p { live = false } else p) r ≡ Some o → Place n o
+        by_old : (r : Option Output) → slice_get w.outputs n ≡ r
+            → option_map (λ (p : Output). if has_number (n + 0) spent then record p { live = false } else p) r ≡ Some o → Place n o
         by_old None e q = cc
         by_old (Some p) e q = let z : (if has_number (n + 0) spent then record p { live = false } else p) ≡ o = cc in by_test p e (has_number (n + 0) spent) z
 
@@ -155,14 +169,18 @@ module _ (s : Setup) (size : HashesBytes s.hash) (g : Configuration) (w : World)
       where
         by_places : Place m o → Place n p → m ≡ n
         by_places (old a ha sa la) (old b hb sb lb) = kept.apart m n a b ha hb (sym sa.outpoint ∙ e ∙ sb.outpoint)
-        by_places (old a ha sa la) (new j x hx nx ox) = absurd (fresh m a ha (ap (λ (y : OutPoint). y.txid) (sym sa.outpoint ∙ e) ∙ ap (λ (y : Output). y.outpoint.txid) ox))
-        by_places (new i y hy ny oy) (old b hb sb lb) = absurd (fresh n b hb (ap (λ (y : OutPoint). y.txid) (sym sb.outpoint ∙ sym e) ∙ ap (λ (y : Output). y.outpoint.txid) oy))
+        by_places (old a ha sa la) (new j x hx nx ox) =
+            absurd (fresh m a ha (ap (λ (y : OutPoint). y.txid) (sym sa.outpoint ∙ e) ∙ ap (λ (y : Output). y.outpoint.txid) ox))
+        by_places (new i y hy ny oy) (old b hb sb lb) =
+            absurd (fresh n b hb (ap (λ (y : OutPoint). y.txid) (sym sb.outpoint ∙ sym e) ∙ ap (λ (y : Output). y.outpoint.txid) oy))
         by_places (new i y hy ny oy) (new j x hx nx ox) =
             let v : i ≡ j = ap (λ (z : Output). z.outpoint.vout) (sym oy) ∙ ap (λ (z : OutPoint). z.vout) e ∙ ap (λ (z : Output). z.outpoint.vout) ox in
             ny ∙ ap (λ k. length w.outputs + k) v ∙ sym nx
 
     -- each input's output is spent, and signed for
-    spent_all : (ns : List ℕ) (is : List TxIn) → AllSpent s w tx ns is → ((n : ℕ) → has_number n ns ≡ true → has_number n spent ≡ true) → ((i : TxIn) (t : List ℕ) → Is_in i is → is_among t (input_strings s.hash (live_from 0 w.outputs) tx i) ≡ true → is_among t (flat_map (input_strings s.hash (live_from 0 w.outputs) tx) tx.inputs) ≡ true) → AllSpentFor s next tx is
+    spent_all : (ns : List ℕ) (is : List TxIn) → AllSpent s w tx ns is → ((n : ℕ) → has_number n ns ≡ true → has_number n spent ≡ true)
+        → ((i : TxIn) (t : List ℕ) → Is_in i is → is_among t (input_strings s.hash (live_from 0 w.outputs) tx i) ≡ true
+        → is_among t (flat_map (input_strings s.hash (live_from 0 w.outputs) tx) tx.inputs) ≡ true) → AllSpentFor s next tx is
     spent_all [] [] h more str = tt
     spent_all [] (x ∷ is) h more str = absurd h
     spent_all (n ∷ ns) [] h more str = absurd h
@@ -176,13 +194,16 @@ module _ (s : Setup) (size : HashesBytes s.hash) (g : Configuration) (w : World)
           record {
             number = n;
             output = record sp.output { live = false };
-            there = subst (λ os. slice_get os n ≡ Some (record sp.output { live = false })) (sym outs) (get-front (spend_from 0 spent w.outputs) (made_from held (txid s.hash tx) 0 tx.outputs) n (record sp.output { live = false }) there);
+            there = subst (λ os. slice_get os n ≡ Some (record sp.output { live = false })) (sym outs)
+                (get-prefix (spend_from 0 spent w.outputs) (made_from held (txid s.hash tx) 0 tx.outputs) n (record sp.output { live = false }) there);
             outpoint = sp.outpoint;
             dead = refl;
             signed = λ a k e. f.book _ _ (sg a k e).1;
             heard = λ a k e. let x = (sg a k e).0 in record {
-              first = subst (λ y. is_among (preimage s.hash tx i y sp.output.value) next.hashed ≡ true) x (subst (λ ts. is_among (preimage s.hash tx i (script_of i.witness) sp.output.value) ts ≡ true) (sym heard_next) hi.signed);
-              second = subst (λ y. is_among (s.hash (preimage s.hash tx i y sp.output.value)) next.hashed ≡ true) x (subst (λ ts. is_among (s.hash (preimage s.hash tx i (script_of i.witness) sp.output.value)) ts ≡ true) (sym heard_next) hi.signed_hash);
+              first = subst (λ y. is_among (preimage s.hash tx i y sp.output.value) next.hashed ≡ true) x
+                  (subst (λ ts. is_among (preimage s.hash tx i (script_of i.witness) sp.output.value) ts ≡ true) (sym heard_next) hi.signed);
+              second = subst (λ y. is_among (s.hash (preimage s.hash tx i y sp.output.value)) next.hashed ≡ true) x
+                  (subst (λ ts. is_among (s.hash (preimage s.hash tx i (script_of i.witness) sp.output.value)) ts ≡ true) (sym heard_next) hi.signed_hash);
             };
           },
           spent_all ns is h.1 (λ m k. more m (or_right (n == m) _ k)) (λ j t k l. str j t (inr k) l),
@@ -204,7 +225,8 @@ module _ (s : Setup) (size : HashesBytes s.hash) (g : Configuration) (w : World)
     origin_next n o h = by_place (where_is n o h)
       where
         by_place : Place n o → (o.outpoint.txid ≡ opening_id s) ⊎ From s next o.outpoint.txid
-        by_place (old p e sp l) = subst (λ (x : OutPoint). (x.txid ≡ opening_id s) ⊎ From s next x.txid) (sym sp.outpoint) (origin_later s g g' w next f p.outpoint.txid (kept.origin n p e))
+        by_place (old p e sp l) = subst (λ (x : OutPoint). (x.txid ≡ opening_id s) ⊎ From s next x.txid) (sym sp.outpoint)
+            (origin_later s g g' w next f p.outpoint.txid (kept.origin n p e))
         by_place (new m x hx nx ox) = inr (subst (From s next) (ap (λ (y : Output). y.outpoint.txid) (sym ox)) made_from_this)
 
     fine_next : (n : ℕ) (o : Output) → slice_get next.outputs n ≡ Some o → IsPlace o.outpoint
@@ -218,8 +240,17 @@ module _ (s : Setup) (size : HashesBytes s.hash) (g : Configuration) (w : World)
     pub accepts : ((k : ℕ) (st : Instance) → compiled_instance s next k ≡ Some st → compiled_instance s w k ≡ Some st)
         → ((k : ℕ) → is_advertised next k ≡ true → is_advertised w k ≡ true)
         → next.book ≡ w.book
-        → ((m : ℕ) (x : TxOut) (h : ContractPosition) (o : Output) → slice_get tx.outputs m ≡ Some x → held m ≡ Some h → o ≡ record { outpoint = record { txid = txid s.hash tx; vout = m }; value = x.value; script = x.script; live = true; holds = held m } → HeldFine s next o h)
-        → ((k : ℕ) (st : Instance) (q : List PathStep) (here : Standing) (choice : Contract) (m : ℕ) (x : TxOut) → compiled_instance s w k ≡ Some st → position_at s.hash st q ≡ Some (here, choice) → slice_get tx.outputs m ≡ Some x
+        → ((m : ℕ) (x : TxOut) (h : ContractPosition) (o : Output) → slice_get tx.outputs m ≡ Some x → held m ≡ Some h → o
+        ≡ record {
+          outpoint = record { txid = txid s.hash tx; vout = m };
+          value = x.value;
+          script = x.script;
+          live = true;
+          holds = held
+              m;
+        } → HeldFine s next o h)
+        → ((k : ℕ) (st : Instance) (q : List PathStep) (here : Standing) (choice : Contract) (m : ℕ) (x : TxOut) → compiled_instance s w k
+        ≡ Some st → position_at s.hash st q ≡ Some (here, choice) → slice_get tx.outputs m ≡ Some x
         → record { txid = txid s.hash tx; vout = m } ≡ here.output.outpoint → held m ≡ Some (record { contract = k; position = q }))
         → KeptBook s g' next
     accepts back adv book held_new placed_new = record {
@@ -233,26 +264,35 @@ module _ (s : Setup) (size : HashesBytes s.hash) (g : Configuration) (w : World)
       heard = λ k st h t i. f.hashed t (kept.heard k st (back k st h) t i);
       held = λ n o h e i. by_held n o h (where_is n o e) i;
       placed = λ k st q here choice n o c e h p. by_placed k st q here choice n o (back k st c) e (where_is n o h) p;
-      deposit_pairs = λ a d k h x. cause_later s g g' w next f kept.adverts a d (kept.deposit_pairs a d k h (subst (λ b. has_signed b (deposit_key s.hash a) d ≡ true) book x));
-      branch_pairs = λ k st q here choice i b a d c e t p h x. by_branch k st q here choice i b a d (back k st c) e (kept.branch_pairs k st q here choice i b a d (back k st c) e t p h (subst (λ y. has_signed y (key_of s.hash (branch_label k (q ++ To i ∷ []) a)) d ≡ true) book x));
+      deposit_pairs = λ a d k h x. cause_later s g g' w next f kept.adverts a d
+          (kept.deposit_pairs a d k h (subst (λ b. has_signed b (deposit_key s.hash a) d ≡ true) book x));
+      branch_pairs = λ k st q here choice i b a d c e t p h x. by_branch k st q here choice i b a d (back k st c) e
+          (kept.branch_pairs k st q here choice i b a d (back k st c) e t p h
+          (subst (λ y. has_signed y (key_of s.hash (branch_label k (q ++ To i ∷ []) a)) d ≡ true) book x));
     }
       where
         by_held : (n : ℕ) (o : Output) (h : ContractPosition) → Place n o → o.holds ≡ Some h → HeldFine s next o h
         by_held n o h (old p e sp l) i = held_later s g g' w next f p o h sp (kept.held n p h e (sym sp.holds ∙ i))
         by_held n o h (new m x hx nx ox) i = held_new m x h o hx (ap (λ (y : Output). y.holds) (sym ox) ∙ i) ox
 
-        by_placed : (k : ℕ) (st : Instance) (q : List PathStep) (here : Standing) (choice : Contract) (n : ℕ) (o : Output) → compiled_instance s w k ≡ Some st → position_at s.hash st q ≡ Some (here, choice) → Place n o → o.outpoint ≡ here.output.outpoint → o.holds ≡ Some (record { contract = k; position = q })
+        by_placed : (k : ℕ) (st : Instance) (q : List PathStep) (here : Standing) (choice : Contract) (n : ℕ) (o : Output)
+            → compiled_instance s w k ≡ Some st → position_at s.hash st q ≡ Some (here, choice) → Place n o → o.outpoint
+            ≡ here.output.outpoint → o.holds ≡ Some (record { contract = k; position = q })
         by_placed k st q here choice n o c e (old p h sp l) i = sp.holds ∙ kept.placed k st q here choice n p c e h (sym sp.outpoint ∙ i)
-        by_placed k st q here choice n o c e (new m x hx nx ox) i = ap (λ (y : Output). y.holds) ox ∙ placed_new k st q here choice m x c e hx (ap (λ (y : Output). y.outpoint) (sym ox) ∙ i)
+        by_placed k st q here choice n o c e (new m x hx nx ox) i =
+            ap (λ (y : Output). y.holds) ox ∙ placed_new k st q here choice m x c e hx (ap (λ (y : Output). y.outpoint) (sym ox) ∙ i)
 
-        by_branch : (k : ℕ) (st : Instance) (q : List PathStep) (here : Standing) (choice : Contract) (i : ℕ) (b : term.Guarded) (a d : List ℕ) → compiled_instance s w k ≡ Some st → position_at s.hash st q ≡ Some (here, choice) → BranchCause s g w k st q here i b a d → BranchCause s g' next k st q here i b a d
+        by_branch : (k : ℕ) (st : Instance) (q : List PathStep) (here : Standing) (choice : Contract) (i : ℕ) (b : term.Guarded)
+            (a d : List ℕ) → compiled_instance s w k ≡ Some st → position_at s.hash st q ≡ Some (here, choice)
+            → BranchCause s g w k st q here i b a d → BranchCause s g' next k st q here i b a d
         by_branch k st q here choice i b a d c e h = record {
           is = h.is;
           existed = λ x. let r = h.existed x in let y = f.outputs.last r.0 r.1 r.2 in (r.0, y.0, y.1, y.2.outpoint ∙ r.3);
           authorised = λ x n y. by_number x n (slice_get next.outputs n) refl y;
         }
           where
-            by_place : is_asked b a ≡ true → (n : ℕ) (o : Output) → Place n o → o.live ≡ true → o.holds ≡ Some (record { contract = k; position = q }) → has_branch_authorised g'.branch_authorised n i a ≡ true
+            by_place : is_asked b a ≡ true → (n : ℕ) (o : Output) → Place n o → o.live ≡ true → o.holds
+                ≡ Some (record { contract = k; position = q }) → has_branch_authorised g'.branch_authorised n i a ≡ true
             by_place x n o (old p e' sp l) live hd =
                 let there : live_position_at w n ≡ Some (record { contract = k; position = q }) = ap live_position e' ∙ rw (l live) (sym sp.holds ∙ hd) in
                 f.asked n i a (h.authorised x n there)
@@ -267,10 +307,12 @@ module _ (s : Setup) (size : HashesBytes s.hash) (g : Configuration) (w : World)
                 let pl : r.1.outpoint ≡ o.outpoint = r.3 ∙ ap (λ (z : Standing). z.output.outpoint) (sym here_is) ∙ sym hf.outpoint in
                 absurd (fresh r.0 r.1 r.2 (ap (λ (z : OutPoint). z.txid) pl ∙ ap (λ (z : Output). z.outpoint.txid) ox))
 
-            by_live : is_asked b a ≡ true → (n : ℕ) (o : Output) → slice_get next.outputs n ≡ Some o → (t : Bool) → o.live ≡ t → (if t then o.holds else None) ≡ Some (record { contract = k; position = q }) → has_branch_authorised g'.branch_authorised n i a ≡ true
+            by_live : is_asked b a ≡ true → (n : ℕ) (o : Output) → slice_get next.outputs n ≡ Some o → (t : Bool) → o.live ≡ t
+                → (if t then o.holds else None) ≡ Some (record { contract = k; position = q }) → has_branch_authorised g'.branch_authorised n i a ≡ true
             by_live x n o e' true l hd = by_place x n o (where_is n o e') l hd
             by_live x n o e' false l hd = cc
 
-            by_number : is_asked b a ≡ true → (n : ℕ) (o : Option Output) → slice_get next.outputs n ≡ o → live_position o ≡ Some (record { contract = k; position = q }) → has_branch_authorised g'.branch_authorised n i a ≡ true
+            by_number : is_asked b a ≡ true → (n : ℕ) (o : Option Output) → slice_get next.outputs n ≡ o → live_position o
+                ≡ Some (record { contract = k; position = q }) → has_branch_authorised g'.branch_authorised n i a ≡ true
             by_number x n None e' hd = cc
             by_number x n (Some o) e' hd = by_live x n o e' o.live refl hd

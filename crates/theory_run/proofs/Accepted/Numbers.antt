@@ -51,13 +51,15 @@ entry_in pre name h =
     let l = volatile_named pre name h in
     subst (λ o. Is_in (name, holding_or_none o) (deposits pre)) (sym l.1) l.2
 
-pub entries_in : (pre : List Pre) (names : List (List ℕ)) → list_all (λ n. is_among n (names_of (volatile pre))) names ≡ true → AllIn (map (volatile_entry pre) names) (deposits pre)
+pub entries_in : (pre : List Pre) (names : List (List ℕ)) → list_all (λ n. is_among n (names_of (volatile pre))) names ≡ true
+    → AllIn (map (volatile_entry pre) names) (deposits pre)
 entries_in pre [] h = tt
 entries_in pre (n ∷ names) h =
     let p = and_parts (is_among n (names_of (volatile pre))) (list_all (λ m. is_among m (names_of (volatile pre))) names) h in
     (entry_in pre n p.0, entries_in pre names p.1)
 
-pub entries_deposits : (hash : List ℕ → List ℕ) (st : Instance) (names : List (List ℕ)) → put_deposits hash st names ≡ map (λ (d : List ℕ × Holding). deposit hash st d.0 d.1) (map (volatile_entry st.advert.pre) names)
+pub entries_deposits : (hash : List ℕ → List ℕ) (st : Instance) (names : List (List ℕ)) → put_deposits hash st names
+    ≡ map (λ (d : List ℕ × Holding). deposit hash st d.0 d.1) (map (volatile_entry st.advert.pre) names)
 entries_deposits hash st [] = refl
 entries_deposits hash st (n ∷ names) = ap (λ ds. deposit hash st n (holding_or_none (look_up n (volatile st.advert.pre))) ∷ ds) (entries_deposits hash st names)
 

@@ -11,12 +11,12 @@ use Rattle.spec_data.specs.Messages.{noted_all, collision}
 use Rattle.spec_run.specs.World.{World}
 use Rattle.spec_run.specs.Compiled.{instance_of, compiled_instance}
 use Rattle.spec_run.specs.Conditions.{HashesBytes}
-use Rattle.spec_run.specs.Draft.{settled}
+use Rattle.spec_run.specs.Pending.{applied}
 use Rattle.spec_run.specs.Ledger.{items_of, strings_of, kind_of, appended, accepted}
 use Rattle.theory_world.specs.Transactions.{IsNumbered}
 use Rattle.theory_world.proofs.Ledger.Preimages.{numbered_few}
-use Rattle.theory_world.specs.KeptApart.{NoClash}
-use Rattle.theory_world.proofs.Hashed.{no_clash, among_left, all_more, all_new}
+use Rattle.theory_world.specs.KeptApart.{NoCollision}
+use Rattle.theory_world.proofs.Hashed.{no_collision, among_left, all_more, all_new}
 use Rattle.theory_world.proofs.Ledger.Worth.{IsAccepted}
 use Rattle.theory_world.proofs.Later.{lasts_spent, compiled_is, compiled_from, compiled_stays}
 use Rattle.theory_world.proofs.Ledger.Accepting.{accepting}
@@ -26,10 +26,12 @@ use Rattle.theory_run.proofs.Accepted.Spending.{TransactionsFit, Checked}
 use Rattle.theory_run.proofs.Accepted.Kinded.{accept_kept}
 
 -- the messages before it may be fewer than those of the world whose signatures it has: those of an event that signs and hands in at once are of before it
-module _ (s : Setup) (size : HashesBytes s.hash) (few_contracts : length s.contracts ≤ 16) (g g' : Configuration) (w : World) (kept : KeptBook s g w) (fit : TransactionsFit s w) (check : Checked s w)
+module _ (s : Setup) (size : HashesBytes s.hash) (few_contracts : length s.contracts ≤ 16) (g g' : Configuration) (w : World)
+    (kept : KeptBook s g w) (fit : TransactionsFit s w) (check : Checked s w)
     (inits : (k : ℕ) (x : List ℕ) → is_init_authorised g.init_authorised k x ≡ true → is_init_authorised g'.init_authorised k x ≡ true)
     (asked : (n i : ℕ) (a : List ℕ) → has_branch_authorised g.branch_authorised n i a ≡ true → has_branch_authorised g'.branch_authorised n i a ≡ true)
-    (tx : Tx) (fits : IsNumbered tx) (spent : List ℕ) (is : IsAccepted s w tx spent) (seen posts : List (List ℕ)) (clear : NoClash s.hash seen) (apart : collision s.hash seen (strings_of s w tx ++ items_of tx) ≡ None)
+    (tx : Tx) (fits : IsNumbered tx) (spent : List ℕ) (is : IsAccepted s w tx spent) (seen posts : List (List ℕ))
+    (clear : NoCollision s.hash seen) (apart : collision s.hash seen (strings_of s w tx ++ items_of tx) ≡ None)
     (sub : (t : List ℕ) → is_among t w.hashed ≡ true → is_among t (noted_all seen (strings_of s w tx ++ items_of tx)) ≡ true) where
   -- the world after it
   abbrev pub next : World
@@ -39,7 +41,8 @@ module _ (s : Setup) (size : HashesBytes s.hash) (few_contracts : length s.contr
   pub stays : (k : ℕ) (st : Instance) → compiled_instance s w k ≡ Some st → compiled_instance s next k ≡ Some st
   stays k st h =
       let c = compiled_is s w k st h in
-      compiled_stays s w next [] [] k st (sym (append-nil w.advertised)) (sym (append-nil w.promises)) (lasts_spent spent w.outputs _) (kept.adverts k c.advertised).made refl h
+      compiled_stays s w next [] [] k st (sym (append-nil w.advertised)) (sym (append-nil w.promises)) (lasts_spent spent w.outputs _)
+      (kept.adverts k c.advertised).made refl h
 
   -- and no others are
   pub no_others : (k : ℕ) (st : Instance) → compiled_instance s next k ≡ Some st → compiled_instance s w k ≡ Some st
@@ -62,15 +65,18 @@ module _ (s : Setup) (size : HashesBytes s.hash) (few_contracts : length s.contr
 
   pub joined_kept : KeptBook s g' next
   joined_kept =
-      accept_kept s size few_contracts g w kept fit check (noted_all seen (strings_of s w tx ++ items_of tx)) (no_clash s.hash seen (strings_of s w tx ++ items_of tx) clear apart) sub
+      accept_kept s size few_contracts g w kept fit check (noted_all seen (strings_of s w tx ++ items_of tx))
+      (no_collision s.hash seen (strings_of s w tx ++ items_of tx) clear apart) sub
       tx fits spent (accepting s w tx spent is)
       (record { heard = λ t h. all_new seen (strings_of s w tx ++ items_of tx) t (among_left t (strings_of s w tx) (items_of tx) h) })
       g' next refl frame refl (numbered_few tx fits) no_others (λ k h. h) refl
 
 -- where nothing is signed with it
-module _ (s : Setup) (size : HashesBytes s.hash) (few_contracts : length s.contracts ≤ 16) (g g' : Configuration) (w : World) (kept : KeptBook s g w) (fit : TransactionsFit s w) (check : Checked s w)
+module _ (s : Setup) (size : HashesBytes s.hash) (few_contracts : length s.contracts ≤ 16) (g g' : Configuration) (w : World)
+    (kept : KeptBook s g w) (fit : TransactionsFit s w) (check : Checked s w)
     (inits : (k : ℕ) (x : List ℕ) → is_init_authorised g.init_authorised k x ≡ true → is_init_authorised g'.init_authorised k x ≡ true)
     (asked : (n i : ℕ) (a : List ℕ) → has_branch_authorised g.branch_authorised n i a ≡ true → has_branch_authorised g'.branch_authorised n i a ≡ true)
-    (tx : Tx) (fits : IsNumbered tx) (spent : List ℕ) (is : IsAccepted s w tx spent) (clear : NoClash s.hash w.hashed) (apart : collision s.hash w.hashed (strings_of s w tx ++ items_of tx) ≡ None) where
-  pub reached_kept : KeptBook s g' (settled w (accepted s w tx spent))
-  reached_kept = joined_kept s size few_contracts g g' w kept fit check inits asked tx fits spent is w.hashed (w.posted ++ items_of tx) clear apart (λ t h. all_more w.hashed (strings_of s w tx ++ items_of tx) t h)
+    (tx : Tx) (fits : IsNumbered tx) (spent : List ℕ) (is : IsAccepted s w tx spent) (clear : NoCollision s.hash w.hashed) (apart : collision s.hash w.hashed (strings_of s w tx ++ items_of tx) ≡ None) where
+  pub reached_kept : KeptBook s g' (applied w (accepted s w tx spent))
+  reached_kept = joined_kept s size few_contracts g g' w kept fit check inits asked tx fits spent is w.hashed (w.posted ++ items_of tx)
+      clear apart (λ t h. all_more w.hashed (strings_of s w tx ++ items_of tx) t h)

@@ -27,21 +27,23 @@ use Rattle.theory_calculus.proofs.Names.{bytes-true, bytes_refl}
 use Rattle.theory_script.proofs.Scripts.Opened.{opens_exactly}
 use Rattle.theory_script.proofs.Scripts.Deposits.{deposit_meaning}
 use Rattle.theory_script.proofs.Listing.Stands.{position_stands}
-use Rattle.theory_world.specs.KeptApart.{NoClash}
+use Rattle.theory_world.specs.KeptApart.{NoCollision}
 use Rattle.theory_world.proofs.Later.{compiled_is}
 use Rattle.theory_run.specs.KeptBook.{KeptBook}
 use Rattle.theory_run.proofs.Accepted.Spending.{Checked, script_heard, each_valid}
 use Rattle.theory_run.proofs.Facts.Labelled.{same_label, deposit_label, heard_label}
 use Rattle.theory_run.proofs.Facts.Opening.{among_map}
 
--- a judge that takes any signature for this key
+-- a oracle that takes any signature for this key
 abbrev only : List ℕ → List ℕ → List ℕ → Bool
 only key signature other = bytes_eq other key
 
-module _ (s : Setup) (size : HashesBytes s.hash) (few_contracts : length s.contracts ≤ 16) (g : Configuration) (w : World) (kept : KeptBook s g w) (check : Checked s w) (clear : NoClash s.hash w.hashed)
+module _ (s : Setup) (size : HashesBytes s.hash) (few_contracts : length s.contracts ≤ 16) (g : Configuration) (w : World)
+    (kept : KeptBook s g w) (check : Checked s w) (clear : NoCollision s.hash w.hashed)
     (k : ℕ) (st : Instance) (compiled : compiled_instance s w k ≡ Some st) where
   -- a deposit's script is opened by one signature for its key, a position's asks a participant's key of a branch
-  pub no_deposit_script : (q : List PathStep) (here : Standing) (choice : Contract) → position_at s.hash st q ≡ Some (here, choice) → (a : List ℕ) → is_declared s a ≡ true → here.output.script ≡ party_script s.hash a → ⊥
+  pub no_deposit_script : (q : List PathStep) (here : Standing) (choice : Contract) → position_at s.hash st q ≡ Some (here, choice)
+      → (a : List ℕ) → is_declared s a ≡ true → here.output.script ≡ party_script s.hash a → ⊥
   no_deposit_script q here choice stand a declared same =
       let key = deposit_key s.hash a in
       let valid = only key in
@@ -72,7 +74,8 @@ module _ (s : Setup) (size : HashesBytes s.hash) (few_contracts : length s.contr
       no_deposit_script [] (root_standing s.hash st) st.advert.root root a declared (sym same)
 
   -- a gift to parties isn't the contract's initial transaction
-  pub gift_starts_nothing : (party : List ℕ) (inputs : List ℕ) (outputs : List (List ℕ × ℕ)) → list_all (λ o. is_declared s (o.0)) outputs ≡ true → 1 ≤ length outputs → bare (gift s w party inputs outputs) ≡ bare (tx_of (initial_unsigned s.hash st)) → ⊥
+  pub gift_starts_nothing : (party : List ℕ) (inputs : List ℕ) (outputs : List (List ℕ × ℕ)) → list_all (λ o. is_declared s (o.0)) outputs
+      ≡ true → 1 ≤ length outputs → bare (gift s w party inputs outputs) ≡ bare (tx_of (initial_unsigned s.hash st)) → ⊥
   gift_starts_nothing party inputs [] all some e = absurd (omega (arith, some))
   gift_starts_nothing party inputs (o ∷ os) all some e =
       let outs : given_output s o ∷ map (given_output s) os ≡ (tx_of (initial_unsigned s.hash st)).outputs = ap (λ (x : Tx). x.outputs) e in

@@ -47,7 +47,7 @@ use Rattle.theory_script.proofs.Scripts.Deposits.{deposit_meaning}
 use Rattle.theory_script.proofs.Listing.OutputScripts.{scripts_are_listed}
 use Rattle.theory_script.proofs.Listing.Stands.{position_stands}
 use Rattle.theory_script.specs.Listed.{at_path}
-use Rattle.theory_world.specs.KeptApart.{NoClash}
+use Rattle.theory_world.specs.KeptApart.{NoCollision}
 use Rattle.theory_world.proofs.Hashed.{among_left, among_right, among_head, among_tail}
 use Rattle.theory_world.specs.Transactions.{HeardLists, IsNumbered, NoScripts}
 use Rattle.theory_world.proofs.Ledger.Preimages.{SameSigned, heard_lists, double-apart, preimage-apart}
@@ -70,10 +70,15 @@ input_place [] x h i = absurd i
 input_place (y ∷ spends) x h (inl e) = subst (λ (z : Spent). IsPlace z.outpoint) (sym e) h.0
 input_place (y ∷ spends) x h (inr i) = input_place spends x h.1 i
 
-inner_strings : (hash : List ℕ → List ℕ) (tx : Tx) (spends : List Spent) (x : Spent) (t : List ℕ) → Is_in x spends → is_among t (spent_strings hash tx x) ≡ true → is_among t (flat_map (spent_strings hash tx) spends) ≡ true
+inner_strings : (hash : List ℕ → List ℕ) (tx : Tx) (spends : List Spent) (x : Spent) (t : List ℕ) → Is_in x spends
+    → is_among t (spent_strings hash tx x) ≡ true → is_among t (flat_map (spent_strings hash tx) spends) ≡ true
 inner_strings hash tx [] x t i h = absurd i
-inner_strings hash tx (y ∷ spends) x t (inl e) h = subst (λ ts. is_among t ts ≡ true) (sym (flat_map-cons (spent_strings hash tx) y spends)) (among_left t (spent_strings hash tx y) (flat_map (spent_strings hash tx) spends) (subst (λ z. is_among t (spent_strings hash tx z) ≡ true) e h))
-inner_strings hash tx (y ∷ spends) x t (inr i) h = subst (λ ts. is_among t ts ≡ true) (sym (flat_map-cons (spent_strings hash tx) y spends)) (among_right t (spent_strings hash tx y) (flat_map (spent_strings hash tx) spends) (inner_strings hash tx spends x t i h))
+inner_strings hash tx (y ∷ spends) x t (inl e) h =
+    subst (λ ts. is_among t ts ≡ true) (sym (flat_map-cons (spent_strings hash tx) y spends))
+    (among_left t (spent_strings hash tx y) (flat_map (spent_strings hash tx) spends) (subst (λ z. is_among t (spent_strings hash tx z) ≡ true) e h))
+inner_strings hash tx (y ∷ spends) x t (inr i) h =
+    subst (λ ts. is_among t ts ≡ true) (sym (flat_map-cons (spent_strings hash tx) y spends))
+    (among_right t (spent_strings hash tx y) (flat_map (spent_strings hash tx) spends) (inner_strings hash tx spends x t i h))
 
 -- the strings of an unsigned transaction are among these
 pub record HeardUnsigned (hash : List ℕ → List ℕ) (hs : List (List ℕ)) (d : Unsigned) : Type 0 where
@@ -81,10 +86,15 @@ pub record HeardUnsigned (hash : List ℕ → List ℕ) (hs : List (List ℕ)) (
 
 module _ (hash : List ℕ → List ℕ) (hs : List (List ℕ)) (d : Unsigned) (h : HeardUnsigned hash hs d) where
   pub unsigned_lists : HeardLists hash hs (tx_of d)
-  unsigned_lists = heard_lists hash hs (tx_of d) (λ t i. h.heard t (among_right t (txid_strings hash (tx_of d)) (shared_strings hash (tx_of d) ++ flat_map (spent_strings hash (tx_of d)) d.spends) (among_left t (shared_strings hash (tx_of d)) (flat_map (spent_strings hash (tx_of d)) d.spends) i)))
+  unsigned_lists = heard_lists hash hs (tx_of d)
+      (λ t i. h.heard t (among_right t (txid_strings hash (tx_of d))
+      (shared_strings hash (tx_of d) ++ flat_map (spent_strings hash (tx_of d)) d.spends)
+      (among_left t (shared_strings hash (tx_of d)) (flat_map (spent_strings hash (tx_of d)) d.spends) i)))
 
   inner : (x : Spent) (t : List ℕ) → Is_in x d.spends → is_among t (spent_strings hash (tx_of d) x) ≡ true → is_among t hs ≡ true
-  inner x t i k = h.heard t (among_right t (txid_strings hash (tx_of d)) (shared_strings hash (tx_of d) ++ flat_map (spent_strings hash (tx_of d)) d.spends) (among_right t (shared_strings hash (tx_of d)) (flat_map (spent_strings hash (tx_of d)) d.spends) (inner_strings hash (tx_of d) d.spends x t i k)))
+  inner x t i k = h.heard t (among_right t (txid_strings hash (tx_of d))
+      (shared_strings hash (tx_of d) ++ flat_map (spent_strings hash (tx_of d)) d.spends)
+      (among_right t (shared_strings hash (tx_of d)) (flat_map (spent_strings hash (tx_of d)) d.spends) (inner_strings hash (tx_of d) d.spends x t i k)))
 
   pub unsigned_preimage : (x : Spent) → Is_in x d.spends → is_among (preimage hash (tx_of d) (input_of x) x.script x.value) hs ≡ true
   unsigned_preimage x i = let m = preimage hash (tx_of d) (input_of x) x.script x.value in inner x m i (among_head m (hash m ∷ []))
@@ -93,10 +103,15 @@ module _ (hash : List ℕ → List ℕ) (hs : List (List ℕ)) (d : Unsigned) (h
   unsigned_preimage_hash x i = let m = preimage hash (tx_of d) (input_of x) x.script x.value in inner x (hash m) i (among_tail (hash m) m (hash m ∷ []) (among_head (hash m) []))
 
   pub unsigned_bytes : is_among (stripped (tx_of d)) hs ≡ true
-  unsigned_bytes = h.heard (stripped (tx_of d)) (among_left (stripped (tx_of d)) (txid_strings hash (tx_of d)) (shared_strings hash (tx_of d) ++ flat_map (spent_strings hash (tx_of d)) d.spends) (among_head (stripped (tx_of d)) (hash (stripped (tx_of d)) ∷ [])))
+  unsigned_bytes = h.heard (stripped (tx_of d))
+      (among_left (stripped (tx_of d)) (txid_strings hash (tx_of d))
+      (shared_strings hash (tx_of d) ++ flat_map (spent_strings hash (tx_of d)) d.spends) (among_head (stripped (tx_of d)) (hash (stripped (tx_of d)) ∷ [])))
 
   pub unsigned_bytes_hash : is_among (hash (stripped (tx_of d))) hs ≡ true
-  unsigned_bytes_hash = h.heard (hash (stripped (tx_of d))) (among_left (hash (stripped (tx_of d))) (txid_strings hash (tx_of d)) (shared_strings hash (tx_of d) ++ flat_map (spent_strings hash (tx_of d)) d.spends) (among_tail (hash (stripped (tx_of d))) (stripped (tx_of d)) (hash (stripped (tx_of d)) ∷ []) (among_head (hash (stripped (tx_of d))) [])))
+  unsigned_bytes_hash = h.heard (hash (stripped (tx_of d)))
+      (among_left (hash (stripped (tx_of d))) (txid_strings hash (tx_of d))
+      (shared_strings hash (tx_of d) ++ flat_map (spent_strings hash (tx_of d)) d.spends)
+      (among_tail (hash (stripped (tx_of d))) (stripped (tx_of d)) (hash (stripped (tx_of d)) ∷ []) (among_head (hash (stripped (tx_of d))) [])))
 
 module _ (hash : List ℕ → List ℕ) (st : Instance) (hs : List (List ℕ)) (heard : (t : List ℕ) → is_among t (compiled_strings hash st) ≡ true → is_among t hs ≡ true) where
   abbrev all_labels : List (List ℕ)
@@ -109,21 +124,34 @@ module _ (hash : List ℕ → List ℕ) (st : Instance) (hs : List (List ℕ)) (
   all_unsigned = flat_map (λ p. unsigned_strings hash p.1) (path_transactions hash st)
 
   pub initial_heard : HeardUnsigned hash hs (initial_unsigned hash st)
-  initial_heard = record { heard = λ t i. heard t (among_right t all_labels (all_scripts ++ (unsigned_strings hash (initial_unsigned hash st) ++ all_unsigned)) (among_right t all_scripts (unsigned_strings hash (initial_unsigned hash st) ++ all_unsigned) (among_left t (unsigned_strings hash (initial_unsigned hash st)) all_unsigned i))) }
+  initial_heard = record {
+    heard = λ t i. heard t
+        (among_right t all_labels (all_scripts ++ (unsigned_strings hash (initial_unsigned hash st) ++ all_unsigned))
+        (among_right t all_scripts (unsigned_strings hash (initial_unsigned hash st) ++ all_unsigned)
+        (among_left t (unsigned_strings hash (initial_unsigned hash st)) all_unsigned i)));
+  }
 
   module _ (q : List PathStep) (here : Standing) (choice : Contract) (i : ℕ) (b : term.Guarded) (stands : position_at hash st q ≡ Some (here, choice)) (there : slice_get (branches choice) i ≡ Some b) where
     listed : Is_in (branch_path here.position i, branch_unsigned hash st here i b) (path_transactions hash st)
-    listed = covered hash st (q ++ To i ∷ []) (by_path.at_branch here i b) (stand_of_branch hash st q here choice i b stands there) _ (branch_here hash st here i (lock b) b)
+    listed = covered hash st (q ++ To i ∷ []) (by_path.at_branch here i b) (stand_of_branch hash st q here choice i b stands there) _
+        (branch_here hash st here i (lock b) b)
 
     pub branch_heard : HeardUnsigned hash hs (branch_unsigned hash st here i b)
-    branch_heard = record { heard = λ t k. heard t (among_right t all_labels (all_scripts ++ (unsigned_strings hash (initial_unsigned hash st) ++ all_unsigned)) (among_right t all_scripts (unsigned_strings hash (initial_unsigned hash st) ++ all_unsigned) (among_right t (unsigned_strings hash (initial_unsigned hash st)) all_unsigned (transactions_strings hash st (path_transactions hash st) _ t listed k)))) }
+    branch_heard = record {
+      heard = λ t k. heard t
+          (among_right t all_labels (all_scripts ++ (unsigned_strings hash (initial_unsigned hash st) ++ all_unsigned))
+          (among_right t all_scripts (unsigned_strings hash (initial_unsigned hash st) ++ all_unsigned)
+          (among_right t (unsigned_strings hash (initial_unsigned hash st)) all_unsigned
+          (transactions_strings hash st (path_transactions hash st) _ t listed k))));
+    }
 
     pub label_heard : (a : List ℕ) → is_among a (people st) ≡ true → is_among (label_text (branch_label st.contract (q ++ To i ∷ []) a)) hs ≡ true
     label_heard a k =
         let e : branch_path here.position i ≡ q ++ To i ∷ [] = ap (λ p. p ++ To i ∷ []) (position_named hash st q here choice stands) in
         let t = label_text (branch_label st.contract (q ++ To i ∷ []) a) in
         let l : is_among t (path_labels st (branch_path here.position i)) ≡ true = subst (λ p. is_among t (path_labels st p) ≡ true) (sym e) (mapped (λ party. label_text (branch_label st.contract (q ++ To i ∷ []) party)) a (people st) k) in
-        heard t (among_left t all_labels (all_scripts ++ (unsigned_strings hash (initial_unsigned hash st) ++ all_unsigned)) (transactions_labels hash st (path_transactions hash st) _ t listed l))
+        heard t (among_left t all_labels (all_scripts ++ (unsigned_strings hash (initial_unsigned hash st) ++ all_unsigned))
+        (transactions_labels hash st (path_transactions hash st) _ t listed l))
       where
         mapped : (f : List ℕ → List ℕ) (x : List ℕ) (xs : List (List ℕ)) → is_among x xs ≡ true → is_among (f x) (map f xs) ≡ true
         mapped f x [] h = cc
@@ -133,16 +161,21 @@ module _ (hash : List ℕ → List ℕ) (st : Instance) (hs : List (List ℕ)) (
         ]
 
   -- the script of a position
-  pub script_heard : (q : List PathStep) (here : Standing) (choice : Contract) → position_at hash st q ≡ Some (here, choice) → is_among here.output.script hs ≡ true
+  pub script_heard : (q : List PathStep) (here : Standing) (choice : Contract) → position_at hash st q ≡ Some (here, choice)
+      → is_among here.output.script hs ≡ true
   script_heard q here choice stands =
       let l = scripts_are_listed hash st q ∙ ap (option_map (λ p. p.0.output.script)) stands in
-      heard here.output.script (among_right here.output.script all_labels (all_scripts ++ (unsigned_strings hash (initial_unsigned hash st) ++ all_unsigned)) (among_left here.output.script all_scripts (unsigned_strings hash (initial_unsigned hash st) ++ all_unsigned) (found_script q here.output.script (scripts hash st) l)))
+      heard here.output.script (among_right here.output.script all_labels
+      (all_scripts ++ (unsigned_strings hash (initial_unsigned hash st) ++ all_unsigned))
+      (among_left here.output.script all_scripts (unsigned_strings hash (initial_unsigned hash st) ++ all_unsigned)
+      (found_script q here.output.script (scripts hash st) l)))
     where
       found_script : (q : List PathStep) (x : List ℕ) (es : List (List PathStep × List ℕ)) → at_path q es ≡ Some x → is_among x (map (λ p. p.1) es) ≡ true
       found_script q x [] h = cc
       found_script q x (e ∷ es) h = by_test (path_eq e.0 q) h (found_script q x es)
         where
-          by_test : (t : Bool) → (if t then Some (e.1) else at_path q es) ≡ Some x → (at_path q es ≡ Some x → is_among x (map (λ p. p.1) es) ≡ true) → (bytes_eq e.1 x || is_among x (map (λ p. p.1) es)) ≡ true
+          by_test : (t : Bool) → (if t then Some (e.1) else at_path q es) ≡ Some x
+              → (at_path q es ≡ Some x → is_among x (map (λ p. p.1) es) ≡ true) → (bytes_eq e.1 x || is_among x (map (λ p. p.1) es)) ≡ true
           by_test true u ih = let z : e.1 ≡ x = cc in or_left _ _ (subst (λ y. bytes_eq e.1 y ≡ true) z (bytes_refl e.1))
           by_test false u ih = or_right (bytes_eq e.1 x) _ (ih u)
 
@@ -151,18 +184,21 @@ module _ (hash : List ℕ → List ℕ) (st : Instance) (hs : List (List ℕ)) (
 -- every compiled transaction has numbers within their widths
 pub record TransactionsFit (s : Setup) (w : World) : Type 0 where
   pub initial : (k : ℕ) (st : Instance) → compiled_instance s w k ≡ Some st → IsNumbered (tx_of (initial_unsigned s.hash st))
-  pub branch : (k : ℕ) (st : Instance) (q : List PathStep) (here : Standing) (choice : Contract) (i : ℕ) (b : term.Guarded) → compiled_instance s w k ≡ Some st → position_at s.hash st q ≡ Some (here, choice) → slice_get (branches choice) i ≡ Some b
+  pub branch : (k : ℕ) (st : Instance) (q : List PathStep) (here : Standing) (choice : Contract) (i : ℕ) (b : term.Guarded)
+      → compiled_instance s w k ≡ Some st → position_at s.hash st q ≡ Some (here, choice) → slice_get (branches choice) i ≡ Some b
       → IsNumbered (tx_of (branch_unsigned s.hash st here i b))
 
 -- digests of a contract's secrets have 32 bytes, and the contract has passed the check
 pub record Checked (s : Setup) (w : World) : Type 0 where
   pub checked : (k : ℕ) (st : Instance) → compiled_instance s w k ≡ Some st → IsWellFormed st.advert
-  pub committed : (k : ℕ) (st : Instance) → compiled_instance s w k ≡ Some st → list_all (λ name. has_size 32 (digest_of st.hashes name)) (names_of (secrets st.advert.pre)) ≡ true
+  pub committed : (k : ℕ) (st : Instance) → compiled_instance s w k ≡ Some st
+      → list_all (λ name. has_size 32 (digest_of st.hashes name)) (names_of (secrets st.advert.pre)) ≡ true
 
 -- ---- an accepted transaction
 
 -- one of the signatures is valid for each key
-pub each_valid : (valid : List ℕ → List ℕ → Bool) (sigs keys : List (List ℕ)) (key : List ℕ) → are_valid valid sigs keys ≡ true → is_among key keys ≡ true → (sig : List ℕ) × (valid sig key ≡ true)
+pub each_valid : (valid : List ℕ → List ℕ → Bool) (sigs keys : List (List ℕ)) (key : List ℕ) → are_valid valid sigs keys ≡ true
+    → is_among key keys ≡ true → (sig : List ℕ) × (valid sig key ≡ true)
 each_valid valid [] [] key h i = cc
 each_valid valid [] (k ∷ keys) key h i = cc
 each_valid valid (x ∷ sigs) [] key h i = cc
@@ -173,10 +209,12 @@ each_valid valid (x ∷ sigs) (k ∷ keys) key h i =
       | inr q ↦ each_valid valid sigs keys key p.1 q
     ]
 
-module _ (s : Setup) (size : HashesBytes s.hash) (g : Configuration) (w : World) (kept : KeptBook s g w) (fit : TransactionsFit s w) (check : Checked s w) (hs : List (List ℕ)) (clear : NoClash s.hash hs) (sub : (t : List ℕ) → is_among t w.hashed ≡ true → is_among t hs ≡ true)
+module _ (s : Setup) (size : HashesBytes s.hash) (g : Configuration) (w : World) (kept : KeptBook s g w) (fit : TransactionsFit s w)
+    (check : Checked s w) (hs : List (List ℕ)) (clear : NoCollision s.hash hs) (sub : (t : List ℕ) → is_among t w.hashed ≡ true → is_among t hs ≡ true)
     (tx : Tx) (fits : IsNumbered tx) (scripts_none : NoScripts tx.inputs) (lists : HeardLists s.hash hs tx) where
   -- equal digests come from transactions that are the same but for witnesses
-  same_digest : (d : Unsigned) (x : Spent) (i : TxIn) (script : List ℕ) (v : ℕ) → IsNumbered (tx_of d) → HeardUnsigned s.hash hs d → Is_in x d.spends → IsPlace i.prev → HeardDigest s hs tx i script v
+  same_digest : (d : Unsigned) (x : Spent) (i : TxIn) (script : List ℕ) (v : ℕ) → IsNumbered (tx_of d) → HeardUnsigned s.hash hs d
+      → Is_in x d.spends → IsPlace i.prev → HeardDigest s hs tx i script v
       → digest s.hash tx i script v ≡ digest_of_spent s.hash (tx_of d) x → bare tx ≡ bare (tx_of d)
   same_digest d x i script v df dh xi pi h e =
       let m = double-apart s.hash hs clear (preimage s.hash tx i script v) (preimage s.hash (tx_of d) (input_of x) x.script x.value) h.first h.second (unsigned_preimage s.hash hs d dh x xi) (unsigned_preimage_hash s.hash hs d dh x xi) e in
@@ -208,21 +246,26 @@ module _ (s : Setup) (size : HashesBytes s.hash) (g : Configuration) (w : World)
     pub cause : (d : List ℕ) × Started s g w a d
 
   -- a gift with the same digest spends the same places
-  pub same_gift : (a d : List ℕ) (i : TxIn) (script : List ℕ) (v : ℕ) → IsPlace i.prev → HeardDigest s hs tx i script v → (h : Gave s w a d) → digest s.hash tx i script v ≡ d → SameSigned tx h.tx
+  pub same_gift : (a d : List ℕ) (i : TxIn) (script : List ℕ) (v : ℕ) → IsPlace i.prev → HeardDigest s hs tx i script v → (h : Gave s w a d)
+      → digest s.hash tx i script v ≡ d → SameSigned tx h.tx
   same_gift a d i script v pi k h e =
       let m = double-apart s.hash hs clear (preimage s.hash tx i script v) (preimage s.hash h.tx h.input (party_script s.hash a) h.value) k.first k.second (sub _ h.heard.first) (sub _ h.heard.second) (e ∙ h.is) in
       let l : HeardLists s.hash hs h.tx = record { places = sub _ h.lists.places; places_hash = sub _ h.lists.places_hash; sequences = sub _ h.lists.sequences; sequences_hash = sub _ h.lists.sequences_hash; outputs = sub _ h.lists.outputs; outputs_hash = sub _ h.lists.outputs_hash } in
       preimage-apart s.hash size hs clear tx h.tx fits h.fits lists l i h.input pi h.prev script (party_script s.hash a) v h.value m
 
   -- one with the digest of a put is its branch's, and one with that of a start is the initial transaction
-  pub same_put : (a d : List ℕ) (i : TxIn) (script : List ℕ) (v : ℕ) → IsPlace i.prev → HeardDigest s hs tx i script v → digest s.hash tx i script v ≡ d → (h : Needed s w a d) → bare tx ≡ bare (tx_of (branch_unsigned s.hash h.instance h.here h.index h.branch))
+  pub same_put : (a d : List ℕ) (i : TxIn) (script : List ℕ) (v : ℕ) → IsPlace i.prev → HeardDigest s hs tx i script v
+      → digest s.hash tx i script v ≡ d → (h : Needed s w a d) → bare tx ≡ bare (tx_of (branch_unsigned s.hash h.instance h.here h.index h.branch))
   same_put a d i script v pi k e h =
       let dh = branch_heard s.hash h.instance hs (heard_at h.contract h.instance h.compiled) h.position h.here h.choice h.index h.branch h.stands h.there in
-      same_digest (branch_unsigned s.hash h.instance h.here h.index h.branch) h.spent i script v (fit.branch h.contract h.instance h.position h.here h.choice h.index h.branch h.compiled h.stands h.there) dh (inr h.put) pi k (e ∙ h.is)
+      same_digest (branch_unsigned s.hash h.instance h.here h.index h.branch) h.spent i script v
+      (fit.branch h.contract h.instance h.position h.here h.choice h.index h.branch h.compiled h.stands h.there) dh (inr h.put) pi k (e ∙ h.is)
 
-  pub same_start : (a d : List ℕ) (i : TxIn) (script : List ℕ) (v : ℕ) → IsPlace i.prev → HeardDigest s hs tx i script v → digest s.hash tx i script v ≡ d → (h : Started s g w a d) → bare tx ≡ bare (tx_of (initial_unsigned s.hash h.instance))
+  pub same_start : (a d : List ℕ) (i : TxIn) (script : List ℕ) (v : ℕ) → IsPlace i.prev → HeardDigest s hs tx i script v
+      → digest s.hash tx i script v ≡ d → (h : Started s g w a d) → bare tx ≡ bare (tx_of (initial_unsigned s.hash h.instance))
   same_start a d i script v pi k e h =
-      same_digest (initial_unsigned s.hash h.instance) h.spent i script v (fit.initial h.contract h.instance h.compiled) (initial_heard s.hash h.instance hs (heard_at h.contract h.instance h.compiled)) h.persists pi k (e ∙ h.is)
+      same_digest (initial_unsigned s.hash h.instance) h.spent i script v (fit.initial h.contract h.instance h.compiled)
+      (initial_heard s.hash h.instance hs (heard_at h.contract h.instance h.compiled)) h.persists pi k (e ∙ h.is)
 
   -- what a cause says of a transaction with that digest
   pub data Cause (a : List ℕ) : Type 0 where
@@ -230,7 +273,8 @@ module _ (s : Setup) (size : HashesBytes s.hash) (g : Configuration) (w : World)
     put_cause : IsPut a → Cause a
     start_cause : IsStart a → Cause a
 
-  pub cause_of : (a d : List ℕ) (i : TxIn) (script : List ℕ) (v : ℕ) → IsPlace i.prev → HeardDigest s hs tx i script v → digest s.hash tx i script v ≡ d → DepositCause s g w a d → Cause a
+  pub cause_of : (a d : List ℕ) (i : TxIn) (script : List ℕ) (v : ℕ) → IsPlace i.prev → HeardDigest s hs tx i script v
+      → digest s.hash tx i script v ≡ d → DepositCause s g w a d → Cause a
   cause_of a d i script v pi k e (gave h) = gift_cause d h (same_gift a d i script v pi k h e)
   cause_of a d i script v pi k e (needed h) = put_cause (record {
     contract = h.contract;
@@ -245,11 +289,14 @@ module _ (s : Setup) (size : HashesBytes s.hash) (g : Configuration) (w : World)
     there = h.there;
     is = same_put a d i script v pi k e h;
   })
-  cause_of a d i script v pi k e (started h) = start_cause (record { contract = h.contract; instance = h.instance; compiled = h.compiled; is = same_start a d i script v pi k e h; cause = (d, h) })
+  cause_of a d i script v pi k e (started h) =
+      start_cause (record { contract = h.contract; instance = h.instance; compiled = h.compiled; is = same_start a d i script v pi k e h; cause = (d, h) })
 
   -- the pair of a party's deposit that is spent stands in the book
-  pub deposit_signed : (n : ℕ) (i : TxIn) (sp : IsSpent s w tx n i) (h : is_among (script_of i.witness) hs ≡ true) (a : List ℕ) → is_declared s a ≡ true → sp.output.script ≡ paid_to s a
-      → (script_of i.witness ≡ party_script s.hash a) × (has_signed w.book (deposit_key s.hash a) (digest s.hash tx i (party_script s.hash a) sp.output.value) ≡ true)
+  pub deposit_signed : (n : ℕ) (i : TxIn) (sp : IsSpent s w tx n i) (h : is_among (script_of i.witness) hs ≡ true) (a : List ℕ)
+      → is_declared s a ≡ true → sp.output.script ≡ paid_to s a
+      → (script_of i.witness ≡ party_script s.hash a)
+      × (has_signed w.book (deposit_key s.hash a) (digest s.hash tx i (party_script s.hash a) sp.output.value) ≡ true)
   deposit_signed n i sp h a decl e =
       let u : pay_to (s.hash (script_of i.witness)) ≡ paid_to s a = sym sp.pays ∙ e in
       let v : s.hash (script_of i.witness) ≡ s.hash (party_script s.hash a) = cc in
@@ -266,12 +313,16 @@ module _ (s : Setup) (size : HashesBytes s.hash) (g : Configuration) (w : World)
 
   -- the transaction is that of a branch, which its participants have signed
   pub record IsTaken (i : TxIn) (o : Output) (h : ContractPosition) (hf : HeldFine s w o h) : Type 0 where
-    pub opened : Opens s.hash (is_valid w.book (digest s.hash tx i hf.here.output.script o.value)) hf.instance h.position hf.choice (reverse (items_of i.witness))
+    pub opened : Opens s.hash (is_valid w.book (digest s.hash tx i hf.here.output.script o.value)) hf.instance h.position hf.choice
+        (reverse (items_of i.witness))
     pub script : script_of i.witness ≡ hf.here.output.script
-    pub signed : (a : List ℕ) → is_among a (people hf.instance) ≡ true → has_signed w.book (key_of s.hash (branch_label h.contract (h.position ++ To opened.i ∷ []) a)) (digest s.hash tx i hf.here.output.script o.value) ≡ true
+    pub signed : (a : List ℕ) → is_among a (people hf.instance) ≡ true
+        → has_signed w.book (key_of s.hash (branch_label h.contract (h.position ++ To opened.i ∷ []) a))
+        (digest s.hash tx i hf.here.output.script o.value) ≡ true
     pub is : bare tx ≡ bare (tx_of (branch_unsigned s.hash hf.instance hf.here opened.i opened.b))
 
-  pub taken : (n : ℕ) (i : TxIn) (sp : IsSpent s w tx n i) (hi : is_among (script_of i.witness) hs ≡ true) (hd : HeardDigest s hs tx i (script_of i.witness) sp.output.value) (h : ContractPosition) (hf : HeldFine s w sp.output h)
+  pub taken : (n : ℕ) (i : TxIn) (sp : IsSpent s w tx n i) (hi : is_among (script_of i.witness) hs ≡ true)
+      (hd : HeardDigest s hs tx i (script_of i.witness) sp.output.value) (h : ContractPosition) (hf : HeldFine s w sp.output h)
       → IsPlace i.prev → IsTaken i sp.output h hf
   taken n i sp hi hd h hf pi =
       let st = hf.instance in
@@ -301,7 +352,8 @@ module _ (s : Setup) (size : HashesBytes s.hash) (g : Configuration) (w : World)
         opened = op;
         script = x;
         signed = sg;
-        is = same_digest (branch_unsigned s.hash st here op.i op.b) here.output i here.output.script sp.output.value (fit.branch h.contract st h.position here hf.choice op.i op.b hf.compiled hf.stands op.is_branch) dh (inl refl) pi hd' bc.is;
+        is = same_digest (branch_unsigned s.hash st here op.i op.b) here.output i here.output.script sp.output.value
+            (fit.branch h.contract st h.position here hf.choice op.i op.b hf.compiled hf.stands op.is_branch) dh (inl refl) pi hd' bc.is;
       }
     where
       mapped_key : (f : List ℕ → List ℕ) (x : List ℕ) (xs : List (List ℕ)) → is_among x xs ≡ true → is_among (f x) (map f xs) ≡ true

@@ -41,7 +41,8 @@ pub secret_party : (pre : List Pre) (x : List ℕ × List ℕ) → Is_in x (secr
 secret_party [] x h = absurd h
 secret_party (Persistent party value name ∷ pre) x h = or_right (bytes_eq party (x.1)) _ (secret_party pre x h)
 secret_party (Volatile party value name ∷ pre) x h = or_right (bytes_eq party (x.1)) _ (secret_party pre x h)
-secret_party (Secret party name ∷ pre) x (inl e) = or_left _ _ (subst (λ y. bytes_eq party y ≡ true) (ap (λ (y : List ℕ × List ℕ). y.1) (sym e)) (bytes_refl party))
+secret_party (Secret party name ∷ pre) x (inl e) =
+    or_left _ _ (subst (λ y. bytes_eq party y ≡ true) (ap (λ (y : List ℕ × List ℕ). y.1) (sym e)) (bytes_refl party))
 secret_party (Secret party name ∷ pre) x (inr i) = or_right (bytes_eq party (x.1)) _ (secret_party pre x i)
 
 pub secret_among : (ss : List (List ℕ × List ℕ)) (n a : List ℕ) → Is_in (n, a) ss → is_among n (names_of_party a ss) ≡ true
@@ -67,7 +68,8 @@ among_secret : (ss : List (List ℕ × List ℕ)) (n a : List ℕ) → is_among 
 among_secret [] n a h = cc
 among_secret (q ∷ ss) n a h = by_test (bytes_eq (q.1) a) refl h (among_secret ss n a)
   where
-    by_test : (b : Bool) → bytes_eq (q.1) a ≡ b → is_among n (if b then (q.0 ∷ names_of_party a ss) else names_of_party a ss) ≡ true → (is_among n (names_of_party a ss) ≡ true → Is_in (n, a) ss) → Is_in (n, a) (q ∷ ss)
+    by_test : (b : Bool) → bytes_eq (q.1) a ≡ b → is_among n (if b then (q.0 ∷ names_of_party a ss) else names_of_party a ss) ≡ true
+        → (is_among n (names_of_party a ss) ≡ true → Is_in (n, a) ss) → Is_in (n, a) (q ∷ ss)
     by_test true t k ih = elim (or_cases (bytes_eq (q.0) n) (is_among n (names_of_party a ss)) k) [
       | inl u ↦ (let x = sym (bytes-true (q.0) n u) in let y = sym (bytes-true (q.1) a t) in inl (λ j. (x j, y j)))
       | inr v ↦ inr (ih v)
@@ -82,8 +84,10 @@ secret_named (Secret party name ∷ pre) n h = elim (or_cases (bytes_eq name n) 
 
 pub secrets_different : (pre : List Pre) → are_different (map name_in pre) ≡ true → are_different (names_of (secrets pre)) ≡ true
 secrets_different [] h = refl
-secrets_different (Persistent party value name ∷ pre) h = secrets_different pre (and_parts (not (is_among name (map name_in pre))) (are_different (map name_in pre)) h).1
-secrets_different (Volatile party value name ∷ pre) h = secrets_different pre (and_parts (not (is_among name (map name_in pre))) (are_different (map name_in pre)) h).1
+secrets_different (Persistent party value name ∷ pre) h =
+    secrets_different pre (and_parts (not (is_among name (map name_in pre))) (are_different (map name_in pre)) h).1
+secrets_different (Volatile party value name ∷ pre) h =
+    secrets_different pre (and_parts (not (is_among name (map name_in pre))) (are_different (map name_in pre)) h).1
 secrets_different (Secret party name ∷ pre) h =
     let p = and_parts (not (is_among name (map name_in pre))) (are_different (map name_in pre)) h in
     let f = secret_named pre name in
@@ -91,7 +95,9 @@ secrets_different (Secret party name ∷ pre) h =
     let ih = secrets_different pre p.1 in
     by_test (is_among name (names_of (secrets pre))) refl f q ih
   where
-    by_test : (b : Bool) → is_among name (names_of (secrets pre)) ≡ b → (is_among name (names_of (secrets pre)) ≡ true → is_among name (map name_in pre) ≡ true) → not (is_among name (map name_in pre)) ≡ true → are_different (names_of (secrets pre)) ≡ true → (not (is_among name (names_of (secrets pre))) && are_different (names_of (secrets pre))) ≡ true
+    by_test : (b : Bool) → is_among name (names_of (secrets pre)) ≡ b
+        → (is_among name (names_of (secrets pre)) ≡ true → is_among name (map name_in pre) ≡ true) → not (is_among name (map name_in pre))
+        ≡ true → are_different (names_of (secrets pre)) ≡ true → (not (is_among name (names_of (secrets pre))) && are_different (names_of (secrets pre))) ≡ true
     by_test true e f q ih = let t = f e in let u : not true ≡ true = subst (λ b. not b ≡ true) t q in cc
     by_test false e f q ih = and_from _ _ (ap not e) ih
 
@@ -102,7 +108,8 @@ look_append n [] ys = refl
 look_append n (x ∷ xs) ys = by_test (bytes_eq (x.0) n) (look_append n xs ys)
   where
     by_test : (b : Bool) → digest_of (xs ++ ys) n ≡ (if is_some (look_up n xs) then digest_of xs n else digest_of ys n)
-        → (if b then x.1 else digest_of (xs ++ ys) n) ≡ (if is_some (if b then Some (x.1) else look_up n xs) then (if b then x.1 else digest_of xs n) else digest_of ys n)
+        → (if b then x.1 else digest_of (xs ++ ys) n)
+        ≡ (if is_some (if b then Some (x.1) else look_up n xs) then (if b then x.1 else digest_of xs n) else digest_of ys n)
     by_test true e = refl
     by_test false e = e
 
@@ -110,17 +117,21 @@ pub digest_looked : (n d : List ℕ) (xs : List (List ℕ × List ℕ)) → look
 digest_looked n d [] h = cc
 digest_looked n d (x ∷ xs) h = by_test (bytes_eq (x.0) n) h (digest_looked n d xs)
   where
-    by_test : (b : Bool) → (if b then Some (x.1) else look_up n xs) ≡ Some d → (look_up n xs ≡ Some d → digest_of xs n ≡ d) → (if b then x.1 else digest_of xs n) ≡ d
+    by_test : (b : Bool) → (if b then Some (x.1) else look_up n xs) ≡ Some d → (look_up n xs ≡ Some d → digest_of xs n ≡ d)
+        → (if b then x.1 else digest_of xs n) ≡ d
     by_test true q ih = cc
     by_test false q ih = ih q
 
 -- what is committed for a party's secret is what the contract is compiled with
-committed_digest : (k : ℕ) (a n d : List ℕ) (ps : List Promise) → ((p : Promise) → Is_in p ps → p.contract ≡ k → (e : List ℕ) → look_up n p.digests ≡ Some e → p.party ≡ a)
+committed_digest : (k : ℕ) (a n d : List ℕ) (ps : List Promise)
+    → ((p : Promise) → Is_in p ps → p.contract ≡ k → (e : List ℕ) → look_up n p.digests ≡ Some e → p.party ≡ a)
     → digest_at ps (record { contract = k; party = a; secret = n }) ≡ Some d → digest_of (digests_at ps k) n ≡ d
 committed_digest k a n d [] one h = cc
 committed_digest k a n d (p ∷ ps) one h = by_contract (p.contract == k) refl (committed_digest k a n d ps (λ q i. one q (inr i)))
   where
-    by_contract : (b : Bool) → (p.contract == k) ≡ b → (digest_at ps (record { contract = k; party = a; secret = n }) ≡ Some d → digest_of (digests_at ps k) n ≡ d) → digest_of (if b then p.digests ++ digests_at ps k else digests_at ps k) n ≡ d
+    by_contract : (b : Bool) → (p.contract == k) ≡ b
+        → (digest_at ps (record { contract = k; party = a; secret = n }) ≡ Some d → digest_of (digests_at ps k) n ≡ d)
+        → digest_of (if b then p.digests ++ digests_at ps k else digests_at ps k) n ≡ d
     by_contract false e ih =
         let skip : (is_promise_of k a p) ≡ false = rw e refl in
         ih (rw skip at h)
@@ -144,16 +155,20 @@ find_found : (p : List ℕ → Bool) (xs : List (List ℕ)) → list_any p xs �
 find_found p [] h = cc
 find_found p (x ∷ xs) h = by_test (p x) refl h (find_found p xs)
   where
-    by_test : (b : Bool) → p x ≡ b → (b || list_any p xs) ≡ true → (list_any p xs ≡ true → (t : List ℕ) × (find p xs ≡ Some t) × (p t ≡ true) × (is_among t xs ≡ true)) → (t : List ℕ) × ((if b then Some x else find p xs) ≡ Some t) × (p t ≡ true) × (is_among t (x ∷ xs) ≡ true)
+    by_test : (b : Bool) → p x ≡ b → (b || list_any p xs) ≡ true
+        → (list_any p xs ≡ true → (t : List ℕ) × (find p xs ≡ Some t) × (p t ≡ true) × (is_among t xs ≡ true)) → (t : List ℕ)
+        × ((if b then Some x else find p xs) ≡ Some t) × (p t ≡ true) × (is_among t (x ∷ xs) ≡ true)
     by_test true e k ih = (x, refl, e, or_left _ _ (bytes_refl x))
     by_test false e k ih = let r = ih k in (r.0, r.1, r.2, or_right (bytes_eq x r.0) _ r.3)
 
 any_of : (p : List ℕ → Bool) (t : List ℕ) (xs : List (List ℕ)) → p t ≡ true → is_among t xs ≡ true → list_any p xs ≡ true
 any_of p t xs f h = any_then (λ u. bytes_eq u t) p xs (λ u i k. subst (λ y. p y ≡ true) (sym (bytes-true u t k)) f) h
 
-module _ (s : Setup) (z : List (List ℕ)) (c : Configuration) (w : World) (kept : KeptSecrets s z c w) (begins : Begins z w.posted) (promises : PromisesNamed s w.promises)
+module _ (s : Setup) (z : List (List ℕ)) (c : Configuration) (w : World) (kept : KeptSecrets s z c w) (begins : Begins z w.posted)
+    (promises : PromisesNamed s w.promises)
     (k : ℕ) (ad : Advert) (contract : slice_get s.contracts k ≡ Some ad) (well : IsWellFormed ad) (promised : have_promised w k (participants ad) ≡ true) where
-  one_length : (x : Revealed) (d t : List ℕ) → digest_at w.promises x ≡ Some d → fits s d t ≡ true → is_among t w.posted ≡ true → length_in_run s z x.party x.secret d ≡ Some (secret_size t)
+  one_length : (x : Revealed) (d t : List ℕ) → digest_at w.promises x ≡ Some d → fits s d t ≡ true → is_among t w.posted ≡ true
+      → length_in_run s z x.party x.secret d ≡ Some (secret_size t)
   one_length x d t e f h = by_honest (is_honest s x.party) refl
     where
       value : s.hash t ≡ d
@@ -162,7 +177,8 @@ module _ (s : Setup) (z : List (List ℕ)) (c : Configuration) (w : World) (kept
       the_same : (u : List ℕ) → s.hash u ≡ d → is_among u w.hashed ≡ true → u ≡ t
       the_same u q i = kept.clear.one u t i (kept.heard t h) (q ∙ sym value)
 
-      by_honest : (b : Bool) → is_honest s x.party ≡ b → (if b then option_map secret_size (held_secret s x.party x.secret) else option_map secret_size (fitting s z d)) ≡ Some (secret_size t)
+      by_honest : (b : Bool) → is_honest s x.party ≡ b
+          → (if b then option_map secret_size (held_secret s x.party x.secret) else option_map secret_size (fitting s z d)) ≡ Some (secret_size t)
       by_honest true q =
           let o = is_own-some s w.hashed (held_secret s x.party x.secret) (digest_at w.promises x) (kept.own x q) (ap is_some e) in
           let v : (let y : Option (List ℕ) = Some (s.hash o.secret) in y) ≡ Some d = sym o.digest ∙ e in
@@ -192,9 +208,11 @@ module _ (s : Setup) (z : List (List ℕ)) (c : Configuration) (w : World) (kept
       let part : is_among l.0 (participants ad) ≡ true = added (map party_of ad.pre ++ choice_mentions ad.root) [] l.0 (among_left l.0 (map party_of ad.pre) (choice_mentions ad.root) (secret_party ad.pre (x, l.0) i)) in
       let has : has_promised w k l.0 ≡ true = all_among (has_promised w k) (participants ad) l.0 promised part in
       let own : is_among x (secrets_at s k l.0) ≡ true = subst (λ pre. is_among x (secrets_of l.0 pre) ≡ true) (sym pre_is) (secret_among (secrets ad.pre) x l.0 i) in
-      by_digest l.0 l.1 (digest_at w.promises (record { contract = k; party = l.0; secret = x })) refl (kept.full (record { contract = k; party = l.0; secret = x }) has own)
+      by_digest l.0 l.1 (digest_at w.promises (record { contract = k; party = l.0; secret = x })) refl
+      (kept.full (record { contract = k; party = l.0; secret = x }) has own)
     where
-      by_digest : (a : List ℕ) → look_up x (secrets ad.pre) ≡ Some a → (o : Option (List ℕ)) → digest_at w.promises (record { contract = k; party = a; secret = x }) ≡ o → is_some o ≡ true → Known x
+      by_digest : (a : List ℕ) → look_up x (secrets ad.pre) ≡ Some a → (o : Option (List ℕ))
+          → digest_at w.promises (record { contract = k; party = a; secret = x }) ≡ o → is_some o ≡ true → Known x
       by_digest a l None e q = cc
       by_digest a l (Some d) e q = record {
         party = a;
@@ -213,7 +231,8 @@ module _ (s : Setup) (z : List (List ℕ)) (c : Configuration) (w : World) (kept
   fits_of t d h = h
 
   -- one secret with its string
-  one_revealed : (x t : List ℕ) (n : Known x) → fits s n.digest t ≡ true → is_among t w.posted ≡ true → is_revealed_by c.revealed k (look_up x (secrets ad.pre)) x ≡ true
+  one_revealed : (x t : List ℕ) (n : Known x) → fits s n.digest t ≡ true → is_among t w.posted ≡ true
+      → is_revealed_by c.revealed k (look_up x (secrets ad.pre)) x ≡ true
   one_revealed x t n f h =
       let r : Revealed = record { contract = k; party = n.party; secret = x } in
       let sh : is_shown s w.posted (digest_at w.promises r) ≡ true = ap (is_shown s w.posted) n.committed ∙ find_any (fits s n.digest) w.posted (any_of (fits s n.digest) t w.posted f h) in
@@ -224,10 +243,12 @@ module _ (s : Setup) (z : List (List ℕ)) (c : Configuration) (w : World) (kept
       let r : Revealed = record { contract = k; party = n.party; secret = x } in
       ap (λ o. length_by c.committed k o x) n.looked
       ∙ ap (λ cs. known_length (length_at cs k n.party x)) kept.lengths
-      ∙ ap known_length (length_at-by s z r w.promises ∙ ap (option_map (length_in_run s z n.party x)) n.committed ∙ ap Some (one_length r n.digest t n.committed f h))
+      ∙ ap known_length (length_at-by s z r w.promises ∙ ap (option_map (length_in_run s z n.party x)) n.committed
+      ∙ ap Some (one_length r n.digest t n.committed f h))
 
   -- all secrets with their strings
-  pub all_revealed : (xs ts : List (List ℕ)) → list_all (λ x. is_among x (names_of (secrets ad.pre))) xs ≡ true → are_secrets s.hash ts (map (digest_of (digests_at w.promises k)) xs) ≡ true → ((t : List ℕ) → is_among t ts ≡ true → is_among t w.posted ≡ true)
+  pub all_revealed : (xs ts : List (List ℕ)) → list_all (λ x. is_among x (names_of (secrets ad.pre))) xs ≡ true
+      → are_secrets s.hash ts (map (digest_of (digests_at w.promises k)) xs) ≡ true → ((t : List ℕ) → is_among t ts ≡ true → is_among t w.posted ≡ true)
       → (are_revealed c.revealed k ad.pre xs ≡ true) × (secret_lengths c.committed k ad.pre xs ≡ lengths_of xs (map length ts))
   all_revealed [] [] h f p = (refl, refl)
   all_revealed [] (t ∷ ts) h f p = cc

@@ -27,7 +27,7 @@ use Rattle.spec_run.specs.Event.{opening_outputs}
 use Rattle.theory_bitcoin.specs.Apart.{bare_input, bare}
 use Rattle.theory_calculus.specs.Members.{Is_in}
 use Rattle.theory_calculus.proofs.Members.{in_some}
-use Rattle.theory_world.specs.KeptApart.{NoClash}
+use Rattle.theory_world.specs.KeptApart.{NoCollision}
 use Rattle.theory_world.specs.Transactions.{IsNumbered, HeardLists}
 use Rattle.theory_world.proofs.Ledger.Preimages.{double-apart}
 use Rattle.theory_world.proofs.Ledger.Bare.{stripped-apart, inputless_apart}
@@ -47,7 +47,8 @@ in_images f (y ∷ xs) x (inr i) = inr (in_images f xs x i)
 -- ---- sequences
 
 -- no input of a gift has the sequence of a contract's transaction
-not_final : (spends : List Spent) (xs ys : List TxIn) → map bare_input xs ≡ map bare_input (map input_of spends) → map (λ i. i.sequence) xs ≡ map (λ i. i.sequence) ys → AllFinal ys → (x : TxIn) → Is_in x xs → ⊥
+not_final : (spends : List Spent) (xs ys : List TxIn) → map bare_input xs ≡ map bare_input (map input_of spends) → map (λ i. i.sequence) xs
+    ≡ map (λ i. i.sequence) ys → AllFinal ys → (x : TxIn) → Is_in x xs → ⊥
 not_final spends [] ys e f h x i = absurd i
 not_final [] (x ∷ xs) ys e f h y i = cc
 not_final (z ∷ spends) (x ∷ xs) [] e f h y i = cc
@@ -69,14 +70,18 @@ pub record Lies (s : Setup) (w : World) (st : Instance) (d : List ℕ × Holding
   pub declared : is_declared s (d.1).owner ≡ true
 
 -- a contract that is compiled in the second world and isn't in the first, where all contracts of the first stay compiled
-module _ (s : Setup) (size : HashesBytes s.hash) (few_contracts : length s.contracts ≤ 16) (g : Configuration) (w : World) (kept : KeptBook s g w) (fit : TransactionsFit s w) (check : Checked s w)
-    (next : World) (clear : NoClash s.hash next.hashed) (sub : (t : List ℕ) → is_among t w.hashed ≡ true → is_among t next.hashed ≡ true) (next_fit : TransactionsFit s next) (next_check : Checked s next)
-    (heard : (j : ℕ) (su : Instance) → compiled_instance s next j ≡ Some su → (t : List ℕ) → is_among t (compiled_strings s.hash su) ≡ true → is_among t next.hashed ≡ true)
+module _ (s : Setup) (size : HashesBytes s.hash) (few_contracts : length s.contracts ≤ 16) (g : Configuration) (w : World)
+    (kept : KeptBook s g w) (fit : TransactionsFit s w) (check : Checked s w)
+    (next : World) (clear : NoCollision s.hash next.hashed)
+    (sub : (t : List ℕ) → is_among t w.hashed ≡ true → is_among t next.hashed ≡ true) (next_fit : TransactionsFit s next) (next_check : Checked s next)
+    (heard : (j : ℕ) (su : Instance) → compiled_instance s next j ≡ Some su → (t : List ℕ) → is_among t (compiled_strings s.hash su) ≡ true
+    → is_among t next.hashed ≡ true)
     (stays : (j : ℕ) (su : Instance) → compiled_instance s w j ≡ Some su → compiled_instance s next j ≡ Some su)
     (k : ℕ) (st : Instance) (now : compiled_instance s next k ≡ Some st) (before : (su : Instance) → compiled_instance s w k ≡ Some su → ⊥)
     (lies : (d : List ℕ × Holding) → Is_in d (persistent st.advert.pre) → Lies s w st d) (a : List ℕ) (part : is_among a (people st) ≡ true) (honest : is_honest s a ≡ true) where
   -- an output of a transaction of this one's id was made by an accepted one that is the same but for witnesses
-  by_id : (d : Unsigned) (x : Spent) → Is_in x d.spends → IsNumbered (tx_of d) → HeardUnsigned s.hash next.hashed d → (n : ℕ) (o : Output) → slice_get w.outputs n ≡ Some o → o.outpoint.txid ≡ txid s.hash (tx_of d) → ((id : List ℕ) (f : From s w id) → bare f.tx ≡ bare (tx_of d) → ⊥) → ⊥
+  by_id : (d : Unsigned) (x : Spent) → Is_in x d.spends → IsNumbered (tx_of d) → HeardUnsigned s.hash next.hashed d → (n : ℕ) (o : Output)
+      → slice_get w.outputs n ≡ Some o → o.outpoint.txid ≡ txid s.hash (tx_of d) → ((id : List ℕ) (f : From s w id) → bare f.tx ≡ bare (tx_of d) → ⊥) → ⊥
   by_id d x i fd hd n o there e go = by_origin (kept.origin n o there)
     where
       by_origin : (o.outpoint.txid ≡ opening_id s) ⊎ From s w o.outpoint.txid → ⊥
@@ -111,7 +116,8 @@ module _ (s : Setup) (size : HashesBytes s.hash) (few_contracts : length s.contr
 
   -- no initial transaction was accepted
   not_begun : (id : List ℕ) (f : From s w id) → bare f.tx ≡ bare (tx_of (initial_unsigned s.hash st)) → ⊥
-  not_begun id f same = by_cause (cause_of s size g w kept fit check next.hashed clear sub f.tx f.fits f.no_scripts lists a dig sp.input (party_script s.hash a) so.output.value placed digest_heard refl cause)
+  not_begun id f same = by_cause (cause_of s size g w kept fit check next.hashed clear sub f.tx f.fits f.no_scripts lists a dig sp.input
+      (party_script s.hash a) so.output.value placed digest_heard refl cause)
     where
       bound : Lies s w st (dep.name, dep.holding)
       bound = lies (dep.name, dep.holding) dep.there
@@ -151,7 +157,8 @@ module _ (s : Setup) (size : HashesBytes s.hash) (few_contracts : length s.contr
       lists = let h = f.lists in record { places = sub _ h.places; places_hash = sub _ h.places_hash; sequences = sub _ h.sequences; sequences_hash = sub _ h.sequences_hash; outputs = sub _ h.outputs; outputs_hash = sub _ h.outputs_hash }
 
       by_cause : Cause s size g w kept fit check next.hashed clear sub f.tx f.fits f.no_scripts lists a → ⊥
-      by_cause (gift_cause d h q) = not_final (persistent_deposits s.hash st) f.tx.inputs h.tx.inputs (ap (λ (y : Tx). y.inputs) same) q.sequences h.final sp.input sp.among
+      by_cause (gift_cause d h q) =
+          not_final (persistent_deposits s.hash st) f.tx.inputs h.tx.inputs (ap (λ (y : Tx). y.inputs) same) q.sequences h.final sp.input sp.among
       -- a put spends what holds a position first, a bound deposit holds none
       by_cause (put_cause p) =
           let r = bare_in (map input_of (branch_unsigned s.hash p.instance p.here p.index p.branch).spends) (map input_of (persistent_deposits s.hash st)) (input_of p.here.output) (ap (λ (y : Tx). y.inputs) (sym p.is ∙ same)) (inl refl) in
@@ -169,7 +176,8 @@ module _ (s : Setup) (size : HashesBytes s.hash) (few_contracts : length s.contr
 
   -- ---- all positions
 
-  unmade_below : (m : ℕ) (q : List PathStep) (here : Standing) (choice : Contract) (n : ℕ) (o : Output) → length q < m → position_at s.hash st q ≡ Some (here, choice) → slice_get w.outputs n ≡ Some o → o.outpoint ≡ here.output.outpoint → ⊥
+  unmade_below : (m : ℕ) (q : List PathStep) (here : Standing) (choice : Contract) (n : ℕ) (o : Output) → length q < m
+      → position_at s.hash st q ≡ Some (here, choice) → slice_get w.outputs n ≡ Some o → o.outpoint ≡ here.output.outpoint → ⊥
   unmade_below zero q here choice n o l e there p = absurd (omega (arith, l))
   unmade_below (suc m) q here choice n o l e there p = by_made (made_by s.hash st q here choice e) (unmade_below m)
     where
@@ -183,15 +191,21 @@ module _ (s : Setup) (size : HashesBytes s.hash) (few_contracts : length s.contr
           ]
 
       by_made : MadeBy s.hash st q here choice
-          → ((q' : List PathStep) (here' : Standing) (choice' : Contract) (n' : ℕ) (o' : Output) → length q' < m → position_at s.hash st q' ≡ Some (here', choice') → slice_get w.outputs n' ≡ Some o' → o'.outpoint ≡ here'.output.outpoint → ⊥) → ⊥
-      by_made (by_initial root at) ih = by_id (initial_unsigned s.hash st) (deposit s.hash st dep.name dep.holding) persists (next_fit.initial k st now) (initial_heard s.hash st next.hashed (heard k st now)) n o there (ap (λ (y : OutPoint). y.txid) p ∙ ap (λ (y : Standing). y.output.outpoint.txid) at) not_begun
+          → ((q' : List PathStep) (here' : Standing) (choice' : Contract) (n' : ℕ) (o' : Output) → length q' < m → position_at s.hash st q'
+          ≡ Some (here', choice') → slice_get w.outputs n' ≡ Some o' → o'.outpoint ≡ here'.output.outpoint → ⊥) → ⊥
+      by_made (by_initial root at) ih =
+          by_id (initial_unsigned s.hash st) (deposit s.hash st dep.name dep.holding) persists (next_fit.initial k st now)
+          (initial_heard s.hash st next.hashed (heard k st now)) n o there
+          (ap (λ (y : OutPoint). y.txid) p ∙ ap (λ (y : Standing). y.output.outpoint.txid) at) not_begun
       by_made (by_branch bb) ih =
           let ib = bb.is_branch in
           let d = branch_unsigned s.hash st bb.from_here bb.index bb.branch in
-          by_id d bb.from_here.output (inl refl) (next_fit.branch k st ib.position bb.from_here ib.choice bb.index bb.branch now ib.stands ib.there) (branch_heard s.hash st next.hashed (heard k st now) ib.position bb.from_here ib.choice bb.index bb.branch ib.stands ib.there)
+          by_id d bb.from_here.output (inl refl) (next_fit.branch k st ib.position bb.from_here ib.choice bb.index bb.branch now ib.stands
+          ib.there) (branch_heard s.hash st next.hashed (heard k st now) ib.position bb.from_here ib.choice bb.index bb.branch ib.stands ib.there)
           n o there (ap (λ (y : OutPoint). y.txid) (p ∙ bb.outpoint)) (λ id f same.
           let sp = spent_there id f d same bb.from_here.output (inl refl) in
           ih ib.position bb.from_here ib.choice sp.spent.number sp.spent.output (nearer bb) ib.stands sp.spent.there (sym sp.spent.outpoint ∙ sp.prev))
 
-  pub unmade : (q : List PathStep) (here : Standing) (choice : Contract) (n : ℕ) (o : Output) → position_at s.hash st q ≡ Some (here, choice) → slice_get w.outputs n ≡ Some o → o.outpoint ≡ here.output.outpoint → ⊥
+  pub unmade : (q : List PathStep) (here : Standing) (choice : Contract) (n : ℕ) (o : Output) → position_at s.hash st q
+      ≡ Some (here, choice) → slice_get w.outputs n ≡ Some o → o.outpoint ≡ here.output.outpoint → ⊥
   unmade q here choice n o e there p = unmade_below (suc (length q)) q here choice n o (omega arith) e there p

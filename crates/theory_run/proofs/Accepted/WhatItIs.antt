@@ -29,7 +29,7 @@ use Rattle.spec_run.specs.Ledger.{is_initial, initial_from, initial_of, first_po
 use Rattle.theory_bitcoin.specs.Apart.{bare_input, bare}
 use Rattle.theory_calculus.specs.Members.{Is_in}
 use Rattle.theory_calculus.proofs.Names.{persistent_deposit}
-use Rattle.theory_world.specs.KeptApart.{NoClash}
+use Rattle.theory_world.specs.KeptApart.{NoCollision}
 use Rattle.theory_world.specs.Transactions.{IsNumbered}
 use Rattle.theory_world.proofs.Ledger.Preimages.{double-apart}
 use Rattle.theory_world.proofs.Ledger.Bare.{same-true, same_from, stripped-apart, txid-bare}
@@ -55,14 +55,16 @@ initial_some : (s : Setup) (w : World) (tx : Tx) (j k : ℕ) (cs : List Advert) 
 initial_some s w tx j k [] h = cc
 initial_some s w tx j k (c ∷ cs) h = by_test (is_initial s tx (compiled_instance s w j)) refl h (initial_some s w tx (j + 1) k cs)
   where
-    by_test : (b : Bool) → is_initial s tx (compiled_instance s w j) ≡ b → (if b then Some j else initial_from s w tx (j + 1) cs) ≡ Some k → (initial_from s w tx (j + 1) cs ≡ Some k → IsInitial s w tx k) → IsInitial s w tx k
+    by_test : (b : Bool) → is_initial s tx (compiled_instance s w j) ≡ b → (if b then Some j else initial_from s w tx (j + 1) cs) ≡ Some k
+        → (initial_from s w tx (j + 1) cs ≡ Some k → IsInitial s w tx k) → IsInitial s w tx k
     by_test true e q ih = let z : j ≡ k = cc in subst (IsInitial s w tx) z (initial_one s w tx j (compiled_instance s w j) refl e)
     by_test false e q ih = ih q
 
 pub initial_is : (s : Setup) (w : World) (tx : Tx) (k : ℕ) → initial_of s w tx ≡ Some k → IsInitial s w tx k
 initial_is s w tx k h = initial_some s w tx 0 k s.contracts h
 
-initial_none : (s : Setup) (w : World) (tx : Tx) (j m : ℕ) (cs : List Advert) (c : Advert) → slice_get cs m ≡ Some c → initial_from s w tx j cs ≡ None → is_initial s tx (compiled_instance s w (m + j)) ≡ false
+initial_none : (s : Setup) (w : World) (tx : Tx) (j m : ℕ) (cs : List Advert) (c : Advert) → slice_get cs m ≡ Some c
+    → initial_from s w tx j cs ≡ None → is_initial s tx (compiled_instance s w (m + j)) ≡ false
 initial_none s w tx j m [] c e h = cc
 initial_none s w tx j zero (d ∷ cs) c e h = let z : 0 + j ≡ j = omega arith in rw z (by_test (is_initial s tx (compiled_instance s w j)) h)
   where
@@ -76,7 +78,8 @@ initial_none s w tx j (suc m) (d ∷ cs) c e h = let z : suc m + j ≡ m + (j + 
     by_test false q = q
 
 -- where it is none, it is no compiled contract's
-pub not_initial : (s : Setup) (w : World) (tx : Tx) (k : ℕ) (st : Instance) → initial_of s w tx ≡ None → compiled_instance s w k ≡ Some st → bare tx ≡ bare (tx_of (initial_unsigned s.hash st)) → ⊥
+pub not_initial : (s : Setup) (w : World) (tx : Tx) (k : ℕ) (st : Instance) → initial_of s w tx ≡ None → compiled_instance s w k ≡ Some st
+    → bare tx ≡ bare (tx_of (initial_unsigned s.hash st)) → ⊥
 not_initial s w tx k st h c e =
     let ci = compiled_is s w k st c in
     let z : k + 0 ≡ k = omega arith in
@@ -86,11 +89,14 @@ not_initial s w tx k st h c e =
 
 -- ---- deposits where they are bound
 
-bound_looked : (w : World) (bs : List (List ℕ × ℕ)) (name : List ℕ) (n : ℕ) → look_up name bs ≡ Some n → look_up name (bound_outpoints w bs) ≡ Some (outpoint_of (output_at w n))
+bound_looked : (w : World) (bs : List (List ℕ × ℕ)) (name : List ℕ) (n : ℕ) → look_up name bs ≡ Some n → look_up name (bound_outpoints w bs)
+    ≡ Some (outpoint_of (output_at w n))
 bound_looked w [] name n h = cc
 bound_looked w (b ∷ bs) name n h = by_test (bytes_eq (b.0) name) h (bound_looked w bs name n)
   where
-    by_test : (t : Bool) → (if t then Some (b.1) else look_up name bs) ≡ Some n → (look_up name bs ≡ Some n → look_up name (bound_outpoints w bs) ≡ Some (outpoint_of (output_at w n))) → (if t then Some (outpoint_of (output_at w (b.1))) else look_up name (bound_outpoints w bs)) ≡ Some (outpoint_of (output_at w n))
+    by_test : (t : Bool) → (if t then Some (b.1) else look_up name bs) ≡ Some n
+        → (look_up name bs ≡ Some n → look_up name (bound_outpoints w bs) ≡ Some (outpoint_of (output_at w n)))
+        → (if t then Some (outpoint_of (output_at w (b.1))) else look_up name (bound_outpoints w bs)) ≡ Some (outpoint_of (output_at w n))
     by_test true q ih = let z : b.1 ≡ n = cc in ap (λ k. Some (outpoint_of (output_at w k))) z
     by_test false q ih = ih q
 
@@ -101,7 +107,8 @@ pub record AtBound (s : Setup) (w : World) (st : Instance) (name : List ℕ) (h 
   pub bound : IsBound s w h number
   pub outpoint : (deposit s.hash st name h).outpoint ≡ bound.output.outpoint
 
-pub bound_at : (s : Setup) (w : World) → ((k : ℕ) → is_advertised w k ≡ true → AdvertFine s w k) → (k : ℕ) (st : Instance) → compiled_instance s w k ≡ Some st → (name : List ℕ) (h : Holding) → Is_in (name, h) (deposits st.advert.pre) → AtBound s w st name h
+pub bound_at : (s : Setup) (w : World) → ((k : ℕ) → is_advertised w k ≡ true → AdvertFine s w k) → (k : ℕ) (st : Instance)
+    → compiled_instance s w k ≡ Some st → (name : List ℕ) (h : Holding) → Is_in (name, h) (deposits st.advert.pre) → AtBound s w st name h
 bound_at s w adverts k st c name h i =
     let ci = compiled_is s w k st c in
     let ad = adverts k ci.advertised in
@@ -120,11 +127,13 @@ bound_at s w adverts k st c name h i =
       outpoint = ap (λ bs. outpoint_or_none (look_up name bs)) sb ∙ ap outpoint_or_none l ∙ ap outpoint_of b.2.there;
     }
 
-pub at_bound : (s : Setup) (g : Configuration) (w : World) → KeptBook s g w → (k : ℕ) (st : Instance) → compiled_instance s w k ≡ Some st → (name : List ℕ) (h : Holding) → Is_in (name, h) (deposits st.advert.pre) → AtBound s w st name h
+pub at_bound : (s : Setup) (g : Configuration) (w : World) → KeptBook s g w → (k : ℕ) (st : Instance) → compiled_instance s w k ≡ Some st
+    → (name : List ℕ) (h : Holding) → Is_in (name, h) (deposits st.advert.pre) → AtBound s w st name h
 at_bound s g w kept k st c name h i = bound_at s w kept.adverts k st c name h i
 
 -- the first persistent deposit
-first_persistent : (hash : List ℕ → List ℕ) (st : Instance) (ds : List (List ℕ × Holding)) (x : TxIn) (xs : List TxIn) → map bare_input (x ∷ xs) ≡ map bare_input (map input_of (map (λ (d : List ℕ × Holding). deposit hash st d.0 d.1) ds))
+first_persistent : (hash : List ℕ → List ℕ) (st : Instance) (ds : List (List ℕ × Holding)) (x : TxIn) (xs : List TxIn)
+    → map bare_input (x ∷ xs) ≡ map bare_input (map input_of (map (λ (d : List ℕ × Holding). deposit hash st d.0 d.1) ds))
     → (d : List ℕ × Holding) × Is_in d ds × (x.prev ≡ (deposit hash st d.0 d.1).outpoint)
 first_persistent hash st [] x xs h = cc
 first_persistent hash st (d ∷ ds) x xs h =
@@ -134,7 +143,8 @@ first_persistent hash st (d ∷ ds) x xs h =
 first_place : (x : TxIn) (xs : List TxIn) (y : Spent) (ys : List Spent) → map bare_input (x ∷ xs) ≡ map bare_input (map input_of (y ∷ ys)) → x.prev ≡ y.outpoint
 first_place x xs y ys h = let a : bare_input x ≡ bare_input (input_of y) = cc in ap (λ (z : TxIn). z.prev) a
 
-module _ (s : Setup) (size : HashesBytes s.hash) (g : Configuration) (w : World) (kept : KeptBook s g w) (fit : TransactionsFit s w) (check : Checked s w) (hs : List (List ℕ)) (clear : NoClash s.hash hs) (sub : (t : List ℕ) → is_among t w.hashed ≡ true → is_among t hs ≡ true)
+module _ (s : Setup) (size : HashesBytes s.hash) (g : Configuration) (w : World) (kept : KeptBook s g w) (fit : TransactionsFit s w)
+    (check : Checked s w) (hs : List (List ℕ)) (clear : NoCollision s.hash hs) (sub : (t : List ℕ) → is_among t w.hashed ≡ true → is_among t hs ≡ true)
     (tx : Tx) (fits : IsNumbered tx) (spent : List ℕ) (acc : Accepting s w tx spent) (all : HeardAll s w hs tx) where
   -- ---- the first input
 
@@ -171,7 +181,8 @@ module _ (s : Setup) (size : HashesBytes s.hash) (g : Configuration) (w : World)
       sym first.spends.outpoint ∙ first_place first.input first.inputs x xs j
 
   -- an initial transaction spends what holds nothing
-  pub initial_first : (k : ℕ) (st : Instance) → compiled_instance s w k ≡ Some st → bare tx ≡ bare (tx_of (initial_unsigned s.hash st)) → first.spends.output.holds ≡ None
+  pub initial_first : (k : ℕ) (st : Instance) → compiled_instance s w k ≡ Some st → bare tx ≡ bare (tx_of (initial_unsigned s.hash st))
+      → first.spends.output.holds ≡ None
   initial_first k st c b =
       let i : map bare_input tx.inputs ≡ map bare_input (map input_of (persistent_deposits s.hash st)) = ap (λ (y : Tx). y.inputs) b in
       let j = ap (map bare_input) (sym first.inputs_is) ∙ i in
@@ -183,13 +194,18 @@ module _ (s : Setup) (size : HashesBytes s.hash) (g : Configuration) (w : World)
       ap (λ (y : Output). y.holds) f ∙ a.bound.free
 
   -- a branch's transaction spends what holds its position
-  pub branch_first : (k : ℕ) (st : Instance) (q : List PathStep) (here : Standing) (choice : Contract) (i : ℕ) (b : term.Guarded) → compiled_instance s w k ≡ Some st → position_at s.hash st q ≡ Some (here, choice) → bare tx ≡ bare (tx_of (branch_unsigned s.hash st here i b))
+  pub branch_first : (k : ℕ) (st : Instance) (q : List PathStep) (here : Standing) (choice : Contract) (i : ℕ) (b : term.Guarded)
+      → compiled_instance s w k ≡ Some st → position_at s.hash st q ≡ Some (here, choice) → bare tx ≡ bare (tx_of (branch_unsigned s.hash st here i b))
       → first.spends.output.holds ≡ Some (record { contract = k; position = q })
-  branch_first k st q here choice i b c e h = kept.placed k st q here choice first.number first.spends.output c e first.spends.there (unsigned_first (branch_unsigned s.hash st here i b) here.output _ refl h)
+  branch_first k st q here choice i b c e h =
+      kept.placed k st q here choice first.number first.spends.output c e first.spends.there
+      (unsigned_first (branch_unsigned s.hash st here i b) here.output _ refl h)
 
   -- equal ids come from transactions that are the same but for witnesses
   pub id_bare : (d : Unsigned) → IsNumbered (tx_of d) → HeardUnsigned s.hash hs d → txid s.hash tx ≡ txid s.hash (tx_of d) → bare tx ≡ bare (tx_of d)
-  id_bare d df dh e = stripped-apart tx (tx_of d) (scripts_none s size g w kept fit check hs clear sub tx fits spent acc all) (unsigned_no_scripts d.spends) fits df (double-apart s.hash hs clear (stripped tx) (stripped (tx_of d)) (heard_bytes s w hs tx all) (heard_bytes_hash s w hs tx all) (unsigned_bytes s.hash hs d dh) (unsigned_bytes_hash s.hash hs d dh) e)
+  id_bare d df dh e = stripped-apart tx (tx_of d) (scripts_none s size g w kept fit check hs clear sub tx fits spent acc all)
+      (unsigned_no_scripts d.spends) fits df (double-apart s.hash hs clear (stripped tx) (stripped (tx_of d)) (heard_bytes s w hs tx all)
+      (heard_bytes_hash s w hs tx all) (unsigned_bytes s.hash hs d dh) (unsigned_bytes_hash s.hash hs d dh) e)
 
   pub bare_id : (d : Unsigned) → bare tx ≡ bare (tx_of d) → txid s.hash tx ≡ txid s.hash (tx_of d)
   bare_id d e = sym (txid-bare s.hash tx) ∙ ap (txid s.hash) e ∙ txid-bare s.hash (tx_of d)
@@ -200,9 +216,11 @@ module _ (s : Setup) (size : HashesBytes s.hash) (g : Configuration) (w : World)
   -- how a position's output is one of this transaction's
   pub data Making (k : ℕ) (st : Instance) (q : List PathStep) (here : Standing) (choice : Contract) (m : ℕ) : Type 0 where
     initial_making : q ≡ [] → here ≡ root_standing s.hash st → bare tx ≡ bare (tx_of (initial_unsigned s.hash st)) → Making k st q here choice m
-    branch_making : (bb : ByBranch s.hash st q here choice) → bare tx ≡ bare (tx_of (branch_unsigned s.hash st bb.from_here bb.index bb.branch)) → m ≡ bb.number → Making k st q here choice m
+    branch_making : (bb : ByBranch s.hash st q here choice) → bare tx
+        ≡ bare (tx_of (branch_unsigned s.hash st bb.from_here bb.index bb.branch)) → m ≡ bb.number → Making k st q here choice m
 
-  pub making : (k : ℕ) (st : Instance) (q : List PathStep) (here : Standing) (choice : Contract) (m : ℕ) → compiled_instance s w k ≡ Some st → position_at s.hash st q ≡ Some (here, choice) → record { txid = txid s.hash tx; vout = m } ≡ here.output.outpoint → Making k st q here choice m
+  pub making : (k : ℕ) (st : Instance) (q : List PathStep) (here : Standing) (choice : Contract) (m : ℕ) → compiled_instance s w k ≡ Some st
+      → position_at s.hash st q ≡ Some (here, choice) → record { txid = txid s.hash tx; vout = m } ≡ here.output.outpoint → Making k st q here choice m
   making k st q here choice m c e p = by_made (made_by s.hash st q here choice e)
     where
       by_made : MadeBy s.hash st q here choice → Making k st q here choice m
@@ -212,11 +230,15 @@ module _ (s : Setup) (size : HashesBytes s.hash) (g : Configuration) (w : World)
       by_made (by_branch bb) =
           let ib = bb.is_branch in
           let i : txid s.hash tx ≡ txid s.hash (tx_of (branch_unsigned s.hash st bb.from_here bb.index bb.branch)) = ap (λ (y : OutPoint). y.txid) (p ∙ bb.outpoint) in
-          branch_making bb (id_bare (branch_unsigned s.hash st bb.from_here bb.index bb.branch) (fit.branch k st ib.position bb.from_here ib.choice bb.index bb.branch c ib.stands ib.there) (branch_heard s.hash st hs (heard_of k st c) ib.position bb.from_here ib.choice bb.index bb.branch ib.stands ib.there) i)
+          branch_making bb (id_bare (branch_unsigned s.hash st bb.from_here bb.index bb.branch)
+          (fit.branch k st ib.position bb.from_here ib.choice bb.index bb.branch c ib.stands ib.there)
+          (branch_heard s.hash st hs (heard_of k st c) ib.position bb.from_here ib.choice bb.index bb.branch ib.stands ib.there) i)
           (ap (λ (y : OutPoint). y.vout) (p ∙ bb.outpoint))
 
   -- where nothing is begun or taken, no position's output is made
-  pub moves_make_none : initial_of s w tx ≡ None → first_position w spent ≡ None → (k : ℕ) (st : Instance) (q : List PathStep) (here : Standing) (choice : Contract) (m : ℕ) → compiled_instance s w k ≡ Some st → position_at s.hash st q ≡ Some (here, choice)
+  pub moves_make_none : initial_of s w tx ≡ None → first_position w spent ≡ None
+      → (k : ℕ) (st : Instance) (q : List PathStep) (here : Standing) (choice : Contract) (m : ℕ) → compiled_instance s w k ≡ Some st
+      → position_at s.hash st q ≡ Some (here, choice)
       → record { txid = txid s.hash tx; vout = m } ≡ here.output.outpoint → ⊥
   moves_make_none i f k st q here choice m c e p = by_making (making k st q here choice m c e p)
     where
@@ -225,7 +247,8 @@ module _ (s : Setup) (size : HashesBytes s.hash) (g : Configuration) (w : World)
       by_making (branch_making bb h n) = let x = branch_first k st bb.is_branch.position bb.from_here bb.is_branch.choice bb.index bb.branch c bb.is_branch.stands h in let y = sym f ∙ first_holds ∙ x in cc
 
   -- an input whose output holds something spends the first one's
-  pub held_is_first : (i : TxIn) (n : ℕ) (sp : IsSpent s w tx n i) (h : ContractPosition) → Is_in i tx.inputs → sp.output.holds ≡ Some h → first_position w spent ≡ Some h
+  pub held_is_first : (i : TxIn) (n : ℕ) (sp : IsSpent s w tx n i) (h : ContractPosition) → Is_in i tx.inputs → sp.output.holds ≡ Some h
+      → first_position w spent ≡ Some h
   held_is_first i n sp h k e =
       let hf = kept.held n sp.output h sp.there e in
       let hi = heard_input s w hs tx all i n (λ t l. all_strings_of s w tx i t k l) sp in

@@ -21,12 +21,12 @@ use Rattle.spec_run.specs.World.{Output, World, output_at, is_deposit, bindings_
 use Rattle.spec_run.specs.Compiled.{bound_outpoints, outpoint_of, instance_of, compiled_instance}
 use Rattle.spec_run.specs.Conditions.{IsSetup, HashesBytes}
 use Rattle.spec_run.specs.Owners.{suits}
-use Rattle.spec_run.specs.Advertising.{or_else_this, arranged, are_rearranged, deposit_names, advertise_row, advertise_draft}
-use Rattle.spec_run.specs.Draft.{done}
+use Rattle.spec_run.specs.Advertising.{or_else_this, arranged, are_rearranged, deposit_names, advertise_row, advertise_pending}
+use Rattle.spec_run.specs.Pending.{done}
 use Rattle.theory_calculus.proofs.Names.{all_among, different_names, in_named}
 use Rattle.theory_calculus.proofs.Members.{some_there}
 use Rattle.theory_world.proofs.Tests.{any-append}
-use Rattle.theory_world.specs.KeptApart.{NoClash, are_made}
+use Rattle.theory_world.specs.KeptApart.{NoCollision, are_made}
 use Rattle.theory_world.proofs.Hashed.{among_head}
 use Rattle.theory_world.proofs.Later.{compiled_is, compiled_from, compiled_stays, bindings-more, lasts_refl}
 use Rattle.theory_run.specs.KeptBook.{KeptBook, AdvertFine}
@@ -46,8 +46,10 @@ places_same w next [] e = refl
 places_same w next (b ∷ bs) e = let ih = places_same w next bs e in λ i. (b.0, outpoint_of (slice_get (e i) (b.1))) ∷ ih i
 
 -- a contract that is compiled now was so before, where it was complete and nothing that it reads has changed
-pub compiled_before : (s : Setup) (w next : World) (k : ℕ) (st : Instance) → next.outputs ≡ w.outputs → bindings_at next.advertised k ≡ bindings_at w.advertised k → digests_at next.promises k ≡ digests_at w.promises k
-    → is_advertised w k ≡ true → ((a : Advert) → contract_at s k ≡ Some a → have_promised next k (participants a) ≡ true → have_promised w k (participants a) ≡ true) → compiled_instance s next k ≡ Some st → compiled_instance s w k ≡ Some st
+pub compiled_before : (s : Setup) (w next : World) (k : ℕ) (st : Instance) → next.outputs ≡ w.outputs → bindings_at next.advertised k
+    ≡ bindings_at w.advertised k → digests_at next.promises k ≡ digests_at w.promises k
+    → is_advertised w k ≡ true → ((a : Advert) → contract_at s k ≡ Some a → have_promised next k (participants a) ≡ true
+    → have_promised w k (participants a) ≡ true) → compiled_instance s next k ≡ Some st → compiled_instance s w k ≡ Some st
 compiled_before s w next k st outs bound digests adv promised h =
     let c = compiled_is s next k st h in
     let places : bound_outpoints next (bindings_at next.advertised k) ≡ bound_outpoints w (bindings_at w.advertised k) = ap (bound_outpoints next) bound ∙ places_same w next (bindings_at w.advertised k) outs in
@@ -56,7 +58,8 @@ compiled_before s w next k st outs bound digests adv promised h =
 
 -- ---- lists
 
-bindings-new : (xs : List Advertised) (k : ℕ) (bs : List (List ℕ × ℕ)) → list_any (λ a. a.contract == k) xs ≡ false → bindings_at (xs ++ record { contract = k; bindings = bs } ∷ []) k ≡ bindings_at (record { contract = k; bindings = bs } ∷ []) k
+bindings-new : (xs : List Advertised) (k : ℕ) (bs : List (List ℕ × ℕ)) → list_any (λ a. a.contract == k) xs ≡ false
+    → bindings_at (xs ++ record { contract = k; bindings = bs } ∷ []) k ≡ bindings_at (record { contract = k; bindings = bs } ∷ []) k
 bindings-new [] k bs h = refl
 bindings-new (x ∷ xs) k bs h = grind (arith, bindings-new xs k bs)
 
@@ -68,7 +71,8 @@ any_there f (x ∷ xs) h = elim (or_cases (f x) (list_any f xs) h) [
 ]
 
 -- each of these names is bound to an output that was made
-arranged_made : (w : World) (names : List (List ℕ)) (bs : List (List ℕ × ℕ)) → list_all (λ m. is_some (look_up m bs)) names ≡ true → ((x : List ℕ) (n : ℕ) → look_up x bs ≡ Some n → is_some (output_at w n) ≡ true) → are_made w (arranged 0 names bs) ≡ true
+arranged_made : (w : World) (names : List (List ℕ)) (bs : List (List ℕ × ℕ)) → list_all (λ m. is_some (look_up m bs)) names ≡ true
+    → ((x : List ℕ) (n : ℕ) → look_up x bs ≡ Some n → is_some (output_at w n) ≡ true) → are_made w (arranged 0 names bs) ≡ true
 arranged_made w [] bs all h = refl
 arranged_made w (m ∷ names) bs all h =
     let p = and_parts (is_some (look_up m bs)) (list_all (λ m. is_some (look_up m bs)) names) all in
@@ -110,7 +114,8 @@ module _ (s : Setup) (setup : IsSetup s) (w : World) (k : ℕ) (bs : List (List 
       live x n h = deposit_made (output_at w n) (live_looked w bs x n row.1.1.1.1.0 h)
 
       made : are_made next (bindings_at next.advertised k) ≡ true
-      made = ap (are_made next) bound_next ∙ arranged_made next (deposit_names s k) bs all (λ x n h. subst (λ os. is_some (slice_get os n) ≡ true) (sym outs) (live x n h))
+      made = ap (are_made next) bound_next ∙ arranged_made next (deposit_names s k) bs all
+          (λ x n h. subst (λ os. is_some (slice_get os n) ≡ true) (sym outs) (live x n h))
 
       by_contract : (o : Option Advert) → contract_at s k ≡ o → is_some o ≡ true → AdvertFine s next k
       by_contract None c e = cc
@@ -128,19 +133,34 @@ module _ (s : Setup) (setup : IsSetup s) (w : World) (k : ℕ) (bs : List (List 
                 let l = look_arranged (deposit_names s k) bs name r.0 all r.1 in
                 let d : look_up name (deposits (pre_at s k)) ≡ Some h = subst (λ ds. look_up name (deposits ds) ≡ Some h) (sym pre) (deposit_looked a.pre (name, h) (different_names a well) i) in
                 let t = suits_looked s w k bs name r.0 row.1.1.1.1.1.0 l in
-                let b = suits_bound s w h r.0 (subst (λ o. suits s o (output_at w r.0) ≡ true) d t) in
-                (r.0, subst (λ ys. look_up name ys ≡ Some r.0) (sym bound_next) r.1, record { output = b.output; there = subst (λ os. slice_get os r.0 ≡ Some b.output) (sym outs) b.there; script = b.script; value = b.value; free = b.free; declared = b.declared });
+                let b = suits_bound s w h r.0 (subst (λ o. suits s o (output_at w r.0) ≡ true) d t) in (
+                  r.0,
+                  subst (λ ys. look_up name ys ≡ Some r.0) (sym bound_next)
+                      r.1,
+                  record {
+                    output = b.output;
+                    there = subst (λ os. slice_get os r.0 ≡ Some b.output) (sym outs)
+                        b.there;
+                    script = b.script;
+                    value = b.value;
+                    free = b.free;
+                    declared = b.declared;
+                  },
+                );
             apart = λ x y n p q. one_name [] bs x y n row.1.1.1.0 (looked x n p) (looked y n q);
             fair = person;
           }
 
 -- ---- the event
 
-module _ (s : Setup) (setup : IsSetup s) (size : HashesBytes s.hash) (few_contracts : length s.contracts ≤ 16) (strings : List (List ℕ)) (g : Configuration) (w : World) (kept : KeptBook s g w) (check : Checked s w) (clear : NoClash s.hash w.hashed)
+module _ (s : Setup) (setup : IsSetup s) (size : HashesBytes s.hash) (few_contracts : length s.contracts ≤ 16) (strings : List (List ℕ))
+    (g : Configuration) (w : World) (kept : KeptBook s g w) (check : Checked s w) (clear : NoCollision s.hash w.hashed)
     (told : (k : ℕ) (a : List ℕ) → has_promised w k a ≡ true → is_advertised w k ≡ true) where
-  pub advertise_after : (k : ℕ) (bs : List (List ℕ × ℕ)) → KeptAfter s size few_contracts strings g w kept check clear (events.Advertise k bs) (advertise_draft s w k bs)
+  pub advertise_after : (k : ℕ) (bs : List (List ℕ × ℕ))
+      → KeptAfter s size few_contracts strings g w kept check clear (events.Advertise k bs) (advertise_pending s w k bs)
   advertise_after k bs = unless_after s size few_contracts strings g w kept check clear (events.Advertise k bs) (first_reason (advertise_row s w k bs)) []
-      (done (record w { advertised = w.advertised ++ record { contract = k; bindings = arranged 0 (deposit_names s k) bs } ∷ [] }) []) (λ r apart. kept_now (no_reason-none_true (advertise_row s w k bs) r))
+      (done (record w { advertised = w.advertised ++ record { contract = k; bindings = arranged 0 (deposit_names s k) bs } ∷ [] }) [])
+      (λ r apart. kept_now (no_reason-none_true (advertise_row s w k bs) r))
     where
       bound : List (List ℕ × ℕ)
       bound = arranged 0 (deposit_names s k) bs
@@ -159,7 +179,8 @@ module _ (s : Setup) (setup : IsSetup s) (size : HashesBytes s.hash) (few_contra
         outputs = lasts_refl w.outputs;
         book = λ k d h. h;
         hashed = λ t h. h;
-        compiled = λ j st h. compiled_stays s w next new [] j st refl (sym (append-nil w.promises)) (lasts_refl w.outputs) (kept.adverts j (compiled_is s w j st h).advertised).made refl h;
+        compiled = λ j st h. compiled_stays s w next new [] j st refl (sym (append-nil w.promises)) (lasts_refl w.outputs)
+            (kept.adverts j (compiled_is s w j st h).advertised).made refl h;
         bindings = λ j h. bindings-more w.advertised new j h;
         inits = inits_stay xs g;
         asked = asked_stay xs g;

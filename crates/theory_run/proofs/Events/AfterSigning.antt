@@ -30,7 +30,7 @@ use Rattle.spec_run.specs.Signing.{signed_all, label_party, needs_at, pairs_of_p
 use Rattle.spec_run.specs.Steps.{is_bound_live}
 use Rattle.theory_calculus.proofs.Names.{bytes-true}
 use Rattle.theory_calculus.specs.Members.{Is_in}
-use Rattle.theory_world.specs.KeptApart.{NoClash}
+use Rattle.theory_world.specs.KeptApart.{NoCollision}
 use Rattle.theory_world.proofs.Later.{lasts_refl, compiled_is}
 use Rattle.theory_world.proofs.Book.{signed_more, signed_back}
 use Rattle.theory_run.specs.KeptBook.{KeptBook, HeldFine, DepositCause, Needed, Started, BranchCause, needed, started}
@@ -45,7 +45,8 @@ pub record SameSpot (st su : Instance) (here there : Standing) (b c : term.Guard
   pub heres : here ≡ there
   pub branches : b ≡ c
 
-pub same_spot : (s : Setup) (w : World) (k j : ℕ) (st su : Instance) (q r : List PathStep) (here there : Standing) (choice other : Contract) (i n : ℕ) (b c : term.Guarded)
+pub same_spot : (s : Setup) (w : World) (k j : ℕ) (st su : Instance) (q r : List PathStep) (here there : Standing) (choice other : Contract)
+    (i n : ℕ) (b c : term.Guarded)
     → compiled_instance s w k ≡ Some st → position_at s.hash st q ≡ Some (here, choice) → slice_get (branches choice) i ≡ Some b
     → compiled_instance s w j ≡ Some su → position_at s.hash su r ≡ Some (there, other) → slice_get (branches other) n ≡ Some c
     → k ≡ j → q ≡ r → i ≡ n → SameSpot st su here there b c
@@ -59,7 +60,8 @@ same_spot s w k j st su q r here there choice other i n b c ck eq tb cj er tc kj
     record { settings = ss; heres = ap (λ (y : Standing × Contract). y.0) both; branches = cc }
 
 -- a pair is the first one, where that is there, or of the others
-first_or_rest : (b : Bool) (key own k d : List ℕ) (rest : List Pair) → has_signed (if b then (key, own) ∷ rest else rest) k d ≡ true → ((key ≡ k) × (own ≡ d)) ⊎ (has_signed rest k d ≡ true)
+first_or_rest : (b : Bool) (key own k d : List ℕ) (rest : List Pair) → has_signed (if b then (key, own) ∷ rest else rest) k d ≡ true
+    → ((key ≡ k) × (own ≡ d)) ⊎ (has_signed rest k d ≡ true)
 first_or_rest true key own k d rest h = elim (or_cases (bytes_eq key k && bytes_eq own d) (has_signed rest k d) h) [
   | inl u ↦ (let p = and_parts (bytes_eq key k) (bytes_eq own d) u in inl (bytes-true key k p.0, bytes-true own d p.1))
   | inr v ↦ inr v
@@ -69,7 +71,8 @@ first_or_rest false key own k d rest h = inr h
 -- a pair of a party's deposits
 pub pair_of_deposit : (s : Setup) (st : Instance) (tx : Tx) (party : List ℕ) (ds : List (List ℕ × Holding)) (k d : List ℕ)
     → has_signed (pairs_of_deposits s party ds (map (digest_of_spent s.hash tx) (map (λ (e : List ℕ × Holding). deposit s.hash st e.0 e.1) ds))) k d ≡ true
-    → (deposit_key s.hash party ≡ k) × ((x : Spent) × Is_in x (map (λ (e : List ℕ × Holding). deposit s.hash st e.0 e.1) ds) × (d ≡ digest_of_spent s.hash tx x))
+    → (deposit_key s.hash party ≡ k) × ((x : Spent) × Is_in x (map (λ (e : List ℕ × Holding). deposit s.hash st e.0 e.1) ds)
+    × (d ≡ digest_of_spent s.hash tx x))
 pair_of_deposit s st tx party [] k d h = cc
 pair_of_deposit s st tx party (e ∷ ds) k d h =
     elim (first_or_rest (bytes_eq (e.1).owner party) (deposit_key s.hash party) (digest_of_spent s.hash tx (deposit s.hash st e.0 e.1)) k d (pairs_of_deposits s party ds (map (digest_of_spent s.hash tx) (map (λ (e : List ℕ × Holding). deposit s.hash st e.0 e.1) ds))) h) [
@@ -77,7 +80,9 @@ pair_of_deposit s st tx party (e ∷ ds) k d h =
       | inr v ↦ (let r = pair_of_deposit s st tx party ds k d v in (r.0, (r.1.0, inr r.1.1, r.1.2)))
     ]
 
-module _ (s : Setup) (size : HashesBytes s.hash) (few_contracts : length s.contracts ≤ 16) (g : Configuration) (w : World) (kept : KeptBook s g w) (check : Checked s w) (hs : List (List ℕ)) (clear : NoClash s.hash hs) (sub : (t : List ℕ) → is_among t w.hashed ≡ true → is_among t hs ≡ true)
+module _ (s : Setup) (size : HashesBytes s.hash) (few_contracts : length s.contracts ≤ 16) (g : Configuration) (w : World)
+    (kept : KeptBook s g w) (check : Checked s w) (hs : List (List ℕ)) (clear : NoCollision s.hash hs)
+    (sub : (t : List ℕ) → is_among t w.hashed ≡ true → is_among t hs ≡ true)
     (g' : Configuration) (height : ℕ) (posts : List (List ℕ))
     (inits : (k : ℕ) (x : List ℕ) → is_init_authorised g.init_authorised k x ≡ true → is_init_authorised g'.init_authorised k x ≡ true)
     (asked : (n i : ℕ) (a : List ℕ) → has_branch_authorised g.branch_authorised n i a ≡ true → has_branch_authorised g'.branch_authorised n i a ≡ true) where
@@ -86,17 +91,30 @@ module _ (s : Setup) (size : HashesBytes s.hash) (few_contracts : length s.contr
   after_pairs pairs = record w { tip = height; book = signed_all w.book pairs; hashed = hs; posted = posts }
 
   abbrev DepositsNew : List Pair → Type 0
-  DepositsNew pairs = (a d : List ℕ) → is_declared s a ≡ true → is_honest s a ≡ true → has_signed pairs (deposit_key s.hash a) d ≡ true → DepositCause s g' (after_pairs pairs) a d
+  DepositsNew pairs = (a d : List ℕ) → is_declared s a ≡ true → is_honest s a ≡ true → has_signed pairs (deposit_key s.hash a) d ≡ true
+      → DepositCause s g' (after_pairs pairs) a d
 
   abbrev BranchesNew : List Pair → Type 0
-  BranchesNew pairs = (k : ℕ) (st : Instance) (q : List PathStep) (here : Standing) (choice : Contract) (i : ℕ) (b : term.Guarded) (a d : List ℕ) → compiled_instance s w k ≡ Some st → position_at s.hash st q ≡ Some (here, choice) → slice_get (branches choice) i ≡ Some b
-      → is_among a (people st) ≡ true → is_honest s a ≡ true → has_signed pairs (key_of s.hash (branch_label k (q ++ To i ∷ []) a)) d ≡ true → BranchCause s g' (after_pairs pairs) k st q here i b a d
+  BranchesNew pairs = (k : ℕ) (st : Instance) (q : List PathStep) (here : Standing) (choice : Contract) (i : ℕ) (b : term.Guarded)
+      (a d : List ℕ) → compiled_instance s w k ≡ Some st → position_at s.hash st q ≡ Some (here, choice) → slice_get (branches choice) i ≡ Some b
+      → is_among a (people st) ≡ true → is_honest s a ≡ true → has_signed pairs (key_of s.hash (branch_label k (q ++ To i ∷ []) a)) d ≡ true
+      → BranchCause s g' (after_pairs pairs) k st q here i b a d
 
   frame : (pairs : List Pair) → Frame s g g' w (after_pairs pairs)
-  frame pairs = record { outputs = lasts_refl w.outputs; book = λ k d h. signed_more w.book pairs k d h; hashed = sub; compiled = λ k st h. h; bindings = λ k h. refl; inits = inits; asked = asked }
+  frame pairs = record {
+    outputs = lasts_refl w.outputs;
+    book = λ k d h. signed_more w.book pairs k d
+        h;
+    hashed = sub;
+    compiled = λ k st h. h;
+    bindings = λ k h. refl;
+    inits = inits;
+    asked = asked;
+  }
 
   pub pairs_kept : (pairs : List Pair) → DepositsNew pairs → BranchesNew pairs → KeptBook s g' (after_pairs pairs)
-  pairs_kept pairs dn bn = signs s g g' w (after_pairs pairs) (frame pairs) pairs kept refl (λ k st h. h) (λ k h e. absurd (both_ways _ e h)) (λ k d h. signed_back w.book pairs k d h) dn bn
+  pairs_kept pairs dn bn = signs s g g' w (after_pairs pairs) (frame pairs) pairs kept refl (λ k st h. h)
+      (λ k h e. absurd (both_ways _ e h)) (λ k d h. signed_back w.book pairs k d h) dn bn
 
   -- where nothing is signed
   pub quiet_kept : KeptBook s g' (after_pairs [])
@@ -104,7 +122,8 @@ module _ (s : Setup) (size : HashesBytes s.hash) (few_contracts : length s.contr
 
   -- ---- at will
 
-  pub sign_kept : (party : List ℕ) (label : Label) (digest : List ℕ) → is_honest s party ≡ false → label_party label ≡ party → IsHeard s size few_contracts g w kept check hs clear sub label → KeptBook s g' (after_pairs ((key_of s.hash label, digest) ∷ []))
+  pub sign_kept : (party : List ℕ) (label : Label) (digest : List ℕ) → is_honest s party ≡ false → label_party label ≡ party
+      → IsHeard s size few_contracts g w kept check hs clear sub label → KeptBook s g' (after_pairs ((key_of s.hash label, digest) ∷ []))
   sign_kept party label digest lies owned fine =
       let next = after_pairs ((key_of s.hash label, digest) ∷ []) in
       pairs_kept ((key_of s.hash label, digest) ∷ [])
@@ -113,15 +132,18 @@ module _ (s : Setup) (size : HashesBytes s.hash) (few_contracts : length s.contr
 
   -- ---- a branch that asks the party
 
-  pub authorise_kept : (party : List ℕ) (n : ℕ) (o : Output) (held : ContractPosition) (there : slice_get w.outputs n ≡ Some o) (fine : HeldFine s w o held) (j : ℕ) (c : term.Guarded) → slice_get (branches fine.choice) j ≡ Some c → is_among party (people fine.instance) ≡ true
+  pub authorise_kept : (party : List ℕ) (n : ℕ) (o : Output) (held : ContractPosition) (there : slice_get w.outputs n ≡ Some o)
+      (fine : HeldFine s w o held) (j : ℕ) (c : term.Guarded) → slice_get (branches fine.choice) j ≡ Some c → is_among party (people fine.instance) ≡ true
       → has_branch_authorised g'.branch_authorised n j party ≡ true → KeptBook s g' (after_pairs (authorising_pairs s w party (Some held) j))
   authorise_kept party n o held there fine j c has part now =
       let d = digest_of_spent s.hash (tx_of (branch_unsigned s.hash fine.instance fine.here j c)) fine.here.output in
       let pairs : List Pair = (key_of s.hash (branch_label held.contract (held.position ++ To j ∷ []) party), d) ∷ [] in
       let e = pairs_are s size few_contracts g w kept check hs clear sub g' (after_pairs pairs) refl party n o held there fine j c has part now in
       subst (λ ps. KeptBook s g' (after_pairs ps)) (sym e) (pairs_kept pairs
-      (λ a d k h x. absurd (authorised_deposit s size few_contracts g w kept check hs clear sub g' (after_pairs pairs) refl party n o held there fine j c has part now a d k x))
-      (λ k st q here choice i b a d e t p q' h x. authorised_branch s size few_contracts g w kept check hs clear sub g' (after_pairs pairs) refl party n o held there fine j c has part now k st q here choice i b a d e t p q' x))
+      (λ a d k h x. absurd (authorised_deposit s size few_contracts g w kept check hs clear sub g' (after_pairs pairs) refl party n o held
+      there fine j c has part now a d k x))
+      (λ k st q here choice i b a d e t p q' h x. authorised_branch s size few_contracts g w kept check hs clear sub g' (after_pairs pairs)
+      refl party n o held there fine j c has part now k st q here choice i b a d e t p q' x))
 
   -- ---- endorsements
 
@@ -133,13 +155,15 @@ module _ (s : Setup) (size : HashesBytes s.hash) (few_contracts : length s.contr
     named = ap (λ (y : Instance). y.contract) (compiled_is s w k0 st0 given).is
 
     -- the need of a deposit's pair is the party's own
-    pub endorse_needed : (a d : List ℕ) → is_declared s a ≡ true → has_signed endorsing (deposit_key s.hash a) d ≡ true → (h : Needed s (after_pairs endorsing) a d) × (h.contract ≡ k0) × (party ≡ a)
+    pub endorse_needed : (a d : List ℕ) → is_declared s a ≡ true → has_signed endorsing (deposit_key s.hash a) d ≡ true
+        → (h : Needed s (after_pairs endorsing) a d) × (h.contract ≡ k0) × (party ≡ a)
     endorse_needed a d decl x = by_need r.0 (need_is s.hash st0 r.0 r.1) r.2 r.3 r.4
       where
         r : (n : Need) × Is_in n (needs_at s st0) × (n.party ≡ party) × (n.key ≡ deposit_key s.hash a) × (n.digest ≡ d)
         r = need_of_pair party (needs_at s st0) (deposit_key s.hash a) d x
 
-        by_need : (n : Need) → NeedIs s.hash st0 n → n.party ≡ party → n.key ≡ deposit_key s.hash a → n.digest ≡ d → (h : Needed s (after_pairs endorsing) a d) × (h.contract ≡ k0) × (party ≡ a)
+        by_need : (n : Need) → NeedIs s.hash st0 n → n.party ≡ party → n.key ≡ deposit_key s.hash a → n.digest ≡ d
+            → (h : Needed s (after_pairs endorsing) a d) × (h.contract ≡ k0) × (party ≡ a)
         by_need n (branch_need path dr br part free key dig) np nk nd =
             let l = heard_label s size few_contracts g w kept check hs clear sub k0 st0 br.is_branch.position br.here br.is_branch.choice br.index br.branch n.party given br.is_branch.stands br.is_branch.there part in
             let e : key_of s.hash (branch_label k0 (br.is_branch.position ++ To br.index ∷ []) n.party) ≡ deposit_key s.hash a = sym (λ m. key_of s.hash (branch_label (named m) (br.is_branch.path_is m) n.party)) ∙ sym key ∙ nk in
@@ -176,7 +200,8 @@ module _ (s : Setup) (size : HashesBytes s.hash) (few_contracts : length s.contr
         other : IsHeard s size few_contracts g w kept check hs clear sub (branch_label k (q ++ To i ∷ []) a)
         other = heard_label s size few_contracts g w kept check hs clear sub k st q here choice i b a c e t p
 
-        by_need : (n : Need) → NeedIs s.hash st0 n → n.party ≡ party → n.key ≡ key_of s.hash (branch_label k (q ++ To i ∷ []) a) → n.digest ≡ d → BranchCause s g' (after_pairs endorsing) k st q here i b a d
+        by_need : (n : Need) → NeedIs s.hash st0 n → n.party ≡ party → n.key ≡ key_of s.hash (branch_label k (q ++ To i ∷ []) a) → n.digest
+            ≡ d → BranchCause s g' (after_pairs endorsing) k st q here i b a d
         by_need n (put_need path dr br key y j dig) np nk nd =
             let decl : is_declared s n.party ≡ true = subst (λ z. is_declared s z ≡ true) (sym np) declared in
             let z = same_label s size few_contracts g w kept check hs clear sub (labels.Deposit n.party) (branch_label k (q ++ To i ∷ []) a) (deposit_label s size few_contracts g w kept check hs clear sub n.party decl) other (sym key ∙ nk) in
@@ -184,13 +209,16 @@ module _ (s : Setup) (size : HashesBytes s.hash) (few_contracts : length s.contr
         by_need n (branch_need path dr br part free key dig) np nk nd = by_label z
           where
             l : IsHeard s size few_contracts g w kept check hs clear sub (branch_label k0 (br.is_branch.position ++ To br.index ∷ []) n.party)
-            l = heard_label s size few_contracts g w kept check hs clear sub k0 st0 br.is_branch.position br.here br.is_branch.choice br.index br.branch n.party given br.is_branch.stands br.is_branch.there part
+            l = heard_label s size few_contracts g w kept check hs clear sub k0 st0 br.is_branch.position br.here br.is_branch.choice
+                br.index br.branch n.party given br.is_branch.stands br.is_branch.there part
 
             z : branch_label k0 (br.is_branch.position ++ To br.index ∷ []) n.party ≡ branch_label k (q ++ To i ∷ []) a
-            z = same_label s size few_contracts g w kept check hs clear sub (branch_label k0 (br.is_branch.position ++ To br.index ∷ []) n.party) (branch_label k (q ++ To i ∷ []) a) l other
+            z = same_label s size few_contracts g w kept check hs clear sub
+                (branch_label k0 (br.is_branch.position ++ To br.index ∷ []) n.party) (branch_label k (q ++ To i ∷ []) a) l other
                 (sym (λ m. key_of s.hash (branch_label (named m) (br.is_branch.path_is m) n.party)) ∙ sym key ∙ nk)
 
-            by_label : branch_label k0 (br.is_branch.position ++ To br.index ∷ []) n.party ≡ branch_label k (q ++ To i ∷ []) a → BranchCause s g' (after_pairs endorsing) k st q here i b a d
+            by_label : branch_label k0 (br.is_branch.position ++ To br.index ∷ []) n.party ≡ branch_label k (q ++ To i ∷ []) a
+                → BranchCause s g' (after_pairs endorsing) k st q here i b a d
             by_label y =
                 let kc : k0 ≡ k = ap label_contract y in
                 let pq = behind_last br.is_branch.position q br.index i (ap label_path y) in
@@ -198,7 +226,8 @@ module _ (s : Setup) (size : HashesBytes s.hash) (few_contracts : length s.contr
                 let ss = same_spot s w k0 k st0 st br.is_branch.position q br.here here br.is_branch.choice choice br.index i br.branch b given br.is_branch.stands br.is_branch.there c e t kc pq.0 pq.1 in
                 let unasked : is_asked b a ≡ false = sym (λ m. is_asked (ss.branches m) (pa m)) ∙ free in
                 record {
-                  is = sym nd ∙ dig ∙ (λ m. digest_of_spent s.hash (tx_of (branch_unsigned s.hash (ss.settings m) (ss.heres m) (pq.1 m) (ss.branches m))) (ss.heres m).output);
+                  is = sym nd ∙ dig ∙ (λ m. digest_of_spent s.hash
+                      (tx_of (branch_unsigned s.hash (ss.settings m) (ss.heres m) (pq.1 m) (ss.branches m))) (ss.heres m).output);
                   existed = λ v. absurd (both_ways _ unasked v);
                   authorised = λ v. absurd (both_ways _ unasked v);
                 }
@@ -212,7 +241,8 @@ module _ (s : Setup) (size : HashesBytes s.hash) (few_contracts : length s.contr
       abbrev starting : List Pair
       starting = initial_pairs s party (Some st0)
 
-      pub start_started : (a d : List ℕ) → is_declared s a ≡ true → has_signed starting (deposit_key s.hash a) d ≡ true → (h : Started s g' (after_pairs starting) a d) × (h.contract ≡ k0) × (party ≡ a)
+      pub start_started : (a d : List ℕ) → is_declared s a ≡ true → has_signed starting (deposit_key s.hash a) d ≡ true
+          → (h : Started s g' (after_pairs starting) a d) × (h.contract ≡ k0) × (party ≡ a)
       start_started a d decl x =
           let r = pair_of_deposit s st0 (tx_of (initial_unsigned s.hash st0)) party (persistent st0.advert.pre) (deposit_key s.hash a) d x in
           let z = same_label s size few_contracts g w kept check hs clear sub (labels.Deposit party) (labels.Deposit a) (deposit_label s size few_contracts g w kept check hs clear sub party declared) (deposit_label s size few_contracts g w kept check hs clear sub a decl) r.0 in

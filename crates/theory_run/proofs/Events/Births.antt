@@ -33,7 +33,7 @@ use Rattle.spec_run.specs.Setup.{Setup}
 use Rattle.spec_run.specs.World.{ContractPosition, World, live_position_at}
 use Rattle.spec_run.specs.Compiled.{compiled_instance}
 use Rattle.spec_run.specs.Conditions.{IsSetup, IsPiece, IsEvent}
-use Rattle.spec_run.specs.Draft.{Draft, unless}
+use Rattle.spec_run.specs.Pending.{Pending, unless}
 use Rattle.spec_run.specs.Committing.{commit_row, digest_row, committed_strings}
 use Rattle.spec_run.specs.Advertising.{advertise_row}
 use Rattle.spec_run.specs.Signing.{with_pairs, endorse_row, init_row, authorise_row, sign_row, prepared_if_compiled}
@@ -41,7 +41,7 @@ use Rattle.spec_run.specs.Revealing.{reveal_row}
 use Rattle.spec_run.specs.Giving.{give_row, given_output, given_pairs, gift}
 use Rattle.spec_run.specs.Ledger.{spend_from, made_from, kind_of, new_position, verdict_in, judged, reaches, position_path}
 use Rattle.spec_run.specs.Firing.{initial_by, taking_of_parts, taking_of_position, reaches_if, fire_init_row, fire_row}
-use Rattle.spec_run.specs.Event.{append_read, mine_row, draft}
+use Rattle.spec_run.specs.Event.{append_read, mine_row, pending}
 use Rattle.theory_bitcoin.proofs.Formats.{wide64}
 use Rattle.theory_bitcoin.proofs.Top.{read_is_spelled}
 use Rattle.theory_script.proofs.Listing.Stands.{some_same, end_from-step}
@@ -167,13 +167,13 @@ module _ (s : Setup) (is : IsSetup s) (w : World) where
 
   -- ---- one event
 
-  abbrev Grows : Draft → Type 0
+  abbrev Grows : Pending → Type 0
   Grows d = length d.world.outputs ≤ length w.outputs + most_births
 
   same_grows : length w.outputs ≤ length w.outputs + most_births
   same_grows = omega arith
 
-  unless_grows : (r : Option Reason) (hashes : List (List ℕ)) (d : Draft) → Grows d → Grows (unless r w hashes d)
+  unless_grows : (r : Option Reason) (hashes : List (List ℕ)) (d : Pending) → Grows d → Grows (unless r w hashes d)
   unless_grows None hashes d h = h
   unless_grows (Some r) hashes d h = same_grows
 
@@ -202,7 +202,7 @@ module _ (s : Setup) (is : IsSetup s) (w : World) where
   read_grows bytes piece (Ok tx) h = reaches_grows w.book tx (few_read bytes piece tx h)
   read_grows bytes piece (Err place) h = same_grows
 
-  pub event_grows : (e : Event) → IsEvent s e → Grows (draft s w e)
+  pub event_grows : (e : Event) → IsEvent s e → Grows (pending s w e)
   event_grows (events.Advertise contract bindings) h = unless_grows (first_reason (advertise_row s w contract bindings)) [] _ same_grows
   event_grows (events.Commit contract party digests) h =
       unless_grows (first_reason (commit_row s w contract party digests)) [] _

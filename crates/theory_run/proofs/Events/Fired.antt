@@ -21,14 +21,14 @@ use Rattle.spec_run.specs.Setup.{Setup, contract_at}
 use Rattle.spec_run.specs.World.{ContractPosition, World, live_position_at}
 use Rattle.spec_run.specs.Compiled.{compiled_instance}
 use Rattle.spec_run.specs.Conditions.{HashesBytes, IsPiece}
-use Rattle.spec_run.specs.Draft.{settled}
+use Rattle.spec_run.specs.Pending.{applied}
 use Rattle.spec_run.specs.Ledger.{verdict_in, strings_of, accepted, judged, reaches, contract_in, position_path, position_branch, branch_in}
-use Rattle.spec_run.specs.Firing.{initial_by, initial_witnesses, initial_transaction, taking_of_parts, taking_witnesses, taking_transaction, taking_of_position, reaches_if, fire_init_row, fire_init_draft, fire_row, fire_draft}
+use Rattle.spec_run.specs.Firing.{initial_by, initial_witnesses, initial_transaction, taking_of_parts, taking_witnesses, taking_transaction, taking_of_position, reaches_if, fire_init_row, fire_init_pending, fire_row, fire_pending}
 use Rattle.spec_run.specs.Signing.{prepared_if_compiled}
 use Rattle.spec_run.specs.Event.{append_read}
 use Rattle.spec_run.specs.Steps.{steps_of}
 use Rattle.theory_bitcoin.proofs.Top.{read_is_spelled}
-use Rattle.theory_world.specs.KeptApart.{NoClash}
+use Rattle.theory_world.specs.KeptApart.{NoCollision}
 use Rattle.theory_world.specs.Transactions.{IsNumbered}
 use Rattle.theory_world.proofs.Ledger.Preimages.{numbered}
 use Rattle.theory_world.proofs.Ledger.Bare.{bare_numbered}
@@ -53,7 +53,7 @@ piece_numbered bytes piece tx h =
 
 -- ---- events
 
-module _ (s : Setup) (size : HashesBytes s.hash) (few_contracts : length s.contracts ≤ 16) (strings : List (List ℕ)) (g : Configuration) (w : World) (kept : KeptBook s g w) (fit : TransactionsFit s w) (check : Checked s w) (clear : NoClash s.hash w.hashed) where
+module _ (s : Setup) (size : HashesBytes s.hash) (few_contracts : length s.contracts ≤ 16) (strings : List (List ℕ)) (g : Configuration) (w : World) (kept : KeptBook s g w) (fit : TransactionsFit s w) (check : Checked s w) (clear : NoCollision s.hash w.hashed) where
   -- whatever the ledger says of a transaction without new signatures
   pub reaches_after : (e : Event) (tx : Tx) → IsNumbered tx → KeptAfter s size few_contracts strings g w kept check clear e (reaches s w w tx)
   reaches_after e tx fine = by_verdict (verdict_in s w tx) refl
@@ -61,15 +61,18 @@ module _ (s : Setup) (size : HashesBytes s.hash) (few_contracts : length s.contr
       by_verdict : (v : Verdict) → verdict_in s w tx ≡ v → KeptAfter s size few_contracts strings g w kept check clear e (judged s w w tx v)
       by_verdict (verdicts.Refused r) h = refused_after s size few_contracts strings g w kept check clear e (strings_of s w tx) (reason.Ledger r)
       by_verdict (verdicts.Accepted spent made) h = λ apart.
-          let xs = steps_of s strings g w (settled w (accepted s w tx spent)) e (accepted s w tx spent) in
-          reached_kept s size few_contracts g (after_steps g xs) w kept fit check (inits_stay xs g) (asked_stay xs g) tx fine spent (accepted_by s w tx spent made h) clear apart
+          let xs = steps_of s strings g w (applied w (accepted s w tx spent)) e (accepted s w tx spent) in
+          reached_kept s size few_contracts g (after_steps g xs) w kept fit check (inits_stay xs g) (asked_stay xs g) tx fine spent
+          (accepted_by s w tx spent made h) clear apart
 
-  pub reaches_if_after : (e : Event) (o : Option Tx) → ((tx : Tx) → o ≡ Some tx → IsNumbered tx) → KeptAfter s size few_contracts strings g w kept check clear e (reaches_if s w o)
+  pub reaches_if_after : (e : Event) (o : Option Tx) → ((tx : Tx) → o ≡ Some tx → IsNumbered tx)
+      → KeptAfter s size few_contracts strings g w kept check clear e (reaches_if s w o)
   reaches_if_after e None fine = refused_after s size few_contracts strings g w kept check clear e [] reason.NotCompiled
   reaches_if_after e (Some tx) fine = reaches_after e tx (fine tx refl)
 
   -- a raw transaction
-  pub append_after : (e : Event) (bytes : List ℕ) → IsPiece bytes → KeptAfter s size few_contracts strings g w kept check clear e (append_read s w (transaction_of bytes))
+  pub append_after : (e : Event) (bytes : List ℕ) → IsPiece bytes
+      → KeptAfter s size few_contracts strings g w kept check clear e (append_read s w (transaction_of bytes))
   append_after e bytes piece = by_read (transaction_of bytes) refl
     where
       by_read : (r : Result Tx ℕ) → transaction_of bytes ≡ r → KeptAfter s size few_contracts strings g w kept check clear e (append_read s w r)
@@ -84,10 +87,15 @@ module _ (s : Setup) (size : HashesBytes s.hash) (few_contracts : length s.contr
       by_compiled None c q = cc
       by_compiled (Some st) c q =
           let z : initial_transaction s st ≡ tx = cc in
-          subst IsNumbered z (bare_numbered (initial_transaction s st) (tx_of (initial_unsigned s.hash st)) (with-bare (tx_of (initial_unsigned s.hash st)) (initial_witnesses s st (prepared s.hash (initial_unsigned s.hash st)))) (fit.initial contract st c))
+          subst IsNumbered z (bare_numbered (initial_transaction s st) (tx_of (initial_unsigned s.hash st))
+          (with-bare (tx_of (initial_unsigned s.hash st)) (initial_witnesses s st (prepared s.hash (initial_unsigned s.hash st))))
+          (fit.initial contract st c))
 
-  pub fire_init_after : (e : Event) (contract : ℕ) → KeptAfter s size few_contracts strings g w kept check clear e (fire_init_draft s w contract)
-  fire_init_after e contract = unless_after s size few_contracts strings g w kept check clear e (first_reason (fire_init_row s w contract)) [] (reaches_if s w (initial_by s (compiled_instance s w contract))) (λ r. reaches_if_after e (initial_by s (compiled_instance s w contract)) (started_numbered contract))
+  pub fire_init_after : (e : Event) (contract : ℕ) → KeptAfter s size few_contracts strings g w kept check clear e (fire_init_pending s w contract)
+  fire_init_after e contract =
+      unless_after s size few_contracts strings g w kept check clear e (first_reason (fire_init_row s w contract)) []
+      (reaches_if s w (initial_by s (compiled_instance s w contract)))
+      (λ r. reaches_if_after e (initial_by s (compiled_instance s w contract)) (started_numbered contract))
 
   -- the transaction of a branch
   pub taken_numbered : (n j : ℕ) (tx : Tx) → taking_of_position s w (live_position_at w n) j ≡ Some tx → IsNumbered tx
@@ -110,9 +118,12 @@ module _ (s : Setup) (size : HashesBytes s.hash) (few_contracts : length s.contr
           compiled = hf.compiled
 
           chosen : contract_in (contract_at s held.contract) held.position ≡ Some hf.choice
-          chosen = ap (λ o. contract_in o held.position) (held_contract s w held act.output hf) ∙ term_choice s.hash hf.instance held.position hf.here hf.choice hf.stands
+          chosen = ap (λ o. contract_in o held.position) (held_contract s w held act.output hf)
+              ∙ term_choice s.hash hf.instance held.position hf.here hf.choice hf.stands
 
-          by_branch : (o : Option term.Guarded) → position_branch s held j ≡ o → taking_of_parts s w held j (compiled_instance s w held.contract) (contract_in (contract_at s held.contract) held.position) (position_branch s held j) (prepared_if_compiled s (compiled_instance s w held.contract) (position_path held j)) ≡ Some tx → IsNumbered tx
+          by_branch : (o : Option term.Guarded) → position_branch s held j ≡ o
+              → taking_of_parts s w held j (compiled_instance s w held.contract) (contract_in (contract_at s held.contract) held.position)
+              (position_branch s held j) (prepared_if_compiled s (compiled_instance s w held.contract) (position_path held j)) ≡ Some tx → IsNumbered tx
           by_branch None b x =
               let y = sym (λ i. taking_of_parts s w held j (compiled i) (chosen i) (b i) (prepared_if_compiled s (compiled i) (position_path held j))) ∙ x in
               cc
@@ -124,8 +135,11 @@ module _ (s : Setup) (size : HashesBytes s.hash) (few_contracts : length s.contr
               let y : (let o : Option Tx = Some (taking_transaction s w hf.instance held j hf.choice c (prepared s.hash d)) in o) ≡ Some tx =
               sym (λ i. taking_of_parts s w held j (compiled i) (chosen i) (b i) ((ap (λ o. prepared_if_compiled s o (position_path held j)) compiled ∙ made) i)) ∙ x in
               let z : taking_transaction s w hf.instance held j hf.choice c (prepared s.hash d) ≡ tx = cc in
-              subst IsNumbered z (bare_numbered (taking_transaction s w hf.instance held j hf.choice c (prepared s.hash d)) (tx_of d) (with-bare (tx_of d) (taking_witnesses s w hf.instance held j hf.choice c (prepared s.hash d)))
+              subst IsNumbered z (bare_numbered (taking_transaction s w hf.instance held j hf.choice c (prepared s.hash d)) (tx_of d)
+              (with-bare (tx_of d) (taking_witnesses s w hf.instance held j hf.choice c (prepared s.hash d)))
               (fit.branch held.contract hf.instance held.position hf.here hf.choice j c hf.compiled hf.stands there))
 
-  pub fire_after : (e : Event) (n j : ℕ) → KeptAfter s size few_contracts strings g w kept check clear e (fire_draft s w n j)
-  fire_after e n j = unless_after s size few_contracts strings g w kept check clear e (first_reason (fire_row s w n j)) [] (reaches_if s w (taking_of_position s w (live_position_at w n) j)) (λ r. reaches_if_after e (taking_of_position s w (live_position_at w n) j) (taken_numbered n j))
+  pub fire_after : (e : Event) (n j : ℕ) → KeptAfter s size few_contracts strings g w kept check clear e (fire_pending s w n j)
+  fire_after e n j = unless_after s size few_contracts strings g w kept check clear e (first_reason (fire_row s w n j)) []
+      (reaches_if s w (taking_of_position s w (live_position_at w n) j))
+      (λ r. reaches_if_after e (taking_of_position s w (live_position_at w n) j) (taken_numbered n j))

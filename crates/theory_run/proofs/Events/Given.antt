@@ -35,17 +35,17 @@ use Rattle.spec_run.specs.World.{Output, World, output_at, is_deposit}
 use Rattle.spec_run.specs.Owners.{deposit_value}
 use Rattle.spec_run.specs.Compiled.{outpoint_of, compiled_instance}
 use Rattle.spec_run.specs.Conditions.{HashesBytes}
-use Rattle.spec_run.specs.Draft.{settled}
+use Rattle.spec_run.specs.Pending.{applied}
 use Rattle.spec_run.specs.Ledger.{verdict_in, items_of, strings_of, spend_from, made_from, kind_of, new_position, accepted, judged, reaches}
 use Rattle.spec_run.specs.Signing.{with_pairs, label_party}
-use Rattle.spec_run.specs.Giving.{first_dead, value_out, give_row, given_input, given_output, unsigned_gift, given_digest, signed_input, given_pairs, gift, give_draft}
+use Rattle.spec_run.specs.Giving.{first_dead, value_out, give_row, given_input, given_output, unsigned_gift, given_digest, signed_input, given_pairs, gift, give_pending}
 use Rattle.spec_run.specs.Steps.{steps_of}
 use Rattle.theory_bitcoin.specs.Places.{AllPlaces}
 use Rattle.theory_bitcoin.specs.Apart.{bare_input, bare}
 use Rattle.theory_calculus.proofs.Names.{bytes-true}
 use Rattle.theory_calculus.specs.Members.{Is_in}
-use Rattle.theory_world.specs.KeptApart.{NoClash}
-use Rattle.theory_world.proofs.Hashed.{no_clash, among_left, all_more, all_new}
+use Rattle.theory_world.specs.KeptApart.{NoCollision}
+use Rattle.theory_world.proofs.Hashed.{no_collision, among_left, all_more, all_new}
 use Rattle.theory_world.proofs.Tests.{length_map}
 use Rattle.theory_world.proofs.Ledger.Worth.{IsAccepted, accepted_by}
 use Rattle.theory_world.specs.Transactions.{AllSequences, IsNumbered, HeardLists}
@@ -55,7 +55,7 @@ use Rattle.theory_world.proofs.Ledger.Accepting.{IsSpent, AllSpent, accepting, H
 use Rattle.theory_run.specs.KeptBook.{KeptBook, AllFinal, HeardDigest, Gave, gave}
 use Rattle.theory_run.proofs.Facts.Kept.{AllDead}
 use Rattle.theory_run.proofs.Accepted.Spending.{TransactionsFit, Checked}
-use Rattle.theory_world.proofs.Later.{get-spent, get-front}
+use Rattle.theory_world.proofs.Later.{get-spent, get-prefix}
 use Rattle.theory_run.proofs.Accepted.Accept.{spent_at, all_strings_of}
 use Rattle.theory_run.proofs.Widths.Fitting.{output_fits, pays_size, AllShort, short_bytes}
 use Rattle.theory_run.proofs.Facts.Labelled.{same_label, deposit_label, heard_label}
@@ -65,7 +65,8 @@ use Rattle.theory_world.proofs.Staying.{inits_stay, asked_stay}
 use Rattle.theory_run.proofs.Events.Quiet.{KeptAfter, refused_after, unless_after}
 
 -- a pair of these digests has the key, and the digest of one of the numbers
-pub key_given : (key : List ℕ) (f : ℕ → List ℕ) (ns : List ℕ) (k d : List ℕ) → has_signed (map {B = Pair} (λ n. (key, f n)) ns) k d ≡ true → (key ≡ k) × ((n : ℕ) × Is_in n ns × (f n ≡ d))
+pub key_given : (key : List ℕ) (f : ℕ → List ℕ) (ns : List ℕ) (k d : List ℕ) → has_signed (map {B = Pair} (λ n. (key, f n)) ns) k d ≡ true
+    → (key ≡ k) × ((n : ℕ) × Is_in n ns × (f n ≡ d))
 key_given key f [] k d h = cc
 key_given key f (n ∷ ns) k d h = elim (or_cases (bytes_eq key k && bytes_eq (f n) d) (has_signed (map {B = Pair} (λ n. (key, f n)) ns) k d) h) [
   | inl u ↦ (let p = and_parts (bytes_eq key k) (bytes_eq (f n) d) u in (bytes-true key k p.0, (n, inl refl, bytes-true (f n) d p.1)))
@@ -88,7 +89,8 @@ pub is_given : (w : World) (ns : List ℕ) → is_some (first_dead w ns) ≡ fal
 is_given w [] h n i = absurd i
 is_given w (m ∷ ns) h n i = by_test (is_deposit (output_at w m)) refl h i (is_given w ns)
   where
-    by_test : (b : Bool) → is_deposit (output_at w m) ≡ b → is_some (if b then first_dead w ns else Some m) ≡ false → (n ≡ m) ⊎ Is_in n ns → (is_some (first_dead w ns) ≡ false → (k : ℕ) → Is_in k ns → IsGiven w k) → IsGiven w n
+    by_test : (b : Bool) → is_deposit (output_at w m) ≡ b → is_some (if b then first_dead w ns else Some m) ≡ false → (n ≡ m) ⊎ Is_in n ns
+        → (is_some (first_dead w ns) ≡ false → (k : ℕ) → Is_in k ns → IsGiven w k) → IsGiven w n
     by_test true e q (inl x) ih = subst (IsGiven w) (sym x) (one_given w m (slice_get w.outputs m) refl e)
     by_test true e q (inr x) ih = ih q n x
     by_test false e q x ih = cc
@@ -130,7 +132,8 @@ given_outputs_short : (s : Setup) → HashesBytes s.hash → (os : List (List �
 given_outputs_short s size [] = tt
 given_outputs_short s size (o ∷ os) = (pays_size s.hash size (party_script s.hash (o.0)) (o.1), given_outputs_short s size os)
 
-module _ (s : Setup) (size : HashesBytes s.hash) (few_contracts : length s.contracts ≤ 16) (strings : List (List ℕ)) (g : Configuration) (w : World) (kept : KeptBook s g w) (fit : TransactionsFit s w) (check : Checked s w) (clear : NoClash s.hash w.hashed)
+module _ (s : Setup) (size : HashesBytes s.hash) (few_contracts : length s.contracts ≤ 16) (strings : List (List ℕ)) (g : Configuration)
+    (w : World) (kept : KeptBook s g w) (fit : TransactionsFit s w) (check : Checked s w) (clear : NoCollision s.hash w.hashed)
     (party : List ℕ) (declared : is_declared s party ≡ true) (inputs : List ℕ) (outputs : List (List ℕ × ℕ)) where
   abbrev pub pairs : List Pair
   pairs = given_pairs s w party inputs outputs
@@ -139,7 +142,8 @@ module _ (s : Setup) (size : HashesBytes s.hash) (few_contracts : length s.contr
   next = with_pairs w pairs
 
   -- no branch's key is among them
-  pub given_branch : (k : ℕ) (st : Instance) (q : List PathStep) (here : Standing) (choice : Contract) (i : ℕ) (b : term.Guarded) (a d : List ℕ) → compiled_instance s w k ≡ Some st → position_at s.hash st q ≡ Some (here, choice) → slice_get (branches choice) i ≡ Some b
+  pub given_branch : (k : ℕ) (st : Instance) (q : List PathStep) (here : Standing) (choice : Contract) (i : ℕ) (b : term.Guarded)
+      (a d : List ℕ) → compiled_instance s w k ≡ Some st → position_at s.hash st q ≡ Some (here, choice) → slice_get (branches choice) i ≡ Some b
       → is_among a (people st) ≡ true → has_signed pairs (key_of s.hash (branch_label k (q ++ To i ∷ []) a)) d ≡ true → ⊥
   given_branch k st q here choice i b a d c e t p x =
       let r = (key_given (deposit_key s.hash party) (given_digest s w party (unsigned_gift s w inputs outputs)) inputs (key_of s.hash (branch_label k (q ++ To i ∷ []) a)) d x).0 in
@@ -269,42 +273,57 @@ module _ (s : Setup) (size : HashesBytes s.hash) (few_contracts : length s.contr
           }
 
       -- its inputs are spent after it
-      pub given_dead : AllDead (settled w (accepted s next tx spent)) bare_gift.inputs
+      pub given_dead : AllDead (applied w (accepted s next tx spent)) bare_gift.inputs
       given_dead = each_dead inputs (λ n i. i)
         where
           news : List Output
           news = made_from (new_position s (kind_of s next tx spent)) (txid s.hash tx) 0 tx.outputs
 
-          each_dead : (ns : List ℕ) → ((n : ℕ) → Is_in n ns → Is_in n inputs) → AllDead (settled w (accepted s next tx spent)) (map (given_input w) ns)
+          each_dead : (ns : List ℕ) → ((n : ℕ) → Is_in n ns → Is_in n inputs) → AllDead (applied w (accepted s next tx spent)) (map (given_input w) ns)
           each_dead [] h = tt
           each_dead (n ∷ ns) h =
               let g = is_given w inputs row.0 n (h n (inl refl)) in
               let z : n + 0 ≡ n = omega arith in
               let t : has_number (n + 0) spent ≡ true = ap (λ k. has_number k spent) z ∙ (spends_given n (h n (inl refl))).0 in
               let there : slice_get (spend_from 0 spent w.outputs) n ≡ Some (record g.output { live = false }) = get-spent 0 n spent w.outputs ∙ rw (g.there, t) refl in (
-                record { number = n; output = record g.output { live = false }; there = get-front (spend_from 0 spent w.outputs) news n (record g.output { live = false }) there; outpoint = sym (ap outpoint_of g.there); dead = refl },
+                record {
+                  number = n;
+                  output = record g.output { live = false };
+                  there = get-prefix (spend_from 0 spent w.outputs) news n
+                      (record g.output { live = false }) there;
+                  outpoint = sym (ap outpoint_of g.there);
+                  dead = refl;
+                },
                 each_dead ns (λ m i. h m (inr i)),
               )
 
       -- before the ledger has it
       pub signed_kept : KeptBook s g heard
-      signed_kept = pairs_kept s size few_contracts g w kept check hs (no_clash s.hash w.hashed (strings_of s next tx ++ items_of tx) clear apart) (λ t h. all_more w.hashed (strings_of s next tx ++ items_of tx) t h) g w.tip w.posted (λ k x h. h) (λ n i a h. h) pairs
+      signed_kept = pairs_kept s size few_contracts g w kept check hs
+          (no_collision s.hash w.hashed (strings_of s next tx ++ items_of tx) clear apart)
+          (λ t h. all_more w.hashed (strings_of s next tx ++ items_of tx) t h) g w.tip w.posted (λ k x h. h) (λ n i a h. h) pairs
           (λ a d decl honest x. let e = given_deposit a d decl x in gave (subst (λ p. Gave s heard p d) e (given_cause d (subst (λ p. has_signed pairs (deposit_key s.hash p) d ≡ true) (sym e) x))))
           (λ k st q here choice i b a d c e t p honest x. absurd (given_branch k st q here choice i b a d c e t p x))
 
-      pub accepted_kept : (g' : Configuration) → ((k : ℕ) (x : List ℕ) → is_init_authorised g.init_authorised k x ≡ true → is_init_authorised g'.init_authorised k x ≡ true)
-          → ((n i : ℕ) (a : List ℕ) → has_branch_authorised g.branch_authorised n i a ≡ true → has_branch_authorised g'.branch_authorised n i a ≡ true) → KeptBook s g' (settled w (accepted s next tx spent))
+      pub accepted_kept : (g' : Configuration)
+          → ((k : ℕ) (x : List ℕ) → is_init_authorised g.init_authorised k x ≡ true → is_init_authorised g'.init_authorised k x ≡ true)
+          → ((n i : ℕ) (a : List ℕ) → has_branch_authorised g.branch_authorised n i a ≡ true
+          → has_branch_authorised g'.branch_authorised n i a ≡ true) → KeptBook s g' (applied w (accepted s next tx spent))
       accepted_kept g' inits asked =
-          joined_kept s size few_contracts g g' heard signed_kept (record { initial = fit.initial; branch = fit.branch }) (record { checked = check.checked; committed = check.committed }) inits asked tx gift_numbered spent is
+          joined_kept s size few_contracts g g' heard signed_kept (record { initial = fit.initial; branch = fit.branch })
+          (record { checked = check.checked; committed = check.committed }) inits asked tx gift_numbered spent is
           w.hashed (w.posted ++ items_of tx) clear apart (λ t h. h)
 
   -- a party's gift
-  pub gift_after : (e : Event) → length outputs ≤ 262144 → KeptAfter s size few_contracts strings g w kept check clear e (give_draft s w party inputs outputs)
-  gift_after e few = unless_after s size few_contracts strings g w kept check clear e (first_reason (give_row s w party inputs outputs)) [] (reaches s w next (gift s w party inputs outputs))
+  pub gift_after : (e : Event) → length outputs ≤ 262144 → KeptAfter s size few_contracts strings g w kept check clear e (give_pending s w party inputs outputs)
+  gift_after e few = unless_after s size few_contracts strings g w kept check clear e (first_reason (give_row s w party inputs outputs)) []
+      (reaches s w next (gift s w party inputs outputs))
       (λ r. by_verdict (no_reason-none_true (give_row s w party inputs outputs) r) (verdict_in s next (gift s w party inputs outputs)) refl)
     where
-      by_verdict : NoneTrue (give_row s w party inputs outputs) → (v : Verdict) → verdict_in s next (gift s w party inputs outputs) ≡ v → KeptAfter s size few_contracts strings g w kept check clear e (judged s w next (gift s w party inputs outputs) v)
-      by_verdict row (verdicts.Refused r) h = refused_after s size few_contracts strings g w kept check clear e (strings_of s next (gift s w party inputs outputs)) (reason.Ledger r)
+      by_verdict : NoneTrue (give_row s w party inputs outputs) → (v : Verdict) → verdict_in s next (gift s w party inputs outputs) ≡ v
+          → KeptAfter s size few_contracts strings g w kept check clear e (judged s w next (gift s w party inputs outputs) v)
+      by_verdict row (verdicts.Refused r) h =
+          refused_after s size few_contracts strings g w kept check clear e (strings_of s next (gift s w party inputs outputs)) (reason.Ledger r)
       by_verdict row (verdicts.Accepted spent made) h = λ apart.
-          let xs = steps_of s strings g w (settled w (accepted s next (gift s w party inputs outputs) spent)) e (accepted s next (gift s w party inputs outputs) spent) in
+          let xs = steps_of s strings g w (applied w (accepted s next (gift s w party inputs outputs) spent)) e (accepted s next (gift s w party inputs outputs) spent) in
           accepted_kept few row spent made h apart (after_steps g xs) (inits_stay xs g) (asked_stay xs g)

@@ -14,22 +14,22 @@ use Rattle.spec_run.specs.declared.event.Event.TheVariants as events
 use Rattle.spec_run.specs.declared.outcome.Reason.{Reason}
 use Rattle.spec_run.specs.Setup.{Setup, contract_at}
 use Rattle.spec_run.specs.World.{ContractPosition, World, live_position_at}
-use Rattle.spec_run.specs.Draft.{Draft, unless, done, posting}
+use Rattle.spec_run.specs.Pending.{Pending, unless, done, posting}
 use Rattle.spec_run.specs.Compiled.{compiled_instance}
 use Rattle.spec_run.specs.Advertising.{arranged, deposit_names, advertise_row}
-use Rattle.spec_run.specs.Committing.{commit_row, digest_row, committed_strings, with_promise, committed_draft, strings_compiled}
+use Rattle.spec_run.specs.Committing.{commit_row, digest_row, committed_strings, with_promise, committed_pending, strings_compiled}
 use Rattle.spec_run.specs.Signing.{with_pairs, endorse_row, endorsing_pairs, init_row, initial_pairs, authorise_row, authorising_pairs, sign_row}
 use Rattle.spec_run.specs.Signing.{branch_if_live, branch_pair, prepared_if_compiled}
 use Rattle.spec_run.specs.Giving.{give_row, given_pairs, gift}
 use Rattle.spec_run.specs.Firing.{first_unshown, shown_string, unknown_secret, position_instance, unknown_at, fire_row, fire_init_row}
 use Rattle.spec_run.specs.Firing.{reaches_if, initial_by, taking_of_position, taking_of_parts}
 use Rattle.spec_run.specs.Ledger.{judged, verdict_in, contract_in, position_path, reaches}
-use Rattle.spec_run.specs.Event.{append_read, mine_row, draft}
+use Rattle.spec_run.specs.Event.{append_read, mine_row, pending}
 use Rattle.spec_run.specs.Revealing.{reveal_row, own_secret}
 use Rattle.theory_world.proofs.Bookless.{compiled_same, kind_same}
 
--- a draft in a world with other messages
-abbrev pub carried : List (List ℕ) → Draft → Draft
+-- a pending effect in a world with other messages
+abbrev pub carried : List (List ℕ) → Pending → Pending
 carried hs d = record d { world = record d.world { hashed = hs } }
 
 module _ (s : Setup) (w : World) (hs : List (List ℕ)) where
@@ -39,7 +39,7 @@ module _ (s : Setup) (w : World) (hs : List (List ℕ)) where
   instance_same : (k : ℕ) → compiled_instance s more k ≡ compiled_instance s w k
   instance_same k = compiled_same s w w.book hs k
 
-  unless_same : (r : Option Reason) (hashes : List (List ℕ)) (d : Draft)
+  unless_same : (r : Option Reason) (hashes : List (List ℕ)) (d : Pending)
       → unless r more hashes (carried hs d) ≡ carried hs (unless r w hashes d)
   unless_same None hashes d = refl
   unless_same (Some reason) hashes d = refl
@@ -93,47 +93,47 @@ module _ (s : Setup) (w : World) (hs : List (List ℕ)) where
       parts_same held branch (Some instance) (Some choice) (Some b) (Some made) = refl
 
   commit_same : (k : ℕ) (party : List ℕ) (digests : List (List ℕ × List ℕ))
-      → draft s more (events.Commit k party digests) ≡ carried hs (draft s w (events.Commit k party digests))
+      → pending s more (events.Commit k party digests) ≡ carried hs (pending s w (events.Commit k party digests))
   commit_same k party digests =
       let next = with_promise s w k party digests in
       let strings = committed_strings s k party in
-      let done_same : committed_draft s (record next { hashed = hs }) k party strings ≡ carried hs
-      (committed_draft s next k party strings) =
+      let done_same : committed_pending s (record next { hashed = hs }) k party strings ≡ carried hs
+      (committed_pending s next k party strings) =
       ap (λ o. done (record next { hashed = hs }) (strings ++ strings_compiled s o)) (compiled_same s next next.book hs k) in
       ap (λ d. unless (first_reason (commit_row s w k party digests)) more []
       (unless (first_reason (digest_row s w k party digests)) more strings d)) done_same
       ∙ (ap (unless (first_reason (commit_row s w k party digests)) more [])
-      (unless_same (first_reason (digest_row s w k party digests)) strings (committed_draft s next k party strings))
+      (unless_same (first_reason (digest_row s w k party digests)) strings (committed_pending s next k party strings))
       ∙ unless_same (first_reason (commit_row s w k party digests)) [] _)
 
-  endorse_same : (k : ℕ) (party : List ℕ) → draft s more (events.Endorse k party) ≡ carried hs (draft s w (events.Endorse k party))
+  endorse_same : (k : ℕ) (party : List ℕ) → pending s more (events.Endorse k party) ≡ carried hs (pending s w (events.Endorse k party))
   endorse_same k party = rw (instance_same k)
       (unless_same (first_reason (endorse_row s w k party)) [] (done (with_pairs w (endorsing_pairs s party (compiled_instance s w k))) []))
 
-  init_same : (k : ℕ) (party : List ℕ) → draft s more (events.Init k party) ≡ carried hs (draft s w (events.Init k party))
+  init_same : (k : ℕ) (party : List ℕ) → pending s more (events.Init k party) ≡ carried hs (pending s w (events.Init k party))
   init_same k party = rw (instance_same k)
       (unless_same (first_reason (init_row s w k party)) [] (done (with_pairs w (initial_pairs s party (compiled_instance s w k))) []))
 
   authorise_same : (party : List ℕ) (n i : ℕ)
-      → draft s more (events.Authorise party n i) ≡ carried hs (draft s w (events.Authorise party n i))
+      → pending s more (events.Authorise party n i) ≡ carried hs (pending s w (events.Authorise party n i))
   authorise_same party n i =
       ap (λ ps. unless (first_reason (authorise_row s w party n i)) more [] (done (with_pairs more ps) []))
       (pairs_same party (live_position_at w n) i)
       ∙ unless_same (first_reason (authorise_row s w party n i)) []
       (done (with_pairs w (authorising_pairs s w party (live_position_at w n) i)) [])
 
-  begin_same : (k : ℕ) → draft s more (events.FireInit k) ≡ carried hs (draft s w (events.FireInit k))
+  begin_same : (k : ℕ) → pending s more (events.FireInit k) ≡ carried hs (pending s w (events.FireInit k))
   begin_same k = rw (instance_same k) (
       ap (unless (first_reason (fire_init_row s w k)) more []) (reaches_same (initial_by s (compiled_instance s w k)))
       ∙ unless_same (first_reason (fire_init_row s w k)) [] (reaches_if s w (initial_by s (compiled_instance s w k))))
 
-  fire_same : (n i : ℕ) → draft s more (events.Fire n i) ≡ carried hs (draft s w (events.Fire n i))
+  fire_same : (n i : ℕ) → pending s more (events.Fire n i) ≡ carried hs (pending s w (events.Fire n i))
   fire_same n i = rw (unknown_same n i, taking_same (live_position_at w n) i) (
       ap (unless (first_reason (fire_row s w n i)) more []) (reaches_same (taking_of_position s w (live_position_at w n) i))
       ∙ unless_same (first_reason (fire_row s w n i)) [] (reaches_if s w (taking_of_position s w (live_position_at w n) i)))
 
   reveal_same : (k : ℕ) (party secret : List ℕ)
-      → draft s more (events.Reveal k party secret) ≡ carried hs (draft s w (events.Reveal k party secret))
+      → pending s more (events.Reveal k party secret) ≡ carried hs (pending s w (events.Reveal k party secret))
   reveal_same k party secret =
       unless_same (first_reason (reveal_row s w k party secret)) []
       (posting w (own_secret s party secret) (Some (party, secret)))
@@ -143,31 +143,31 @@ module _ (s : Setup) (w : World) (hs : List (List ℕ)) where
   read_same (Err place) = refl
 
   give_same : (party : List ℕ) (inputs : List ℕ) (outputs : List (List ℕ × ℕ))
-      → draft s more (events.Give party inputs outputs) ≡ carried hs (draft s w (events.Give party inputs outputs))
+      → pending s more (events.Give party inputs outputs) ≡ carried hs (pending s w (events.Give party inputs outputs))
   give_same party inputs outputs =
       let signed = with_pairs w (given_pairs s w party inputs outputs) in
       let tx = gift s w party inputs outputs in
       ap (unless (first_reason (give_row s w party inputs outputs)) more []) (judged_same signed.book tx (verdict_in s signed tx))
       ∙ unless_same (first_reason (give_row s w party inputs outputs)) [] (reaches s w signed tx)
 
-  pub draft_same : (e : Event) → draft s more e ≡ carried hs (draft s w e)
-  draft_same (events.Advertise contract bindings) =
+  pub pending_same : (e : Event) → pending s more e ≡ carried hs (pending s w e)
+  pending_same (events.Advertise contract bindings) =
       unless_same (first_reason (advertise_row s w contract bindings)) []
       (done (record w {
         advertised = w.advertised ++ record
             { contract = contract; bindings = arranged 0 (deposit_names s contract) bindings } ∷ [];
       }) [])
-  draft_same (events.Commit contract party digests) = commit_same contract party digests
-  draft_same (events.Endorse contract party) = endorse_same contract party
-  draft_same (events.Init contract party) = init_same contract party
-  draft_same (events.Authorise party output branch) = authorise_same party output branch
-  draft_same (events.Reveal contract party secret) = reveal_same contract party secret
-  draft_same (events.Post bytes) = refl
-  draft_same (events.Sign party label digest) =
+  pending_same (events.Commit contract party digests) = commit_same contract party digests
+  pending_same (events.Endorse contract party) = endorse_same contract party
+  pending_same (events.Init contract party) = init_same contract party
+  pending_same (events.Authorise party output branch) = authorise_same party output branch
+  pending_same (events.Reveal contract party secret) = reveal_same contract party secret
+  pending_same (events.Post bytes) = refl
+  pending_same (events.Sign party label digest) =
       unless_same (first_reason (sign_row s party label)) []
       (done (with_pairs w ((key_of s.hash label, digest) ∷ [])) (label_text label ∷ []))
-  draft_same (events.Give party inputs outputs) = give_same party inputs outputs
-  draft_same (events.Append bytes) = read_same (transaction_of bytes)
-  draft_same (events.FireInit contract) = begin_same contract
-  draft_same (events.Fire output branch) = fire_same output branch
-  draft_same (events.Mine blocks) = unless_same (first_reason (mine_row w blocks)) [] (done (record w { tip = w.tip + blocks }) [])
+  pending_same (events.Give party inputs outputs) = give_same party inputs outputs
+  pending_same (events.Append bytes) = read_same (transaction_of bytes)
+  pending_same (events.FireInit contract) = begin_same contract
+  pending_same (events.Fire output branch) = fire_same output branch
+  pending_same (events.Mine blocks) = unless_same (first_reason (mine_row w blocks)) [] (done (record w { tip = w.tip + blocks }) [])

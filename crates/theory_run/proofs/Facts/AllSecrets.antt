@@ -56,7 +56,8 @@ later_than k x (c ∷ cs) h = false_from_ne_true _ (λ t. elim (or_cases (has_se
   | inr b ↦ both_ways _ (later_than (k + 1) x cs (omega (arith, h))) b
 ])
 
-different_append : (xs ys : List Revealed) → different_secrets xs ≡ true → different_secrets ys ≡ true → ((x : Revealed) → has_secret x xs ≡ true → has_secret x ys ≡ false) → different_secrets (xs ++ ys) ≡ true
+different_append : (xs ys : List Revealed) → different_secrets xs ≡ true → different_secrets ys ≡ true
+    → ((x : Revealed) → has_secret x xs ≡ true → has_secret x ys ≡ false) → different_secrets (xs ++ ys) ≡ true
 different_append [] ys a b h = b
 different_append (x ∷ xs) ys a b h =
     let p = and_parts (not (has_secret x xs)) (different_secrets xs) a in

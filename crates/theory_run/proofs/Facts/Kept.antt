@@ -65,13 +65,15 @@ AllDead w (i ∷ is) = IsDead w i.prev × AllDead w is
 -- ---- later worlds
 
 -- what a name is bound to was made
-pub looked_made : (w : World) (bs : List (List ℕ × ℕ)) (name : List ℕ) (n : ℕ) → are_made w bs ≡ true → look_up name bs ≡ Some n → is_some (output_at w n) ≡ true
+pub looked_made : (w : World) (bs : List (List ℕ × ℕ)) (name : List ℕ) (n : ℕ) → are_made w bs ≡ true → look_up name bs ≡ Some n
+    → is_some (output_at w n) ≡ true
 looked_made w [] name n h e = cc
 looked_made w (b ∷ bs) name n h e =
     let p = and_parts (is_some (output_at w (b.1))) (are_made w bs) h in
     by_test (bytes_eq (b.0) name) e p.0 (looked_made w bs name n p.1)
   where
-    by_test : (t : Bool) → (if t then Some (b.1) else look_up name bs) ≡ Some n → is_some (output_at w (b.1)) ≡ true → (look_up name bs ≡ Some n → is_some (output_at w n) ≡ true) → is_some (output_at w n) ≡ true
+    by_test : (t : Bool) → (if t then Some (b.1) else look_up name bs) ≡ Some n → is_some (output_at w (b.1)) ≡ true
+        → (look_up name bs ≡ Some n → is_some (output_at w n) ≡ true) → is_some (output_at w n) ≡ true
     by_test true q m ih = let z : b.1 ≡ n = cc in subst (λ k. is_some (output_at w k) ≡ true) z m
     by_test false q m ih = ih q
 
@@ -98,7 +100,15 @@ module _ (s : Setup) (g g' : Configuration) (w next : World) (f : Frame s g g' w
   digest_later tx i script v h = record { first = f.hashed _ h.first; second = f.hashed _ h.second }
 
   pub lists_later : (tx : Tx) → HeardLists s.hash w.hashed tx → HeardLists s.hash next.hashed tx
-  lists_later tx h = record { places = f.hashed _ h.places; places_hash = f.hashed _ h.places_hash; sequences = f.hashed _ h.sequences; sequences_hash = f.hashed _ h.sequences_hash; outputs = f.hashed _ h.outputs; outputs_hash = f.hashed _ h.outputs_hash }
+  lists_later tx h = record {
+    places = f.hashed _ h.places;
+    places_hash = f.hashed _ h.places_hash;
+    sequences = f.hashed _
+        h.sequences;
+    sequences_hash = f.hashed _ h.sequences_hash;
+    outputs = f.hashed _ h.outputs;
+    outputs_hash = f.hashed _ h.outputs_hash;
+  }
 
   spent_later : (tx : Tx) (i : TxIn) → SpentFor s w tx i → SpentFor s next tx i
   spent_later tx i d =
@@ -110,8 +120,10 @@ module _ (s : Setup) (g g' : Configuration) (w next : World) (f : Frame s g g' w
         there = r.1;
         outpoint = d.outpoint ∙ sym r.2.outpoint;
         dead = r.2.dead d.dead;
-        signed = λ a k e. subst (λ x. has_signed next.book (deposit_key s.hash a) (digest s.hash tx i (party_script s.hash a) x) ≡ true) (sym v) (f.book _ _ (d.signed a k (sym r.2.script ∙ e)));
-        heard = λ a k e. subst (λ x. HeardDigest s next.hashed tx i (party_script s.hash a) x) (sym v) (digest_later tx i (party_script s.hash a) d.output.value (d.heard a k (sym r.2.script ∙ e)));
+        signed = λ a k e. subst (λ x. has_signed next.book (deposit_key s.hash a) (digest s.hash tx i (party_script s.hash a) x) ≡ true)
+            (sym v) (f.book _ _ (d.signed a k (sym r.2.script ∙ e)));
+        heard = λ a k e. subst (λ x. HeardDigest s next.hashed tx i (party_script s.hash a) x) (sym v)
+            (digest_later tx i (party_script s.hash a) d.output.value (d.heard a k (sym r.2.script ∙ e)));
       }
 
   all_spent_later : (tx : Tx) (is : List TxIn) → AllSpentFor s w tx is → AllSpentFor s next tx is
@@ -119,14 +131,25 @@ module _ (s : Setup) (g g' : Configuration) (w next : World) (f : Frame s g g' w
   all_spent_later tx (i ∷ is) d = (spent_later tx i d.0, all_spent_later tx is d.1)
 
   pub from_later : (id : List ℕ) → From s w id → From s next id
-  from_later id h = record { tx = h.tx; fits = h.fits; no_scripts = h.no_scripts; is = h.is; first = f.hashed _ h.first; second = f.hashed _ h.second; lists = lists_later h.tx h.lists; spent = all_spent_later h.tx h.tx.inputs h.spent }
+  from_later id h = record {
+    tx = h.tx;
+    fits = h.fits;
+    no_scripts = h.no_scripts;
+    is = h.is;
+    first = f.hashed _ h.first;
+    second = f.hashed _
+        h.second;
+    lists = lists_later h.tx h.lists;
+    spent = all_spent_later h.tx h.tx.inputs h.spent;
+  }
 
   pub origin_later : (id : List ℕ) → (id ≡ opening_id s) ⊎ From s w id → (id ≡ opening_id s) ⊎ From s next id
   origin_later id (inl e) = inl e
   origin_later id (inr h) = inr (from_later id h)
 
   -- what is a live deposit later was one before
-  pub live_before : (n : ℕ) (o : Output) → slice_get w.outputs n ≡ Some o → is_deposit (slice_get next.outputs n) ≡ true → is_deposit (slice_get w.outputs n) ≡ true
+  pub live_before : (n : ℕ) (o : Output) → slice_get w.outputs n ≡ Some o → is_deposit (slice_get next.outputs n) ≡ true
+      → is_deposit (slice_get w.outputs n) ≡ true
   live_before n o h d =
       let r = f.outputs.last n o h in
       let x : (r.0.live && is_none r.0.holds) ≡ true = subst (λ y. is_deposit y ≡ true) r.1 d in
@@ -135,14 +158,27 @@ module _ (s : Setup) (g g' : Configuration) (w next : World) (f : Frame s g g' w
       subst (λ y. is_deposit y ≡ true) (sym h) (and_from _ _ l (subst (λ y. is_none y ≡ true) r.2.holds p.1))
 
   unfoldable pub gave_later : (a d : List ℕ) → Gave s w a d → Gave s next a d
-  gave_later a d h = record { tx = h.tx; input = h.input; value = h.value; fits = h.fits; lists = lists_later h.tx h.lists; prev = h.prev; is = h.is; heard = digest_later h.tx h.input (party_script s.hash a) h.value h.heard; some = h.some; final = h.final }
+  gave_later a d h = record {
+    tx = h.tx;
+    input = h.input;
+    value = h.value;
+    fits = h.fits;
+    lists = lists_later h.tx
+        h.lists;
+    prev = h.prev;
+    is = h.is;
+    heard = digest_later h.tx h.input (party_script s.hash a) h.value h.heard;
+    some = h.some;
+    final = h.final;
+  }
 
   unfoldable pub needed_later : (a d : List ℕ) → Needed s w a d → Needed s next a d
   needed_later a d h = record { contract = h.contract; instance = h.instance; compiled = f.compiled h.contract h.instance h.compiled; position = h.position; here = h.here; choice = h.choice; stands = h.stands; index = h.index; branch = h.branch; there = h.there; spent = h.spent; put = h.put; is = h.is }
 
   module _ (adverts : (k : ℕ) → is_advertised w k ≡ true → AdvertFine s w k) where
     pub bound_before : (k : ℕ) (e : List ℕ × Holding) → is_advertised w k ≡ true → is_bound_live next k e ≡ true → is_bound_live w k e ≡ true
-    bound_before k e adv h = by_number (look_up (e.0) (bindings_at w.advertised k)) refl (subst (λ bs. names_deposit next (look_up (e.0) bs) ≡ true) (f.bindings k adv) h)
+    bound_before k e adv h =
+        by_number (look_up (e.0) (bindings_at w.advertised k)) refl (subst (λ bs. names_deposit next (look_up (e.0) bs) ≡ true) (f.bindings k adv) h)
       where
         by_number : (o : Option ℕ) → look_up (e.0) (bindings_at w.advertised k) ≡ o → names_deposit next o ≡ true → names_deposit w o ≡ true
         by_number None x y = cc
@@ -151,7 +187,8 @@ module _ (s : Setup) (g g' : Configuration) (w next : World) (f : Frame s g g' w
             made : is_some (slice_get w.outputs n) ≡ true
             made = looked_made w (bindings_at w.advertised k) (e.0) n (adverts k adv).made x
 
-            by_output : (o : Option Output) → slice_get w.outputs n ≡ o → is_deposit (slice_get next.outputs n) ≡ true → is_deposit (slice_get w.outputs n) ≡ true
+            by_output : (o : Option Output) → slice_get w.outputs n ≡ o → is_deposit (slice_get next.outputs n) ≡ true
+                → is_deposit (slice_get w.outputs n) ≡ true
             by_output None u v = let m = rw u at made in cc
             by_output (Some o) u v = live_before n o u v
 
@@ -163,7 +200,8 @@ module _ (s : Setup) (g g' : Configuration) (w next : World) (f : Frame s g g' w
       spent = h.spent;
       persists = h.persists;
       is = h.is;
-      authorised = λ e i o l. f.inits h.contract (e.0) (h.authorised e i o (bound_before h.contract e (compiled_is s w h.contract h.instance h.compiled).advertised l));
+      authorised =
+          λ e i o l. f.inits h.contract (e.0) (h.authorised e i o (bound_before h.contract e (compiled_is s w h.contract h.instance h.compiled).advertised l));
     }
 
     pub cause_later : (a d : List ℕ) → DepositCause s g w a d → DepositCause s g' next a d
@@ -196,7 +234,18 @@ module _ (s : Setup) (g g' : Configuration) (w next : World) (f : Frame s g g' w
       }
 
   pub held_later : (o o' : Output) (h : ContractPosition) → SameOutput o o' → HeldFine s w o h → HeldFine s next o' h
-  held_later o o' h e k = record { instance = k.instance; compiled = f.compiled h.contract k.instance k.compiled; here = k.here; choice = k.choice; stands = k.stands; outpoint = e.outpoint ∙ k.outpoint; script = e.script ∙ k.script; value = e.value ∙ k.value }
+  held_later o o' h e k = record {
+    instance = k.instance;
+    compiled = f.compiled h.contract k.instance
+        k.compiled;
+    here = k.here;
+    choice = k.choice;
+    stands = k.stands;
+    outpoint = e.outpoint ∙ k.outpoint;
+    script = e.script
+        ∙ k.script;
+    value = e.value ∙ k.value;
+  }
 
   -- where outputs stay, and no further contract is compiled, the new pairs must have their causes
   pub signs : (ps : List Pair) → KeptBook s g w
@@ -205,8 +254,10 @@ module _ (s : Setup) (g g' : Configuration) (w next : World) (f : Frame s g g' w
       → ((k : ℕ) → is_advertised next k ≡ true → is_advertised w k ≡ false → AdvertFine s next k)
       → ((k d : List ℕ) → has_signed next.book k d ≡ true → (has_signed w.book k d ≡ true) ⊎ (has_signed ps k d ≡ true))
       → ((a d : List ℕ) → is_declared s a ≡ true → is_honest s a ≡ true → has_signed ps (deposit_key s.hash a) d ≡ true → DepositCause s g' next a d)
-      → ((k : ℕ) (st : Instance) (q : List PathStep) (here : Standing) (choice : Contract) (i : ℕ) (b : term.Guarded) (a d : List ℕ) → compiled_instance s w k ≡ Some st → position_at s.hash st q ≡ Some (here, choice) → slice_get (branches choice) i ≡ Some b
-      → is_among a (people st) ≡ true → is_honest s a ≡ true → has_signed ps (key_of s.hash (branch_label k (q ++ To i ∷ []) a)) d ≡ true → BranchCause s g' next k st q here i b a d)
+      → ((k : ℕ) (st : Instance) (q : List PathStep) (here : Standing) (choice : Contract) (i : ℕ) (b : term.Guarded) (a d : List ℕ)
+      → compiled_instance s w k ≡ Some st → position_at s.hash st q ≡ Some (here, choice) → slice_get (branches choice) i ≡ Some b
+      → is_among a (people st) ≡ true → is_honest s a ≡ true → has_signed ps (key_of s.hash (branch_label k (q ++ To i ∷ []) a)) d ≡ true
+      → BranchCause s g' next k st q here i b a d)
       → KeptBook s g' next
   signs ps kept outs back new_adverts split deposit_new branch_new = record {
     labelled = λ a h. f.hashed _ (kept.labelled a h);
@@ -217,7 +268,8 @@ module _ (s : Setup) (g g' : Configuration) (w next : World) (f : Frame s g g' w
     placed_fine = λ n o h. kept.placed_fine n o (subst (λ os. slice_get os n ≡ Some o) outs h);
     adverts = λ k h. by_old k h (is_advertised w k) refl;
     heard = λ k st h t i. f.hashed t (kept.heard k st (back k st h) t i);
-    held = λ n o h e i. held_later o o h (record { outpoint = refl; script = refl; value = refl; holds = refl; dead = λ x. x }) (kept.held n o h (subst (λ os. slice_get os n ≡ Some o) outs e) i);
+    held = λ n o h e i. held_later o o h (record { outpoint = refl; script = refl; value = refl; holds = refl; dead = λ x. x })
+        (kept.held n o h (subst (λ os. slice_get os n ≡ Some o) outs e) i);
     placed = λ k st q here choice n o c e h p. kept.placed k st q here choice n o (back k st c) e (subst (λ os. slice_get os n ≡ Some o) outs h) p;
     deposit_pairs = λ a d k h x. elim (split (deposit_key s.hash a) d x) [
       | inl y ↦ cause_later kept.adverts a d (kept.deposit_pairs a d k h y)
@@ -233,9 +285,11 @@ module _ (s : Setup) (g g' : Configuration) (w next : World) (f : Frame s g g' w
       by_old k h true e = advert_later k e (kept.adverts k e)
       by_old k h false e = new_adverts k h e
 
-      branch_later : (k : ℕ) (st : Instance) (q : List PathStep) (here : Standing) (choice : Contract) (i : ℕ) (b : term.Guarded) (a d : List ℕ) → BranchCause s g w k st q here i b a d → BranchCause s g' next k st q here i b a d
+      branch_later : (k : ℕ) (st : Instance) (q : List PathStep) (here : Standing) (choice : Contract) (i : ℕ) (b : term.Guarded)
+          (a d : List ℕ) → BranchCause s g w k st q here i b a d → BranchCause s g' next k st q here i b a d
       branch_later k st q here choice i b a d h = record {
         is = h.is;
         existed = λ x. let r = h.existed x in (r.0, r.1, subst (λ os. slice_get os r.0 ≡ Some r.1) (sym outs) r.2, r.3);
-        authorised = λ x n y. f.asked n i a (h.authorised x n (subst (λ os. live_position (slice_get os n) ≡ Some (record { contract = k; position = q })) outs y));
+        authorised =
+            λ x n y. f.asked n i a (h.authorised x n (subst (λ os. live_position (slice_get os n) ≡ Some (record { contract = k; position = q })) outs y));
       }

@@ -37,27 +37,36 @@ looked_joined n [] ys = refl
 looked_joined n (x ∷ xs) ys = grind (arith, looked_joined n xs ys)
 
 -- a digest that is found has 32 bytes
-sized_at : (ps : List Promise) (k : ℕ) (n : List ℕ) → ((p : Promise) → Is_in p ps → (m d : List ℕ) → look_up m p.digests ≡ Some d → length d ≡ 32) → is_some (look_up n (digests_at ps k)) ≡ true → length (digest_of (digests_at ps k) n) ≡ 32
+sized_at : (ps : List Promise) (k : ℕ) (n : List ℕ)
+    → ((p : Promise) → Is_in p ps → (m d : List ℕ) → look_up m p.digests ≡ Some d → length d ≡ 32) → is_some (look_up n (digests_at ps k))
+    ≡ true → length (digest_of (digests_at ps k) n) ≡ 32
 sized_at [] k n h f = cc
 sized_at (p ∷ ps) k n h f = by_contract (p.contract == k) f (sized_at ps k n (λ q i. h q (inr i)))
   where
-    by_look : (o : Option (List ℕ)) → look_up n p.digests ≡ o → is_some (look_up n (p.digests ++ digests_at ps k)) ≡ true → (is_some (look_up n (digests_at ps k)) ≡ true → length (digest_of (digests_at ps k) n) ≡ 32) → length (digest_of (p.digests ++ digests_at ps k) n) ≡ 32
-    by_look None e q ih = ap length (look_append n p.digests (digests_at ps k) ∙ rw e refl) ∙ ih (sym (looked_joined n p.digests (digests_at ps k) ∙ rw e refl) ∙ q)
+    by_look : (o : Option (List ℕ)) → look_up n p.digests ≡ o → is_some (look_up n (p.digests ++ digests_at ps k)) ≡ true
+        → (is_some (look_up n (digests_at ps k)) ≡ true → length (digest_of (digests_at ps k) n) ≡ 32)
+        → length (digest_of (p.digests ++ digests_at ps k) n) ≡ 32
+    by_look None e q ih =
+        ap length (look_append n p.digests (digests_at ps k) ∙ rw e refl) ∙ ih (sym (looked_joined n p.digests (digests_at ps k) ∙ rw e refl) ∙ q)
     by_look (Some d) e q ih = ap length (look_append n p.digests (digests_at ps k) ∙ rw e (digest_looked n d p.digests e)) ∙ h p (inl refl) n d e
 
-    by_contract : (b : Bool) → is_some (look_up n (if b then p.digests ++ digests_at ps k else digests_at ps k)) ≡ true → (is_some (look_up n (digests_at ps k)) ≡ true → length (digest_of (digests_at ps k) n) ≡ 32) → length (digest_of (if b then p.digests ++ digests_at ps k else digests_at ps k) n) ≡ 32
+    by_contract : (b : Bool) → is_some (look_up n (if b then p.digests ++ digests_at ps k else digests_at ps k)) ≡ true
+        → (is_some (look_up n (digests_at ps k)) ≡ true → length (digest_of (digests_at ps k) n) ≡ 32)
+        → length (digest_of (if b then p.digests ++ digests_at ps k else digests_at ps k) n) ≡ 32
     by_contract true q ih = by_look (look_up n p.digests) refl q ih
     by_contract false q ih = ih q
 
 -- what a commitment has is found
-found_at : (ps : List Promise) (k : ℕ) (n : List ℕ) (p : Promise) → Is_in p ps → p.contract ≡ k → is_some (look_up n p.digests) ≡ true → is_some (look_up n (digests_at ps k)) ≡ true
+found_at : (ps : List Promise) (k : ℕ) (n : List ℕ) (p : Promise) → Is_in p ps → p.contract ≡ k → is_some (look_up n p.digests) ≡ true
+    → is_some (look_up n (digests_at ps k)) ≡ true
 found_at [] k n p i e h = absurd i
 found_at (q ∷ ps) k n p (inl r) e h =
     let t : (q.contract == k) ≡ true = eq-eqb q.contract k (ap (λ (x : Promise). x.contract) (sym r) ∙ e) in
     rw t (looked_joined n q.digests (digests_at ps k) ∙ or_left _ _ (subst (λ (x : Promise). is_some (look_up n x.digests) ≡ true) r h))
 found_at (q ∷ ps) k n p (inr i) e h = by_contract (q.contract == k) (found_at ps k n p i e h)
   where
-    by_contract : (b : Bool) → is_some (look_up n (digests_at ps k)) ≡ true → is_some (look_up n (if b then q.digests ++ digests_at ps k else digests_at ps k)) ≡ true
+    by_contract : (b : Bool) → is_some (look_up n (digests_at ps k)) ≡ true
+        → is_some (look_up n (if b then q.digests ++ digests_at ps k else digests_at ps k)) ≡ true
     by_contract true g = looked_joined n q.digests (digests_at ps k) ∙ or_right (is_some (look_up n q.digests)) _ g
     by_contract false g = g
 
@@ -73,8 +82,10 @@ promise_of (p ∷ ps) k a h = elim (or_cases (is_promise_of k a p) (list_any (is
 pub checked_now : (s : Setup) → IsSetup s → (w : World) → KeptPromises s w → Checked s w
 checked_now s setup w kept = record { checked = λ k st h. compiled_checked s setup w k st h; committed = committed }
   where
-    committed : (k : ℕ) (st : Instance) → compiled_instance s w k ≡ Some st → list_all (λ name. has_size 32 (digest_of st.hashes name)) (names_of (secrets st.advert.pre)) ≡ true
-    committed k st h = subst (λ (x : Instance). list_all (λ name. has_size 32 (digest_of x.hashes name)) (names_of (secrets x.advert.pre)) ≡ true) (sym c.is) (every (λ name. has_size 32 (digest_of (digests_at w.promises k) name)) (names_of (secrets ad.pre)) one)
+    committed : (k : ℕ) (st : Instance) → compiled_instance s w k ≡ Some st
+        → list_all (λ name. has_size 32 (digest_of st.hashes name)) (names_of (secrets st.advert.pre)) ≡ true
+    committed k st h = subst (λ (x : Instance). list_all (λ name. has_size 32 (digest_of x.hashes name)) (names_of (secrets x.advert.pre))
+        ≡ true) (sym c.is) (every (λ name. has_size 32 (digest_of (digests_at w.promises k) name)) (names_of (secrets ad.pre)) one)
       where
         c : IsCompiledAt s w k st
         c = compiled_is s w k st h
@@ -105,7 +116,8 @@ opening_promises s w e = record {
 -- ---- later
 
 -- where nobody commits
-pub promises_stay : (s : Setup) (w next : World) → KeptPromises s w → next.promises ≡ w.promises → ((k : ℕ) → is_advertised w k ≡ true → is_advertised next k ≡ true) → KeptPromises s next
+pub promises_stay : (s : Setup) (w next : World) → KeptPromises s w → next.promises ≡ w.promises
+    → ((k : ℕ) → is_advertised w k ≡ true → is_advertised next k ≡ true) → KeptPromises s next
 promises_stay s w next kept e more = record {
   told = λ k a h. more k (kept.told k a (ap (list_any (is_promise_of k a)) (sym e) ∙ h));
   named = subst (PromisesNamed s) (sym e) kept.named;
@@ -114,9 +126,16 @@ promises_stay s w next kept e more = record {
 }
 
 -- a commitment of digests of 32 bytes to secrets of an advertised contract
-pub one_more_promise : (s : Setup) (w : World) (k : ℕ) (a : List ℕ) (entries : List (List ℕ × List ℕ)) (hashed posted : List (List ℕ)) → KeptPromises s w → is_advertised w k ≡ true
-    → list_all (λ n. is_some (look_up n entries)) (secrets_at s k a) ≡ true → ((n d : List ℕ) → look_up n entries ≡ Some d → is_among n (secrets_at s k a) ≡ true → length d ≡ 32)
-    → KeptPromises s (record w { promises = w.promises ++ record { contract = k; party = a; digests = arranged [] (secrets_at s k a) entries } ∷ []; hashed = hashed; posted = posted })
+pub one_more_promise : (s : Setup) (w : World) (k : ℕ) (a : List ℕ) (entries : List (List ℕ × List ℕ)) (hashed posted : List (List ℕ))
+    → KeptPromises s w → is_advertised w k ≡ true
+    → list_all (λ n. is_some (look_up n entries)) (secrets_at s k a) ≡ true
+    → ((n d : List ℕ) → look_up n entries ≡ Some d → is_among n (secrets_at s k a) ≡ true → length d ≡ 32)
+    → KeptPromises s (record w {
+      promises = w.promises
+          ++ record { contract = k; party = a; digests = arranged [] (secrets_at s k a) entries } ∷ [];
+      hashed = hashed;
+      posted = posted;
+    })
 one_more_promise s w k a entries hashed posted kept adv looked long = record {
   told = λ j b h. elim (or_cases (has_promised w j b) _ (sym (any-append (is_promise_of j b) w.promises (new ∷ [])) ∙ h)) [
     | inl x ↦ kept.told j b x
@@ -132,7 +151,8 @@ one_more_promise s w k a entries hashed posted kept adv looked long = record {
   ];
   full = λ p i n h. elim (in_pushed w.promises new p i) [
     | inl x ↦ kept.full p x n h
-    | inr e ↦ subst (λ (x : Promise). is_some (look_up n x.digests) ≡ true) (sym e) (arranged-some (secrets_at s k a) entries n (subst (λ (x : Promise). is_among n (secrets_at s x.contract x.party) ≡ true) e h))
+    | inr e ↦ subst (λ (x : Promise). is_some (look_up n x.digests) ≡ true) (sym e)
+        (arranged-some (secrets_at s k a) entries n (subst (λ (x : Promise). is_among n (secrets_at s x.contract x.party) ≡ true) e h))
   ];
 }
   where

@@ -27,7 +27,7 @@ use Rattle.spec_run.specs.Ledger.{position_path}
 use Rattle.theory_bitcoin.proofs.Labels.{one_label}
 use Rattle.theory_calculus.proofs.Names.{bytes-true}
 use Rattle.theory_calculus.proofs.Members.{get_below}
-use Rattle.theory_world.specs.KeptApart.{NoClash}
+use Rattle.theory_world.specs.KeptApart.{NoCollision}
 use Rattle.theory_world.proofs.Book.{key-apart}
 use Rattle.theory_world.proofs.Labels.{path_fine}
 use Rattle.theory_world.proofs.Later.{compiled_is}
@@ -64,8 +64,11 @@ label_path (labels.Deposit p) = []
 label_path (labels.Branch c p a) = p
 
 -- the label of a participant's key of a branch of a compiled contract, whose strings are among these
-pub compiled_label : (s : Setup) → length s.contracts ≤ 16 → (w : World) → Checked s w → (hs : List (List ℕ)) → ((j : ℕ) (su : Instance) → compiled_instance s w j ≡ Some su → (t : List ℕ) → is_among t (compiled_strings s.hash su) ≡ true → is_among t hs ≡ true)
-    → (k : ℕ) (st : Instance) (q : List PathStep) (here : Standing) (choice : Contract) (i : ℕ) (b : term.Guarded) (a : List ℕ) → compiled_instance s w k ≡ Some st → position_at s.hash st q ≡ Some (here, choice) → slice_get (branches choice) i ≡ Some b → is_among a (people st) ≡ true
+pub compiled_label : (s : Setup) → length s.contracts ≤ 16 → (w : World) → Checked s w → (hs : List (List ℕ))
+    → ((j : ℕ) (su : Instance) → compiled_instance s w j ≡ Some su → (t : List ℕ) → is_among t (compiled_strings s.hash su) ≡ true → is_among t hs ≡ true)
+    → (k : ℕ) (st : Instance) (q : List PathStep) (here : Standing) (choice : Contract) (i : ℕ) (b : term.Guarded) (a : List ℕ)
+    → compiled_instance s w k ≡ Some st → position_at s.hash st q ≡ Some (here, choice) → slice_get (branches choice) i ≡ Some b
+    → is_among a (people st) ≡ true
     → IsLabel (branch_label k (q ++ To i ∷ []) a) × (is_among (label_text (branch_label k (q ++ To i ∷ []) a)) hs ≡ true)
 compiled_label s few_contracts w check hs heard k st q here choice i b a c e t p =
     let ci = compiled_is s w k st c in
@@ -76,7 +79,7 @@ compiled_label s few_contracts w check hs heard k st q here choice i b a c e t p
       subst (λ n. is_among (label_text (branch_label n (q ++ To i ∷ []) a)) hs ≡ true) sc (label_heard s.hash st hs (heard k st c) q here choice i b e t a p),
     )
 
-module _ (s : Setup) (size : HashesBytes s.hash) (few_contracts : length s.contracts ≤ 16) (g : Configuration) (w : World) (kept : KeptBook s g w) (check : Checked s w) (hs : List (List ℕ)) (clear : NoClash s.hash hs) (sub : (t : List ℕ) → is_among t w.hashed ≡ true → is_among t hs ≡ true) where
+module _ (s : Setup) (size : HashesBytes s.hash) (few_contracts : length s.contracts ≤ 16) (g : Configuration) (w : World) (kept : KeptBook s g w) (check : Checked s w) (hs : List (List ℕ)) (clear : NoCollision s.hash hs) (sub : (t : List ℕ) → is_among t w.hashed ≡ true → is_among t hs ≡ true) where
   -- a label that a run's messages have
   pub record IsHeard (l : Label) : Type 0 where
     pub fine : IsLabel l
@@ -88,7 +91,9 @@ module _ (s : Setup) (size : HashesBytes s.hash) (few_contracts : length s.contr
   pub deposit_label : (a : List ℕ) → is_declared s a ≡ true → IsHeard (labels.Deposit a)
   deposit_label a h = record { fine = tt; heard = sub _ (kept.labelled a h) }
 
-  pub heard_label : (k : ℕ) (st : Instance) (q : List PathStep) (here : Standing) (choice : Contract) (i : ℕ) (b : term.Guarded) (a : List ℕ) → compiled_instance s w k ≡ Some st → position_at s.hash st q ≡ Some (here, choice) → slice_get (branches choice) i ≡ Some b → is_among a (people st) ≡ true
+  pub heard_label : (k : ℕ) (st : Instance) (q : List PathStep) (here : Standing) (choice : Contract) (i : ℕ) (b : term.Guarded)
+      (a : List ℕ) → compiled_instance s w k ≡ Some st → position_at s.hash st q ≡ Some (here, choice) → slice_get (branches choice) i
+      ≡ Some b → is_among a (people st) ≡ true
       → IsHeard (branch_label k (q ++ To i ∷ []) a)
   heard_label k st q here choice i b a c e t p =
       let r = compiled_label s few_contracts w check hs (λ j su d x y. sub x (kept.heard j su d x y)) k st q here choice i b a c e t p in
@@ -97,15 +102,19 @@ module _ (s : Setup) (size : HashesBytes s.hash) (few_contracts : length s.contr
   -- ---- a pair that a dishonest party signs at will
 
   module _ (g' : Configuration) (next : World) (party : List ℕ) (label : Label) (digest : List ℕ) (lies : is_honest s party ≡ false) (owned : label_party label ≡ party) (fine : IsHeard label) where
-    pub lie_deposit : (a d : List ℕ) → is_declared s a ≡ true → is_honest s a ≡ true → has_signed ((key_of s.hash label, digest) ∷ []) (deposit_key s.hash a) d ≡ true → ⊥
+    pub lie_deposit : (a d : List ℕ) → is_declared s a ≡ true → is_honest s a ≡ true
+        → has_signed ((key_of s.hash label, digest) ∷ []) (deposit_key s.hash a) d ≡ true → ⊥
     lie_deposit a d k h x =
         let p = one_pair (key_of s.hash label) digest (deposit_key s.hash a) d x in
         let e = same_label label (labels.Deposit a) fine (deposit_label a k) p.0 in
         let f : party ≡ a = sym owned ∙ ap label_party e in
         both_ways _ lies (subst (λ y. is_honest s y ≡ true) (sym f) h)
 
-    pub lie_branch : (k : ℕ) (st : Instance) (q : List PathStep) (here : Standing) (choice : Contract) (i : ℕ) (b : term.Guarded) (a d : List ℕ) → compiled_instance s w k ≡ Some st → position_at s.hash st q ≡ Some (here, choice) → slice_get (branches choice) i ≡ Some b
-        → is_among a (people st) ≡ true → is_honest s a ≡ true → has_signed ((key_of s.hash label, digest) ∷ []) (key_of s.hash (branch_label k (q ++ To i ∷ []) a)) d ≡ true → BranchCause s g' next k st q here i b a d
+    pub lie_branch : (k : ℕ) (st : Instance) (q : List PathStep) (here : Standing) (choice : Contract) (i : ℕ) (b : term.Guarded)
+        (a d : List ℕ) → compiled_instance s w k ≡ Some st → position_at s.hash st q ≡ Some (here, choice) → slice_get (branches choice) i ≡ Some b
+        → is_among a (people st) ≡ true → is_honest s a ≡ true
+        → has_signed ((key_of s.hash label, digest) ∷ []) (key_of s.hash (branch_label k (q ++ To i ∷ []) a)) d ≡ true
+        → BranchCause s g' next k st q here i b a d
     lie_branch k st q here choice i b a d c e t p h x =
         let r = one_pair (key_of s.hash label) digest (key_of s.hash (branch_label k (q ++ To i ∷ []) a)) d x in
         let y = same_label label (branch_label k (q ++ To i ∷ []) a) fine (heard_label k st q here choice i b a c e t p) r.0 in
@@ -114,7 +123,8 @@ module _ (s : Setup) (size : HashesBytes s.hash) (few_contracts : length s.contr
 
   -- ---- the pair of a branch that a party authorises
 
-  module _ (g' : Configuration) (next : World) (outs : next.outputs ≡ w.outputs) (party : List ℕ) (n : ℕ) (o : Output) (held : ContractPosition) (there : slice_get w.outputs n ≡ Some o) (fine : HeldFine s w o held)
+  module _ (g' : Configuration) (next : World) (outs : next.outputs ≡ w.outputs) (party : List ℕ) (n : ℕ) (o : Output)
+      (held : ContractPosition) (there : slice_get w.outputs n ≡ Some o) (fine : HeldFine s w o held)
       (j : ℕ) (c : term.Guarded) (has : slice_get (branches fine.choice) j ≡ Some c) (part : is_among party (people fine.instance) ≡ true) (now : has_branch_authorised g'.branch_authorised n j party ≡ true) where
     abbrev digest : List ℕ
     digest = digest_of_spent s.hash (tx_of (branch_unsigned s.hash fine.instance fine.here j c)) fine.here.output
@@ -126,8 +136,10 @@ module _ (s : Setup) (size : HashesBytes s.hash) (few_contracts : length s.contr
     label_fine = heard_label held.contract fine.instance held.position fine.here fine.choice j c party fine.compiled fine.stands has part
 
     pub pairs_are : authorising_pairs s w party (Some held) j ≡ (key_of s.hash label, digest) ∷ []
-    pairs_are = ap (λ (x : Option Instance). branch_pair s party held.contract (position_path held j) (prepared_if_compiled s x (position_path held j))) fine.compiled
-        ∙ ap (λ x. branch_pair s party held.contract (position_path held j) (option_map (prepared s.hash) x)) (unsigned_of_branch s.hash fine.instance held.position fine.here fine.choice j c fine.stands has)
+    pairs_are =
+        ap (λ (x : Option Instance). branch_pair s party held.contract (position_path held j) (prepared_if_compiled s x (position_path held j))) fine.compiled
+        ∙ ap (λ x. branch_pair s party held.contract (position_path held j) (option_map (prepared s.hash) x))
+        (unsigned_of_branch s.hash fine.instance held.position fine.here fine.choice j c fine.stands has)
 
     pub authorised_deposit : (a d : List ℕ) → is_declared s a ≡ true → has_signed ((key_of s.hash label, digest) ∷ []) (deposit_key s.hash a) d ≡ true → ⊥
     authorised_deposit a d k x =
@@ -135,8 +147,10 @@ module _ (s : Setup) (size : HashesBytes s.hash) (few_contracts : length s.contr
         let e = same_label label (labels.Deposit a) label_fine (deposit_label a k) p.0 in
         cc
 
-    pub authorised_branch : (k : ℕ) (st : Instance) (q : List PathStep) (here : Standing) (choice : Contract) (i : ℕ) (b : term.Guarded) (a d : List ℕ) → compiled_instance s w k ≡ Some st → position_at s.hash st q ≡ Some (here, choice) → slice_get (branches choice) i ≡ Some b
-        → is_among a (people st) ≡ true → has_signed ((key_of s.hash label, digest) ∷ []) (key_of s.hash (branch_label k (q ++ To i ∷ []) a)) d ≡ true → BranchCause s g' next k st q here i b a d
+    pub authorised_branch : (k : ℕ) (st : Instance) (q : List PathStep) (here : Standing) (choice : Contract) (i : ℕ) (b : term.Guarded)
+        (a d : List ℕ) → compiled_instance s w k ≡ Some st → position_at s.hash st q ≡ Some (here, choice) → slice_get (branches choice) i ≡ Some b
+        → is_among a (people st) ≡ true → has_signed ((key_of s.hash label, digest) ∷ [])
+        (key_of s.hash (branch_label k (q ++ To i ∷ []) a)) d ≡ true → BranchCause s g' next k st q here i b a d
     authorised_branch k st q here choice i b a d given e t p x = found
       where
         r : (key_of s.hash label ≡ key_of s.hash (branch_label k (q ++ To i ∷ []) a)) × (digest ≡ d)
@@ -182,22 +196,30 @@ module _ (s : Setup) (size : HashesBytes s.hash) (few_contracts : length s.contr
           authorised = λ z m hm.
               let u = held_there m hm in
               let v = kept.apart m n u.0 o u.1 there ((kept.held m u.0 (record { contract = k; position = q }) u.1 u.2).outpoint ∙ sym (same_place m u.0 u.1 u.2)) in
-              subst (λ y. has_branch_authorised g'.branch_authorised y i a ≡ true) (sym v) (subst (λ y. has_branch_authorised g'.branch_authorised n y a ≡ true) pq.1 (subst (λ y. has_branch_authorised g'.branch_authorised n j y ≡ true) pa now));
+              subst (λ y. has_branch_authorised g'.branch_authorised y i a ≡ true) (sym v)
+              (subst (λ y. has_branch_authorised g'.branch_authorised n y a ≡ true) pq.1
+              (subst (λ y. has_branch_authorised g'.branch_authorised n j y ≡ true) pa now));
         }
           where
-            held_there : (m : ℕ) → live_position_at next m ≡ Some (record { contract = k; position = q }) → (x : Output) × (slice_get w.outputs m ≡ Some x) × (x.holds ≡ Some (record { contract = k; position = q }))
-            held_there m h = by_output (slice_get w.outputs m) refl (subst (λ os. live_position (slice_get os m) ≡ Some (record { contract = k; position = q })) outs h)
+            held_there : (m : ℕ) → live_position_at next m ≡ Some (record { contract = k; position = q }) → (x : Output)
+                × (slice_get w.outputs m ≡ Some x) × (x.holds ≡ Some (record { contract = k; position = q }))
+            held_there m h =
+                by_output (slice_get w.outputs m) refl (subst (λ os. live_position (slice_get os m) ≡ Some (record { contract = k; position = q })) outs h)
               where
-                by_output : (y : Option Output) → slice_get w.outputs m ≡ y → live_position y ≡ Some (record { contract = k; position = q }) → (x : Output) × (slice_get w.outputs m ≡ Some x) × (x.holds ≡ Some (record { contract = k; position = q }))
+                by_output : (y : Option Output) → slice_get w.outputs m ≡ y → live_position y ≡ Some (record { contract = k; position = q })
+                    → (x : Output) × (slice_get w.outputs m ≡ Some x) × (x.holds ≡ Some (record { contract = k; position = q }))
                 by_output None f l = cc
                 by_output (Some y) f l = by_live y.live refl l
                   where
-                    by_live : (b : Bool) → y.live ≡ b → (if b then y.holds else None) ≡ Some (record { contract = k; position = q }) → (x : Output) × (slice_get w.outputs m ≡ Some x) × (x.holds ≡ Some (record { contract = k; position = q }))
+                    by_live : (b : Bool) → y.live ≡ b → (if b then y.holds else None) ≡ Some (record { contract = k; position = q })
+                        → (x : Output) × (slice_get w.outputs m ≡ Some x) × (x.holds ≡ Some (record { contract = k; position = q }))
                     by_live true v z = (y, f, z)
                     by_live false v z = cc
 
             -- where what holds the position lies
-            same_place : (m : ℕ) (x : Output) (l : slice_get w.outputs m ≡ Some x) (z : x.holds ≡ Some (record { contract = k; position = q })) → o.outpoint ≡ (kept.held m x (record { contract = k; position = q }) l z).here.output.outpoint
+            same_place : (m : ℕ) (x : Output) (l : slice_get w.outputs m ≡ Some x)
+                (z : x.holds ≡ Some (record { contract = k; position = q })) → o.outpoint
+                ≡ (kept.held m x (record { contract = k; position = q }) l z).here.output.outpoint
             same_place m x l z =
                 let f = kept.held m x (record { contract = k; position = q }) l z in
                 let u : (let y : Option Instance = Some f.instance in y) ≡ Some st = sym f.compiled ∙ given in

@@ -32,8 +32,8 @@ use Rattle.theory_calculus.proofs.Members.{get_below}
 use Rattle.theory_world.proofs.Tests.{length_map}
 use Rattle.theory_world.proofs.Ledger.Outputs.{nothing_held, length-made_from, deposits-new, actives-new}
 use Rattle.theory_run.specs.Tracks.{AgreeOnMoney}
-use Rattle.theory_world.specs.KeptApart.{NoClash}
-use Rattle.theory_world.proofs.Hashed.{no_clash, no_clash_none, among_left, among_right, among_head, among_tail, all_new}
+use Rattle.theory_world.specs.KeptApart.{NoCollision}
+use Rattle.theory_world.proofs.Hashed.{no_collision, no_collision_none, among_left, among_right, among_head, among_tail, all_new}
 use Rattle.theory_run.specs.KeptSecrets.{KeptSecrets}
 use Rattle.theory_world.proofs.Book.{key-apart}
 use Rattle.theory_world.proofs.Later.{get-made}
@@ -50,7 +50,7 @@ among_map f x (y ∷ xs) h = elim (or_cases (bytes_eq y x) (is_among x xs) h) [
 
 -- ---- whose a script is
 
-module _ (s : Setup) (hs : List (List ℕ)) (clear : NoClash s.hash hs) (labelled : (a : List ℕ) → is_declared s a ≡ true → is_among (label_text (labels.Deposit a)) hs ≡ true) (programs : (a : List ℕ) → is_declared s a ≡ true → is_among (party_script s.hash a) hs ≡ true) where
+module _ (s : Setup) (hs : List (List ℕ)) (clear : NoCollision s.hash hs) (labelled : (a : List ℕ) → is_declared s a ≡ true → is_among (label_text (labels.Deposit a)) hs ≡ true) (programs : (a : List ℕ) → is_declared s a ≡ true → is_among (party_script s.hash a) hs ≡ true) where
   -- different parties have different scripts
   pub one_payee : (a b : List ℕ) → is_declared s a ≡ true → is_declared s b ≡ true → paid_to s a ≡ paid_to s b → a ≡ b
   one_payee a b ha hb e =
@@ -62,26 +62,28 @@ module _ (s : Setup) (hs : List (List ℕ)) (clear : NoClash s.hash hs) (labelle
       cc
     where
       -- what stands before the last byte is the same
-      front : (x y : List ℕ) → x ++ 172 ∷ [] ≡ y ++ 172 ∷ [] → x ≡ y
-      front [] [] e = refl
-      front [] (b ∷ []) e = cc
-      front [] (b ∷ (c ∷ y)) e = cc
-      front (a ∷ []) [] e = cc
-      front (a ∷ (c ∷ x)) [] e = cc
-      front (a ∷ x) (b ∷ y) e =
+      prefix : (x y : List ℕ) → x ++ 172 ∷ [] ≡ y ++ 172 ∷ [] → x ≡ y
+      prefix [] [] e = refl
+      prefix [] (b ∷ []) e = cc
+      prefix [] (b ∷ (c ∷ y)) e = cc
+      prefix (a ∷ []) [] e = cc
+      prefix (a ∷ (c ∷ x)) [] e = cc
+      prefix (a ∷ x) (b ∷ y) e =
           let h : a ≡ b = cc in
           let r : x ++ 172 ∷ [] ≡ y ++ 172 ∷ [] = cc in
-          let i = front x y r in
+          let i = prefix x y r in
           λ j. h j ∷ i j
 
       same_key : (x y : List ℕ) → 33 ∷ (x ++ 172 ∷ []) ≡ 33 ∷ (y ++ 172 ∷ []) → x ≡ y
-      same_key x y e = let r : x ++ 172 ∷ [] ≡ y ++ 172 ∷ [] = cc in front x y r
+      same_key x y e = let r : x ++ 172 ∷ [] ≡ y ++ 172 ∷ [] = cc in prefix x y r
 
-  owner_in : (a : List ℕ) (ps : List (List ℕ)) → is_declared s a ≡ true → ((b : List ℕ) → is_among b ps ≡ true → is_declared s b ≡ true) → is_among a ps ≡ true → owner_among s ps (paid_to s a) ≡ Party a
+  owner_in : (a : List ℕ) (ps : List (List ℕ)) → is_declared s a ≡ true → ((b : List ℕ) → is_among b ps ≡ true → is_declared s b ≡ true)
+      → is_among a ps ≡ true → owner_among s ps (paid_to s a) ≡ Party a
   owner_in a [] h d i = cc
   owner_in a (p ∷ ps) h d i = by_test (bytes_eq (paid_to s p) (paid_to s a)) refl (owner_in a ps h (λ b k. d b (among_tail b p ps k)))
     where
-      by_test : (t : Bool) → bytes_eq (paid_to s p) (paid_to s a) ≡ t → (is_among a ps ≡ true → owner_among s ps (paid_to s a) ≡ Party a) → (if t then Party p else owner_among s ps (paid_to s a)) ≡ Party a
+      by_test : (t : Bool) → bytes_eq (paid_to s p) (paid_to s a) ≡ t → (is_among a ps ≡ true → owner_among s ps (paid_to s a) ≡ Party a)
+          → (if t then Party p else owner_among s ps (paid_to s a)) ≡ Party a
       by_test true e ih = ap Party (one_payee p a (d p (among_head p ps)) h (bytes-true (paid_to s p) (paid_to s a) e))
       by_test false e ih = elim (or_cases (bytes_eq p a) (is_among a ps) i) [
         | inl q ↦
@@ -95,7 +97,8 @@ module _ (s : Setup) (hs : List (List ℕ)) (clear : NoClash s.hash hs) (labelle
   pub owner_is : (a : List ℕ) → is_declared s a ≡ true → owner_by s (paid_to s a) ≡ Party a
   owner_is a h = owner_in a s.header.parties h (λ b k. k) h
 
-  owners_are : (ds : List (List ℕ × ℕ)) → list_all (λ d. is_declared s (d.0)) ds ≡ true → map (moved_output s) (map {B = TxOut} (λ d. record { value = d.1; script = paid_to s (d.0) }) ds) ≡ owned ds
+  owners_are : (ds : List (List ℕ × ℕ)) → list_all (λ d. is_declared s (d.0)) ds ≡ true
+      → map (moved_output s) (map {B = TxOut} (λ d. record { value = d.1; script = paid_to s (d.0) }) ds) ≡ owned ds
   owners_are [] h = refl
   owners_are (d ∷ ds) h =
       let p = and_parts (is_declared s (d.0)) (list_all (λ x. is_declared s (x.0)) ds) h in
@@ -106,8 +109,8 @@ module _ (s : Setup) (hs : List (List ℕ)) (clear : NoClash s.hash hs) (labelle
 -- ---- the opening
 
 module _ (s : Setup) (is : IsSetup s) (opens : opening_collision s ≡ None) where
-  pub clear : NoClash s.hash (opening_world s).hashed
-  clear = no_clash s.hash [] (opening_strings s) (no_clash_none s.hash) opens
+  pub clear : NoCollision s.hash (opening_world s).hashed
+  clear = no_collision s.hash [] (opening_strings s) (no_collision_none s.hash) opens
 
   abbrev deposit_labels : List (List ℕ)
   deposit_labels = map (λ party. label_text (labels.Deposit party)) s.header.parties
@@ -121,15 +124,18 @@ module _ (s : Setup) (is : IsSetup s) (opens : opening_collision s ≡ None) whe
   labelled : (a : List ℕ) → is_declared s a ≡ true → is_among (label_text (labels.Deposit a)) (opening_world s).hashed ≡ true
   labelled a h =
       let t = label_text (labels.Deposit a) in
-      all_new [] (opening_strings s) t (among_left t deposit_labels (deposit_scripts ++ transaction) (among_map (λ party. label_text (labels.Deposit party)) a s.header.parties h))
+      all_new [] (opening_strings s) t (among_left t deposit_labels (deposit_scripts ++ transaction)
+      (among_map (λ party. label_text (labels.Deposit party)) a s.header.parties h))
 
   programs : (a : List ℕ) → is_declared s a ≡ true → is_among (party_script s.hash a) (opening_world s).hashed ≡ true
   programs a h =
       let t = party_script s.hash a in
-      all_new [] (opening_strings s) t (among_right t deposit_labels (deposit_scripts ++ transaction) (among_left t deposit_scripts transaction (among_map (party_script s.hash) a s.header.parties h)))
+      all_new [] (opening_strings s) t (among_right t deposit_labels (deposit_scripts ++ transaction)
+      (among_left t deposit_scripts transaction (among_map (party_script s.hash) a s.header.parties h)))
 
   of_transaction : (t : List ℕ) → is_among t transaction ≡ true → is_among t (opening_world s).hashed ≡ true
-  of_transaction t h = all_new [] (opening_strings s) t (among_right t deposit_labels (deposit_scripts ++ transaction) (among_right t deposit_scripts transaction h))
+  of_transaction t h =
+      all_new [] (opening_strings s) t (among_right t deposit_labels (deposit_scripts ++ transaction) (among_right t deposit_scripts transaction h))
 
   pub opening_money : AgreeOnMoney s (opening_configuration s) (opening_world s)
   opening_money = record {
@@ -202,7 +208,18 @@ module _ (s : Setup) (is : IsSetup s) (opens : opening_collision s ≡ None) whe
   }
     where
       made_there : (n : ℕ) (o : Output) → slice_get (opening_world s).outputs n ≡ Some o
-          → (x : TxOut) × (slice_get (opening_outputs s) n ≡ Some x) × (o ≡ record { outpoint = record { txid = txid s.hash (opening_transaction (opening_outputs s)); vout = n + 0 }; value = x.value; script = x.script; live = true; holds = None })
+          → (x : TxOut) × (slice_get (opening_outputs s) n ≡ Some x)
+          × (o ≡ record {
+            outpoint = record {
+              txid = txid s.hash
+                  (opening_transaction (opening_outputs s));
+              vout = n + 0;
+            };
+            value = x.value;
+            script = x.script;
+            live = true;
+            holds = None;
+          })
       made_there n o h = get-made nothing_held (txid s.hash (opening_transaction (opening_outputs s))) 0 n (opening_outputs s) o h
 
   -- configuration and world agree at the opening
@@ -218,6 +235,7 @@ module _ (s : Setup) (is : IsSetup s) (opens : opening_collision s ≡ None) whe
     committed = refl;
   }
     where
-      all_placed : (k : ℕ) (os : List TxOut) → list_all (is_placed s (opening_world s)) (made_from nothing_held (txid s.hash (opening_transaction (opening_outputs s))) k os) ≡ true
+      all_placed : (k : ℕ) (os : List TxOut) → list_all (is_placed s (opening_world s))
+          (made_from nothing_held (txid s.hash (opening_transaction (opening_outputs s))) k os) ≡ true
       all_placed k [] = refl
       all_placed k (o ∷ os) = all_placed (k + 1) os

@@ -16,11 +16,11 @@ use Rattle.spec_run.specs.World.{World}
 use Rattle.spec_run.specs.Owners.{paid_to, owner_among, owner_by}
 use Rattle.theory_bitcoin.proofs.Labels.{one_label}
 use Rattle.theory_calculus.proofs.Names.{bytes-true, bytes_refl}
-use Rattle.theory_world.specs.KeptApart.{NoClash}
+use Rattle.theory_world.specs.KeptApart.{NoCollision}
 use Rattle.theory_world.proofs.Book.{key-apart}
 use Rattle.theory_run.specs.KeptBook.{KeptBook}
 
-module _ (s : Setup) (g : Configuration) (w : World) (kept : KeptBook s g w) (hs : List (List ℕ)) (clear : NoClash s.hash hs) (sub : (t : List ℕ) → is_among t w.hashed ≡ true → is_among t hs ≡ true) where
+module _ (s : Setup) (g : Configuration) (w : World) (kept : KeptBook s g w) (hs : List (List ℕ)) (clear : NoCollision s.hash hs) (sub : (t : List ℕ) → is_among t w.hashed ≡ true → is_among t hs ≡ true) where
   abbrev party_in : Label → List ℕ
   party_in (labels.Deposit party) = party
   party_in (labels.Branch contract path party) = party
@@ -35,11 +35,13 @@ module _ (s : Setup) (g : Configuration) (w : World) (kept : KeptBook s g w) (hs
       let t = key-apart s.hash hs (labels.Deposit p) (labels.Deposit q) clear (sub _ (kept.labelled p dp)) (sub _ (kept.labelled q dq)) k in
       ap party_in (one_label (labels.Deposit p) (labels.Deposit q) tt tt t)
 
-  owner_found : (ps : List (List ℕ)) (p : List ℕ) → ((q : List ℕ) → is_among q ps ≡ true → is_declared s q ≡ true) → is_declared s p ≡ true → is_among p ps ≡ true → owner_among s ps (paid_to s p) ≡ Party p
+  owner_found : (ps : List (List ℕ)) (p : List ℕ) → ((q : List ℕ) → is_among q ps ≡ true → is_declared s q ≡ true) → is_declared s p ≡ true
+      → is_among p ps ≡ true → owner_among s ps (paid_to s p) ≡ Party p
   owner_found [] p all decl h = cc
   owner_found (q ∷ ps) p all decl h = by_test (bytes_eq (paid_to s q) (paid_to s p)) refl (owner_found ps p (λ r i. all r (or_right (bytes_eq q r) _ i)) decl)
     where
-      by_test : (b : Bool) → bytes_eq (paid_to s q) (paid_to s p) ≡ b → (is_among p ps ≡ true → owner_among s ps (paid_to s p) ≡ Party p) → (if b then Party q else owner_among s ps (paid_to s p)) ≡ Party p
+      by_test : (b : Bool) → bytes_eq (paid_to s q) (paid_to s p) ≡ b → (is_among p ps ≡ true → owner_among s ps (paid_to s p) ≡ Party p)
+          → (if b then Party q else owner_among s ps (paid_to s p)) ≡ Party p
       by_test true e ih = ap Party (paid_same q p (all q (or_left _ _ (bytes_refl q))) decl (bytes-true (paid_to s q) (paid_to s p) e))
       by_test false e ih = elim (or_cases (bytes_eq q p) (is_among p ps) h) [
         | inl a ↦ absurd (both_ways _ e (subst (λ r. bytes_eq (paid_to s r) (paid_to s p) ≡ true) (sym (bytes-true q p a)) (bytes_refl (paid_to s p))))

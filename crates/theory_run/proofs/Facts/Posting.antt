@@ -12,15 +12,15 @@ use Rattle.spec_run.specs.declared.header.HeldSecret.{HeldSecret}
 use Rattle.spec_run.specs.Setup.{Setup, is_honest, held_among, held_secret}
 use Rattle.spec_data.specs.Messages.{noted_all, collision}
 use Rattle.spec_run.specs.World.{World}
-use Rattle.spec_run.specs.Draft.{is_allowed, is_guessed, guess}
+use Rattle.spec_run.specs.Pending.{is_allowed, is_guessed, guess}
 use Rattle.spec_run.specs.Committing.{is_secret_long, used_digests}
 use Rattle.spec_run.specs.Revealing.{fits}
 use Rattle.spec_run.specs.Secrets.{all_secrets, digest_at, is_shown, shown, newly_shown}
 use Rattle.spec_run.specs.Steps.{reveals}
 use Rattle.theory_calculus.proofs.Names.{bytes-true, bytes_refl, among-append}
 use Rattle.theory_world.proofs.Tests.{any-append}
-use Rattle.theory_world.specs.KeptApart.{NoClash}
-use Rattle.theory_world.proofs.Hashed.{no_clash, among_split, all_more, all_new, any_then, any_found, find_any}
+use Rattle.theory_world.specs.KeptApart.{NoCollision}
+use Rattle.theory_world.proofs.Hashed.{no_collision, among_split, all_more, all_new, any_then, any_found, find_any}
 use Rattle.theory_run.specs.KeptSecrets.{has_secret, KeptSecrets, is_own, committed_by}
 use Rattle.theory_run.proofs.Facts.Secrets.{different_secrets, after-reveals}
 use Rattle.theory_run.proofs.Facts.KeptSecrets.{Begins, reveals_legal, reveals_agree}
@@ -55,7 +55,8 @@ shown-is_some s posted (Some d) h = refl
 
 module _ (s : Setup) (t : List ℕ) (long : is_secret_long t ≡ true) where
   -- a string that fits the secret's digest is the secret
-  pub posted_own : (hs posted : List (List ℕ)) → NoClash s.hash hs → ((u : List ℕ) → is_among u posted ≡ true → is_among u hs ≡ true) → is_among t hs ≡ true → is_shown s posted (Some (s.hash t)) ≡ true → is_among t posted ≡ true
+  pub posted_own : (hs posted : List (List ℕ)) → NoCollision s.hash hs → ((u : List ℕ) → is_among u posted ≡ true → is_among u hs ≡ true)
+      → is_among t hs ≡ true → is_shown s posted (Some (s.hash t)) ≡ true → is_among t posted ≡ true
   posted_own hs posted clear heard th sh = any_then (fits s (s.hash t)) (λ u. bytes_eq u t) posted (λ u i f.
       let g = and_parts (is_secret_long u) (bytes_eq (s.hash u) (s.hash t)) f in
       let one = clear.one u t (heard u i) th (bytes-true (s.hash u) (s.hash t) g.1) in
@@ -73,12 +74,14 @@ allows None a n = false
 allows (Some p) a n = bytes_eq (p.0) a && bytes_eq (p.1) n
 
 -- what is posted and isn't a guess
-own_tested : (posted posts : List (List ℕ)) (al : Option (List ℕ × List ℕ)) (hs : List HeldSecret) (a n t : List ℕ) → find (is_guessed posted posts al) hs ≡ None → held_among a n hs ≡ Some t
+own_tested : (posted posts : List (List ℕ)) (al : Option (List ℕ × List ℕ)) (hs : List HeldSecret) (a n t : List ℕ)
+    → find (is_guessed posted posts al) hs ≡ None → held_among a n hs ≡ Some t
     → is_among t posts ≡ true → is_among t posted ≡ false → allows al a n ≡ true
 own_tested posted posts al [] a n t h k i j = cc
 own_tested posted posts al (x ∷ xs) a n t h k i j = by_test (is_guessed posted posts al x) refl h (own_tested posted posts al xs a n t)
   where
-    here : (o : Option (List ℕ × List ℕ)) → (is_among x.bytes posts && not (is_among x.bytes posted) && not (is_allowed o x)) ≡ false → x.bytes ≡ t → x.party ≡ a → x.name ≡ n → allows o a n ≡ true
+    here : (o : Option (List ℕ × List ℕ)) → (is_among x.bytes posts && not (is_among x.bytes posted) && not (is_allowed o x)) ≡ false
+        → x.bytes ≡ t → x.party ≡ a → x.name ≡ n → allows o a n ≡ true
     here None f e ea en = let y : is_among x.bytes posts ≡ true = rw e i in let v : is_among x.bytes posted ≡ false = rw e j in absurd (both_ways _ f (rw (y, v) refl))
     here (Some p) f e ea en =
         let y : is_among x.bytes posts ≡ true = rw e i in
@@ -86,7 +89,8 @@ own_tested posted posts al (x ∷ xs) a n t h k i j = by_test (is_guessed posted
         let u : (bytes_eq (p.0) x.party && bytes_eq (p.1) x.name) ≡ true = (let r = rw (y, v) at f in grind arith) in
         subst (λ m. (bytes_eq (p.0) a && bytes_eq (p.1) m) ≡ true) en (subst (λ b. (bytes_eq (p.0) b && bytes_eq (p.1) x.name) ≡ true) ea u)
 
-    by_held : (b : Bool) → (bytes_eq x.party a && bytes_eq x.name n) ≡ b → is_guessed posted posts al x ≡ false → (if b then Some x.bytes else held_among a n xs) ≡ Some t
+    by_held : (b : Bool) → (bytes_eq x.party a && bytes_eq x.name n) ≡ b → is_guessed posted posts al x ≡ false
+        → (if b then Some x.bytes else held_among a n xs) ≡ Some t
         → (held_among a n xs ≡ Some t → allows al a n ≡ true) → allows al a n ≡ true
     by_held true e f q ih =
         let w = and_parts (bytes_eq x.party a) (bytes_eq x.name n) e in
@@ -95,11 +99,13 @@ own_tested posted posts al (x ∷ xs) a n t h k i j = by_test (is_guessed posted
     by_held false e f q ih = ih q
 
     by_test : (b : Bool) → is_guessed posted posts al x ≡ b → cond b (Some x) (find (is_guessed posted posts al) xs) ≡ None
-        → (find (is_guessed posted posts al) xs ≡ None → held_among a n xs ≡ Some t → is_among t posts ≡ true → is_among t posted ≡ false → allows al a n ≡ true) → allows al a n ≡ true
+        → (find (is_guessed posted posts al) xs ≡ None → held_among a n xs ≡ Some t → is_among t posts ≡ true → is_among t posted ≡ false
+        → allows al a n ≡ true) → allows al a n ≡ true
     by_test true e f ih = cc
     by_test false e f ih = by_held (bytes_eq x.party a && bytes_eq x.name n) refl e k (λ q. ih f q i j)
 
-pub not_guessed : (s : Setup) (posted posts : List (List ℕ)) (al : Option (List ℕ × List ℕ)) (a n t : List ℕ) → guess s posted posts al ≡ None → held_secret s a n ≡ Some t → is_among t posts ≡ true → is_among t posted ≡ false → allows al a n ≡ true
+pub not_guessed : (s : Setup) (posted posts : List (List ℕ)) (al : Option (List ℕ × List ℕ)) (a n t : List ℕ) → guess s posted posts al
+    ≡ None → held_secret s a n ≡ Some t → is_among t posts ≡ true → is_among t posted ≡ false → allows al a n ≡ true
 not_guessed s posted posts al a n t g o h k = own_tested posted posts al s.header.secrets a n t g o h k
 
 -- ---- what lasts
@@ -111,11 +117,13 @@ pub record IsRevealer (s : Setup) (w : World) (al : Option (List ℕ × List ℕ
   pub allowed : allows al x.party x.secret ≡ true
   pub digest : digest_at w.promises x ≡ Some (s.hash secret)
 
-pub revealed_by : (s : Setup) (z : List (List ℕ)) (g : Configuration) (w next : World) (hs ps : List (List ℕ)) (al : Option (List ℕ × List ℕ)) → KeptSecrets s z g w
-    → next.promises ≡ w.promises → next.posted ≡ w.posted ++ ps → next.hashed ≡ noted_all w.hashed hs → collision s.hash w.hashed hs ≡ None → guess s w.posted ps al ≡ None → ((t : List ℕ) → is_among t ps ≡ true → is_among t hs ≡ true)
+pub revealed_by : (s : Setup) (z : List (List ℕ)) (g : Configuration) (w next : World) (hs ps : List (List ℕ))
+    (al : Option (List ℕ × List ℕ)) → KeptSecrets s z g w
+    → next.promises ≡ w.promises → next.posted ≡ w.posted ++ ps → next.hashed ≡ noted_all w.hashed hs → collision s.hash w.hashed hs ≡ None
+    → guess s w.posted ps al ≡ None → ((t : List ℕ) → is_among t ps ≡ true → is_among t hs ≡ true)
     → (x : Revealed) → shown s next x ≡ true → shown s w x ≡ false → is_honest s x.party ≡ true → IsRevealer s w al x
 revealed_by s z g w next hs ps al k ec ep eh clear unguessed heard x sh hid honest =
-    let clear' : NoClash s.hash next.hashed = rw eh (no_clash s.hash w.hashed hs k.clear clear) in
+    let clear' : NoCollision s.hash next.hashed = rw eh (no_collision s.hash w.hashed hs k.clear clear) in
     let heard' : (t : List ℕ) → is_among t next.posted ≡ true → is_among t next.hashed ≡ true = λ t h.
     rw eh (elim (among_split t w.posted ps (rw ep at h)) [ inl a ↦ all_more w.hashed hs t (k.heard t a) | inr b ↦ all_new w.hashed hs t (heard t b) ]) in
     let shows : is_shown s next.posted (digest_at w.promises x) ≡ true = rw ec at sh in
@@ -149,7 +157,7 @@ module _ (s : Setup) (z : List (List ℕ)) (apart : different_secrets (all_secre
       λ x h. rw (ec, eh) (is_own-more s w.hashed hs (held_secret s x.party x.secret) (digest_at w.promises x) (k.own x h)) in
       let known : (x : Revealed) → is_some (digest_at next.promises x) ≡ true → has_secret x (all_secrets s) ≡ true = λ x h. k.known x (rw ec at h) in
       let grows : (x : Revealed) → shown s w x ≡ true → shown s next x ≡ true = λ x h. rw (ec, ep) (shown-post (digest_at w.promises x) w.posted h) in
-      let clear' : NoClash s.hash next.hashed = rw eh (no_clash s.hash w.hashed hs k.clear clear) in
+      let clear' : NoCollision s.hash next.hashed = rw eh (no_collision s.hash w.hashed hs k.clear clear) in
       let heard' : (t : List ℕ) → is_among t next.posted ≡ true → is_among t next.hashed ≡ true = λ t h.
       rw eh (elim (among_split t w.posted ps (rw ep at h)) [ inl a ↦ all_more w.hashed hs t (k.heard t a) | inr b ↦ all_new w.hashed hs t (heard t b) ]) in
       record {
@@ -168,7 +176,8 @@ module _ (s : Setup) (z : List (List ℕ)) (apart : different_secrets (all_secre
         revealer = revealed_by s z g w next hs ps al k ec ep eh clear unguessed heard;
       }
     where
-      by_time : (a n t : List ℕ) → held_secret s a n ≡ Some t → (b : Bool) → is_among t w.posted ≡ b → (is_among t w.posted || is_among t ps) ≡ true → is_among (s.hash t) (used_digests w.promises) ≡ true
+      by_time : (a n t : List ℕ) → held_secret s a n ≡ Some t → (b : Bool) → is_among t w.posted ≡ b
+          → (is_among t w.posted || is_among t ps) ≡ true → is_among (s.hash t) (used_digests w.promises) ≡ true
       by_time a n t o true e h = k.early a n t o e
       by_time a n t o false e h = permitted a n t (not_guessed s w.posted ps al a n t unguessed o (rw e at h) e) o
 
@@ -179,11 +188,23 @@ module _ (s : Setup) (z : List (List ℕ)) (apart : different_secrets (all_secre
   -- a part of the configuration that secrets don't read
   pub carried : (g g' : Configuration) (w : World) → KeptSecrets s z g w → g'.committed ≡ g.committed → g'.revealed ≡ g.revealed → KeptSecrets s z g' w
   carried g g' w k ec er =
-      record { lengths = ec ∙ k.lengths; revealed = λ x. ap (has_secret x) er ∙ k.revealed x; known = k.known; own = k.own; clear = k.clear; heard = k.heard; once = k.once; early = k.early; full = k.full }
+      record {
+        lengths = ec ∙ k.lengths;
+        revealed = λ x. ap (has_secret x) er
+            ∙ k.revealed x;
+        known = k.known;
+        own = k.own;
+        clear = k.clear;
+        heard = k.heard;
+        once = k.once;
+        early = k.early;
+        full = k.full;
+      }
 
   -- more is hashed, and nothing is posted
   pub quiet : (g g' : Configuration) (w next : World) (hs : List (List ℕ)) → KeptSecrets s z g w → g'.committed ≡ g.committed → g'.revealed ≡ g.revealed
-      → next.promises ≡ w.promises → next.posted ≡ w.posted ++ [] → next.hashed ≡ noted_all w.hashed hs → collision s.hash w.hashed hs ≡ None → KeptSecrets s z g' next
+      → next.promises ≡ w.promises → next.posted ≡ w.posted ++ [] → next.hashed ≡ noted_all w.hashed hs → collision s.hash w.hashed hs
+      ≡ None → KeptSecrets s z g' next
   quiet g g' w next hs k ec er wc wp wh clear =
       let same_posted = wp ∙ append-nil w.posted in
       record {
@@ -191,7 +212,7 @@ module _ (s : Setup) (z : List (List ℕ)) (apart : different_secrets (all_secre
         revealed = λ x. ap (has_secret x) er ∙ rw (wc, same_posted) (k.revealed x);
         known = λ x h. k.known x (rw wc at h);
         own = λ x h. rw (wc, wh) (is_own-more s w.hashed hs (held_secret s x.party x.secret) (digest_at w.promises x) (k.own x h));
-        clear = rw wh (no_clash s.hash w.hashed hs k.clear clear);
+        clear = rw wh (no_collision s.hash w.hashed hs k.clear clear);
         heard = λ t h. rw wh (all_more w.hashed hs t (k.heard t (rw same_posted at h)));
         once = rw wc k.once;
         early = λ a n t o h. rw wc (k.early a n t o (rw same_posted at h));

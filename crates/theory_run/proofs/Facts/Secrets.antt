@@ -89,7 +89,8 @@ known-is_some None h = cc
 known-is_some (Some l) h = refl
 
 -- those that come after x aren't x
-still_hidden : (x : Revealed) (rs xs : List Revealed) → has_secret x xs ≡ false → list_all (λ y. not (has_secret y rs)) xs ≡ true → list_all (λ y. not (has_secret y (rs ++ x ∷ []))) xs ≡ true
+still_hidden : (x : Revealed) (rs xs : List Revealed) → has_secret x xs ≡ false → list_all (λ y. not (has_secret y rs)) xs ≡ true
+    → list_all (λ y. not (has_secret y (rs ++ x ∷ []))) xs ≡ true
 still_hidden x rs [] h k = refl
 still_hidden x rs (y ∷ xs) h k =
     let e = has_secret-append y rs (x ∷ []) in
@@ -104,7 +105,8 @@ still_hidden x rs (y ∷ xs) h k =
 abbrev pub is_known_in : Configuration → Revealed → Bool
 is_known_in g x = is_known (length_at g.committed x.contract x.party x.secret)
 
-pub legal_reveals : (xs : List Revealed) (g : Configuration) → list_all (is_known_in g) xs ≡ true → list_all (λ x. not (has_secret x g.revealed)) xs ≡ true → different_secrets xs ≡ true → Legal g (map reveal_step xs)
+pub legal_reveals : (xs : List Revealed) (g : Configuration) → list_all (is_known_in g) xs ≡ true
+    → list_all (λ x. not (has_secret x g.revealed)) xs ≡ true → different_secrets xs ≡ true → Legal g (map reveal_step xs)
 legal_reveals [] g known hidden apart = tt
 legal_reveals (x ∷ xs) g known hidden apart =
     let k = and_parts (is_known_in g x) (list_all (is_known_in g) xs) known in

@@ -19,7 +19,7 @@ use Rattle.spec_run.specs.Setup.{Setup, is_honest, held_secret, bytes_or_none}
 use Rattle.spec_run.specs.World.{World}
 use Rattle.spec_run.specs.Compiled.{compiled_instance}
 use Rattle.spec_run.specs.Conditions.{HashesBytes, IsDigest, IsEvent}
-use Rattle.spec_run.specs.Draft.{Draft, unless, settled}
+use Rattle.spec_run.specs.Pending.{Pending, unless, applied}
 use Rattle.spec_run.specs.Ledger.{judged, verdict_in}
 use Rattle.spec_run.specs.Signing.{with_pairs, endorse_row, init_row, authorise_row, sign_row}
 use Rattle.spec_run.specs.Revealing.{reveal_row}
@@ -28,7 +28,7 @@ use Rattle.spec_run.specs.Firing.{fire_init_row, fire_row, reaches_if, initial_b
 use Rattle.spec_run.specs.World.{live_position_at}
 use Rattle.spec_run.specs.Advertising.{arranged, deposit_names, advertise_row}
 use Rattle.spec_run.specs.Committing.{secrets_at, own_digests, committed_digests, committed_strings, commit_row, digest_row}
-use Rattle.spec_run.specs.Event.{append_read, mine_row, draft}
+use Rattle.spec_run.specs.Event.{append_read, mine_row, pending}
 use Rattle.theory_world.proofs.Tests.{any-append}
 use Rattle.theory_run.proofs.Steps.CommitSteps.{digests_looked, own_looked}
 use Rattle.theory_run.specs.KeptPromises.{KeptPromises}
@@ -43,7 +43,7 @@ pub record SameTold (w next : World) : Type 0 where
 pub same_told : (w : World) → SameTold w w
 same_told w = record { advertised = refl; promises = refl }
 
-unless_told : (r : Option Reason) (w : World) (hashes : List (List ℕ)) (d : Draft) → SameTold w d.world → SameTold w (unless r w hashes d).world
+unless_told : (r : Option Reason) (w : World) (hashes : List (List ℕ)) (d : Pending) → SameTold w d.world → SameTold w (unless r w hashes d).world
 unless_told None w hashes d h = h
 unless_told (Some r) w hashes d h = same_told w
 
@@ -65,21 +65,26 @@ IsQuiet (events.Advertise contract bindings) = ⊥
 IsQuiet (events.Commit contract party digests) = ⊥
 IsQuiet _ = Unit {0}
 
-pub told_stays : (s : Setup) (w : World) (e : Event) → IsQuiet e → SameTold w (draft s w e).world
+pub told_stays : (s : Setup) (w : World) (e : Event) → IsQuiet e → SameTold w (pending s w e).world
 told_stays s w (events.Advertise contract bindings) q = absurd q
 told_stays s w (events.Commit contract party digests) q = absurd q
-told_stays s w (events.Endorse contract party) q = unless_told (first_reason (endorse_row s w contract party)) w [] _ (record { advertised = refl; promises = refl })
+told_stays s w (events.Endorse contract party) q =
+    unless_told (first_reason (endorse_row s w contract party)) w [] _ (record { advertised = refl; promises = refl })
 told_stays s w (events.Init contract party) q = unless_told (first_reason (init_row s w contract party)) w [] _ (record { advertised = refl; promises = refl })
-told_stays s w (events.Authorise party output branch) q = unless_told (first_reason (authorise_row s w party output branch)) w [] _ (record { advertised = refl; promises = refl })
+told_stays s w (events.Authorise party output branch) q =
+    unless_told (first_reason (authorise_row s w party output branch)) w [] _ (record { advertised = refl; promises = refl })
 told_stays s w (events.Reveal contract party secret) q = unless_told (first_reason (reveal_row s w contract party secret)) w [] _ (same_told w)
 told_stays s w (events.Post bytes) q = same_told w
 told_stays s w (events.Sign party label digest) q = unless_told (first_reason (sign_row s party label)) w [] _ (record { advertised = refl; promises = refl })
 told_stays s w (events.Give party inputs outputs) q =
     let signed = with_pairs w (given_pairs s w party inputs outputs) in
-    unless_told (first_reason (give_row s w party inputs outputs)) w [] _ (judged_told s w signed.book (gift s w party inputs outputs) (verdict_in s signed (gift s w party inputs outputs)))
+    unless_told (first_reason (give_row s w party inputs outputs)) w [] _
+    (judged_told s w signed.book (gift s w party inputs outputs) (verdict_in s signed (gift s w party inputs outputs)))
 told_stays s w (events.Append bytes) q = read_told s w (transaction_of bytes)
-told_stays s w (events.FireInit contract) q = unless_told (first_reason (fire_init_row s w contract)) w [] _ (if_told s w (initial_by s (compiled_instance s w contract)))
-told_stays s w (events.Fire output branch) q = unless_told (first_reason (fire_row s w output branch)) w [] _ (if_told s w (taking_of_position s w (live_position_at w output) branch))
+told_stays s w (events.FireInit contract) q =
+    unless_told (first_reason (fire_init_row s w contract)) w [] _ (if_told s w (initial_by s (compiled_instance s w contract)))
+told_stays s w (events.Fire output branch) q =
+    unless_told (first_reason (fire_row s w output branch)) w [] _ (if_told s w (taking_of_position s w (live_position_at w output) branch))
 told_stays s w (events.Mine blocks) q = unless_told (first_reason (mine_row w blocks)) w [] _ (record { advertised = refl; promises = refl })
 
 -- ---- commitments
@@ -112,23 +117,29 @@ module _ (s : Setup) (size : HashesBytes s.hash) (w : World) (kept : KeptPromise
   refused_promises : (hashes posts : List (List ℕ)) → KeptPromises s (record w { hashed = hashes; posted = posts })
   refused_promises hashes posts = promises_stay s w (record w { hashed = hashes; posted = posts }) kept refl (λ k h. h)
 
-  unless_promises : (r : Option Reason) (hashes : List (List ℕ)) (d : Draft) → (r ≡ None → KeptPromises s (settled w d)) → KeptPromises s (settled w (unless r w hashes d))
+  unless_promises : (r : Option Reason) (hashes : List (List ℕ)) (d : Pending) → (r ≡ None → KeptPromises s (applied w d))
+      → KeptPromises s (applied w (unless r w hashes d))
   unless_promises None hashes d h = h refl
   unless_promises (Some r) hashes d h = refused_promises _ _
 
-  quiet_promises : (e : Event) → IsQuiet e → KeptPromises s (settled w (draft s w e))
+  quiet_promises : (e : Event) → IsQuiet e → KeptPromises s (applied w (pending s w e))
   quiet_promises e q =
       let t = told_stays s w e q in
-      promises_stay s w (settled w (draft s w e)) kept t.promises (λ k h. ap (list_any (λ (a : Advertised). a.contract == k)) t.advertised ∙ h)
+      promises_stay s w (applied w (pending s w e)) kept t.promises (λ k h. ap (list_any (λ (a : Advertised). a.contract == k)) t.advertised ∙ h)
 
-  pub promises_after : (e : Event) → IsEvent s e → KeptPromises s (settled w (draft s w e))
+  pub promises_after : (e : Event) → IsEvent s e → KeptPromises s (applied w (pending s w e))
   promises_after (events.Advertise contract bindings) is = unless_promises (first_reason (advertise_row s w contract bindings)) [] _ (λ r.
-      promises_stay s w (record w { advertised = w.advertised ++ record { contract = contract; bindings = arranged 0 (deposit_names s contract) bindings } ∷ []; posted = w.posted ++ [] }) kept refl
+      promises_stay s w (record w {
+        advertised = w.advertised
+            ++ record { contract = contract; bindings = arranged 0 (deposit_names s contract) bindings } ∷ [];
+        posted = w.posted ++ [];
+      }) kept refl
       (λ k h. any-append (λ (a : Advertised). a.contract == k) w.advertised _ ∙ or_left _ _ h))
   promises_after (events.Commit contract party digests) is = unless_promises (first_reason (commit_row s w contract party digests)) [] _ (λ r.
       let row = no_reason-none_true (commit_row s w contract party digests) r in
       unless_promises (first_reason (digest_row s w contract party digests)) (committed_strings s contract party) _ (λ q.
-      one_more_promise s w contract party (committed_digests s contract party digests) _ _ kept (not-false _ row.1.0) (digests_looked s contract party digests (not-false _ row.1.1.1.1.0)) (committed_sized s size contract party digests is.1)))
+      one_more_promise s w contract party (committed_digests s contract party digests) _ _ kept (not-false _ row.1.0)
+      (digests_looked s contract party digests (not-false _ row.1.1.1.1.0)) (committed_sized s size contract party digests is.1)))
   promises_after (events.Endorse contract party) is = quiet_promises (events.Endorse contract party) tt
   promises_after (events.Init contract party) is = quiet_promises (events.Init contract party) tt
   promises_after (events.Authorise party output branch) is = quiet_promises (events.Authorise party output branch) tt

@@ -14,22 +14,22 @@ use Rattle.spec_run.specs.declared.header.HeldSecret.{HeldSecret}
 use Rattle.spec_run.specs.declared.outcome.Reason.{Reason}
 use Rattle.spec_run.specs.Setup.{Setup}
 use Rattle.spec_run.specs.World.{World, live_position_at}
-use Rattle.spec_run.specs.Draft.{Draft, unless, posting, is_allowed}
+use Rattle.spec_run.specs.Pending.{Pending, unless, posting, is_allowed}
 use Rattle.spec_run.specs.Compiled.{compiled_instance}
 use Rattle.spec_run.specs.Advertising.{advertise_row}
-use Rattle.spec_run.specs.Committing.{commit_row, digest_row, committed_strings, committed_draft, with_promise}
+use Rattle.spec_run.specs.Committing.{commit_row, digest_row, committed_strings, committed_pending, with_promise}
 use Rattle.spec_run.specs.Signing.{with_pairs, endorse_row, init_row, authorise_row, sign_row}
 use Rattle.spec_run.specs.Giving.{give_row, given_pairs, gift}
 use Rattle.spec_run.specs.Revealing.{own_secret, reveal_row}
 use Rattle.spec_run.specs.Firing.{reaches_if, initial_by, taking_of_position, fire_init_row, fire_row}
 use Rattle.spec_run.specs.Ledger.{judged, verdict_in, reaches}
-use Rattle.spec_run.specs.Event.{append_read, mine_row, draft}
+use Rattle.spec_run.specs.Event.{append_read, mine_row, pending}
 use Rattle.spec_run.specs.Halting.{IsOwnReveal}
 use Rattle.theory_calculus.proofs.Names.{bytes-true, bytes_refl}
 
--- ---- drafts that may post nobody's secret
+-- ---- pending effects that may post nobody's secret
 
-unless_none : (r : Option Reason) (w : World) (hashes : List (List ℕ)) (d : Draft) → d.allowed ≡ None → (unless r w hashes d).allowed ≡ None
+unless_none : (r : Option Reason) (w : World) (hashes : List (List ℕ)) (d : Pending) → d.allowed ≡ None → (unless r w hashes d).allowed ≡ None
 unless_none None w hashes d h = h
 unless_none (Some r) w hashes d h = refl
 
@@ -73,14 +73,14 @@ own_revealed s w contract party name x (Some r) p n h = cc
 
 module _ (s : Setup) (w : World) where
   -- what may be posted is the owner's own reveal
-  pub own_allowed : (e : Event) (x : HeldSecret) → is_allowed (draft s w e).allowed x ≡ true → IsOwnReveal e x
+  pub own_allowed : (e : Event) (x : HeldSecret) → is_allowed (pending s w e).allowed x ≡ true → IsOwnReveal e x
   own_allowed (events.Reveal contract party name) x h =
       revealed_own s w contract party name x (first_reason (reveal_row s w contract party name)) h
   own_allowed (events.Advertise contract bindings) x h =
       not_none _ x (unless_none (first_reason (advertise_row s w contract bindings)) w [] _ refl) h
   own_allowed (events.Commit contract party digests) x h =
       let strings = committed_strings s contract party in
-      let last = committed_draft s (with_promise s w contract party digests) contract party strings in
+      let last = committed_pending s (with_promise s w contract party digests) contract party strings in
       not_none _ x (unless_none (first_reason (commit_row s w contract party digests)) w [] _
       (unless_none (first_reason (digest_row s w contract party digests)) w strings last refl)) h
   own_allowed (events.Endorse contract party) x h = not_none _ x (unless_none (first_reason (endorse_row s w contract party)) w [] _ refl) h
@@ -103,8 +103,8 @@ module _ (s : Setup) (w : World) where
   own_allowed (events.Mine blocks) x h = not_none _ x (unless_none (first_reason (mine_row w blocks)) w [] _ refl) h
 
   -- and what the owner's own reveal posts may be posted
-  pub allowed_own : (e : Event) (x : HeldSecret) → IsOwnReveal e x → is_among x.bytes (draft s w e).posts ≡ true
-      → is_allowed (draft s w e).allowed x ≡ true
+  pub allowed_own : (e : Event) (x : HeldSecret) → IsOwnReveal e x → is_among x.bytes (pending s w e).posts ≡ true
+      → is_allowed (pending s w e).allowed x ≡ true
   allowed_own (events.Reveal contract party name) x own h =
       own_revealed s w contract party name x (first_reason (reveal_row s w contract party name)) own.0 own.1 h
   allowed_own (events.Advertise contract bindings) x own h = absurd own

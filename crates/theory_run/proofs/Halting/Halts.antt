@@ -9,15 +9,15 @@ use Rattle.spec_data.specs.Lists.{is_among}
 use Rattle.spec_run.specs.declared.event.Event.{Event}
 use Rattle.spec_run.specs.declared.header.HeldSecret.{HeldSecret}
 use Rattle.spec_run.specs.Setup.{Setup}
-use Rattle.spec_data.specs.Messages.{noted, noted_all, is_twin, clash, collision}
+use Rattle.spec_data.specs.Messages.{noted, noted_all, is_twin, collision_with, collision}
 use Rattle.spec_run.specs.World.{World}
-use Rattle.spec_run.specs.Draft.{is_allowed, is_guessed}
-use Rattle.spec_run.specs.Event.{draft}
+use Rattle.spec_run.specs.Pending.{is_allowed, is_guessed}
+use Rattle.spec_run.specs.Event.{pending}
 use Rattle.spec_run.specs.Halting.{AreApart, Collides, GivesAway, GivesNoneAway, Guesses, SameStrings}
 use Rattle.theory_calculus.proofs.Names.{bytes-true, bytes_refl, among-append}
 use Rattle.theory_run.proofs.Halting.Allowing.{allowed_own, own_allowed}
-use Rattle.theory_world.specs.KeptApart.{NoClash}
-use Rattle.theory_world.proofs.Hashed.{no_clash, among_head}
+use Rattle.theory_world.specs.KeptApart.{NoCollision}
+use Rattle.theory_world.proofs.Hashed.{no_collision, among_head}
 
 -- ---- the same strings
 
@@ -36,24 +36,24 @@ noted_same ms m t = by_test (is_among m ms) refl
     by_test false h = refl
 
 -- a message is noted, or stands before those that follow
-noted_front : (ms xs : List (List ℕ)) (m : List ℕ) → SameStrings (noted ms m ++ xs) (ms ++ m ∷ xs)
-noted_front ms xs m t =
+noted_prefix : (ms xs : List (List ℕ)) (m : List ℕ) → SameStrings (noted ms m ++ xs) (ms ++ m ∷ xs)
+noted_prefix ms xs m t =
     among-append t (noted ms m) xs ∙ ap (λ b. b || is_among t xs) (noted_same ms m t)
     ∙ sym (among-append t (ms ++ m ∷ []) xs) ∙ ap (is_among t) (append_assoc ms (m ∷ []) xs)
 
 -- what was noted and what is hashed are all that is noted then
 pub all_noted : (ms ts : List (List ℕ)) → SameStrings (noted_all ms ts) (ms ++ ts)
 all_noted ms [] t = ap (is_among t) (sym (append-nil ms))
-all_noted ms (x ∷ xs) t = all_noted (noted ms x) xs t ∙ noted_front ms xs x t
+all_noted ms (x ∷ xs) t = all_noted (noted ms x) xs t ∙ noted_prefix ms xs x t
 
-apart_by : (hash : List ℕ → List ℕ) (xs ys : List (List ℕ)) → SameStrings xs ys → NoClash hash xs → AreApart hash ys
+apart_by : (hash : List ℕ → List ℕ) (xs ys : List (List ℕ)) → SameStrings xs ys → NoCollision hash xs → AreApart hash ys
 apart_by hash xs ys same clear = record { apart = λ t u h k e. clear.one t u (same t ∙ h) (same u ∙ k) e }
 
 -- ---- collisions
 
 -- what doesn't collide is apart
-pub calm_is : (hash : List ℕ → List ℕ) (ms ts : List (List ℕ)) → NoClash hash ms → collision hash ms ts ≡ None → AreApart hash (ms ++ ts)
-calm_is hash ms ts clear none = apart_by hash (noted_all ms ts) (ms ++ ts) (all_noted ms ts) (no_clash hash ms ts clear none)
+pub calm_is : (hash : List ℕ → List ℕ) (ms ts : List (List ℕ)) → NoCollision hash ms → collision hash ms ts ≡ None → AreApart hash (ms ++ ts)
+calm_is hash ms ts clear none = apart_by hash (noted_all ms ts) (ms ++ ts) (all_noted ms ts) (no_collision hash ms ts clear none)
 
 pub found : (p : List ℕ → Bool) (xs : List (List ℕ)) (x : List ℕ) → find p xs ≡ Some x → (p x ≡ true) × (is_among x xs ≡ true)
 found p [] x h = cc
@@ -82,11 +82,11 @@ module _ (hash : List ℕ → List ℕ) where
       second_of_pair None = []
       second_of_pair (Some p) = p.1
 
-  -- a message clashes with one that was noted
-  clashed : (ms ts : List (List ℕ)) (m a b : List ℕ) (o : Option (List ℕ)) → NoClash hash ms → find (is_twin hash m) ms ≡ o
+  -- a message collides with one that was noted
+  found_collision : (ms ts : List (List ℕ)) (m a b : List ℕ) (o : Option (List ℕ)) → NoCollision hash ms → find (is_twin hash m) ms ≡ o
       → option_map (λ earlier. (earlier, m)) o ≡ pair a b → Collides hash ms (m ∷ ts) a b
-  clashed ms ts m a b None clear e h = cc
-  clashed ms ts m a b (Some x) clear e h =
+  found_collision ms ts m a b None clear e h = cc
+  found_collision ms ts m a b (Some x) clear e h =
       let p = pair_parts x m a b h in
       let f = found (is_twin hash m) ms x e in
       let t = and_parts (bytes_eq (hash x) (hash m)) (not (bytes_eq x m)) f.0 in
@@ -102,28 +102,28 @@ module _ (hash : List ℕ → List ℕ) where
       }))
 
   -- a collision is of two different strings with one digest, and these are the first
-  pub collides : (ms ts : List (List ℕ)) (a b : List ℕ) → NoClash hash ms → collision hash ms ts ≡ pair a b → Collides hash ms ts a b
+  pub collides : (ms ts : List (List ℕ)) (a b : List ℕ) → NoCollision hash ms → collision hash ms ts ≡ pair a b → Collides hash ms ts a b
   collides ms [] a b clear h = cc
-  collides ms (m ∷ ts) a b clear h = by_clash (find (is_twin hash m) ms) refl h (collides (noted ms m) ts a b)
+  collides ms (m ∷ ts) a b clear h = by_one_collision (find (is_twin hash m) ms) refl h (collides (noted ms m) ts a b)
     where
-      by_clash : (o : Option (List ℕ)) → find (is_twin hash m) ms ≡ o
+      by_one_collision : (o : Option (List ℕ)) → find (is_twin hash m) ms ≡ o
           → option_or (option_map (λ earlier. (earlier, m)) o) (collision hash (noted ms m) ts) ≡ pair a b
-          → (NoClash hash (noted ms m) → collision hash (noted ms m) ts ≡ pair a b → Collides hash (noted ms m) ts a b)
+          → (NoCollision hash (noted ms m) → collision hash (noted ms m) ts ≡ pair a b → Collides hash (noted ms m) ts a b)
           → Collides hash ms (m ∷ ts) a b
-      by_clash (Some x) e k ih = clashed ms ts m a b (Some x) clear e k
-      by_clash None e k ih =
-          let none : clash hash ms m ≡ None = ap (option_map (λ earlier. (earlier, m))) e in
-          let later = ih (no_clash hash ms (m ∷ []) clear (ap (λ (o : Option (List ℕ × List ℕ)). option_or o None) none)) k in
+      by_one_collision (Some x) e k ih = found_collision ms ts m a b (Some x) clear e k
+      by_one_collision None e k ih =
+          let none : collision_with hash ms m ≡ None = ap (option_map (λ earlier. (earlier, m))) e in
+          let later = ih (no_collision hash ms (m ∷ []) clear (ap (λ (o : Option (List ℕ × List ℕ)). option_or o None) none)) k in
           record {
             different = later.different;
             same_digest = later.same_digest;
             sooner = m ∷ later.sooner;
             afterwards = later.afterwards;
             in_order = ap (λ xs. m ∷ xs) later.in_order;
-            earlier_first = sym (noted_front ms later.sooner m a) ∙ later.earlier_first;
+            earlier_first = sym (noted_prefix ms later.sooner m a) ∙ later.earlier_first;
             none_sooner = record {
               apart =
-                  λ t u i j e'. later.none_sooner.apart t u (noted_front ms later.sooner m t ∙ i) (noted_front ms later.sooner m u ∙ j) e';
+                  λ t u i j e'. later.none_sooner.apart t u (noted_prefix ms later.sooner m t ∙ i) (noted_prefix ms later.sooner m u ∙ j) e';
             };
           }
 
@@ -131,11 +131,11 @@ module _ (hash : List ℕ → List ℕ) where
 
 module _ (s : Setup) (w : World) (e : Event) where
   abbrev is_given : HeldSecret → Bool
-  is_given x = is_guessed w.posted (draft s w e).posts (draft s w e).allowed x
+  is_given x = is_guessed w.posted (pending s w e).posts (pending s w e).allowed x
 
   gives : (x : HeldSecret) → is_given x ≡ true → GivesAway s w e x
   gives x h =
-      let d = draft s w e in
+      let d = pending s w e in
       let a = and_parts (is_among x.bytes d.posts && not (is_among x.bytes w.posted)) (not (is_allowed d.allowed x)) h in
       let b = and_parts (is_among x.bytes d.posts) (not (is_among x.bytes w.posted)) a.0 in
       record {
@@ -145,9 +145,9 @@ module _ (s : Setup) (w : World) (e : Event) where
       }
 
   gives_not : (x : HeldSecret) → is_given x ≡ false → GivesAway s w e x → ⊥
-  gives_not x h away = by_allowed (is_allowed (draft s w e).allowed x) refl
+  gives_not x h away = by_allowed (is_allowed (pending s w e).allowed x) refl
     where
-      by_allowed : (b : Bool) → is_allowed (draft s w e).allowed x ≡ b → ⊥
+      by_allowed : (b : Bool) → is_allowed (pending s w e).allowed x ≡ b → ⊥
       by_allowed true a = away.not_own (own_allowed s w e x a)
       by_allowed false a =
           let p = away.posted_now in
@@ -156,27 +156,27 @@ module _ (s : Setup) (w : World) (e : Event) where
           both_ways (is_given x) h t
 
   -- where nothing is guessed, no secret is given away
-  pub none_away : (xs : List HeldSecret) → find (is_guessed w.posted (draft s w e).posts (draft s w e).allowed) xs ≡ None
+  pub none_away : (xs : List HeldSecret) → find (is_guessed w.posted (pending s w e).posts (pending s w e).allowed) xs ≡ None
       → GivesNoneAway s w e xs
   none_away [] h = tt
   none_away (x ∷ xs) h = by_test (is_given x) refl h (none_away xs)
     where
       by_test : (b : Bool) → is_given x ≡ b
-          → (if b then Some x else find (is_guessed w.posted (draft s w e).posts (draft s w e).allowed) xs) ≡ None
-          → (find (is_guessed w.posted (draft s w e).posts (draft s w e).allowed) xs ≡ None → GivesNoneAway s w e xs)
+          → (if b then Some x else find (is_guessed w.posted (pending s w e).posts (pending s w e).allowed) xs) ≡ None
+          → (find (is_guessed w.posted (pending s w e).posts (pending s w e).allowed) xs ≡ None → GivesNoneAway s w e xs)
           → GivesNoneAway s w e (x ∷ xs)
       by_test true q k ih = cc
       by_test false q k ih = (gives_not x q, ih k)
 
   -- what is guessed is the first secret that is given away
   pub guesses : (xs : List HeldSecret) (held : HeldSecret)
-      → find (is_guessed w.posted (draft s w e).posts (draft s w e).allowed) xs ≡ Some held → Guesses s w e xs held.party held.name
+      → find (is_guessed w.posted (pending s w e).posts (pending s w e).allowed) xs ≡ Some held → Guesses s w e xs held.party held.name
   guesses [] held h = cc
   guesses (x ∷ xs) held h = by_test (is_given x) refl h (guesses xs held)
     where
       by_test : (b : Bool) → is_given x ≡ b
-          → (if b then Some x else find (is_guessed w.posted (draft s w e).posts (draft s w e).allowed) xs) ≡ Some held
-          → (find (is_guessed w.posted (draft s w e).posts (draft s w e).allowed) xs ≡ Some held → Guesses s w e xs held.party held.name)
+          → (if b then Some x else find (is_guessed w.posted (pending s w e).posts (pending s w e).allowed) xs) ≡ Some held
+          → (find (is_guessed w.posted (pending s w e).posts (pending s w e).allowed) xs ≡ Some held → Guesses s w e xs held.party held.name)
           → Guesses s w e (x ∷ xs) held.party held.name
       by_test true q k ih =
           let same : x ≡ held = cc in

@@ -35,7 +35,7 @@ use Rattle.theory_calculus.proofs.Names.{bytes_refl, persistent_deposit, volatil
 use Rattle.theory_calculus.specs.Members.{Is_in}
 use Rattle.theory_calculus.proofs.Members.{all_in}
 use Rattle.theory_script.proofs.Checked.{puts_known}
-use Rattle.theory_world.specs.KeptApart.{NoClash}
+use Rattle.theory_world.specs.KeptApart.{NoCollision}
 use Rattle.theory_world.specs.Transactions.{IsNumbered, HeardLists, NoScripts}
 use Rattle.theory_world.proofs.Ledger.Bare.{same_from}
 use Rattle.theory_world.proofs.Contracts.Standing.{unsigned_of_branch, term_choice}
@@ -57,7 +57,8 @@ use Rattle.theory_run.proofs.Honest.Leaves.{Leave, by_gift, by_endorsement, by_s
 -- ---- lists
 
 -- the input of a number that is spent
-pub input_for : (s : Setup) (w : World) (tx : Tx) (ns : List ℕ) (is : List TxIn) (n : ℕ) → AllSpent s w tx ns is → has_number n ns ≡ true → (i : TxIn) × Is_in i is × IsSpent s w tx n i
+pub input_for : (s : Setup) (w : World) (tx : Tx) (ns : List ℕ) (is : List TxIn) (n : ℕ) → AllSpent s w tx ns is → has_number n ns ≡ true
+    → (i : TxIn) × Is_in i is × IsSpent s w tx n i
 input_for s w tx [] [] n h k = cc
 input_for s w tx [] (x ∷ is) n h k = absurd h
 input_for s w tx (m ∷ ns) [] n h k = absurd h
@@ -72,7 +73,8 @@ any_in f (y ∷ xs) x (inl e) t = or_left _ _ (subst (λ z. f z ≡ true) e t)
 any_in f (y ∷ xs) x (inr h) t = or_right (f y) _ (any_in f xs x h t)
 
 -- places of one list among those of another
-place_in : (xs ys : List TxIn) (i : TxIn) → map (λ (x : TxIn). x.prev) xs ≡ map (λ (x : TxIn). x.prev) ys → Is_in i xs → (j : TxIn) × Is_in j ys × (j.prev ≡ i.prev)
+place_in : (xs ys : List TxIn) (i : TxIn) → map (λ (x : TxIn). x.prev) xs ≡ map (λ (x : TxIn). x.prev) ys → Is_in i xs → (j : TxIn)
+    × Is_in j ys × (j.prev ≡ i.prev)
 place_in [] ys i e h = absurd h
 place_in (x ∷ xs) [] i e h = cc
 place_in (x ∷ xs) (y ∷ ys) i e (inl k) = let a : x.prev ≡ y.prev = cc in (y, inl refl, sym a ∙ ap (λ (z : TxIn). z.prev) (sym k))
@@ -90,12 +92,15 @@ dead_in w (x ∷ is) i h (inr k) = dead_in w is i h.1 k
 pub advert_of : (s : Setup) (w : World) (k : ℕ) (st : Instance) → compiled_instance s w k ≡ Some st → contract_at s k ≡ Some st.advert
 advert_of s w k st c = let ci = compiled_is s w k st c in ci.there ∙ ap (λ (y : Instance). Some y.advert) (sym ci.is)
 
-module _ (s : Setup) (setup : IsSetup s) (before : List Record) (g : Configuration) (w : World) (kept : KeptBook s g w) (fit : TransactionsFit s w) (check : Checked s w) (leave : KeptLeave s before g w) (clear : NoClash s.hash w.hashed)
-    (hs : List (List ℕ)) (clear_hs : NoClash s.hash hs) (sub : (t : List ℕ) → is_among t w.hashed ≡ true → is_among t hs ≡ true) (tx : Tx) (fits : IsNumbered tx) (spent : List ℕ) (acc : Accepting s w tx spent) (all : HeardAll s w hs tx)
+module _ (s : Setup) (setup : IsSetup s) (before : List Record) (g : Configuration) (w : World) (kept : KeptBook s g w)
+    (fit : TransactionsFit s w) (check : Checked s w) (leave : KeptLeave s before g w) (clear : NoCollision s.hash w.hashed)
+    (hs : List (List ℕ)) (clear_hs : NoCollision s.hash hs) (sub : (t : List ℕ) → is_among t w.hashed ≡ true → is_among t hs ≡ true)
+    (tx : Tx) (fits : IsNumbered tx) (spent : List ℕ) (acc : Accepting s w tx spent) (all : HeardAll s w hs tx)
     (a : List ℕ) (declared : is_declared s a ≡ true) (n : ℕ) (i : TxIn) (here : Is_in i tx.inputs) (sp : IsSpent s w tx n i) (paid : sp.output.script ≡ paid_to s a) (free : sp.output.holds ≡ None) where
   -- ---- what it is bound to
 
-  bound_one : (k : ℕ) (st : Instance) → compiled_instance s w k ≡ Some st → (d : List ℕ × Holding) → Is_in d (deposits st.advert.pre) → i.prev ≡ (deposit s.hash st (d.0) (d.1)).outpoint → is_bound_to w k a n d ≡ true
+  bound_one : (k : ℕ) (st : Instance) → compiled_instance s w k ≡ Some st → (d : List ℕ × Holding) → Is_in d (deposits st.advert.pre)
+      → i.prev ≡ (deposit s.hash st (d.0) (d.1)).outpoint → is_bound_to w k a n d ≡ true
   bound_one k st c d j p =
       let at = at_bound s g w kept k st c (d.0) (d.1) j in
       let same = kept.apart n at.number sp.output at.bound.output sp.there at.bound.there (sym sp.outpoint ∙ p ∙ at.outpoint) in
@@ -108,17 +113,20 @@ module _ (s : Setup) (setup : IsSetup s) (before : List Record) (g : Configurati
       and_from _ _ (subst (λ y. bytes_eq (d.1).owner y ≡ true) owner (bytes_refl (d.1).owner)) t
 
   -- the initial transaction takes it as a persistent deposit
-  pub begun_takes : (k : ℕ) (st : Instance) → compiled_instance s w k ≡ Some st → bare tx ≡ bare (tx_of (initial_unsigned s.hash st)) → takes_persistent s w k a n ≡ true
+  pub begun_takes : (k : ℕ) (st : Instance) → compiled_instance s w k ≡ Some st → bare tx ≡ bare (tx_of (initial_unsigned s.hash st))
+      → takes_persistent s w k a n ≡ true
   begun_takes k st c e =
       let r = bare_in tx.inputs (map input_of (persistent_deposits s.hash st)) i (ap (λ (x : Tx). x.inputs) e) here in
       let m = in_map input_of (persistent_deposits s.hash st) r.0 r.1 in
       let q = in_map (λ (d : List ℕ × Holding). deposit s.hash st d.0 d.1) (persistent st.advert.pre) m.0 m.1 in
       let p : i.prev ≡ (deposit s.hash st (q.0.0) (q.0.1)).outpoint = sym r.2 ∙ ap (λ (y : TxIn). y.prev) m.2 ∙ ap (λ (y : Spent). y.outpoint) q.2 in
       let t = bound_one k st c q.0 (persistent_deposit st.advert.pre q.0 q.1) p in
-      ap (λ o. list_any (is_bound_to w k a n) (persistent (pre_of o))) (advert_of s w k st c) ∙ any_in (is_bound_to w k a n) (persistent st.advert.pre) q.0 q.1 t
+      ap (λ o. list_any (is_bound_to w k a n) (persistent (pre_of o))) (advert_of s w k st c)
+      ∙ any_in (is_bound_to w k a n) (persistent st.advert.pre) q.0 q.1 t
 
   -- the transaction of a branch puts it
-  pub branch_puts : (k : ℕ) (st : Instance) (q : List PathStep) (pos : Standing) (choice : Contract) (j : ℕ) (b : term.Guarded) → compiled_instance s w k ≡ Some st → position_at s.hash st q ≡ Some (pos, choice) → slice_get (branches choice) j ≡ Some b
+  pub branch_puts : (k : ℕ) (st : Instance) (q : List PathStep) (pos : Standing) (choice : Contract) (j : ℕ) (b : term.Guarded)
+      → compiled_instance s w k ≡ Some st → position_at s.hash st q ≡ Some (pos, choice) → slice_get (branches choice) j ≡ Some b
       → bare tx ≡ bare (tx_of (branch_unsigned s.hash st pos j b)) → takes_put s w k (Some b) a n ≡ true
   branch_puts k st q pos choice j b c stands there e = by_place m.1
     where
@@ -164,7 +172,9 @@ module _ (s : Setup) (setup : IsSetup s) (before : List Record) (g : Configurati
   heard = heard_input s w hs tx all i n (λ t l. all_strings_of s w tx i t here l) sp
 
   both : (script_of i.witness ≡ party_script s.hash a) × (has_signed w.book (deposit_key s.hash a) signs ≡ true)
-  both = deposit_signed s setup.hash g w kept fit check hs clear_hs sub tx fits (scripts_none s setup.hash g w kept fit check hs clear_hs sub tx fits spent acc all) (lists s setup.hash g w kept fit check hs clear_hs sub tx fits spent acc all) n i sp heard.script a declared paid
+  both = deposit_signed s setup.hash g w kept fit check hs clear_hs sub tx fits
+      (scripts_none s setup.hash g w kept fit check hs clear_hs sub tx fits spent acc all)
+      (lists s setup.hash g w kept fit check hs clear_hs sub tx fits spent acc all) n i sp heard.script a declared paid
 
   digest_heard : HeardDigest s hs tx i (party_script s.hash a) sp.output.value
   digest_heard = record {
@@ -178,8 +188,10 @@ module _ (s : Setup) (setup : IsSetup s) (before : List Record) (g : Configurati
   module _ (honest : is_honest s a ≡ true) where
     -- which transaction its party has signed
     pub data Took : Type 0 where
-      put_took : (h : Needed s w a signs) → bare tx ≡ bare (tx_of (branch_unsigned s.hash h.instance h.here h.index h.branch)) → was_done (is_endorse h.contract a) before ≡ true → Took
-      start_took : (h : Started s g w a signs) → bare tx ≡ bare (tx_of (initial_unsigned s.hash h.instance)) → was_done (is_init h.contract a) before ≡ true → Took
+      put_took : (h : Needed s w a signs) → bare tx ≡ bare (tx_of (branch_unsigned s.hash h.instance h.here h.index h.branch))
+          → was_done (is_endorse h.contract a) before ≡ true → Took
+      start_took : (h : Started s g w a signs) → bare tx ≡ bare (tx_of (initial_unsigned s.hash h.instance))
+          → was_done (is_init h.contract a) before ≡ true → Took
 
     pub took : Took
     took = by_leave (leave.leave a signs declared honest both.1)
@@ -196,8 +208,12 @@ module _ (s : Setup) (setup : IsSetup s) (before : List Record) (g : Configurati
             let r = place_in tx.inputs h.tx.inputs i same.places here in
             let d = dead_in w h.tx.inputs r.0 dead r.1 in
             absurd (not_dead s setup.hash g w kept fit check hs clear_hs sub tx fits spent acc all i d.number d.output here d.there (d.outpoint ∙ r.2) d.dead)
-        by_leave (by_endorsement h was) = put_took h (same_put s setup.hash g w kept fit check hs clear_hs sub tx fits none heard_lists a signs i (party_script s.hash a) sp.output.value place digest_heard refl h) was
-        by_leave (by_start h was) = start_took h (same_start s setup.hash g w kept fit check hs clear_hs sub tx fits none heard_lists a signs i (party_script s.hash a) sp.output.value place digest_heard refl h) was
+        by_leave (by_endorsement h was) =
+            put_took h (same_put s setup.hash g w kept fit check hs clear_hs sub tx fits none heard_lists a signs i (party_script s.hash a)
+            sp.output.value place digest_heard refl h) was
+        by_leave (by_start h was) = start_took h
+            (same_start s setup.hash g w kept fit check hs clear_hs sub tx fits none heard_lists a signs i (party_script s.hash a)
+            sp.output.value place digest_heard refl h) was
 
     -- ---- what it is
 
@@ -206,14 +222,20 @@ module _ (s : Setup) (setup : IsSetup s) (before : List Record) (g : Configurati
 
     -- a branch's transaction takes a branch
     pub put_kind : (h : Needed s w a signs) → bare tx ≡ bare (tx_of (branch_unsigned s.hash h.instance h.here h.index h.branch))
-        → (t : Taking s setup.hash setup.few_contracts g w kept fit check hs clear_hs sub tx fits spent acc all (record { contract = h.contract; position = h.position })) × (kind_of s w tx spent ≡ Takes (record { contract = h.contract; position = h.position }) fst.number t.index)
+        → (t : Taking s setup.hash setup.few_contracts g w kept fit check hs clear_hs sub tx fits spent acc all
+        (record { contract = h.contract; position = h.position }))
+        × (kind_of s w tx spent ≡ Takes (record { contract = h.contract; position = h.position }) fst.number t.index)
     put_kind h e =
         let held : ContractPosition = record { contract = h.contract; position = h.position } in
         let q = branch_first s setup.hash g w kept fit check hs clear_hs sub tx fits spent acc all h.contract h.instance h.position h.here h.choice h.index h.branch h.compiled h.stands e in
-        let i0 : initial_of s w tx ≡ None = by_initial (initial_of s w tx) refl q in
-        (first_taking s setup.hash setup.few_contracts g w kept fit check hs clear_hs sub tx fits spent acc all held q, kind_taken s setup.hash setup.few_contracts g w kept fit check hs clear_hs sub tx fits spent acc all held q i0)
+        let i0 : initial_of s w tx ≡ None = by_initial (initial_of s w tx) refl q in (
+          first_taking s setup.hash setup.few_contracts g w kept fit check hs clear_hs sub tx fits spent acc all held q,
+          kind_taken s
+              setup.hash setup.few_contracts g w kept fit check hs clear_hs sub tx fits spent acc all held q i0,
+        )
       where
-        by_initial : (o : Option ℕ) → initial_of s w tx ≡ o → fst.spends.output.holds ≡ Some (record { contract = h.contract; position = h.position }) → o ≡ None
+        by_initial : (o : Option ℕ) → initial_of s w tx ≡ o → fst.spends.output.holds
+            ≡ Some (record { contract = h.contract; position = h.position }) → o ≡ None
         by_initial None x q = refl
         by_initial (Some k) x q =
             let is = initial_is s w tx k x in

@@ -39,7 +39,7 @@ use Rattle.theory_calculus.proofs.Members.{in_filter}
 use Rattle.theory_calculus.proofs.Names.{persistent_deposit}
 use Rattle.theory_run.proofs.Accepted.Unmade.{in_images}
 use Rattle.theory_run.proofs.Events.Advertised.{none_is}
-use Rattle.theory_world.specs.KeptApart.{NoClash}
+use Rattle.theory_world.specs.KeptApart.{NoCollision}
 use Rattle.theory_world.specs.Transactions.{IsNumbered}
 use Rattle.theory_world.proofs.Ledger.Accepting.{IsSpent, Accepting, HeardAll}
 use Rattle.theory_run.specs.KeptBook.{KeptBook, HeldFine}
@@ -60,26 +60,34 @@ licensed_append s e [] ys h k = k
 licensed_append s e (x ∷ xs) ys h k = (h.0, licensed_append s e xs ys h.1 k)
 
 -- what comes to be shown, where each honest party's is revealed by the event
-pub licensed_reveals : (s : Setup) (e : Event) (w next : World) → ((x : Revealed) → shown s next x ≡ true → shown s w x ≡ false → is_honest s x.party ≡ true → IsRevealOf e x.contract x.party x.secret) → Licensed s e (reveals s w next)
+pub licensed_reveals : (s : Setup) (e : Event) (w next : World)
+    → ((x : Revealed) → shown s next x ≡ true → shown s w x ≡ false → is_honest s x.party ≡ true → IsRevealOf e x.contract x.party x.secret)
+    → Licensed s e (reveals s w next)
 licensed_reveals s e w next h = each (all_secrets s)
   where
     each : (xs : List Revealed) → Licensed s e (map reveal_step (filter (λ x. shown s next x && not (shown s w x)) xs))
     each [] = tt
     each (x ∷ xs) = by_test (shown s next x && not (shown s w x)) refl (each xs)
       where
-        by_test : (b : Bool) → (shown s next x && not (shown s w x)) ≡ b → Licensed s e (map reveal_step (filter (λ y. shown s next y && not (shown s w y)) xs)) → Licensed s e (map reveal_step (if b then x ∷ filter (λ y. shown s next y && not (shown s w y)) xs else filter (λ y. shown s next y && not (shown s w y)) xs))
+        by_test : (b : Bool) → (shown s next x && not (shown s w x)) ≡ b
+            → Licensed s e (map reveal_step (filter (λ y. shown s next y && not (shown s w y)) xs))
+            → Licensed s e (map reveal_step (if b then x
+            ∷ filter (λ y. shown s next y && not (shown s w y)) xs else filter (λ y. shown s next y && not (shown s w y)) xs))
         by_test true t r = let p = and_parts (shown s next x) (not (shown s w x)) t in (λ honest. h x p.0 (not-true _ p.1) honest, r)
         by_test false t r = r
 
-pub licensed_moves : (s : Setup) (e : Event) (action : Move) (ps : List (List ℕ)) → ((p : List ℕ) → Is_in p ps → is_honest s p ≡ true → IsGiveOf e p action) → Licensed s e (map (auth_move action) ps)
+pub licensed_moves : (s : Setup) (e : Event) (action : Move) (ps : List (List ℕ))
+    → ((p : List ℕ) → Is_in p ps → is_honest s p ≡ true → IsGiveOf e p action) → Licensed s e (map (auth_move action) ps)
 licensed_moves s e action [] h = tt
 licensed_moves s e action (p ∷ ps) h = (h p (inl refl), licensed_moves s e action ps (λ q i. h q (inr i)))
 
-pub licensed_inits : (s : Setup) (e : Event) (k : ℕ) (ds : List (List ℕ × Holding)) → ((d : List ℕ × Holding) → Is_in d ds → is_honest s (d.1).owner ≡ true → IsInitOf e k (d.1).owner) → Licensed s e (auth_inits k ds)
+pub licensed_inits : (s : Setup) (e : Event) (k : ℕ) (ds : List (List ℕ × Holding))
+    → ((d : List ℕ × Holding) → Is_in d ds → is_honest s (d.1).owner ≡ true → IsInitOf e k (d.1).owner) → Licensed s e (auth_inits k ds)
 licensed_inits s e k [] h = tt
 licensed_inits s e k (d ∷ ds) h = (h d (inl refl), licensed_inits s e k ds (λ q i. h q (inr i)))
 
-pub licensed_branches : (s : Setup) (e : Event) (n i : ℕ) (ps : List (List ℕ)) → ((p : List ℕ) → Is_in p ps → is_honest s p ≡ true → IsAuthoriseOf e p n i) → Licensed s e (map (auth_branch n i) ps)
+pub licensed_branches : (s : Setup) (e : Event) (n i : ℕ) (ps : List (List ℕ))
+    → ((p : List ℕ) → Is_in p ps → is_honest s p ≡ true → IsAuthoriseOf e p n i) → Licensed s e (map (auth_branch n i) ps)
 licensed_branches s e n i [] h = tt
 licensed_branches s e n i (p ∷ ps) h = (h p (inl refl), licensed_branches s e n i ps (λ q j. h q (inr j)))
 
@@ -104,13 +112,15 @@ number_in (m ∷ ns) n (inl e) = or_left _ _ (eq-eqb m n (sym e))
 number_in (m ∷ ns) n (inr h) = or_right (m == n) _ (number_in ns n h)
 
 -- whose deposits a transaction spends
-pub owner_spent : (s : Setup) (w : World) (spent : List ℕ) (p : List ℕ) → Is_in p (parties_once (owners_of s w spent)) → (n : ℕ) × (has_number n spent ≡ true) × (owner_of s (output_at w n) ≡ Party p)
+pub owner_spent : (s : Setup) (w : World) (spent : List ℕ) (p : List ℕ) → Is_in p (parties_once (owners_of s w spent)) → (n : ℕ)
+    × (has_number n spent ≡ true) × (owner_of s (output_at w n) ≡ Party p)
 owner_spent s w spent p h =
     let r = in_map (λ n. owner_of s (output_at w n)) spent (Party p) (in_once (owners_of s w spent) p h) in
     (r.0, number_in spent r.0 r.1, sym r.2)
 
-module _ (s : Setup) (setup : IsSetup s) (before : List Record) (g : Configuration) (w : World) (kept : KeptBook s g w) (fit : TransactionsFit s w) (check : Checked s w) (leave : KeptLeave s before g w) (clear : NoClash s.hash w.hashed)
-    (hs : List (List ℕ)) (clear_hs : NoClash s.hash hs) (sub : (t : List ℕ) → is_among t w.hashed ≡ true → is_among t hs ≡ true) (tx : Tx) (fits : IsNumbered tx) (spent : List ℕ) (acc : Accepting s w tx spent) (all : HeardAll s w hs tx) (e : Event) where
+module _ (s : Setup) (setup : IsSetup s) (before : List Record) (g : Configuration) (w : World) (kept : KeptBook s g w)
+    (fit : TransactionsFit s w) (check : Checked s w) (leave : KeptLeave s before g w) (clear : NoCollision s.hash w.hashed)
+    (hs : List (List ℕ)) (clear_hs : NoCollision s.hash hs) (sub : (t : List ℕ) → is_among t w.hashed ≡ true → is_among t hs ≡ true) (tx : Tx) (fits : IsNumbered tx) (spent : List ℕ) (acc : Accepting s w tx spent) (all : HeardAll s w hs tx) (e : Event) where
   abbrev fst : First s setup.hash g w kept fit check hs clear_hs sub tx fits spent acc all
   fst = first s setup.hash g w kept fit check hs clear_hs sub tx fits spent acc all
 
@@ -127,9 +137,11 @@ module _ (s : Setup) (setup : IsSetup s) (before : List Record) (g : Configurati
       let f : sp.output ≡ o.output = cc in
       let paid = ap (λ (y : Output). y.script) f ∙ o.paid in
       let free = ap (λ (y : Output). y.holds) f ∙ none_is o.output.holds (and_parts o.output.live (is_none o.output.holds) o.deposit).1 in
-      by_took r.0 o i.0 i.1 sp paid free (took s setup before g w kept fit check leave clear hs clear_hs sub tx fits spent acc all p o.declared r.0 i.0 i.1 sp paid free honest)
+      by_took r.0 o i.0 i.1 sp paid free (took s setup before g w kept fit check leave clear hs clear_hs sub tx fits spent acc all p
+      o.declared r.0 i.0 i.1 sp paid free honest)
     where
-      by_took : (n : ℕ) (o : Owns s w p n) (i : TxIn) (here : Is_in i tx.inputs) (sp : IsSpent s w tx n i) (paid : sp.output.script ≡ paid_to s p) (free : sp.output.holds ≡ None)
+      by_took : (n : ℕ) (o : Owns s w p n) (i : TxIn) (here : Is_in i tx.inputs) (sp : IsSpent s w tx n i)
+          (paid : sp.output.script ≡ paid_to s p) (free : sp.output.holds ≡ None)
           → Took s setup before g w kept fit check leave clear hs clear_hs sub tx fits spent acc all p o.declared n i here sp paid free honest → ⊥
       by_took n o i here sp paid free (put_took h q was) = let k = (put_kind s setup before g w kept fit check leave clear hs clear_hs sub tx fits spent acc all p o.declared n i here sp paid free honest h q).1 in let z = sym kind ∙ k in cc
       by_took n o i here sp paid free (start_took h q was) = let k = start_kind s setup before g w kept fit check leave clear hs clear_hs sub tx fits spent acc all p o.declared n i here sp paid free honest h q in let z = sym kind ∙ k in cc
@@ -142,8 +154,11 @@ module _ (s : Setup) (setup : IsSetup s) (before : List Record) (g : Configurati
   -- ---- beginnings
 
   -- an honest party's deposit that an initial transaction takes is authorised
-  init_given : (k : ℕ) → initial_of s w tx ≡ Some k → kind_of s w tx spent ≡ Begins k → (d : List ℕ × Holding) → Is_in d (persistent (pre_at s k)) → is_honest s (d.1).owner ≡ true → is_init_authorised g.init_authorised k (d.0) ≡ true
-  init_given k i0 kind d there honest = by_took (took s setup before g w kept fit check leave clear hs clear_hs sub tx fits spent acc all (d.1).owner at.bound.declared at.number r.0 r.1 sp paid free honest)
+  init_given : (k : ℕ) → initial_of s w tx ≡ Some k → kind_of s w tx spent ≡ Begins k → (d : List ℕ × Holding)
+      → Is_in d (persistent (pre_at s k)) → is_honest s (d.1).owner ≡ true → is_init_authorised g.init_authorised k (d.0) ≡ true
+  init_given k i0 kind d there honest =
+      by_took (took s setup before g w kept fit check leave clear hs clear_hs sub tx fits spent acc all (d.1).owner at.bound.declared
+      at.number r.0 r.1 sp paid free honest)
     where
       is : IsInitial s w tx k
       is = initial_is s w tx k i0
@@ -161,8 +176,10 @@ module _ (s : Setup) (setup : IsSetup s) (before : List Record) (g : Configurati
       number = ap (λ (y : Instance). y.contract) (compiled_is s w k is.instance is.compiled).is
 
       r : (i : TxIn) × Is_in i tx.inputs × (i.prev ≡ (deposit s.hash is.instance (d.0) (d.1)).outpoint)
-      r = bare_in (map input_of (persistent_deposits s.hash is.instance)) tx.inputs (input_of (deposit s.hash is.instance (d.0) (d.1))) (ap (λ (x : Tx). x.inputs) (sym is.is))
-          (in_images input_of (persistent_deposits s.hash is.instance) (deposit s.hash is.instance (d.0) (d.1)) (in_images (λ (x : List ℕ × Holding). deposit s.hash is.instance x.0 x.1) (persistent is.instance.advert.pre) d listed))
+      r = bare_in (map input_of (persistent_deposits s.hash is.instance)) tx.inputs (input_of (deposit s.hash is.instance (d.0) (d.1)))
+          (ap (λ (x : Tx). x.inputs) (sym is.is))
+          (in_images input_of (persistent_deposits s.hash is.instance) (deposit s.hash is.instance (d.0) (d.1))
+          (in_images (λ (x : List ℕ × Holding). deposit s.hash is.instance x.0 x.1) (persistent is.instance.advert.pre) d listed))
 
       found : (n : ℕ) × (has_number n spent ≡ true) × IsSpent s w tx n r.0
       found = spent_at s w tx spent tx.inputs r.0 acc.spends r.1
@@ -187,13 +204,15 @@ module _ (s : Setup) (setup : IsSetup s) (before : List Record) (g : Configurati
           let a : look_up (d.0) (bindings_at w.advertised k) ≡ Some at.number = ap (λ m. look_up (d.0) (bindings_at w.advertised m)) (sym number) ∙ at.looked in
           ap (names_deposit w) a ∙ ap is_deposit sp.there ∙ and_from _ _ sp.live (ap is_none free)
 
-      by_took : Took s setup before g w kept fit check leave clear hs clear_hs sub tx fits spent acc all (d.1).owner at.bound.declared at.number r.0 r.1 sp paid free honest → is_init_authorised g.init_authorised k (d.0) ≡ true
+      by_took : Took s setup before g w kept fit check leave clear hs clear_hs sub tx fits spent acc all (d.1).owner at.bound.declared
+          at.number r.0 r.1 sp paid free honest → is_init_authorised g.init_authorised k (d.0) ≡ true
       by_took (put_took h q was) = let x = (put_kind s setup before g w kept fit check leave clear hs clear_hs sub tx fits spent acc all (d.1).owner at.bound.declared at.number r.0 r.1 sp paid free honest h q).1 in let z = sym kind ∙ x in cc
       by_took (start_took h q was) =
           let x = start_kind s setup before g w kept fit check leave clear hs clear_hs sub tx fits spent acc all (d.1).owner at.bound.declared at.number r.0 r.1 sp paid free honest h q in
           let z = sym x ∙ kind in
           let c : h.contract ≡ k = cc in
-          subst (λ m. is_init_authorised g.init_authorised m (d.0) ≡ true) c (h.authorised d (subst (λ m. Is_in d (persistent (pre_at s m))) (sym c) there) refl (subst (λ m. is_bound_live w m d ≡ true) (sym c) live))
+          subst (λ m. is_init_authorised g.init_authorised m (d.0) ≡ true) c
+          (h.authorised d (subst (λ m. Is_in d (persistent (pre_at s m))) (sym c) there) refl (subst (λ m. is_bound_live w m d ≡ true) (sym c) live))
 
   pub begin_licensed : (k : ℕ) → initial_of s w tx ≡ Some k → kind_of s w tx spent ≡ Begins k → Licensed s e (begin_steps s g k)
   begin_licensed k i0 kind =
@@ -218,7 +237,8 @@ module _ (s : Setup) (setup : IsSetup s) (before : List Record) (g : Configurati
     here_held = ap live_position fst.spends.there ∙ rw fst.spends.live holds
 
     -- an honest party that the branch asks has authorised it
-    asked_given : (p : List ℕ) → Is_in p (people_at s h.contract) → is_honest s p ≡ true → is_asked taking.opened.b p ≡ true → has_branch_authorised g.branch_authorised fst.number taking.opened.i p ≡ true
+    asked_given : (p : List ℕ) → Is_in p (people_at s h.contract) → is_honest s p ≡ true → is_asked taking.opened.b p ≡ true
+        → has_branch_authorised g.branch_authorised fst.number taking.opened.i p ≡ true
     asked_given p there honest asks =
         let part : is_among p (people hf.instance) ≡ true = subst (λ o. is_among p (people_of o) ≡ true) (advert_of s w h.contract hf.instance hf.compiled) (in_among (people_at s h.contract) p there) in
         let bc = kept.branch_pairs h.contract hf.instance h.position hf.here hf.choice taking.opened.i taking.opened.b p (digest s.hash tx fst.input hf.here.output.script fst.spends.output.value) hf.compiled hf.stands taking.opened.is_branch part honest (taking.signed p part) in
@@ -228,7 +248,8 @@ module _ (s : Setup) (setup : IsSetup s) (before : List Record) (g : Configurati
     taken_steps =
         let b = taking.opened.b in
         let waits = is_awaited g fst.number taking.opened.i b in
-        licensed_append s e (map (auth_branch fst.number taking.opened.i) (filter waits (people_at s h.contract))) (core_step fst.number taking.opened.i (core b))
+        licensed_append s e (map (auth_branch fst.number taking.opened.i) (filter waits (people_at s h.contract)))
+        (core_step fst.number taking.opened.i (core b))
         (licensed_branches s e fst.number taking.opened.i (filter waits (people_at s h.contract)) (λ p x honest.
         let f = in_filter waits (people_at s h.contract) p x in
         let t = and_parts (is_asked b p) (not (has_branch_authorised g.branch_authorised fst.number taking.opened.i p)) f.1 in
@@ -237,14 +258,16 @@ module _ (s : Setup) (setup : IsSetup s) (before : List Record) (g : Configurati
     pub take_licensed : Licensed s e (kind_steps s g w tx spent (kind_of s w tx spent))
     take_licensed =
         let b = looked_branch s w h fst.spends.output hf taking.opened.i taking.opened.b taking.opened.is_branch in
-        subst (λ k. Licensed s e (kind_steps s g w tx spent k)) (sym kind_is) (subst (λ o. Licensed s e (branch_steps g (people_at s h.contract) fst.number taking.opened.i o)) (sym b) taken_steps)
+        subst (λ k. Licensed s e (kind_steps s g w tx spent k)) (sym kind_is)
+        (subst (λ o. Licensed s e (branch_steps g (people_at s h.contract) fst.number taking.opened.i o)) (sym b) taken_steps)
 
   -- ---- whatever it is
 
   pub kind_licensed : Licensed s e (kind_steps s g w tx spent (kind_of s w tx spent))
   kind_licensed = by_initial (initial_of s w tx) refl
     where
-      by_held : initial_of s w tx ≡ None → (o : Option ContractPosition) → first_position w spent ≡ o → Licensed s e (kind_steps s g w tx spent (kind_of s w tx spent))
+      by_held : initial_of s w tx ≡ None → (o : Option ContractPosition) → first_position w spent ≡ o
+          → Licensed s e (kind_steps s g w tx spent (kind_of s w tx spent))
       by_held i None f =
           let k : kind_of s w tx spent ≡ Moves = λ j. kind_by s tx spent (i j) (f j) in
           subst (λ x. Licensed s e (kind_steps s g w tx spent x)) (sym k) (move_licensed k)

@@ -8,8 +8,8 @@ use Rattle.spec_run.specs.Setup.{Setup}
 use Rattle.spec_data.specs.Messages.{collision}
 use Rattle.spec_run.specs.World.{World}
 use Rattle.spec_run.specs.Conditions.{IsSetup, IsEvent}
-use Rattle.spec_run.specs.Draft.{settled, guess}
-use Rattle.spec_run.specs.Event.{draft, record_of, opening_world}
+use Rattle.spec_run.specs.Pending.{applied, guess}
+use Rattle.spec_run.specs.Event.{pending, record_of, opening_world}
 use Rattle.spec_run.specs.Steps.{steps_of}
 use Rattle.spec_run.specs.Translation.{opening_configuration}
 use Rattle.spec_run.specs.HonestDeposits.{SpendsWithLeave}
@@ -31,32 +31,47 @@ pub record KeptHonest (s : Setup) (z : List (List ℕ)) (before : List Record) (
   pub leave : KeptLeave s before g w
 
 module _ (s : Setup) (setup : IsSetup s) (z : List (List ℕ)) (before : List Record) (g : Configuration) (w : World) (kept : KeptHonest s z before g w)
-    (e : Event) (is : IsEvent s e) (calm : collision s.hash w.hashed (draft s w e).hashes ≡ None) (unguessed : guess s w.posted (draft s w e).posts (draft s w e).allowed ≡ None) (begins : Begins z (settled w (draft s w e)).posted) where
-  pub honest_after : KeptHonest s z (before ++ record_of e (draft s w e) ∷ []) (after_steps g (steps_of s z g w (settled w (draft s w e)) e (draft s w e))) (settled w (draft s w e))
+    (e : Event) (is : IsEvent s e) (calm : collision s.hash w.hashed (pending s w e).hashes ≡ None) (unguessed : guess s w.posted (pending s w e).posts (pending s w e).allowed ≡ None) (begins : Begins z (applied w (pending s w e)).posted) where
+  pub honest_after : KeptHonest s z (before ++ record_of e (pending s w e) ∷ [])
+      (after_steps g (steps_of s z g w (applied w (pending s w e)) e (pending s w e))) (applied w (pending s w e))
   honest_after =
       let books = kept.run.books in
       record {
         run = run_after s setup z g w kept.run e is calm unguessed begins;
-        leave = leave_after s setup.hash setup.few_contracts z before g w books.book (fits s setup g w books) (checks s setup g w books) books.clear kept.leave e is calm;
+        leave = leave_after s setup.hash setup.few_contracts z before g w books.book (fits s setup g w books) (checks s setup g w books)
+            books.clear kept.leave e is calm;
       }
 
-  pub left_with_leave : SpendsWithLeave s before w (record_of e (draft s w e)) (settled w (draft s w e))
+  pub left_with_leave : SpendsWithLeave s before w (record_of e (pending s w e)) (applied w (pending s w e))
   left_with_leave = let books = kept.run.books in leave_of_event s setup before g w books.book (fits s setup g w books) (checks s setup g w books) kept.leave books.clear e is calm
 
-  by_own_event : Licensed s e (steps_of s z g w (settled w (draft s w e)) e (draft s w e))
+  by_own_event : Licensed s e (steps_of s z g w (applied w (pending s w e)) e (pending s w e))
   by_own_event =
       let books = kept.run.books in
       let tracks = kept.run.tracks in
-      licence_of_event s setup z before g w books.book (fits s setup g w books) (checks s setup g w books) kept.leave tracks.secrets tracks.constant tracks.advertised e is calm unguessed begins
+      licence_of_event s setup z before g w books.book (fits s setup g w books) (checks s setup g w books) kept.leave tracks.secrets
+      tracks.constant tracks.advertised e is calm unguessed begins
 
 pub opening_honest : (s : Setup) (es : List Event) → IsRun s es → (z : List (List ℕ)) → KeptHonest s z [] (opening_configuration s) (opening_world s)
 opening_honest s es run z = record { run = opening_run s es run z; leave = opening_leave s (opening_configuration s) }
 
 keeps_leave : (s : Setup) → IsSetup s → (z : List (List ℕ)) → Keeps s (spends_with_leave s) (KeptHonest s z) z
-keeps_leave s setup z = record { step = λ before g w e k is calm unguessed begins. (left_with_leave s setup z before g w k e is calm unguessed begins, honest_after s setup z before g w k e is calm unguessed begins) }
+keeps_leave s setup z = record {
+  step = λ before g w e k is calm unguessed begins. (
+    left_with_leave s setup z before g w k e is calm
+        unguessed begins,
+    honest_after s setup z before g w k e is calm unguessed begins,
+  );
+}
 
 keeps_licence : (s : Setup) → IsSetup s → (z : List (List ℕ)) → Keeps s (licensed s) (KeptHonest s z) z
-keeps_licence s setup z = record { step = λ before g w e k is calm unguessed begins. (by_own_event s setup z before g w k e is calm unguessed begins, honest_after s setup z before g w k e is calm unguessed begins) }
+keeps_licence s setup z = record {
+  step = λ before g w e k is calm unguessed begins. (
+    by_own_event s setup z before g w k e is calm
+        unguessed begins,
+    honest_after s setup z before g w k e is calm unguessed begins,
+  );
+}
 
 -- an honest party's live deposit goes only with its leave
 pub honest_deposits : HonestDepositsTheorem

@@ -59,8 +59,11 @@ pub bindings_same : (xs : List Advertised) (k : ℕ) → bindings_of xs k ≡ bi
 bindings_same [] k = refl
 bindings_same (a ∷ xs) k = ap (λ bs. if a.contract == k then a.bindings else bs) (bindings_same xs k)
 
-pub committed_same : (s : Setup) (z : List (List ℕ)) (w : World) (c : Configuration) → c.committed ≡ map (committed_by s z) w.promises → (k : ℕ) (people : List (List ℕ)) → have_committed c.committed k people ≡ have_promised w k people
-committed_same s z w c e k people = all_alike (λ p. has_committed c.committed k p) (has_promised w k) people (λ a. ap (λ cs. has_committed cs k a) e ∙ any_map (λ x. (x.contract == k) && bytes_eq x.party a) (committed_by s z) w.promises)
+pub committed_same : (s : Setup) (z : List (List ℕ)) (w : World) (c : Configuration) → c.committed ≡ map (committed_by s z) w.promises
+    → (k : ℕ) (people : List (List ℕ)) → have_committed c.committed k people ≡ have_promised w k people
+committed_same s z w c e k people =
+    all_alike (λ p. has_committed c.committed k p) (has_promised w k) people
+    (λ a. ap (λ cs. has_committed cs k a) e ∙ any_map (λ x. (x.contract == k) && bytes_eq x.party a) (committed_by s z) w.promises)
 
 pub there_same : (s : Setup) (c : Configuration) (w : World) → AgreeOnMoney s c w → (o : Option ℕ) → is_there c.deposits o ≡ names_deposit w o
 there_same s c w money None = refl
@@ -72,7 +75,8 @@ abbrev pub init_all : List InitAuthorisation → ℕ → List (List ℕ × Holdi
 init_all xs k [] = xs
 init_all xs k (d ∷ ds) = init_all (with_init xs k (d.0)) k ds
 
-pub after-inits : (k : ℕ) (ds : List (List ℕ × Holding)) (c : Configuration) → after_steps c (auth_inits k ds) ≡ record c { init_authorised = init_all c.init_authorised k ds }
+pub after-inits : (k : ℕ) (ds : List (List ℕ × Holding)) (c : Configuration) → after_steps c (auth_inits k ds)
+    ≡ record c { init_authorised = init_all c.init_authorised k ds }
 after-inits k [] c = refl
 after-inits k (d ∷ ds) c = after-inits k ds (effect c (steps.AuthInit k (d.1).owner (d.0)))
 
@@ -83,7 +87,8 @@ init_more xs k j n m h = by_test (is_init_authorised xs k n)
     by_test true = h
     by_test false = any-append _ xs (record { contract = k; deposit = n } ∷ []) ∙ or_left _ _ h
 
-pub init_all_more : (xs : List InitAuthorisation) (k j : ℕ) (ds : List (List ℕ × Holding)) (m : List ℕ) → is_init_authorised xs j m ≡ true → is_init_authorised (init_all xs k ds) j m ≡ true
+pub init_all_more : (xs : List InitAuthorisation) (k j : ℕ) (ds : List (List ℕ × Holding)) (m : List ℕ) → is_init_authorised xs j m ≡ true
+    → is_init_authorised (init_all xs k ds) j m ≡ true
 init_all_more xs k j [] m h = h
 init_all_more xs k j (d ∷ ds) m h = init_all_more (with_init xs k (d.0)) k j ds m (init_more xs k j (d.0) m h)
 
@@ -92,10 +97,13 @@ abbrev missing : List InitAuthorisation → ℕ → List (List ℕ × Holding) �
 missing xs k ds = filter (λ d. not (is_init_authorised xs k (d.0))) ds
 
 -- all are authorised where those that weren't were
-pub inits_cover : (xs ys : List InitAuthorisation) (k : ℕ) (ps : List (List ℕ × Holding)) → ((m : List ℕ) → is_init_authorised xs k m ≡ true → is_init_authorised ys k m ≡ true)
+pub inits_cover : (xs ys : List InitAuthorisation) (k : ℕ) (ps : List (List ℕ × Holding))
+    → ((m : List ℕ) → is_init_authorised xs k m ≡ true → is_init_authorised ys k m ≡ true)
     → list_all (λ n. is_init_authorised (init_all ys k (filter (λ d. not (is_init_authorised xs k (d.0))) ps)) k n) (names_of ps) ≡ true
 inits_cover xs ys k [] h = refl
-inits_cover xs ys k (p ∷ ps) h = by_test (is_init_authorised xs k (p.0)) refl (inits_cover xs ys k ps h) (inits_cover xs (with_init ys k (p.0)) k ps (λ m t. init_more ys k k (p.0) m (h m t)))
+inits_cover xs ys k (p ∷ ps) h =
+    by_test (is_init_authorised xs k (p.0)) refl (inits_cover xs ys k ps h)
+    (inits_cover xs (with_init ys k (p.0)) k ps (λ m t. init_more ys k k (p.0) m (h m t)))
   where
     by_test : (b : Bool) → is_init_authorised xs k (p.0) ≡ b
         → list_all (λ n. is_init_authorised (init_all ys k (missing xs k ps)) k n) (names_of ps) ≡ true
@@ -110,9 +118,11 @@ abbrev pub InitOk : Configuration → ℕ → List (List ℕ × Holding) → Typ
 InitOk c k [] = Unit {0}
 InitOk c k (d ∷ ds) = AllTrue (auth_init_premises c k (d.1).owner (d.0) (contract_at c.contracts k)) × InitOk c k ds
 
-pub legal_inits : (c : Configuration) (k : ℕ) (ds : List (List ℕ × Holding)) (xs : List InitAuthorisation) → InitOk c k ds → Legal (record c { init_authorised = xs }) (auth_inits k ds)
+pub legal_inits : (c : Configuration) (k : ℕ) (ds : List (List ℕ × Holding)) (xs : List InitAuthorisation) → InitOk c k ds
+    → Legal (record c { init_authorised = xs }) (auth_inits k ds)
 legal_inits c k [] xs h = tt
-legal_inits c k (d ∷ ds) xs h = (passes (record c { init_authorised = xs }) (steps.AuthInit k (d.1).owner (d.0)) h.0, legal_inits c k ds (with_init xs k (d.0)) h.1)
+legal_inits c k (d ∷ ds) xs h =
+    (passes (record c { init_authorised = xs }) (steps.AuthInit k (d.1).owner (d.0)) h.0, legal_inits c k ds (with_init xs k (d.0)) h.1)
 
 in_filter : {A : Type 0} (p : A → Bool) (x : A) (xs : List A) → Is_in x (filter p xs) → Is_in x xs
 in_filter p x [] h = absurd h
@@ -124,7 +134,8 @@ in_filter {A} p x (y ∷ xs) h = by_test (p y) h (in_filter p x xs)
     by_test false i ih = inr (ih i)
 
 module _ (s : Setup) (g : Configuration) (w : World) (kept : KeptBook s g w) (check : Checked s w) (tx : Tx) (spent : List ℕ) (acc : Accepting s w tx spent)
-    (z : List (List ℕ)) (c : Configuration) (con : Constant s c) (money : AgreeOnMoney s c w) (advertised : c.advertised ≡ w.advertised) (committed : c.committed ≡ map (committed_by s z) w.promises)
+    (z : List (List ℕ)) (c : Configuration) (con : Constant s c) (money : AgreeOnMoney s c w) (advertised : c.advertised ≡ w.advertised)
+    (committed : c.committed ≡ map (committed_by s z) w.promises)
     (k : ℕ) (is : IsInitial s w tx k) where
   abbrev st : Instance
   st = is.instance
@@ -145,16 +156,19 @@ module _ (s : Setup) (g : Configuration) (w : World) (kept : KeptBook s g w) (ch
   all_committed = committed_same s z w c committed k (participants ad) ∙ promised
 
   bound : AreBound s g w kept k st is.compiled tx spent (persistent ad.pre)
-  bound = are_bound s g w kept k st is.compiled tx spent tx.inputs (persistent ad.pre) acc.spends (all_in (persistent ad.pre) (deposits ad.pre) (persistent_deposit ad.pre)) (ap (λ (y : Tx). y.inputs) is.is)
+  bound = are_bound s g w kept k st is.compiled tx spent tx.inputs (persistent ad.pre) acc.spends
+      (all_in (persistent ad.pre) (deposits ad.pre) (persistent_deposit ad.pre)) (ap (λ (y : Tx). y.inputs) is.is)
 
   bindings_are : bindings_of c.advertised k ≡ bindings_at w.advertised k
   bindings_are = ap (λ xs. bindings_of xs k) advertised ∙ bindings_same w.advertised k
 
   there : are_there c.deposits (bindings_of c.advertised k) (persistent_names ad.pre) ≡ true
-  there = ap (λ bs. are_there c.deposits bs (persistent_names ad.pre)) bindings_are ∙ all_alike _ _ (persistent_names ad.pre) (λ x. there_same s c w money (look_up x (bindings_at w.advertised k))) ∙ bound.there
+  there = ap (λ bs. are_there c.deposits bs (persistent_names ad.pre)) bindings_are
+      ∙ all_alike _ _ (persistent_names ad.pre) (λ x. there_same s c w money (look_up x (bindings_at w.advertised k))) ∙ bound.there
 
   owned : (d : List ℕ × Holding) → Is_in d (persistent ad.pre) → has_persistent ad.pre (d.1).owner (d.0) ≡ true
-  owned d i = ap (λ o. is_own o (d.1).owner) (in_looked (persistent ad.pre) d (persistent_different ad.pre (different_names ad (check.checked k st is.compiled))) i) ∙ bytes_refl (d.1).owner
+  owned d i = ap (λ o. is_own o (d.1).owner)
+      (in_looked (persistent ad.pre) d (persistent_different ad.pre (different_names ad (check.checked k st is.compiled))) i) ∙ bytes_refl (d.1).owner
 
   init_ok : (ds : List (List ℕ × Holding)) → ((d : List ℕ × Holding) → Is_in d ds → Is_in d (persistent ad.pre)) → InitOk c k ds
   init_ok [] h = tt
@@ -173,19 +187,23 @@ module _ (s : Setup) (g : Configuration) (w : World) (kept : KeptBook s g w) (ch
   steps_are = ap (λ o. auth_inits k (unauthorised c k (persistent (setup_pre o))) ++ steps.Init k ∷ []) advert_is
 
   init_fine : AllTrue (init_premises mid k (contract_at c.contracts k))
-  init_fine = subst (λ o. AllTrue (init_premises mid k o)) (sym at) (all_committed, (there, (inits_cover c.init_authorised c.init_authorised k (persistent ad.pre) (λ m h. h), tt)))
+  init_fine = subst (λ o. AllTrue (init_premises mid k o)) (sym at)
+      (all_committed, (there, (inits_cover c.init_authorised c.init_authorised k (persistent ad.pre) (λ m h. h), tt)))
 
   pub legal_begin : Legal c (begin_steps s c k)
   legal_begin =
       let first : Legal c (auth_inits k awaited) = legal_inits c k awaited c.init_authorised (init_ok awaited (λ d i. in_filter (λ e. not (is_init_authorised c.init_authorised k (e.0))) d (persistent ad.pre) i)) in
       let last : Legal mid (steps.Init k ∷ []) = (passes mid (steps.Init k) init_fine, tt) in
-      subst (Legal c) (sym steps_are) (legal_append c (auth_inits k awaited) (steps.Init k ∷ []) first (subst (λ d. Legal d (steps.Init k ∷ [])) (sym (after-inits k awaited c)) last))
+      subst (Legal c) (sym steps_are) (legal_append c (auth_inits k awaited) (steps.Init k ∷ []) first
+      (subst (λ d. Legal d (steps.Init k ∷ [])) (sym (after-inits k awaited c)) last))
 
   -- what comes of it
   abbrev end : Configuration
   end = begun mid k (Some ad) spent
 
-  pub ends_begin : after_steps c (begin_steps s c k) ≡ begun (record c { init_authorised = init_all c.init_authorised k (unauthorised c k (persistent is.instance.advert.pre)) }) k (Some is.instance.advert) spent
+  pub ends_begin : after_steps c (begin_steps s c k)
+      ≡ begun (record c { init_authorised = init_all c.init_authorised k (unauthorised c k (persistent is.instance.advert.pre)) }) k
+      (Some is.instance.advert) spent
   ends_begin =
       let numbers : numbers_of (bindings_of c.advertised k) (persistent_names ad.pre) ≡ spent = ap (λ bs. numbers_of bs (persistent_names ad.pre)) bindings_are ∙ bound.numbers in
       ap (after_steps c) steps_are ∙ after-append c (auth_inits k awaited) (steps.Init k ∷ []) ∙ ap (λ d. effect d (steps.Init k)) (after-inits k awaited c)
@@ -212,7 +230,8 @@ module _ (s : Setup) (g : Configuration) (w : World) (kept : KeptBook s g w) (ch
   balance : total_value (gone c.deposits spent) ≡ total_of (persistent ad.pre)
   balance = ap (λ ds. total_value (gone ds spent)) money.deposits ∙ gone_values s w.outputs spent acc.distinct ∙ bound.values
 
-  pub agree_begin : (next : World) → next.tip ≡ w.tip → next.outputs ≡ spend_from 0 spent w.outputs ++ made_from (λ m. Some (record { contract = k; position = [] })) (txid s.hash tx) 0 tx.outputs → AgreeOnMoney s (after_steps c (begin_steps s c k)) next
+  pub agree_begin : (next : World) → next.tip ≡ w.tip → next.outputs ≡ spend_from 0 spent w.outputs
+      ++ made_from (λ m. Some (record { contract = k; position = [] })) (txid s.hash tx) 0 tx.outputs → AgreeOnMoney s (after_steps c (begin_steps s c k)) next
   agree_begin next tips outs =
       let still : filter (λ (x : ActiveContract). not (has_number x.number spent)) c.active ≡ c.active =
       ap (filter (λ (x : ActiveContract). not (has_number x.number spent))) money.active ∙ actives-untouched spent w.outputs bound.live ∙ sym money.active in

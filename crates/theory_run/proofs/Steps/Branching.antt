@@ -33,7 +33,7 @@ use Rattle.spec_run.specs.Steps.{auth_branch, is_awaited, core_step, branch_step
 use Rattle.theory_bitcoin.specs.Apart.{bare_input}
 use Rattle.theory_world.specs.Transactions.{IsNumbered}
 use Rattle.theory_world.proofs.Tests.{all_alike}
-use Rattle.theory_world.specs.KeptApart.{NoClash}
+use Rattle.theory_world.specs.KeptApart.{NoCollision}
 use Rattle.theory_run.proofs.Steps.Legal.{passes, after-append, legal_append}
 use Rattle.theory_run.specs.Tracks.{AgreeOnMoney, Constant}
 use Rattle.theory_world.proofs.Ledger.Accepting.{Accepting, AllSpent, HeardAll}
@@ -51,7 +51,9 @@ use Rattle.theory_run.proofs.Facts.Owned.{owner_paid}
 use Rattle.theory_run.proofs.Steps.Beginnings.{StepFrame, bindings_same, there_same}
 use Rattle.theory_run.proofs.Steps.Awaiting.{asked_all, after-asked, asked_all_more, asked_cover, legal_awaited, lock_reached, active_there, no_deposit_there, none_active, kept_none, part_held, parts_active, parts_no_deposits, parts_counted}
 
-module _ (s : Setup) (size : HashesBytes s.hash) (few_contracts : length s.contracts ≤ 16) (g : Configuration) (w : World) (kept : KeptBook s g w) (fit : TransactionsFit s w) (check : Checked s w) (hs : List (List ℕ)) (clear : NoClash s.hash hs) (sub : (t : List ℕ) → is_among t w.hashed ≡ true → is_among t hs ≡ true)
+module _ (s : Setup) (size : HashesBytes s.hash) (few_contracts : length s.contracts ≤ 16) (g : Configuration) (w : World)
+    (kept : KeptBook s g w) (fit : TransactionsFit s w) (check : Checked s w) (hs : List (List ℕ)) (clear : NoCollision s.hash hs)
+    (sub : (t : List ℕ) → is_among t w.hashed ≡ true → is_among t hs ≡ true)
     (tx : Tx) (fits : IsNumbered tx) (spent : List ℕ) (acc : Accepting s w tx spent) (all : HeardAll s w hs tx) where
   abbrev fst : First s size g w kept fit check hs clear sub tx fits spent acc all
   fst = first s size g w kept fit check hs clear sub tx fits spent acc all
@@ -130,7 +132,8 @@ module _ (s : Setup) (size : HashesBytes s.hash) (few_contracts : length s.contr
     legal_by : (x : term.Guarded) → core b ≡ x → Legal mid (core_step n i x) → Legal c (branch_steps c (people_at s h.contract) n i (position_branch s h i))
     legal_by x e l =
         subst (Legal c) (sym (steps_are ∙ ap (λ y. map (auth_branch n i) awaited ++ core_step n i y) e))
-        (legal_append c (map (auth_branch n i) awaited) (core_step n i x) (legal_awaited c n i act b (people_at s h.contract) here branch_is) (subst (λ d. Legal d (core_step n i x)) (sym (after-asked n i awaited c)) l))
+        (legal_append c (map (auth_branch n i) awaited) (core_step n i x)
+        (legal_awaited c n i act b (people_at s h.contract) here branch_is) (subst (λ d. Legal d (core_step n i x)) (sym (after-asked n i awaited c)) l))
 
     ends_by : (x : term.Guarded) → core b ≡ x → reached c (branch_steps c (people_at s h.contract) n i (position_branch s h i)) ≡ reached mid (core_step n i x)
     ends_by x e =
@@ -147,17 +150,25 @@ module _ (s : Setup) (size : HashesBytes s.hash) (few_contracts : length s.contr
     distinct : are_distinct fst.numbers ≡ true
     distinct = (and_parts (not (has_number n fst.numbers)) (are_distinct fst.numbers) (subst (λ ns. are_distinct ns ≡ true) fst.spent_is acc.distinct)).1
 
-    bound_puts : AllIn (map (volatile_entry ad.pre) (core_puts (core b))) (deposits ad.pre) → AreBound s g w kept h.contract st t.fine.compiled tx fst.numbers (map (volatile_entry ad.pre) (core_puts (core b)))
-    bound_puts k = are_bound s g w kept h.contract st t.fine.compiled tx fst.numbers fst.inputs (map (volatile_entry ad.pre) (core_puts (core b))) later_spent k (later_inputs ∙ ap (λ ds. map bare_input (map input_of ds)) (entries_deposits s.hash st (core_puts (core b))))
+    bound_puts : AllIn (map (volatile_entry ad.pre) (core_puts (core b))) (deposits ad.pre)
+        → AreBound s g w kept h.contract st t.fine.compiled tx fst.numbers (map (volatile_entry ad.pre) (core_puts (core b)))
+    bound_puts k = are_bound s g w kept h.contract st t.fine.compiled tx fst.numbers fst.inputs
+        (map (volatile_entry ad.pre) (core_puts (core b))) later_spent k
+        (later_inputs ∙ ap (λ ds. map bare_input (map input_of ds)) (entries_deposits s.hash st (core_puts (core b))))
 
     -- the deposits and contracts that are left
     deposits_left : kept_deposits c.deposits spent ≡ kept_deposits c.deposits fst.numbers
-    deposits_left = ap (kept_deposits c.deposits) fst.spent_is ∙ without_absent (λ d. d.number) c.deposits n fst.numbers (no_deposit_there s c w money n fst.spends.output h fst.spends.there fst.spends.live t.holds)
+    deposits_left = ap (kept_deposits c.deposits) fst.spent_is
+        ∙ without_absent (λ d. d.number) c.deposits n fst.numbers (no_deposit_there s c w money n fst.spends.output h fst.spends.there fst.spends.live t.holds)
 
-    actives_left : list_all (λ m. is_deposit (slice_get w.outputs m)) fst.numbers ≡ true → filter (λ (x : ActiveContract). not (has_number x.number spent)) c.active ≡ others c.active n
-    actives_left live = ap (λ ns. filter (λ (x : ActiveContract). not (has_number x.number ns)) c.active) fst.spent_is ∙ only_first (λ x. x.number) c.active n fst.numbers (none_active s c w money fst.numbers live)
+    actives_left : list_all (λ m. is_deposit (slice_get w.outputs m)) fst.numbers ≡ true
+        → filter (λ (x : ActiveContract). not (has_number x.number spent)) c.active ≡ others c.active n
+    actives_left live = ap (λ ns. filter (λ (x : ActiveContract). not (has_number x.number ns)) c.active) fst.spent_is
+        ∙ only_first (λ x. x.number) c.active n fst.numbers (none_active s c w money fst.numbers live)
 
-    frame_of : (d : Configuration) → d.advertised ≡ c.advertised → d.committed ≡ c.committed → d.revealed ≡ c.revealed → d.parties ≡ c.parties → d.honest ≡ c.honest → d.contracts ≡ c.contracts → d.init_authorised ≡ c.init_authorised → d.branch_authorised ≡ mid.branch_authorised → StepFrame c d
+    frame_of : (d : Configuration) → d.advertised ≡ c.advertised → d.committed ≡ c.committed → d.revealed ≡ c.revealed → d.parties
+        ≡ c.parties → d.honest ≡ c.honest → d.contracts ≡ c.contracts → d.init_authorised ≡ c.init_authorised → d.branch_authorised
+        ≡ mid.branch_authorised → StepFrame c d
     frame_of d a1 a2 a3 a4 a5 a6 a7 a8 = record {
       advertised = a1;
       committed = a2;
@@ -174,13 +185,17 @@ module _ (s : Setup) (size : HashesBytes s.hash) (few_contracts : length s.contr
 
     -- the outputs of the transaction, and what they hold
     abbrev Made : World → Type 0
-    Made next = next.outputs ≡ spend_from 0 spent w.outputs ++ made_from (λ m. core_holds h.contract (h.position ++ To t.index ∷ []) (core t.branch) m) (txid s.hash tx) 0 tx.outputs
+    Made next = next.outputs ≡ spend_from 0 spent w.outputs
+        ++ made_from (λ m. core_holds h.contract (h.position ++ To t.index ∷ []) (core t.branch) m) (txid s.hash tx) 0 tx.outputs
 
-    made_are : (next : World) → Made next → (x : term.Guarded) → core b ≡ x → next.outputs ≡ spend_from 0 spent w.outputs ++ made_from (λ m. core_holds h.contract path x m) (txid s.hash tx) 0 (core_outputs s.hash st (branch_path t.fine.here.position i) t.fine.here.output.value x)
+    made_are : (next : World) → Made next → (x : term.Guarded) → core b ≡ x → next.outputs ≡ spend_from 0 spent w.outputs
+        ++ made_from (λ m. core_holds h.contract path x m) (txid s.hash tx) 0
+        (core_outputs s.hash st (branch_path t.fine.here.position i) t.fine.here.output.value x)
     made_are next o x e =
         let outs : tx.outputs ≡ core_outputs s.hash st (branch_path t.fine.here.position i) t.fine.here.output.value (core b) = ap (λ (y : Tx). y.outputs) t.is in
         o ∙ ap (λ os. spend_from 0 spent w.outputs ++ made_from (λ m. core_holds h.contract path (core b) m) (txid s.hash tx) 0 os) outs
-        ∙ ap (λ y. spend_from 0 spent w.outputs ++ made_from (λ m. core_holds h.contract path y m) (txid s.hash tx) 0 (core_outputs s.hash st (branch_path t.fine.here.position i) t.fine.here.output.value y)) e
+        ∙ ap (λ y. spend_from 0 spent w.outputs ++ made_from (λ m. core_holds h.contract path y m) (txid s.hash tx) 0
+        (core_outputs s.hash st (branch_path t.fine.here.position i) t.fine.here.output.value y)) e
 
     -- ---- a payment
 
@@ -197,7 +212,11 @@ module _ (s : Setup) (size : HashesBytes s.hash) (few_contracts : length s.contr
         ap is_some here,
         (
           ap is_withdraw branch_is ∙ ap is_withdraw_core e,
-          (ap (λ o. nat_le (lock_of o) c.time) branch_is ∙ lock_done, (ap (λ o. have_branch_authorised mid.branch_authorised n i (asks_of o)) branch_is ∙ asked, tt)),
+          (
+            ap (λ o. nat_le (lock_of o) c.time) branch_is
+                ∙ lock_done,
+            (ap (λ o. have_branch_authorised mid.branch_authorised n i (asks_of o)) branch_is ∙ asked, tt),
+          ),
         ),
       )
 
@@ -207,21 +226,26 @@ module _ (s : Setup) (size : HashesBytes s.hash) (few_contracts : length s.contr
       fee_is : fee_of (advert_of c.contracts (Some act)) ≡ ad.fee
       fee_is = ap fee_of at
 
-      pub ends_withdraw : reached c (branch_steps c (people_at s h.contract) fst.number t.index (position_branch s h t.index)) ≡ withdrawn mid fst.number (Some act) p
+      pub ends_withdraw : reached c (branch_steps c (people_at s h.contract) fst.number t.index (position_branch s h t.index))
+          ≡ withdrawn mid fst.number (Some act) p
       ends_withdraw =
-          ends_by (withdraw p) e ∙ ap (λ a. withdrawn mid n a (payee_of (branch_at c n i))) here ∙ ap (λ o. withdrawn mid n (Some act) (payee_of o)) branch_is ∙ ap (λ y. withdrawn mid n (Some act) (payee_in y)) e
+          ends_by (withdraw p) e ∙ ap (λ a. withdrawn mid n a (payee_of (branch_at c n i))) here
+          ∙ ap (λ o. withdrawn mid n (Some act) (payee_of o)) branch_is ∙ ap (λ y. withdrawn mid n (Some act) (payee_in y)) e
 
       pub frame_withdraw : StepFrame c (reached c (branch_steps c (people_at s h.contract) fst.number t.index (position_branch s h t.index)))
       frame_withdraw = subst (StepFrame c) (sym ends_withdraw) (frame_of (withdrawn mid n (Some act) p) refl refl refl refl refl refl refl refl)
 
-      pub agree_withdraw : (next : World) → next.tip ≡ w.tip → Made next → AgreeOnMoney s (reached c (branch_steps c (people_at s h.contract) fst.number t.index (position_branch s h t.index))) next
+      pub agree_withdraw : (next : World) → next.tip ≡ w.tip → Made next
+          → AgreeOnMoney s (reached c (branch_steps c (people_at s h.contract) fst.number t.index (position_branch s h t.index))) next
       agree_withdraw next tips outs =
           let owner = owner_paid s g w kept hs clear sub p (t.payee p e) in
           let left : c.deposits ≡ kept_deposits c.deposits spent = sym (deposits_left ∙ ap (kept_deposits c.deposits) none_put ∙ kept_none c.deposits) in
           let others_are = sym (actives_left (subst (λ ns. list_all (λ m. is_deposit (slice_get w.outputs m)) ns ≡ true) (sym none_put) refl)) in
           let value = t.fine.value in
           subst (λ d. AgreeOnMoney s d next) (sym ends_withdraw)
-          (agree_by s c w money spent (λ m. None) (txid s.hash tx) (pays s.hash (party_script s.hash p) (t.fine.here.output.value - ad.fee) ∷ []) (withdrawn mid n (Some act) p) next tips (made_are next outs (withdraw p) e)
+          (agree_by s c w money spent (λ m. None) (txid s.hash tx)
+          (pays s.hash (party_script s.hash p) (t.fine.here.output.value - ad.fee) ∷ []) (withdrawn mid n (Some act) p) next tips
+          (made_are next outs (withdraw p) e)
           refl refl refl
           (λ j. left j ++ record { number = c.next; owner = sym owner j; value = value j - fee_is j } ∷ [])
           (others_are ∙ sym (append-nil _)))
@@ -241,21 +265,28 @@ module _ (s : Setup) (size : HashesBytes s.hash) (few_contracts : length s.contr
         ap is_some here,
         (
           ap is_split branch_is ∙ ap is_split_core e,
-          (ap (λ o. nat_le (lock_of o) c.time) branch_is ∙ lock_done, (ap (λ o. have_branch_authorised mid.branch_authorised n i (asks_of o)) branch_is ∙ asked, tt)),
+          (
+            ap (λ o. nat_le (lock_of o) c.time) branch_is
+                ∙ lock_done,
+            (ap (λ o. have_branch_authorised mid.branch_authorised n i (asks_of o)) branch_is ∙ asked, tt),
+          ),
         ),
       )
 
       pub legal_split : Legal c (branch_steps c (people_at s h.contract) fst.number t.index (position_branch s h t.index))
       legal_split = legal_by (split ps) e (passes mid (steps.Split n i) split_fine, tt)
 
-      pub ends_split : reached c (branch_steps c (people_at s h.contract) fst.number t.index (position_branch s h t.index)) ≡ divided mid fst.number t.index (Some act) (part_values ps)
+      pub ends_split : reached c (branch_steps c (people_at s h.contract) fst.number t.index (position_branch s h t.index))
+          ≡ divided mid fst.number t.index (Some act) (part_values ps)
       ends_split =
-          ends_by (split ps) e ∙ ap (λ a. divided mid n i a (values_of (branch_at c n i))) here ∙ ap (λ o. divided mid n i (Some act) (values_of o)) branch_is ∙ ap (λ y. divided mid n i (Some act) (values_in y)) e
+          ends_by (split ps) e ∙ ap (λ a. divided mid n i a (values_of (branch_at c n i))) here
+          ∙ ap (λ o. divided mid n i (Some act) (values_of o)) branch_is ∙ ap (λ y. divided mid n i (Some act) (values_in y)) e
 
       pub frame_split : StepFrame c (reached c (branch_steps c (people_at s h.contract) fst.number t.index (position_branch s h t.index)))
       frame_split = subst (StepFrame c) (sym ends_split) (frame_of (divided mid n i (Some act) (part_values ps)) refl refl refl refl refl refl refl refl)
 
-      pub agree_split : (next : World) → next.tip ≡ w.tip → Made next → AgreeOnMoney s (reached c (branch_steps c (people_at s h.contract) fst.number t.index (position_branch s h t.index))) next
+      pub agree_split : (next : World) → next.tip ≡ w.tip → Made next
+          → AgreeOnMoney s (reached c (branch_steps c (people_at s h.contract) fst.number t.index (position_branch s h t.index))) next
       agree_split next tips outs =
           let left : c.deposits ≡ kept_deposits c.deposits spent = sym (deposits_left ∙ ap (kept_deposits c.deposits) none_divided ∙ kept_none c.deposits) in
           let others_are = sym (actives_left (subst (λ ns. list_all (λ m. is_deposit (slice_get w.outputs m)) ns ≡ true) (sym none_divided) refl)) in
@@ -264,7 +295,8 @@ module _ (s : Setup) (size : HashesBytes s.hash) (few_contracts : length s.contr
           let none = sym (parts_no_deposits s.hash st at' h.contract path (txid s.hash tx) s c.next 0 ps) in
           let many = sym (parts_counted s.hash st at' h.contract path (txid s.hash tx) 0 ps) in
           subst (λ d. AgreeOnMoney s d next) (sym ends_split)
-          (agree_by s c w money spent (part_held h.contract path) (txid s.hash tx) (part_outputs s.hash st at' 0 ps) (divided mid n i (Some act) (part_values ps)) next tips (made_are next outs (split ps) e)
+          (agree_by s c w money spent (part_held h.contract path) (txid s.hash tx) (part_outputs s.hash st at' 0 ps)
+          (divided mid n i (Some act) (part_values ps)) next tips (made_are next outs (split ps) e)
           refl (ap (λ m. c.next + m) many) refl
           (sym (append-nil c.deposits) ∙ (λ j. left j ++ none j))
           (λ j. others_are j ++ new j))
@@ -291,10 +323,12 @@ module _ (s : Setup) (size : HashesBytes s.hash) (few_contracts : length s.contr
       puts_there =
           ap (λ ns. are_there c.deposits (bindings_of c.advertised h.contract) ns) (sym puts_named)
           ∙ ap (λ bs. are_there c.deposits bs (names_of (map (volatile_entry ad.pre) (core_puts (core b))))) bindings_are
-          ∙ all_alike _ _ (names_of (map (volatile_entry ad.pre) (core_puts (core b)))) (λ x. there_same s c w money (look_up x (bindings_at w.advertised h.contract))) ∙ puts_bound.there
+          ∙ all_alike _ _ (names_of (map (volatile_entry ad.pre) (core_puts (core b))))
+          (λ x. there_same s c w money (look_up x (bindings_at w.advertised h.contract))) ∙ puts_bound.there
 
       numbers_are : numbers_of (bindings_of c.advertised h.contract) (core_puts (core b)) ≡ fst.numbers
-      numbers_are = ap (λ bs. numbers_of bs (core_puts (core b))) bindings_are ∙ ap (numbers_of (bindings_at w.advertised h.contract)) (sym puts_named) ∙ puts_bound.numbers
+      numbers_are = ap (λ bs. numbers_of bs (core_puts (core b))) bindings_are
+          ∙ ap (numbers_of (bindings_at w.advertised h.contract)) (sym puts_named) ∙ puts_bound.numbers
 
       -- the premises, with the contract and the branch that are there
       put_row : AllTrue (put_reveal_premises mid n i (Some act) (Some b))
@@ -319,34 +353,42 @@ module _ (s : Setup) (size : HashesBytes s.hash) (few_contracts : length s.contr
       )
 
       put_fine : AllTrue (put_reveal_premises mid n i (active_at c.active n) (branch_at c n i))
-      put_fine = subst (λ a. AllTrue (put_reveal_premises mid n i a (branch_at c n i))) (sym here) (subst (λ o. AllTrue (put_reveal_premises mid n i (Some act) o)) (sym branch_is) put_row)
+      put_fine = subst (λ a. AllTrue (put_reveal_premises mid n i a (branch_at c n i))) (sym here)
+          (subst (λ o. AllTrue (put_reveal_premises mid n i (Some act) o)) (sym branch_is) put_row)
 
       pub legal_put : Legal c (branch_steps c (people_at s h.contract) fst.number t.index (position_branch s h t.index))
       legal_put = legal_by (put_reveal puts reveals test nx) e (passes mid (steps.PutReveal n i) put_fine, tt)
 
-      pub ends_put : reached c (branch_steps c (people_at s h.contract) fst.number t.index (position_branch s h t.index)) ≡ continued mid fst.number t.index (Some act) fst.numbers
+      pub ends_put : reached c (branch_steps c (people_at s h.contract) fst.number t.index (position_branch s h t.index))
+          ≡ continued mid fst.number t.index (Some act) fst.numbers
       ends_put =
-          ends_by (put_reveal puts reveals test nx) e ∙ ap (λ a. continued mid n i a (numbers_of (bindings_of c.advertised (contract_number a)) (puts_of_taken (branch_at c n i)))) here
-          ∙ ap (λ o. continued mid n i (Some act) (numbers_of (bindings_of c.advertised h.contract) (puts_of_taken o))) branch_is ∙ ap (continued mid n i (Some act)) numbers_are
+          ends_by (put_reveal puts reveals test nx) e
+          ∙ ap (λ a. continued mid n i a (numbers_of (bindings_of c.advertised (contract_number a)) (puts_of_taken (branch_at c n i)))) here
+          ∙ ap (λ o. continued mid n i (Some act) (numbers_of (bindings_of c.advertised h.contract) (puts_of_taken o))) branch_is
+          ∙ ap (continued mid n i (Some act)) numbers_are
 
       pub frame_put : StepFrame c (reached c (branch_steps c (people_at s h.contract) fst.number t.index (position_branch s h t.index)))
       frame_put = subst (StepFrame c) (sym ends_put) (frame_of (continued mid n i (Some act) fst.numbers) refl refl refl refl refl refl refl refl)
 
       put_value : total_value (gone c.deposits fst.numbers) ≡ value_of_puts (volatile ad.pre) puts
       put_value =
-          ap (λ ds. total_value (gone ds fst.numbers)) money.deposits ∙ gone_values s w.outputs fst.numbers distinct ∙ puts_bound.values ∙ sym (entries_total ad.pre (core_puts (core b)))
+          ap (λ ds. total_value (gone ds fst.numbers)) money.deposits ∙ gone_values s w.outputs fst.numbers distinct ∙ puts_bound.values
+          ∙ sym (entries_total ad.pre (core_puts (core b)))
           ∙ ap (λ y. value_of_puts (volatile ad.pre) (core_puts y)) e
 
       put_fee : fee_of (advert_of c.contracts (Some act)) ≡ ad.fee
       put_fee = ap fee_of at
 
-      pub agree_put : (next : World) → next.tip ≡ w.tip → Made next → AgreeOnMoney s (reached c (branch_steps c (people_at s h.contract) fst.number t.index (position_branch s h t.index))) next
+      pub agree_put : (next : World) → next.tip ≡ w.tip → Made next
+          → AgreeOnMoney s (reached c (branch_steps c (people_at s h.contract) fst.number t.index (position_branch s h t.index))) next
       agree_put next tips outs =
           let others_are = sym (actives_left puts_bound.live) in
           let value = t.fine.value in
           subst (λ d. AgreeOnMoney s d next) (sym ends_put)
           (agree_by s c w money spent (λ m. Some (record { contract = h.contract; position = path })) (txid s.hash tx)
-          (pays s.hash (position_script s.hash st (branch_path t.fine.here.position i) nx) (continued_value st t.fine.here.output.value puts) ∷ []) (continued mid n i (Some act) fst.numbers) next tips (made_are next outs (put_reveal puts reveals test nx) e)
+          (pays s.hash (position_script s.hash st (branch_path t.fine.here.position i) nx)
+          (continued_value st t.fine.here.output.value puts) ∷ []) (continued mid n i (Some act) fst.numbers) next tips
+          (made_are next outs (put_reveal puts reveals test nx) e)
           refl refl refl
           (sym (deposits_left) ∙ sym (append-nil _))
           (λ j. others_are j ++ record { number = c.next; contract = h.contract; position = path; balance = value j + put_value j - put_fee j } ∷ []))

@@ -27,8 +27,8 @@ use Rattle.spec_run.specs.Steps.{reveals, commit_lengths}
 use Rattle.theory_calculus.proofs.Names.{bytes-true, bytes_refl, all_among}
 use Rattle.theory_world.proofs.Tests.{any-append, any_map, map_append}
 use Rattle.theory_run.proofs.Steps.Legal.{passes}
-use Rattle.theory_world.specs.KeptApart.{NoClash}
-use Rattle.theory_world.proofs.Hashed.{no_clash, among_left, among_head, among_tail, all_more, all_new}
+use Rattle.theory_world.specs.KeptApart.{NoCollision}
+use Rattle.theory_world.proofs.Hashed.{no_collision, among_left, among_head, among_tail, all_more, all_new}
 use Rattle.theory_run.specs.KeptSecrets.{has_secret, KeptSecrets, is_own, committed_by}
 use Rattle.theory_run.proofs.Facts.Secrets.{same_secret, has_secret-append, different_secrets, after-reveals}
 use Rattle.theory_world.proofs.Once.{once_push, at_push, new_at, not_before, used-append}
@@ -48,7 +48,8 @@ same_people (Some a) = refl
 
 -- ---- look-ups in what is arranged
 
-pub arranged-look : (names : List (List ℕ)) (entries : List (List ℕ × List ℕ)) (n d : List ℕ) → look_up n (arranged [] names entries) ≡ Some d → list_all (λ m. is_some (look_up m entries)) names ≡ true
+pub arranged-look : (names : List (List ℕ)) (entries : List (List ℕ × List ℕ)) (n d : List ℕ) → look_up n (arranged [] names entries)
+    ≡ Some d → list_all (λ m. is_some (look_up m entries)) names ≡ true
     → (look_up n entries ≡ Some d) × (is_among n names ≡ true)
 arranged-look [] entries n d h all = cc
 arranged-look (x ∷ names) entries n d h all =
@@ -59,13 +60,15 @@ arranged-look (x ∷ names) entries n d h all =
     by_value None e q = cc
     by_value (Some v) e q = q
 
-    by_test : (b : Bool) → bytes_eq x n ≡ b → (if b then Some (or_else_this [] (look_up x entries)) else look_up n (arranged [] names entries)) ≡ Some d → is_some (look_up x entries) ≡ true
+    by_test : (b : Bool) → bytes_eq x n ≡ b → (if b then Some (or_else_this [] (look_up x entries)) else look_up n
+        (arranged [] names entries)) ≡ Some d → is_some (look_up x entries) ≡ true
         → (look_up n (arranged [] names entries) ≡ Some d → (look_up n entries ≡ Some d) × (is_among n names ≡ true))
         → (look_up n entries ≡ Some d) × ((b || is_among n names) ≡ true)
     by_test true e q there ih = let z = bytes-true x n e in (subst (λ y. look_up y entries ≡ Some d) z (by_value (look_up x entries) there q), refl)
     by_test false e q there ih = ih q
 
-pub arranged-some : (names : List (List ℕ)) (entries : List (List ℕ × List ℕ)) (n : List ℕ) → is_among n names ≡ true → is_some (look_up n (arranged [] names entries)) ≡ true
+pub arranged-some : (names : List (List ℕ)) (entries : List (List ℕ × List ℕ)) (n : List ℕ) → is_among n names ≡ true
+    → is_some (look_up n (arranged [] names entries)) ≡ true
 arranged-some [] entries n h = cc
 arranged-some (x ∷ names) entries n h = grind (arith, arranged-some names entries n)
 
@@ -84,27 +87,32 @@ held_all : (s : Setup) (a : List ℕ) (ns : List (List ℕ)) → is_some (not_he
 held_all s a [] h = refl
 held_all s a (n ∷ ns) h = grind (arith, held_all s a ns)
 
-long_all : (s : Setup) (a : List ℕ) (ns : List (List ℕ)) → is_some (badly_long s a ns) ≡ false → list_all (λ n. is_secret_long (bytes_or_none (held_secret s a n))) ns ≡ true
+long_all : (s : Setup) (a : List ℕ) (ns : List (List ℕ)) → is_some (badly_long s a ns) ≡ false
+    → list_all (λ n. is_secret_long (bytes_or_none (held_secret s a n))) ns ≡ true
 long_all s a [] h = refl
 long_all s a (n ∷ ns) h = grind (arith, long_all s a ns)
 
-pub own_looked : (s : Setup) (a n : List ℕ) (ns : List (List ℕ)) → is_among n ns ≡ true → look_up n (own_digests s a ns) ≡ Some (s.hash (bytes_or_none (held_secret s a n)))
+pub own_looked : (s : Setup) (a n : List ℕ) (ns : List (List ℕ)) → is_among n ns ≡ true → look_up n (own_digests s a ns)
+    ≡ Some (s.hash (bytes_or_none (held_secret s a n)))
 own_looked s a n [] h = cc
 own_looked s a n (m ∷ ns) h = by_test (bytes_eq m n) refl h (own_looked s a n ns)
   where
-    by_test : (b : Bool) → bytes_eq m n ≡ b → (b || is_among n ns) ≡ true → (is_among n ns ≡ true → look_up n (own_digests s a ns) ≡ Some (s.hash (bytes_or_none (held_secret s a n))))
+    by_test : (b : Bool) → bytes_eq m n ≡ b → (b || is_among n ns) ≡ true
+        → (is_among n ns ≡ true → look_up n (own_digests s a ns) ≡ Some (s.hash (bytes_or_none (held_secret s a n))))
         → (if b then Some (s.hash (bytes_or_none (held_secret s a m))) else look_up n (own_digests s a ns)) ≡ Some (s.hash (bytes_or_none (held_secret s a n)))
     by_test true e q ih = ap (λ y. Some (s.hash (bytes_or_none (held_secret s a y)))) (bytes-true m n e)
     by_test false e q ih = ih q
 
 -- all_among of a party's secrets has its digest
-pub digests_looked : (s : Setup) (k : ℕ) (a : List ℕ) (ds : List (List ℕ × List ℕ)) → names_fit s k a ds ≡ true → list_all (λ n. is_some (look_up n (committed_digests s k a ds))) (secrets_at s k a) ≡ true
+pub digests_looked : (s : Setup) (k : ℕ) (a : List ℕ) (ds : List (List ℕ × List ℕ)) → names_fit s k a ds ≡ true
+    → list_all (λ n. is_some (look_up n (committed_digests s k a ds))) (secrets_at s k a) ≡ true
 digests_looked s k a ds h = by_honest (is_honest s a) refl h
   where
     names : List (List ℕ)
     names = secrets_at s k a
 
-    by_honest : (b : Bool) → is_honest s a ≡ b → (if b then length ds == 0 else are_rearranged (names_of ds) names) ≡ true → list_all (λ n. is_some (look_up n (if b then own_digests s a names else ds))) names ≡ true
+    by_honest : (b : Bool) → is_honest s a ≡ b → (if b then length ds == 0 else are_rearranged (names_of ds) names) ≡ true
+        → list_all (λ n. is_some (look_up n (if b then own_digests s a names else ds))) names ≡ true
     by_honest true e r = every (λ n. is_some (look_up n (own_digests s a names))) names (λ n i. ap is_some (own_looked s a n names i))
     by_honest false e r =
         let p = and_parts (are_different (names_of ds) && list_all (λ n. is_among n names) (names_of ds)) (list_all (λ n. is_among n (names_of ds)) names) r in
@@ -113,11 +121,13 @@ digests_looked s k a ds h = by_honest (is_honest s a) refl h
 own_heard : (s : Setup) (a n : List ℕ) (ns : List (List ℕ)) → is_among n ns ≡ true → is_among (bytes_or_none (held_secret s a n)) (own_strings s a ns) ≡ true
 own_heard s a n [] h = cc
 own_heard s a n (m ∷ ns) h = elim (or_cases (bytes_eq m n) (is_among n ns) h) [
-  | inl q ↦ subst (λ y. is_among (bytes_or_none (held_secret s a y)) (own_strings s a (m ∷ ns)) ≡ true) (bytes-true m n q) (among_head (bytes_or_none (held_secret s a m)) (own_strings s a ns))
+  | inl q ↦ subst (λ y. is_among (bytes_or_none (held_secret s a y)) (own_strings s a (m ∷ ns)) ≡ true) (bytes-true m n q)
+      (among_head (bytes_or_none (held_secret s a m)) (own_strings s a ns))
   | inr q ↦ among_tail (bytes_or_none (held_secret s a n)) (bytes_or_none (held_secret s a m)) (own_strings s a ns) (own_heard s a n ns q)
 ]
 
-own_one : (s : Setup) (hs : List (List ℕ)) (o : Option (List ℕ)) → is_some o ≡ true → is_secret_long (bytes_or_none o) ≡ true → is_among (bytes_or_none o) hs ≡ true → is_own s hs o (Some (s.hash (bytes_or_none o))) ≡ true
+own_one : (s : Setup) (hs : List (List ℕ)) (o : Option (List ℕ)) → is_some o ≡ true → is_secret_long (bytes_or_none o) ≡ true
+    → is_among (bytes_or_none o) hs ≡ true → is_own s hs o (Some (s.hash (bytes_or_none o))) ≡ true
 own_one s hs None h l k = cc
 own_one s hs (Some t) h l k = and_from _ _ (and_from _ _ (bytes_refl (s.hash t)) l) k
 
@@ -139,23 +149,27 @@ lists_fair : (s : Setup) (z : List (List ℕ)) (a : List ℕ) (entries : List (L
     → ((n : List ℕ) → is_among n names ≡ true → is_fair (length_in_run s z a n (or_else_this [] (look_up n entries))) ≡ true)
     → lists_each names (lengths_in_run s z a (arranged [] names entries)) ≡ true
 lists_fair s z a entries [] h = refl
-lists_fair s z a entries (name ∷ names) h = and_from _ _ (and_from _ _ (bytes_refl name) (h name (among_head name names))) (lists_fair s z a entries names (λ n i. h n (among_tail n name names i)))
+lists_fair s z a entries (name ∷ names) h =
+    and_from _ _ (and_from _ _ (bytes_refl name) (h name (among_head name names))) (lists_fair s z a entries names (λ n i. h n (among_tail n name names i)))
 
 all_told : (s : Setup) (z : List (List ℕ)) (a : List ℕ) (entries : List (List ℕ × List ℕ)) (ns : List (List ℕ))
-    → ((n : List ℕ) → is_among n ns ≡ true → is_some (length_in_run s z a n (or_else_this [] (look_up n entries))) ≡ true) → are_known (lengths_in_run s z a (arranged [] ns entries)) ≡ true
+    → ((n : List ℕ) → is_among n ns ≡ true → is_some (length_in_run s z a n (or_else_this [] (look_up n entries))) ≡ true)
+    → are_known (lengths_in_run s z a (arranged [] ns entries)) ≡ true
 all_told s z a entries [] h = refl
 all_told s z a entries (n ∷ ns) h = and_from _ _ (h n (among_head n ns)) (all_told s z a entries ns (λ m i. h m (among_tail m n ns i)))
 
 -- ---- where secrets stand
 
-party_secret : (k : ℕ) (a n : List ℕ) (ss : List (List ℕ × List ℕ)) → is_among n (names_of_party a ss) ≡ true → has_secret (record { contract = k; party = a; secret = n }) (secrets_of_contract k ss) ≡ true
+party_secret : (k : ℕ) (a n : List ℕ) (ss : List (List ℕ × List ℕ)) → is_among n (names_of_party a ss) ≡ true
+    → has_secret (record { contract = k; party = a; secret = n }) (secrets_of_contract k ss) ≡ true
 party_secret k a n [] h = cc
 party_secret k a n (p ∷ ss) h = by_test (bytes_eq p.1 a) refl h (party_secret k a n ss)
   where
     x : Revealed
     x = record { contract = k; party = a; secret = n }
 
-    by_test : (b : Bool) → bytes_eq p.1 a ≡ b → is_among n (if b then p.0 ∷ names_of_party a ss else names_of_party a ss) ≡ true → (is_among n (names_of_party a ss) ≡ true → has_secret x (secrets_of_contract k ss) ≡ true)
+    by_test : (b : Bool) → bytes_eq p.1 a ≡ b → is_among n (if b then p.0 ∷ names_of_party a ss else names_of_party a ss) ≡ true
+        → (is_among n (names_of_party a ss) ≡ true → has_secret x (secrets_of_contract k ss) ≡ true)
         → has_secret x (secrets_of_contract k (p ∷ ss)) ≡ true
     by_test true e q ih = elim (or_cases (bytes_eq p.0 n) (is_among n (names_of_party a ss)) q) [
       | inl t ↦ or_left _ _ (and_from _ _ (and_from _ _ (eq-eqb k k refl) e) t)
@@ -163,20 +177,26 @@ party_secret k a n (p ∷ ss) h = by_test (bytes_eq p.1 a) refl h (party_secret 
     ]
     by_test false e q ih = or_right (same_secret (record { contract = k; party = p.1; secret = p.0 }) x) _ (ih q)
 
-stands_from : (j k : ℕ) (x : Revealed) (cs : List Advert) (c : Advert) → slice_get cs k ≡ Some c → has_secret x (secrets_of_contract (k + j) (secrets c.pre)) ≡ true → has_secret x (secrets_from j cs) ≡ true
+stands_from : (j k : ℕ) (x : Revealed) (cs : List Advert) (c : Advert) → slice_get cs k ≡ Some c
+    → has_secret x (secrets_of_contract (k + j) (secrets c.pre)) ≡ true → has_secret x (secrets_from j cs) ≡ true
 stands_from j k x [] c h i = cc
 stands_from j zero x (d ∷ cs) c h i =
     let e : d ≡ c = cc in
     let z : 0 + j ≡ j = omega arith in
-    has_secret-append x (secrets_of_contract j (secrets d.pre)) (secrets_from (j + 1) cs) ∙ or_left (has_secret x (secrets_of_contract j (secrets d.pre))) _ (subst (λ (y : Advert). has_secret x (secrets_of_contract j (secrets y.pre)) ≡ true) (sym e) (rw z at i))
+    has_secret-append x (secrets_of_contract j (secrets d.pre)) (secrets_from (j + 1) cs)
+    ∙ or_left (has_secret x (secrets_of_contract j (secrets d.pre))) _
+    (subst (λ (y : Advert). has_secret x (secrets_of_contract j (secrets y.pre)) ≡ true) (sym e) (rw z at i))
 stands_from j (suc k) x (d ∷ cs) c h i =
     let z : suc k + j ≡ k + (j + 1) = omega arith in
-    has_secret-append x (secrets_of_contract j (secrets d.pre)) (secrets_from (j + 1) cs) ∙ or_right (has_secret x (secrets_of_contract j (secrets d.pre))) _ (stands_from (j + 1) k x cs c h (rw z at i))
+    has_secret-append x (secrets_of_contract j (secrets d.pre)) (secrets_from (j + 1) cs)
+    ∙ or_right (has_secret x (secrets_of_contract j (secrets d.pre))) _ (stands_from (j + 1) k x cs c h (rw z at i))
 
-pub in_all : (s : Setup) (k : ℕ) (a n : List ℕ) → is_among n (secrets_at s k a) ≡ true → has_secret (record { contract = k; party = a; secret = n }) (all_secrets s) ≡ true
+pub in_all : (s : Setup) (k : ℕ) (a n : List ℕ) → is_among n (secrets_at s k a) ≡ true
+    → has_secret (record { contract = k; party = a; secret = n }) (all_secrets s) ≡ true
 in_all s k a n h = by_contract (contract_at s k) refl h
   where
-    by_contract : (o : Option Advert) → contract_at s k ≡ o → is_among n (secrets_of a (pre_of o)) ≡ true → has_secret (record { contract = k; party = a; secret = n }) (all_secrets s) ≡ true
+    by_contract : (o : Option Advert) → contract_at s k ≡ o → is_among n (secrets_of a (pre_of o)) ≡ true
+        → has_secret (record { contract = k; party = a; secret = n }) (all_secrets s) ≡ true
     by_contract None e q = cc
     by_contract (Some c) e q =
         let z : k + 0 ≡ k = omega arith in
@@ -188,18 +208,21 @@ digest_more : (ps ys : List Promise) (x : Revealed) → is_some (digest_at ps x)
 digest_more [] ys x h = cc
 digest_more (p ∷ ps) ys x h = grind (arith, digest_more ps ys x)
 
-digest_skip : (ps : List Promise) (p : Promise) (x : Revealed) → list_any (is_promise_of x.contract x.party) ps ≡ false → digest_at (ps ++ p ∷ []) x ≡ digest_at (p ∷ []) x
+digest_skip : (ps : List Promise) (p : Promise) (x : Revealed) → list_any (is_promise_of x.contract x.party) ps ≡ false
+    → digest_at (ps ++ p ∷ []) x ≡ digest_at (p ∷ []) x
 digest_skip [] p x h = refl
 digest_skip (q ∷ ps) p x h =
     let f = or_parts (is_promise_of x.contract x.party q) (list_any (is_promise_of x.contract x.party) ps) h in
     rw f.0 (digest_skip ps p x f.1)
 
-shown-more : (s : Setup) (posted : List (List ℕ)) (x : Revealed) (ps ys : List Promise) → is_shown s posted (digest_at ps x) ≡ true → is_shown s posted (digest_at (ps ++ ys) x) ≡ true
+shown-more : (s : Setup) (posted : List (List ℕ)) (x : Revealed) (ps ys : List Promise) → is_shown s posted (digest_at ps x) ≡ true
+    → is_shown s posted (digest_at (ps ++ ys) x) ≡ true
 shown-more s posted x ps ys h = subst (λ o. is_shown s posted o ≡ true) (sym (digest_more ps ys x (shown-is_some s posted (digest_at ps x) h))) h
 
 -- ---- the event
 
-module _ (s : Setup) (z : List (List ℕ)) (apart : different_secrets (all_secrets s) ≡ true) (g : Configuration) (w : World) (con : Constant s g) (advertised : g.advertised ≡ w.advertised) (kept : KeptSecrets s z g w)
+module _ (s : Setup) (z : List (List ℕ)) (apart : different_secrets (all_secrets s) ≡ true) (g : Configuration) (w : World)
+    (con : Constant s g) (advertised : g.advertised ≡ w.advertised) (kept : KeptSecrets s z g w)
     (k : ℕ) (a : List ℕ) (ds : List (List ℕ × List ℕ)) (none : first_reason (commit_row s w k a ds) ≡ None) (fresh : first_reason (digest_row s w k a ds) ≡ None) where
   abbrev names : List (List ℕ)
   names = secrets_at s k a
@@ -229,8 +252,11 @@ module _ (s : Setup) (z : List (List ℕ)) (apart : different_secrets (all_secre
   fair : (n : List ℕ) → is_among n names ≡ true → is_fair (length_in_run s z a n (or_else_this [] (look_up n digests))) ≡ true
   fair n i = by_honest (is_honest s a) refl
     where
-      by_honest : (b : Bool) → is_honest s a ≡ b → is_fair (if b then option_map secret_size (held_secret s a n) else option_map secret_size (fitting s z (or_else_this [] (look_up n digests)))) ≡ true
-      by_honest true e = own_fair (held_secret s a n) (all_among (λ m. is_some (held_secret s a m)) names n (held e) i) (all_among (λ m. is_secret_long (bytes_or_none (held_secret s a m))) names n (long e) i)
+      by_honest : (b : Bool) → is_honest s a ≡ b
+          → is_fair (if b then option_map secret_size (held_secret s a n) else option_map secret_size
+          (fitting s z (or_else_this [] (look_up n digests)))) ≡ true
+      by_honest true e = own_fair (held_secret s a n) (all_among (λ m. is_some (held_secret s a m)) names n (held e) i)
+          (all_among (λ m. is_secret_long (bytes_or_none (held_secret s a m))) names n (long e) i)
       by_honest false e = found_fair s (or_else_this [] (look_up n digests)) z
 
   told : (not (is_among a s.header.honest) || are_known (lengths_in_run s z a (arranged [] names digests))) ≡ true
@@ -238,7 +264,8 @@ module _ (s : Setup) (z : List (List ℕ)) (apart : different_secrets (all_secre
     where
       by_honest : (b : Bool) → is_honest s a ≡ b → (not b || are_known (lengths_in_run s z a (arranged [] names digests))) ≡ true
       by_honest false e = refl
-      by_honest true e = all_told s z a digests names (λ n i. rw e (own_told (held_secret s a n) (all_among (λ m. is_some (held_secret s a m)) names n (held e) i)))
+      by_honest true e =
+          all_told s z a digests names (λ n i. rw e (own_told (held_secret s a n) (all_among (λ m. is_some (held_secret s a m)) names n (held e) i)))
 
   new : not (has_committed g.committed k a) ≡ true
   new = rw (kept.lengths, any_map (λ c. (c.contract == k) && bytes_eq c.party a) (committed_by s z) w.promises) (not_from_false _ row.1.1.1.0)
@@ -265,13 +292,15 @@ module _ (s : Setup) (z : List (List ℕ)) (apart : different_secrets (all_secre
   look_new : (n d : List ℕ) → look_up n (arranged [] names digests) ≡ Some d → (look_up n digests ≡ Some d) × (is_among n names ≡ true)
   look_new n d h = arranged-look names digests n d h looked
 
-  module _ (hs : List (List ℕ)) (next : World) (ep : next.promises ≡ w.promises ++ promise ∷ []) (et : next.posted ≡ w.posted ++ []) (eh : next.hashed ≡ noted_all w.hashed hs) (clear : collision s.hash w.hashed hs ≡ None)
+  module _ (hs : List (List ℕ)) (next : World) (ep : next.promises ≡ w.promises ++ promise ∷ []) (et : next.posted ≡ w.posted ++ [])
+      (eh : next.hashed ≡ noted_all w.hashed hs) (clear : collision s.hash w.hashed hs ≡ None)
       (heard : (t : List ℕ) → is_among t (committed_strings s k a) ≡ true → is_among t hs ≡ true) (within : Begins z next.posted) where
     same_posted : next.posted ≡ w.posted
     same_posted = et ∙ append-nil w.posted
 
     -- of an honest party's new digest
-    own_new : (x : Revealed) (d : List ℕ) → is_honest s x.party ≡ true → digest_at (promise ∷ []) x ≡ Some d → is_own s next.hashed (held_secret s x.party x.secret) (Some d) ≡ true
+    own_new : (x : Revealed) (d : List ℕ) → is_honest s x.party ≡ true → digest_at (promise ∷ []) x ≡ Some d
+        → is_own s next.hashed (held_secret s x.party x.secret) (Some d) ≡ true
     own_new x d honest h =
         let n = new_at promise x d h in
         let l = look_new x.secret d n.2 in
@@ -282,13 +311,15 @@ module _ (s : Setup) (z : List (List ℕ)) (apart : different_secrets (all_secre
         let there = heard (bytes_or_none (held_secret s a x.secret)) (rw ha (own_heard s a x.secret names l.1)) in
         let one = own_one s next.hashed (held_secret s a x.secret) (all_among (λ m. is_some (held_secret s a m)) names x.secret (held ha) l.1) (all_among (λ m. is_secret_long (bytes_or_none (held_secret s a m))) names x.secret (long ha) l.1)
         (rw eh (all_new w.hashed hs _ there)) in
-        subst (λ b. is_own s next.hashed (held_secret s b x.secret) (Some d) ≡ true) (sym n.1) (subst (λ o. is_own s next.hashed (held_secret s a x.secret) o ≡ true) e one)
+        subst (λ b. is_own s next.hashed (held_secret s b x.secret) (Some d) ≡ true) (sym n.1)
+        (subst (λ o. is_own s next.hashed (held_secret s a x.secret) o ≡ true) e one)
 
     own : (x : Revealed) → is_honest s x.party ≡ true → is_own s next.hashed (held_secret s x.party x.secret) (digest_at next.promises x) ≡ true
     own x honest = rw ep (by_value (digest_at (w.promises ++ promise ∷ []) x) refl)
       where
         old : (d : List ℕ) → digest_at w.promises x ≡ Some d → is_own s next.hashed (held_secret s x.party x.secret) (Some d) ≡ true
-        old d e = rw eh (is_own-more s w.hashed hs (held_secret s x.party x.secret) (Some d) (subst (λ o. is_own s w.hashed (held_secret s x.party x.secret) o ≡ true) e (kept.own x honest)))
+        old d e = rw eh (is_own-more s w.hashed hs (held_secret s x.party x.secret) (Some d)
+            (subst (λ o. is_own s w.hashed (held_secret s x.party x.secret) o ≡ true) e (kept.own x honest)))
 
         by_value : (r : Option (List ℕ)) → digest_at (w.promises ++ promise ∷ []) x ≡ r → is_own s next.hashed (held_secret s x.party x.secret) r ≡ true
         by_value None e = refl
@@ -312,13 +343,14 @@ module _ (s : Setup) (z : List (List ℕ)) (apart : different_secrets (all_secre
     grows : (x : Revealed) → shown s w x ≡ true → shown s next x ≡ true
     grows x h = rw (ep, same_posted) (shown-more s w.posted x w.promises (promise ∷ []) h)
 
-    clear' : NoClash s.hash next.hashed
-    clear' = rw eh (no_clash s.hash w.hashed hs kept.clear clear)
+    clear' : NoCollision s.hash next.hashed
+    clear' = rw eh (no_collision s.hash w.hashed hs kept.clear clear)
 
     heard' : (t : List ℕ) → is_among t next.posted ≡ true → is_among t next.hashed ≡ true
     heard' t h = rw eh (all_more w.hashed hs t (kept.heard t (rw same_posted at h)))
 
-    full : (x : Revealed) → has_promised next x.contract x.party ≡ true → is_among x.secret (secrets_at s x.contract x.party) ≡ true → is_some (digest_at next.promises x) ≡ true
+    full : (x : Revealed) → has_promised next x.contract x.party ≡ true → is_among x.secret (secrets_at s x.contract x.party) ≡ true
+        → is_some (digest_at next.promises x) ≡ true
     full x p i = rw ep (by_old (has_promised w x.contract x.party) refl)
       where
         both : (list_any (is_promise_of x.contract x.party) w.promises || list_any (is_promise_of x.contract x.party) (promise ∷ [])) ≡ true
@@ -338,7 +370,8 @@ module _ (s : Setup) (z : List (List ℕ)) (apart : different_secrets (all_secre
     mid = effect g step
 
     lengths : mid.committed ≡ map (committed_by s z) next.promises
-    lengths = ap (λ cs. cs ++ committed_by s z promise ∷ []) kept.lengths ∙ sym (map_append (committed_by s z) w.promises (promise ∷ [])) ∙ ap (map (committed_by s z)) (sym ep)
+    lengths = ap (λ cs. cs ++ committed_by s z promise ∷ []) kept.lengths ∙ sym (map_append (committed_by s z) w.promises (promise ∷ []))
+        ∙ ap (map (committed_by s z)) (sym ep)
 
     pub legal_all : Legal g (step ∷ reveals s w next)
     legal_all = (legal_commit.0, reveals_legal s z mid w next kept.revealed lengths own known within grows apart)
@@ -352,7 +385,8 @@ module _ (s : Setup) (z : List (List ℕ)) (apart : different_secrets (all_secre
       clear = clear';
       heard = heard';
       once = rw ep (once_push w.promises promise digests kept.once unused (λ n d h. (look_new n d h).0));
-      early = λ b n t o h. rw (ep, used-append w.promises (promise ∷ [])) (among_left (s.hash t) (used_digests w.promises) _ (kept.early b n t o (rw same_posted at h)));
+      early = λ b n t o h. rw (ep, used-append w.promises (promise ∷ []))
+          (among_left (s.hash t) (used_digests w.promises) _ (kept.early b n t o (rw same_posted at h)));
       full = full;
     })
 
@@ -367,7 +401,8 @@ module _ (s : Setup) (z : List (List ℕ)) (apart : different_secrets (all_secre
             let there = posted_own s o.secret o.long next.hashed w.posted clear' (λ u i. heard' u (rw same_posted i)) o.heard (subst (λ y. is_shown s w.posted (Some y) ≡ true) e v) in
             let used = kept.early x.party x.secret o.secret o.own there in
             let n = new_at promise x d q in
-            both_ways _ (not_before (used_digests w.promises) digests x.secret d unused (look_new x.secret d n.2).0) (subst (λ y. is_among y (used_digests w.promises) ≡ true) (sym e) used)
+            both_ways _ (not_before (used_digests w.promises) digests x.secret d unused (look_new x.secret d n.2).0)
+            (subst (λ y. is_among y (used_digests w.promises) ≡ true) (sym e) used)
 
         by_value : (r : Option (List ℕ)) → digest_at (w.promises ++ promise ∷ []) x ≡ r → is_shown s w.posted r ≡ true → ⊥
         by_value None e v = cc

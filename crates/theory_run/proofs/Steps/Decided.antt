@@ -24,7 +24,7 @@ use Rattle.spec_run.specs.Ledger.{spend_from, made_from, core_holds, position_br
 use Rattle.spec_run.specs.Steps.{branch_steps}
 use Rattle.theory_script.proofs.Checked.{puts_known, reveals_known}
 use Rattle.theory_world.specs.Transactions.{IsNumbered}
-use Rattle.theory_world.specs.KeptApart.{NoClash}
+use Rattle.theory_world.specs.KeptApart.{NoCollision}
 use Rattle.theory_world.proofs.Hashed.{among_left, among_right}
 use Rattle.theory_run.specs.Tracks.{AgreeOnMoney, Constant}
 use Rattle.theory_run.specs.KeptSecrets.{KeptSecrets}
@@ -41,7 +41,9 @@ use Rattle.theory_run.proofs.Steps.Branching.{IsTested, legal_put, legal_withdra
 use Rattle.theory_run.specs.KeptPromises.{PromisesNamed}
 use Rattle.theory_run.proofs.Accepted.Tested.{all_revealed}
 
-module _ (s : Setup) (size : HashesBytes s.hash) (few_contracts : length s.contracts ≤ 16) (g : Configuration) (w : World) (kept : KeptBook s g w) (fit : TransactionsFit s w) (check : Checked s w) (hs : List (List ℕ)) (clear : NoClash s.hash hs) (sub : (t : List ℕ) → is_among t w.hashed ≡ true → is_among t hs ≡ true)
+module _ (s : Setup) (size : HashesBytes s.hash) (few_contracts : length s.contracts ≤ 16) (g : Configuration) (w : World)
+    (kept : KeptBook s g w) (fit : TransactionsFit s w) (check : Checked s w) (hs : List (List ℕ)) (clear : NoCollision s.hash hs)
+    (sub : (t : List ℕ) → is_among t w.hashed ≡ true → is_among t hs ≡ true)
     (tx : Tx) (fits : IsNumbered tx) (spent : List ℕ) (acc : Accepting s w tx spent) (all : HeardAll s w hs tx) where
   abbrev fst : First s size g w kept fit check hs clear sub tx fits spent acc all
   fst = first s size g w kept fit check hs clear sub tx fits spent acc all
@@ -52,7 +54,8 @@ module _ (s : Setup) (size : HashesBytes s.hash) (few_contracts : length s.contr
     Tests = IsTested s size few_contracts g w kept fit check hs clear sub tx fits spent acc all h t c con money advertised
 
     -- what a witness that opens the position shows, where what it shows is posted
-    pub tested_by : (z : List (List ℕ)) (next : World) → KeptSecrets s z c next → Begins z next.posted → PromisesNamed s next.promises → next.promises ≡ w.promises
+    pub tested_by : (z : List (List ℕ)) (next : World) → KeptSecrets s z c next → Begins z next.posted → PromisesNamed s next.promises
+        → next.promises ≡ w.promises
         → (valid : List ℕ → List ℕ → Bool) (stack : List (List ℕ)) (op : Opens s.hash valid t.fine.instance h.position t.fine.choice stack) → op.b ≡ t.branch
         → ((u : List ℕ) → is_among u stack ≡ true → is_among u next.posted ≡ true)
         → IsTested s size few_contracts g w kept fit check hs clear sub tx fits spent acc all h t c con money advertised
@@ -75,14 +78,17 @@ module _ (s : Setup) (size : HashesBytes s.hash) (few_contracts : length s.contr
         record {
           puts_known = puts_known ad well h.position t.fine.choice root t.index t.branch t.there;
           revealed = r.0;
-          test = ap (λ ls. holds ls (test_of (core t.branch))) r.1 ∙ subst (λ b. holds (shown_lengths (reveals_of (core b)) op.strings) (test_of (core b)) ≡ true) same p;
+          test = ap (λ ls. holds ls (test_of (core t.branch))) r.1
+              ∙ subst (λ b. holds (shown_lengths (reveals_of (core b)) op.strings) (test_of (core b)) ≡ true) same p;
         }
       where
-        have_same : next.promises ≡ w.promises → (a : Advert) → have_promised w h.contract (participants a) ≡ true → have_promised next h.contract (participants a) ≡ true
+        have_same : next.promises ≡ w.promises → (a : Advert) → have_promised w h.contract (participants a) ≡ true
+            → have_promised next h.contract (participants a) ≡ true
         have_same e a k = subst (λ ps. have_promised (record next { promises = ps }) h.contract (participants a) ≡ true) (sym e) k
 
     -- a core is a put or reveal, a payment or a division
-    no_core : (x : term.Guarded) → core t.branch ≡ x → core_outputs s.hash t.fine.instance (branch_path t.fine.here.position t.index) t.fine.here.output.value x ≡ [] → ⊥
+    no_core : (x : term.Guarded) → core t.branch ≡ x
+        → core_outputs s.hash t.fine.instance (branch_path t.fine.here.position t.index) t.fine.here.output.value x ≡ [] → ⊥
     no_core x e n =
         let o : tx.outputs ≡ [] = ap (λ (y : Tx). y.outputs) t.is ∙ ap (core_outputs s.hash t.fine.instance (branch_path t.fine.here.position t.index) t.fine.here.output.value) e ∙ n in
         let m : not true ≡ true = subst (λ os. not (length os == 0) ≡ true) o acc.makes in
@@ -92,7 +98,8 @@ module _ (s : Setup) (size : HashesBytes s.hash) (few_contracts : length s.contr
     pub record BranchTaken : Type 0 where
       pub legal : Legal c (branch_steps c (people_at s h.contract) fst.number t.index (position_branch s h t.index))
       pub frame : StepFrame c (reached c (branch_steps c (people_at s h.contract) fst.number t.index (position_branch s h t.index)))
-      pub agrees : (next : World) → next.tip ≡ w.tip → next.outputs ≡ spend_from 0 spent w.outputs ++ made_from (λ m. core_holds h.contract (h.position ++ To t.index ∷ []) (core t.branch) m) (txid s.hash tx) 0 tx.outputs
+      pub agrees : (next : World) → next.tip ≡ w.tip → next.outputs ≡ spend_from 0 spent w.outputs
+          ++ made_from (λ m. core_holds h.contract (h.position ++ To t.index ∷ []) (core t.branch) m) (txid s.hash tx) 0 tx.outputs
           → AgreeOnMoney s (reached c (branch_steps c (people_at s h.contract) fst.number t.index (position_branch s h t.index))) next
 
     pub branch_taken : IsTested s size few_contracts g w kept fit check hs clear sub tx fits spent acc all h t c con money advertised → BranchTaken
@@ -102,7 +109,8 @@ module _ (s : Setup) (size : HashesBytes s.hash) (few_contracts : length s.contr
         by_core (put_reveal puts reveals test nx) e = record {
           legal = legal_put s size few_contracts g w kept fit check hs clear sub tx fits spent acc all h t c con money advertised puts reveals test nx e tested;
           frame = frame_put s size few_contracts g w kept fit check hs clear sub tx fits spent acc all h t c con money advertised puts reveals test nx e tested;
-          agrees = agree_put s size few_contracts g w kept fit check hs clear sub tx fits spent acc all h t c con money advertised puts reveals test nx e tested;
+          agrees =
+              agree_put s size few_contracts g w kept fit check hs clear sub tx fits spent acc all h t c con money advertised puts reveals test nx e tested;
         }
         by_core (withdraw p) e = record {
           legal = legal_withdraw s size few_contracts g w kept fit check hs clear sub tx fits spent acc all h t c con money advertised p e;

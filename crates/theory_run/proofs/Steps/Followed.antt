@@ -24,7 +24,7 @@ use Rattle.spec_run.specs.Agreement.{committed_pair, compiled_outpoint, is_outpo
 use Rattle.theory_world.specs.Transactions.{IsNumbered}
 use Rattle.theory_world.proofs.Same.{place_refl}
 use Rattle.theory_world.proofs.Tests.{map_map}
-use Rattle.theory_world.specs.KeptApart.{NoClash}
+use Rattle.theory_world.specs.KeptApart.{NoCollision}
 use Rattle.theory_run.specs.KeptSecrets.{has_secret, KeptSecrets, committed_by}
 use Rattle.theory_run.proofs.Facts.Secrets.{after-reveals}
 use Rattle.theory_run.proofs.Steps.Legal.{after-append, legal_append}
@@ -93,19 +93,24 @@ secrets_after s z c d w f k = record {
 -- ---- with what it reveals
 
 -- what is revealed doesn't change the steps of a kind
-branch_same : (g : Configuration) (rs : List Revealed) (people : List (List ℕ)) (n i : ℕ) (o : Option term.Guarded) → branch_steps (record g { revealed = rs }) people n i o ≡ branch_steps g people n i o
+branch_same : (g : Configuration) (rs : List Revealed) (people : List (List ℕ)) (n i : ℕ) (o : Option term.Guarded)
+    → branch_steps (record g { revealed = rs }) people n i o ≡ branch_steps g people n i o
 branch_same g rs people n i None = refl
 branch_same g rs people n i (Some b) = refl
 
-kind_same : (s : Setup) (g : Configuration) (rs : List Revealed) (w : World) (tx : Tx) (spent : List ℕ) (k : Kind) → kind_steps s (record g { revealed = rs }) w tx spent k ≡ kind_steps s g w tx spent k
+kind_same : (s : Setup) (g : Configuration) (rs : List Revealed) (w : World) (tx : Tx) (spent : List ℕ) (k : Kind)
+    → kind_steps s (record g { revealed = rs }) w tx spent k ≡ kind_steps s g w tx spent k
 kind_same s g rs w tx spent (Begins k) = refl
 kind_same s g rs w tx spent (Takes h n i) = branch_same g rs (people_at s h.contract) n i (position_branch s h i)
 kind_same s g rs w tx spent Moves = refl
 
-module _ (s : Setup) (size : HashesBytes s.hash) (few_contracts : length s.contracts ≤ 16) (g : Configuration) (w : World) (kept : KeptBook s g w) (fit : TransactionsFit s w) (check : Checked s w) (hs : List (List ℕ)) (clear : NoClash s.hash hs) (sub : (t : List ℕ) → is_among t w.hashed ≡ true → is_among t hs ≡ true)
+module _ (s : Setup) (size : HashesBytes s.hash) (few_contracts : length s.contracts ≤ 16) (g : Configuration) (w : World)
+    (kept : KeptBook s g w) (fit : TransactionsFit s w) (check : Checked s w) (hs : List (List ℕ)) (clear : NoCollision s.hash hs)
+    (sub : (t : List ℕ) → is_among t w.hashed ≡ true → is_among t hs ≡ true)
     (tx : Tx) (fits : IsNumbered tx) (spent : List ℕ) (acc : Accepting s w tx spent) (all : HeardAll s w hs tx)
     (con : Constant s g) (money : AgreeOnMoney s g w) (advertised : g.advertised ≡ w.advertised)
-    (z : List (List ℕ)) (next : World) (secrets : KeptSecrets s z (record g { revealed = g.revealed ++ newly_shown s w next }) next) (begins : BeginsWith z next.posted) (named : PromisesNamed s next.promises) (promises : next.promises ≡ w.promises)
+    (z : List (List ℕ)) (next : World) (secrets : KeptSecrets s z (record g { revealed = g.revealed ++ newly_shown s w next }) next)
+    (begins : BeginsWith z next.posted) (named : PromisesNamed s next.promises) (promises : next.promises ≡ w.promises)
     (posts : (u : List ℕ) → is_among u (items_of tx) ≡ true → is_among u next.posted ≡ true)
     (shows : Legal g (reveals s w next)) where
   abbrev mid : Configuration
@@ -121,7 +126,8 @@ module _ (s : Setup) (size : HashesBytes s.hash) (few_contracts : length s.contr
   mid_money = record { time = money.time; next = money.next; deposits = money.deposits; active = money.active; moves = money.moves }
 
   does : IsLawful s size few_contracts g w kept fit check hs clear sub tx fits spent acc all mid mid_constant mid_money advertised (kind_of s w tx spent)
-  does = lawful s size few_contracts g w kept fit check hs clear sub tx fits spent acc all mid mid_constant mid_money advertised z next secrets begins named promises posts
+  does = lawful s size few_contracts g w kept fit check hs clear sub tx fits spent acc all mid mid_constant mid_money advertised z next
+      secrets begins named promises posts
 
   revealed_is : after_steps g (reveals s w next) ≡ mid
   revealed_is = after-reveals (newly_shown s w next) g
@@ -133,17 +139,23 @@ module _ (s : Setup) (size : HashesBytes s.hash) (few_contracts : length s.contr
   pub accepted_legal : Legal g (accepted_steps s g w next spent (Some tx))
   accepted_legal =
       let l : Legal mid (kind_steps s g w tx spent (kind_of s w tx spent)) = subst (Legal mid) same does.legal in
-      legal_append g (reveals s w next) (kind_steps s g w tx spent (kind_of s w tx spent)) shows (subst (λ d. Legal d (kind_steps s g w tx spent (kind_of s w tx spent))) (sym revealed_is) l)
+      legal_append g (reveals s w next) (kind_steps s g w tx spent (kind_of s w tx spent)) shows
+      (subst (λ d. Legal d (kind_steps s g w tx spent (kind_of s w tx spent))) (sym revealed_is) l)
 
   -- and end where the kind's steps end
-  pub accepted_ends : after_steps g (accepted_steps s g w next spent (Some tx)) ≡ after_steps (record g { revealed = g.revealed ++ newly_shown s w next }) (kind_steps s (record g { revealed = g.revealed ++ newly_shown s w next }) w tx spent (kind_of s w tx spent))
+  pub accepted_ends : after_steps g (accepted_steps s g w next spent (Some tx))
+      ≡ after_steps (record g { revealed = g.revealed ++ newly_shown s w next })
+      (kind_steps s (record g { revealed = g.revealed ++ newly_shown s w next }) w tx spent (kind_of s w tx spent))
   accepted_ends =
-      after-append g (reveals s w next) (kind_steps s g w tx spent (kind_of s w tx spent)) ∙ ap (λ d. after_steps d (kind_steps s g w tx spent (kind_of s w tx spent))) revealed_is ∙ ap (after_steps mid) (sym same)
+      after-append g (reveals s w next) (kind_steps s g w tx spent (kind_of s w tx spent))
+      ∙ ap (λ d. after_steps d (kind_steps s g w tx spent (kind_of s w tx spent))) revealed_is ∙ ap (after_steps mid) (sym same)
 
   pub accepted_frame : StepFrame (record g { revealed = g.revealed ++ newly_shown s w next }) (after_steps g (accepted_steps s g w next spent (Some tx)))
   accepted_frame = subst (StepFrame mid) (sym accepted_ends) does.frame
 
-  pub accepted_money : next.tip ≡ w.tip → next.outputs ≡ spend_from 0 spent w.outputs ++ made_from (new_position s (kind_of s w tx spent)) (txid s.hash tx) 0 tx.outputs → AgreeOnMoney s (after_steps g (accepted_steps s g w next spent (Some tx))) next
+  pub accepted_money : next.tip ≡ w.tip → next.outputs ≡ spend_from 0 spent w.outputs
+      ++ made_from (new_position s (kind_of s w tx spent)) (txid s.hash tx) 0 tx.outputs
+      → AgreeOnMoney s (after_steps g (accepted_steps s g w next spent (Some tx))) next
   accepted_money tips outs = subst (λ d. AgreeOnMoney s d next) (sym accepted_ends) (does.agrees next tips outs)
 
   pub accepted_secrets : KeptSecrets s z (after_steps g (accepted_steps s g w next spent (Some tx))) next
@@ -153,7 +165,9 @@ module _ (s : Setup) (size : HashesBytes s.hash) (few_contracts : length s.contr
   accepted_constant = constant_after s mid (after_steps g (accepted_steps s g w next spent (Some tx))) accepted_frame mid_constant
 
   -- configuration and world agree on all after it
-  pub accepted_agrees : KeptBook s (after_steps g (accepted_steps s g w next spent (Some tx))) next → next.tip ≡ w.tip → next.outputs ≡ spend_from 0 spent w.outputs ++ made_from (new_position s (kind_of s w tx spent)) (txid s.hash tx) 0 tx.outputs → next.advertised ≡ w.advertised
+  pub accepted_agrees : KeptBook s (after_steps g (accepted_steps s g w next spent (Some tx))) next → next.tip ≡ w.tip → next.outputs
+      ≡ spend_from 0 spent w.outputs ++ made_from (new_position s (kind_of s w tx spent)) (txid s.hash tx) 0 tx.outputs → next.advertised ≡ w.advertised
       → Agree s (after_steps g (accepted_steps s g w next spent (Some tx))) next
   accepted_agrees book tips outs same_adverts =
-      agree_all s (after_steps g (accepted_steps s g w next spent (Some tx))) next book z (accepted_money tips outs) accepted_secrets (accepted_frame.advertised ∙ advertised ∙ sym same_adverts)
+      agree_all s (after_steps g (accepted_steps s g w next spent (Some tx))) next book z (accepted_money tips outs) accepted_secrets
+      (accepted_frame.advertised ∙ advertised ∙ sym same_adverts)

@@ -41,7 +41,8 @@ gone_split : (n : ℕ) (ns : List ℕ) (ds : List Deposit) → has_number n ns �
 gone_split n ns [] h = refl
 gone_split n ns (d ∷ ds) h = by_tests (n == d.number) (has_number d.number ns) refl refl (gone_split n ns ds h)
   where
-    by_tests : (a b : Bool) → (n == d.number) ≡ a → has_number d.number ns ≡ b → worth (gone ds (n ∷ ns)) ≡ worth (gone ds (n ∷ [])) + worth (gone ds ns) → worth (gone (d ∷ ds) (n ∷ ns)) ≡ worth (gone (d ∷ ds) (n ∷ [])) + worth (gone (d ∷ ds) ns)
+    by_tests : (a b : Bool) → (n == d.number) ≡ a → has_number d.number ns ≡ b → worth (gone ds (n ∷ ns))
+        ≡ worth (gone ds (n ∷ [])) + worth (gone ds ns) → worth (gone (d ∷ ds) (n ∷ ns)) ≡ worth (gone (d ∷ ds) (n ∷ [])) + worth (gone (d ∷ ds) ns)
     by_tests true true ea eb ih = let q = eqb-true n d.number ea in let f : has_number d.number ns ≡ false = subst (λ m. has_number m ns ≡ false) q h in cc
     by_tests true false ea eb ih = rw (ea, eb) (omega (arith, ih))
     by_tests false true ea eb ih = rw (ea, eb) (omega (arith, ih))
@@ -69,11 +70,13 @@ module _ (s : Setup) where
   gone_one : (k n : ℕ) (os : List Output) → worth (gone (deposits_from s k os) ((n + k) ∷ [])) ≡ deposit_value (slice_get os n)
   gone_one k n [] = refl
   gone_one k zero (o ∷ os) =
-      one_seen (0 + k) k (is_deposit (Some o)) (owner_by s o.script) o.value (deposits_from s (k + 1) os) (omega arith) (gone_below (k + 1) (0 + k) os (omega arith))
+      one_seen (0 + k) k (is_deposit (Some o)) (owner_by s o.script) o.value (deposits_from s (k + 1) os) (omega arith)
+      (gone_below (k + 1) (0 + k) os (omega arith))
   gone_one k (suc n) (o ∷ os) =
       let z : n + (k + 1) ≡ suc n + k = omega arith in
       let ih = rw z at (gone_one (k + 1) n os) in
-      other_seen (suc n + k) k (is_deposit (Some o)) (owner_by s o.script) o.value (deposits_from s (k + 1) os) (ne_eqb (suc n + k) k (λ q. omega (arith, q))) ∙ ih
+      other_seen (suc n + k) k (is_deposit (Some o)) (owner_by s o.script) o.value (deposits_from s (k + 1) os)
+      (ne_eqb (suc n + k) k (λ q. omega (arith, q))) ∙ ih
 
   -- the values of the deposits of these numbers, one by one
   abbrev pub taken_values : List Output → List ℕ → ℕ
@@ -102,11 +105,13 @@ module _ {X : Type 0} (name : X → ℕ) where
   absent_later : (x : X) (xs : List X) (n : ℕ) → absent (x ∷ xs) n ≡ true → ((name x == n) ≡ false) × (absent xs n ≡ true)
   absent_later x xs n h = by_test (name x == n) refl h
     where
-      by_test : (b : Bool) → (name x == n) ≡ b → is_none (if b then Some x else find (λ y. name y == n) xs) ≡ true → ((name x == n) ≡ false) × (absent xs n ≡ true)
+      by_test : (b : Bool) → (name x == n) ≡ b → is_none (if b then Some x else find (λ y. name y == n) xs) ≡ true → ((name x == n) ≡ false)
+          × (absent xs n ≡ true)
       by_test true e q = cc
       by_test false e q = (e, q)
 
-  pub without_absent : (xs : List X) (n : ℕ) (ns : List ℕ) → is_none (find (λ x. name x == n) xs) ≡ true → filter (λ x. not (has_number (name x) (n ∷ ns))) xs ≡ filter (λ x. not (has_number (name x) ns)) xs
+  pub without_absent : (xs : List X) (n : ℕ) (ns : List ℕ) → is_none (find (λ x. name x == n) xs) ≡ true
+      → filter (λ x. not (has_number (name x) (n ∷ ns))) xs ≡ filter (λ x. not (has_number (name x) ns)) xs
   without_absent [] n ns h = refl
   without_absent (x ∷ xs) n ns h =
       let p = absent_later x xs n h in
@@ -115,11 +120,14 @@ module _ {X : Type 0} (name : X → ℕ) where
       let e : (n == name x) ≡ false = ne_eqb n (name x) (λ q. let t = eq-eqb (name x) n (sym q) in cc) in
       by_test (has_number (name x) ns) e ih
     where
-      by_test : (b : Bool) → (n == name x) ≡ false → filter (λ y. not (has_number (name y) (n ∷ ns))) xs ≡ filter (λ y. not (has_number (name y) ns)) xs → filter (λ y. not (has_number (name y) (n ∷ ns))) (x ∷ xs) ≡ filter (λ y. not (has_number (name y) ns)) (x ∷ xs)
+      by_test : (b : Bool) → (n == name x) ≡ false → filter (λ y. not (has_number (name y) (n ∷ ns))) xs
+          ≡ filter (λ y. not (has_number (name y) ns)) xs → filter (λ y. not (has_number (name y) (n ∷ ns))) (x ∷ xs)
+          ≡ filter (λ y. not (has_number (name y) ns)) (x ∷ xs)
       by_test b e ih = grind (arith, e, ih)
 
   -- where nothing has the later numbers, only the first counts
-  pub only_first : (xs : List X) (n : ℕ) (ns : List ℕ) → list_all (λ m. is_none (find (λ x. name x == m) xs)) ns ≡ true → filter (λ x. not (has_number (name x) (n ∷ ns))) xs ≡ filter (λ x. not (name x == n)) xs
+  pub only_first : (xs : List X) (n : ℕ) (ns : List ℕ) → list_all (λ m. is_none (find (λ x. name x == m) xs)) ns ≡ true
+      → filter (λ x. not (has_number (name x) (n ∷ ns))) xs ≡ filter (λ x. not (name x == n)) xs
   only_first xs n [] h = alone xs
     where
       alone : (ys : List X) → filter (λ x. not (has_number (name x) (n ∷ []))) ys ≡ filter (λ x. not (name x == n)) ys
@@ -136,7 +144,8 @@ module _ {X : Type 0} (name : X → ℕ) where
 -- ---- money after a transaction
 
 -- the configuration has lost what is spent, and has what is seen of the new outputs
-pub agree_by : (s : Setup) (g : Configuration) (w : World) → AgreeOnMoney s g w → (spent : List ℕ) (held : ℕ → Option ContractPosition) (id : List ℕ) (outs : List TxOut) (c : Configuration) (next : World)
+pub agree_by : (s : Setup) (g : Configuration) (w : World) → AgreeOnMoney s g w
+    → (spent : List ℕ) (held : ℕ → Option ContractPosition) (id : List ℕ) (outs : List TxOut) (c : Configuration) (next : World)
     → next.tip ≡ w.tip → next.outputs ≡ spend_from 0 spent w.outputs ++ made_from held id 0 outs
     → c.time ≡ g.time → c.next ≡ g.next + length outs → c.move_authorised ≡ g.move_authorised
     → c.deposits ≡ kept g.deposits spent ++ deposits_from s g.next (made_from held id 0 outs)
@@ -155,7 +164,8 @@ agree_by s g w agree spent held id outs c next tips os time names moves deposits
           omega (arith, agree.next, names, e, f, g');
       deposits =
           deposits ∙ (λ i. kept (agree.deposits i) spent ++ deposits_from s (sym at i) new)
-          ∙ sym (ap (deposits_from s 0) os ∙ deposits-append s 0 spend new ∙ ap (λ ds. ds ++ deposits_from s (0 + length spend) new) (deposits-spent s 0 spent w.outputs));
+          ∙ sym (ap (deposits_from s 0) os ∙ deposits-append s 0 spend new
+          ∙ ap (λ ds. ds ++ deposits_from s (0 + length spend) new) (deposits-spent s 0 spent w.outputs));
       active =
           active ∙ (λ i. filter (λ x. not (has_number x.number spent)) (agree.active i) ++ actives_from (sym at i) new)
           ∙ sym (ap (actives_from 0) os ∙ actives-append 0 spend new ∙ ap (λ ds. ds ++ actives_from (0 + length spend) new) (actives-spent 0 spent w.outputs));

@@ -25,7 +25,7 @@ use Rattle.spec_run.specs.Steps.{kind_steps}
 use Rattle.theory_calculus.specs.Members.{Is_in}
 use Rattle.theory_world.specs.Transactions.{IsNumbered}
 use Rattle.theory_world.proofs.Ledger.Found.{values_at, value_or_zero}
-use Rattle.theory_world.specs.KeptApart.{NoClash}
+use Rattle.theory_world.specs.KeptApart.{NoCollision}
 use Rattle.theory_run.specs.Tracks.{AgreeOnMoney, Constant}
 use Rattle.theory_run.proofs.Steps.Moved.{CanMove, legal_move, ends-move, agree_move}
 use Rattle.theory_run.specs.KeptSecrets.{KeptSecrets, committed_by}
@@ -44,7 +44,9 @@ use Rattle.theory_run.proofs.Steps.Decided.{tested_by, branch_taken}
 le_test : (a b : ℕ) → a ≤ b → nat_le a b ≡ true
 le_test a b h = grind (arith, nat_tests, h)
 
-module _ (s : Setup) (size : HashesBytes s.hash) (few_contracts : length s.contracts ≤ 16) (g : Configuration) (w : World) (kept : KeptBook s g w) (fit : TransactionsFit s w) (check : Checked s w) (hs : List (List ℕ)) (clear : NoClash s.hash hs) (sub : (t : List ℕ) → is_among t w.hashed ≡ true → is_among t hs ≡ true)
+module _ (s : Setup) (size : HashesBytes s.hash) (few_contracts : length s.contracts ≤ 16) (g : Configuration) (w : World)
+    (kept : KeptBook s g w) (fit : TransactionsFit s w) (check : Checked s w) (hs : List (List ℕ)) (clear : NoCollision s.hash hs)
+    (sub : (t : List ℕ) → is_among t w.hashed ≡ true → is_among t hs ≡ true)
     (tx : Tx) (fits : IsNumbered tx) (spent : List ℕ) (acc : Accepting s w tx spent) (all : HeardAll s w hs tx) where
   abbrev fst : First s size g w kept fit check hs clear sub tx fits spent acc all
   fst = first s size g w kept fit check hs clear sub tx fits spent acc all
@@ -59,7 +61,9 @@ module _ (s : Setup) (size : HashesBytes s.hash) (few_contracts : length s.contr
       by_held None q = refl
       by_held (Some h) q = let f = held_is_first s size g w kept fit check hs clear sub tx fits spent acc all i n sp h here q in cc
 
-  all_live : first_position w spent ≡ None → (ns : List ℕ) (is : List TxIn) → AllSpent s w tx ns is → ((i : TxIn) → Is_in i is → Is_in i tx.inputs) → (list_all (λ n. is_deposit (output_at w n)) ns ≡ true) × (sum_by (λ n. deposit_value (output_at w n)) ns ≡ values_at w.outputs ns)
+  all_live : first_position w spent ≡ None → (ns : List ℕ) (is : List TxIn) → AllSpent s w tx ns is
+      → ((i : TxIn) → Is_in i is → Is_in i tx.inputs) → (list_all (λ n. is_deposit (output_at w n)) ns ≡ true)
+      × (sum_by (λ n. deposit_value (output_at w n)) ns ≡ values_at w.outputs ns)
   all_live e [] [] a h = (refl, refl)
   all_live e [] (i ∷ is) a h = absurd a
   all_live e (n ∷ ns) [] a h = absurd a
@@ -80,7 +84,8 @@ module _ (s : Setup) (size : HashesBytes s.hash) (few_contracts : length s.contr
     pub opens : Opens s.hash valid t.fine.instance h.position t.fine.choice (reverse (verdict.items_of fst.input.witness))
     pub same : opens.b ≡ t.branch
 
-  pub has_opened : (h : ContractPosition) (e : fst.spends.output.holds ≡ Some h) → HasOpened h (first_taking s size few_contracts g w kept fit check hs clear sub tx fits spent acc all h e)
+  pub has_opened : (h : ContractPosition) (e : fst.spends.output.holds ≡ Some h)
+      → HasOpened h (first_taking s size few_contracts g w kept fit check hs clear sub tx fits spent acc all h e)
   unfolding first_taking
   has_opened h e =
       let hf = kept.held fst.number fst.spends.output h fst.spends.there e in
@@ -96,7 +101,8 @@ module _ (s : Setup) (size : HashesBytes s.hash) (few_contracts : length s.contr
           different = acc.distinct;
           live = l.0;
           pays = acc.makes;
-          enough = le_test (total_of tx.outputs) (sum_by (λ n. deposit_value (output_at w n)) spent) (subst (λ x. total_of tx.outputs ≤ x) (sym l.1) acc.balance.enough);
+          enough = le_test (total_of tx.outputs) (sum_by (λ n. deposit_value (output_at w n)) spent)
+              (subst (λ x. total_of tx.outputs ≤ x) (sym l.1) acc.balance.enough);
         }
 
     -- ---- all kinds
@@ -105,7 +111,8 @@ module _ (s : Setup) (size : HashesBytes s.hash) (few_contracts : length s.contr
     pub record IsLawful (k : Kind) : Type 0 where
       pub legal : Legal c (kind_steps s c w tx spent k)
       pub frame : StepFrame c (after_steps c (kind_steps s c w tx spent k))
-      pub agrees : (next : World) → next.tip ≡ w.tip → next.outputs ≡ spend_from 0 spent w.outputs ++ made_from (new_position s k) (txid s.hash tx) 0 tx.outputs → AgreeOnMoney s (after_steps c (kind_steps s c w tx spent k)) next
+      pub agrees : (next : World) → next.tip ≡ w.tip → next.outputs ≡ spend_from 0 spent w.outputs
+          ++ made_from (new_position s k) (txid s.hash tx) 0 tx.outputs → AgreeOnMoney s (after_steps c (kind_steps s c w tx spent k)) next
 
     lawful_move : first_position w spent ≡ None → IsLawful Moves
     lawful_move e =
@@ -116,7 +123,8 @@ module _ (s : Setup) (size : HashesBytes s.hash) (few_contracts : length s.contr
           agrees = λ next tips outs. agree_move s c w money tx spent can next tips outs;
         }
 
-    module _ (z : List (List ℕ)) (after_it : World) (secrets : KeptSecrets s z c after_it) (begins : BeginsWith z after_it.posted) (named : PromisesNamed s after_it.promises) (promises : after_it.promises ≡ w.promises)
+    module _ (z : List (List ℕ)) (after_it : World) (secrets : KeptSecrets s z c after_it) (begins : BeginsWith z after_it.posted)
+        (named : PromisesNamed s after_it.promises) (promises : after_it.promises ≡ w.promises)
         (posts : (u : List ℕ) → is_among u (items_of tx) ≡ true → is_among u after_it.posted ≡ true) where
       committed : c.committed ≡ map (committed_by s z) w.promises
       committed = secrets.lengths ∙ ap (map (committed_by s z)) promises
@@ -142,7 +150,9 @@ module _ (s : Setup) (size : HashesBytes s.hash) (few_contracts : length s.contr
           record {
             legal = b.legal;
             frame = b.frame;
-            agrees = λ next tips outs. b.agrees next tips (outs ∙ ap (λ x. spend_from 0 spent w.outputs ++ made_from (λ m. branch_holds h.contract (position_path h t.index) x m) (txid s.hash tx) 0 tx.outputs) l);
+            agrees = λ next tips outs. b.agrees next tips
+                (outs ∙ ap (λ x. spend_from 0 spent w.outputs
+                ++ made_from (λ m. branch_holds h.contract (position_path h t.index) x m) (txid s.hash tx) 0 tx.outputs) l);
           }
 
       -- whatever it is

@@ -56,7 +56,8 @@ abbrev pub auth_all : List MoveAuthorisation → Move → List (List ℕ) → Li
 auth_all ms m [] = ms
 auth_all ms m (p ∷ ps) = auth_all (with_authorisation ms p m) m ps
 
-pub after-auths : (m : Move) (ps : List (List ℕ)) (g : Configuration) → after_steps g (map (auth_move m) ps) ≡ record g { move_authorised = auth_all g.move_authorised m ps }
+pub after-auths : (m : Move) (ps : List (List ℕ)) (g : Configuration) → after_steps g (map (auth_move m) ps)
+    ≡ record g { move_authorised = auth_all g.move_authorised m ps }
 after-auths m [] g = refl
 after-auths m (p ∷ ps) g = after-auths m ps (effect g (auth_move m p))
 
@@ -76,7 +77,8 @@ made_more ms p q m h = by_test (has_authorised ms p m)
     by_test true = h
     by_test false = any-append _ ms (record { party = p; action = m } ∷ []) ∙ or_left _ _ h
 
-all_more : (ms : List MoveAuthorisation) (m : Move) (ps : List (List ℕ)) (q : List ℕ) → has_authorised ms q m ≡ true → has_authorised (auth_all ms m ps) q m ≡ true
+all_more : (ms : List MoveAuthorisation) (m : Move) (ps : List (List ℕ)) (q : List ℕ) → has_authorised ms q m ≡ true
+    → has_authorised (auth_all ms m ps) q m ≡ true
 all_more ms m [] q h = h
 all_more ms m (p ∷ ps) q h = all_more (with_authorisation ms p m) m ps q (made_more ms p q m h)
 
@@ -103,7 +105,8 @@ all_gone ms m [] = refl
 all_gone ms m (p ∷ ps) = all_gone (with_authorisation ms p m) m ps ∙ made_gone ms p m
 
 -- each party owns one of the inputs
-pub legal_auths : (m : Move) (ps : List (List ℕ)) (g : Configuration) → spends_live g.deposits m.inputs ≡ true → list_all (λ p. owns_one g.deposits m.inputs p) ps ≡ true → Legal g (map (auth_move m) ps)
+pub legal_auths : (m : Move) (ps : List (List ℕ)) (g : Configuration) → spends_live g.deposits m.inputs ≡ true
+    → list_all (λ p. owns_one g.deposits m.inputs p) ps ≡ true → Legal g (map (auth_move m) ps)
 legal_auths m [] g h k = tt
 legal_auths m (p ∷ ps) g h k =
     let q = and_parts (owns_one g.deposits m.inputs p) (list_all (λ x. owns_one g.deposits m.inputs x) ps) k in

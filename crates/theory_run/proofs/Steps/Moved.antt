@@ -42,7 +42,9 @@ among-filter : (a b : List ℕ) (ps : List (List ℕ)) → is_among b ps ≡ tru
 among-filter a b [] h = cc
 among-filter a b (p ∷ ps) h = by_test (bytes_eq p a) refl (or_cases (bytes_eq p b) (is_among b ps) h) (among-filter a b ps)
   where
-    by_test : (t : Bool) → bytes_eq p a ≡ t → (bytes_eq p b ≡ true) ⊎ (is_among b ps ≡ true) → (is_among b ps ≡ true → (bytes_eq a b || is_among b (filter (λ x. not (bytes_eq x a)) ps)) ≡ true) → (bytes_eq a b || is_among b (cond (not t) (p ∷ filter (λ x. not (bytes_eq x a)) ps) (filter (λ x. not (bytes_eq x a)) ps))) ≡ true
+    by_test : (t : Bool) → bytes_eq p a ≡ t → (bytes_eq p b ≡ true) ⊎ (is_among b ps ≡ true)
+        → (is_among b ps ≡ true → (bytes_eq a b || is_among b (filter (λ x. not (bytes_eq x a)) ps)) ≡ true)
+        → (bytes_eq a b || is_among b (cond (not t) (p ∷ filter (λ x. not (bytes_eq x a)) ps) (filter (λ x. not (bytes_eq x a)) ps))) ≡ true
     by_test true e (inl q) ih = or_left (bytes_eq a b) _ (subst (λ y. bytes_eq y b ≡ true) (bytes-true p a e) q)
     by_test true e (inr q) ih = ih q
     by_test false e (inl q) ih = or_right (bytes_eq a b) _ (or_left _ _ q)
@@ -78,12 +80,15 @@ deposit-inactive k o h = by_case o.live o.holds h
     by_case true (Some p) e = cc
     by_case false p e = refl
 
-untouched : (k : ℕ) (ns : List ℕ) (os : List Output) → ((n : ℕ) → has_number (n + k) ns ≡ true → is_deposit (slice_get os n) ≡ true) → filter (λ x. not (has_number x.number ns)) (actives_from k os) ≡ actives_from k os
+untouched : (k : ℕ) (ns : List ℕ) (os : List Output) → ((n : ℕ) → has_number (n + k) ns ≡ true → is_deposit (slice_get os n) ≡ true)
+    → filter (λ x. not (has_number x.number ns)) (actives_from k os) ≡ actives_from k os
 untouched k ns [] h = refl
 untouched k ns (o ∷ os) h =
     by_seen (active_in k o) refl (untouched (k + 1) ns os (λ n i. let e : n + (k + 1) ≡ suc n + k = omega arith in h (suc n) (rw e at i)))
   where
-    by_seen : (x : Option ActiveContract) → active_in k o ≡ x → filter (λ y. not (has_number y.number ns)) (actives_from (k + 1) os) ≡ actives_from (k + 1) os → filter (λ y. not (has_number y.number ns)) (cons_option x (actives_from (k + 1) os)) ≡ cons_option x (actives_from (k + 1) os)
+    by_seen : (x : Option ActiveContract) → active_in k o ≡ x → filter (λ y. not (has_number y.number ns)) (actives_from (k + 1) os)
+        ≡ actives_from (k + 1) os → filter (λ y. not (has_number y.number ns)) (cons_option x (actives_from (k + 1) os))
+        ≡ cons_option x (actives_from (k + 1) os)
     by_seen None e ih = ih
     by_seen (Some x) e ih =
         let m = active-named k o x e in
@@ -92,7 +97,8 @@ untouched k ns (o ∷ os) h =
         rw f (ap (λ xs. x ∷ xs) ih)
 
 -- where deposits are spent, all contracts stay
-pub actives-untouched : (ns : List ℕ) (os : List Output) → list_all (λ n. is_deposit (slice_get os n)) ns ≡ true → filter (λ x. not (has_number x.number ns)) (actives_from 0 os) ≡ actives_from 0 os
+pub actives-untouched : (ns : List ℕ) (os : List Output) → list_all (λ n. is_deposit (slice_get os n)) ns ≡ true
+    → filter (λ x. not (has_number x.number ns)) (actives_from 0 os) ≡ actives_from 0 os
 actives-untouched ns os h = untouched 0 ns os (λ n i. let e : n + 0 ≡ n = omega arith in all_has (λ m. is_deposit (slice_get os m)) ns n h (rw e at i))
 
 -- ---- what a number stands for on both sides
@@ -162,13 +168,15 @@ module _ (s : Setup) (g : Configuration) (w : World) (agree : AgreeOnMoney s g w
     legal = (passes mid (steps.Move m) (inputs, (afford, (permitted, tt))), tt)
 
     pub legal_move : Legal g (move_steps s w tx ns)
-    legal_move = legal_append g (map (auth_move m) ps) (steps.Move m ∷ []) (legal_auths m ps g inputs owned) (subst (λ d. Legal d (steps.Move m ∷ [])) (sym (after-auths m ps g)) legal)
+    legal_move = legal_append g (map (auth_move m) ps) (steps.Move m ∷ []) (legal_auths m ps g inputs owned)
+        (subst (λ d. Legal d (steps.Move m ∷ [])) (sym (after-auths m ps g)) legal)
 
     pub ends-move : after_steps g (move_steps s w tx ns) ≡ effect mid (steps.Move m)
     ends-move = after-append g (map (auth_move m) ps) (steps.Move m ∷ []) ∙ ap (λ d. effect d (steps.Move m)) (after-auths m ps g)
 
     -- the next world, as far as the calculus sees it
-    pub agree_move : (next : World) → next.tip ≡ w.tip → next.outputs ≡ spend_from 0 ns w.outputs ++ made_from nothing_held (txid s.hash tx) 0 tx.outputs → AgreeOnMoney s (after_steps g (move_steps s w tx ns)) next
+    pub agree_move : (next : World) → next.tip ≡ w.tip → next.outputs ≡ spend_from 0 ns w.outputs
+        ++ made_from nothing_held (txid s.hash tx) 0 tx.outputs → AgreeOnMoney s (after_steps g (move_steps s w tx ns)) next
     agree_move next tips outs = rw ends-move (record {
       time = agree.time ∙ sym tips;
       next =

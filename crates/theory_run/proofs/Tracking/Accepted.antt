@@ -9,14 +9,14 @@ use Rattle.spec_run.specs.Setup.{Setup}
 use Rattle.spec_data.specs.Messages.{noted_all, collision}
 use Rattle.spec_run.specs.World.{World}
 use Rattle.spec_run.specs.Conditions.{IsSetup}
-use Rattle.spec_run.specs.Draft.{settled, guess}
+use Rattle.spec_run.specs.Pending.{applied, guess}
 use Rattle.spec_run.specs.Secrets.{all_secrets, newly_shown}
 use Rattle.spec_bitcoin.specs.Digests.{txid}
 use Rattle.spec_run.specs.Ledger.{items_of, strings_of, accepted, kind_of, new_position, spend_from, made_from}
 use Rattle.spec_run.specs.Steps.{accepted_steps}
 use Rattle.spec_bitcoin.specs.Keys.{Pair}
-use Rattle.theory_world.specs.KeptApart.{NoClash}
-use Rattle.theory_world.proofs.Hashed.{no_clash, among_left, among_right, all_new}
+use Rattle.theory_world.specs.KeptApart.{NoCollision}
+use Rattle.theory_world.proofs.Hashed.{no_collision, among_left, among_right, all_new}
 use Rattle.theory_run.proofs.Facts.Secrets.{different_secrets, after-reveals}
 use Rattle.theory_world.proofs.Ledger.Worth.{IsAccepted}
 use Rattle.theory_world.specs.Transactions.{IsNumbered as Numbered}
@@ -33,28 +33,32 @@ use Rattle.theory_run.specs.Tracks.{AgreeOnMoney, Tracks}
 use Rattle.theory_run.proofs.Tracking.Tracked.{IsTracked}
 
 -- the book may have more pairs than before the event, and what is kept may rest on more messages
-module _ (s : Setup) (setup : IsSetup s) (z : List (List ℕ)) (apart : different_secrets (all_secrets s) ≡ true) (g : Configuration) (w : World) (tracks : Tracks s z g w) (book : List Pair) (known : List (List ℕ))
-    (kept : KeptBook s g (record w { book = book; hashed = known })) (fit : TransactionsFit s (record w { book = book; hashed = known })) (check : Checked s (record w { book = book; hashed = known })) (named : PromisesNamed s w.promises)
-    (tx : Tx) (fits : Numbered tx) (spent : List ℕ) (is : IsAccepted s (record w { book = book; hashed = known }) tx spent) (clear : collision s.hash w.hashed (strings_of s w tx ++ items_of tx) ≡ None) (unguessed : guess s w.posted (items_of tx) None ≡ None)
+module _ (s : Setup) (setup : IsSetup s) (z : List (List ℕ)) (apart : different_secrets (all_secrets s) ≡ true) (g : Configuration)
+    (w : World) (tracks : Tracks s z g w) (book : List Pair) (known : List (List ℕ))
+    (kept : KeptBook s g (record w { book = book; hashed = known })) (fit : TransactionsFit s (record w { book = book; hashed = known }))
+    (check : Checked s (record w { book = book; hashed = known })) (named : PromisesNamed s w.promises)
+    (tx : Tx) (fits : Numbered tx) (spent : List ℕ) (is : IsAccepted s (record w { book = book; hashed = known }) tx spent)
+    (clear : collision s.hash w.hashed (strings_of s w tx ++ items_of tx) ≡ None) (unguessed : guess s w.posted (items_of tx) None ≡ None)
     (within : (t : List ℕ) → is_among t known ≡ true → is_among t (noted_all w.hashed (strings_of s w tx ++ items_of tx)) ≡ true) where
   abbrev seen : World
   seen = record w { book = book; hashed = known }
 
   abbrev pub next : World
-  next = settled w (accepted s (record w { book = book }) tx spent)
+  next = applied w (accepted s (record w { book = book }) tx spent)
 
   abbrev heard : List (List ℕ)
   heard = noted_all w.hashed (strings_of s w tx ++ items_of tx)
 
-  no_more_clash : NoClash s.hash heard
-  no_more_clash = no_clash s.hash w.hashed (strings_of s w tx ++ items_of tx) tracks.secrets.clear clear
+  no_more_collision : NoCollision s.hash heard
+  no_more_collision = no_collision s.hash w.hashed (strings_of s w tx ++ items_of tx) tracks.secrets.clear clear
 
   all : HeardAll s seen heard tx
   all = record { heard = λ t h. all_new w.hashed (strings_of s w tx ++ items_of tx) t (among_left t (strings_of s w tx) (items_of tx) h) }
 
   module _ (begins : Begins z next.posted) where
     shows : Posted s z apart g w next None
-    shows = posted s z apart g w next (strings_of s w tx ++ items_of tx) (items_of tx) None tracks.secrets refl refl refl clear unguessed begins (λ t h. among_right t (strings_of s w tx) (items_of tx) h) (λ a n t h o. cc)
+    shows = posted s z apart g w next (strings_of s w tx ++ items_of tx) (items_of tx) None tracks.secrets refl refl refl clear unguessed
+        begins (λ t h. among_right t (strings_of s w tx) (items_of tx) h) (λ a n t h o. cc)
 
     secrets_mid : KeptSecrets s z (record g { revealed = g.revealed ++ newly_shown s seen next }) next
     secrets_mid = subst (λ c. KeptSecrets s z c next) (after-reveals (newly_shown s w next) g) shows.kept
@@ -72,15 +76,20 @@ module _ (s : Setup) (setup : IsSetup s) (z : List (List ℕ)) (apart : differen
     acc = accepting s seen tx spent is
 
     legal_seen : Legal g (accepted_steps s g seen next spent (Some tx))
-    legal_seen = accepted_legal s setup.hash few g seen kept fit check heard no_more_clash within tx fits spent acc all tracks.constant money tracks.advertised z next secrets_mid begins named refl posts shows.legal
+    legal_seen = accepted_legal s setup.hash few g seen kept fit check heard no_more_collision within tx fits spent acc all tracks.constant
+        money tracks.advertised z next secrets_mid begins named refl posts shows.legal
 
     tracks_seen : Tracks s z (after_steps g (accepted_steps s g seen next spent (Some tx))) next
     tracks_seen =
-        let frame = accepted_frame s setup.hash few g seen kept fit check heard no_more_clash within tx fits spent acc all tracks.constant money tracks.advertised z next secrets_mid begins named refl posts shows.legal in
+        let frame = accepted_frame s setup.hash few g seen kept fit check heard no_more_collision within tx fits spent acc all tracks.constant money tracks.advertised z next secrets_mid begins named refl posts shows.legal in
         record {
-          money = accepted_money s setup.hash few g seen kept fit check heard no_more_clash within tx fits spent acc all tracks.constant money tracks.advertised z next secrets_mid begins named refl posts shows.legal refl (ap (λ k. spend_from 0 spent w.outputs ++ made_from (new_position s k) (txid s.hash tx) 0 tx.outputs) (kinds ∙ sym kinds_seen));
-          secrets = accepted_secrets s setup.hash few g seen kept fit check heard no_more_clash within tx fits spent acc all tracks.constant money tracks.advertised z next secrets_mid begins named refl posts shows.legal;
-          constant = accepted_constant s setup.hash few g seen kept fit check heard no_more_clash within tx fits spent acc all tracks.constant money tracks.advertised z next secrets_mid begins named refl posts shows.legal;
+          money = accepted_money s setup.hash few g seen kept fit check heard no_more_collision within tx fits spent acc all tracks.constant
+              money tracks.advertised z next secrets_mid begins named refl posts shows.legal refl
+              (ap (λ k. spend_from 0 spent w.outputs ++ made_from (new_position s k) (txid s.hash tx) 0 tx.outputs) (kinds ∙ sym kinds_seen));
+          secrets = accepted_secrets s setup.hash few g seen kept fit check heard no_more_collision within tx fits spent acc all
+              tracks.constant money tracks.advertised z next secrets_mid begins named refl posts shows.legal;
+          constant = accepted_constant s setup.hash few g seen kept fit check heard no_more_collision within tx fits spent acc all
+              tracks.constant money tracks.advertised z next secrets_mid begins named refl posts shows.legal;
           advertised = frame.advertised ∙ tracks.advertised;
         }
       where

@@ -16,9 +16,9 @@ use Rattle.spec_run.specs.Setup.{Setup, pre_at, pre_of}
 use Rattle.spec_run.specs.World.{World, output_at}
 use Rattle.spec_run.specs.Owners.{suits}
 use Rattle.spec_run.specs.Conditions.{IsSetup}
-use Rattle.spec_run.specs.Draft.{done}
+use Rattle.spec_run.specs.Pending.{done}
 use Rattle.spec_run.specs.Secrets.{all_secrets}
-use Rattle.spec_run.specs.Advertising.{or_else_this, arranged, repeated, unsuited, deposit_names, are_rearranged, advertise_row, advertise_draft}
+use Rattle.spec_run.specs.Advertising.{or_else_this, arranged, repeated, unsuited, deposit_names, are_rearranged, advertise_row, advertise_pending}
 use Rattle.theory_calculus.proofs.Names.{bytes_refl, different_names, deposits_different}
 use Rattle.theory_calculus.specs.Members.{Is_in}
 use Rattle.theory_run.proofs.Facts.Secrets.{different_secrets}
@@ -31,7 +31,8 @@ use Rattle.theory_run.proofs.Events.Advertised.{all_looked, suits_looked, one_na
 use Rattle.theory_run.proofs.Tracking.Tracked.{Tracked, still, unless_tracked}
 
 -- a deposit that suits fits
-fits_where_suits : (s : Setup) (g : Configuration) (w : World) → AgreeOnMoney s g w → (n : ℕ) (h : Holding) → suits s (Some h) (output_at w n) ≡ true → fits_deposit g.deposits n h.owner h.value ≡ true
+fits_where_suits : (s : Setup) (g : Configuration) (w : World) → AgreeOnMoney s g w → (n : ℕ) (h : Holding)
+    → suits s (Some h) (output_at w n) ≡ true → fits_deposit g.deposits n h.owner h.value ≡ true
 fits_where_suits s g w money n h e = rw (live_there s g w money n, owner_there s g w money n, value_there s g w money n) e
 
 looked_number : (bs : List (List ℕ × ℕ)) (name : List ℕ) → is_some (look_up name bs) ≡ true → look_up name bs ≡ Some (or_else_this 0 (look_up name bs))
@@ -44,7 +45,8 @@ looked_number bs name h = by_value (look_up name bs) h
 module _ (s : Setup) (g : Configuration) (w : World) (money : AgreeOnMoney s g w) (k : ℕ) (bs : List (List ℕ × ℕ))
     (suited : is_some (unsuited s w k bs) ≡ false) (once : is_some (repeated [] bs) ≡ false) where
   -- each deposit is bound to one that fits
-  bound_each : (ds : List (List ℕ × Holding)) → list_all (λ m. is_some (look_up m bs)) (names_of ds) ≡ true → ((d : List ℕ × Holding) → Is_in d ds → look_up (d.0) (deposits (pre_at s k)) ≡ Some (d.1))
+  bound_each : (ds : List (List ℕ × Holding)) → list_all (λ m. is_some (look_up m bs)) (names_of ds) ≡ true
+      → ((d : List ℕ × Holding) → Is_in d ds → look_up (d.0) (deposits (pre_at s k)) ≡ Some (d.1))
       → binds_each g.deposits ds (arranged 0 (names_of ds) bs) ≡ true
   bound_each [] all known = refl
   bound_each (d ∷ ds) all known =
@@ -55,7 +57,8 @@ module _ (s : Setup) (g : Configuration) (w : World) (money : AgreeOnMoney s g w
       and_from _ _ (and_from _ _ (bytes_refl (d.0)) (fits_where_suits s g w money n (d.1) u)) (bound_each ds p.1 (λ e i. known e (inr i)))
 
   -- a name that is bound to the number of another one is that one
-  no_other : (x : List ℕ) (names : List (List ℕ)) → is_some (look_up x bs) ≡ true → list_all (λ m. is_some (look_up m bs)) names ≡ true → is_among x names ≡ false
+  no_other : (x : List ℕ) (names : List (List ℕ)) → is_some (look_up x bs) ≡ true → list_all (λ m. is_some (look_up m bs)) names ≡ true
+      → is_among x names ≡ false
       → list_any (λ c. c.1 == or_else_this 0 (look_up x bs)) (arranged 0 names bs) ≡ false
   no_other x [] h all f = refl
   no_other x (y ∷ names) h all f =
@@ -72,7 +75,8 @@ module _ (s : Setup) (g : Configuration) (w : World) (money : AgreeOnMoney s g w
       by_test true q = cc
       by_test false q = q
 
-  bound_apart : (names : List (List ℕ)) → are_different names ≡ true → list_all (λ m. is_some (look_up m bs)) names ≡ true → are_bound_apart (arranged 0 names bs) ≡ true
+  bound_apart : (names : List (List ℕ)) → are_different names ≡ true → list_all (λ m. is_some (look_up m bs)) names ≡ true
+      → are_bound_apart (arranged 0 names bs) ≡ true
   bound_apart [] d all = refl
   bound_apart (x ∷ names) d all =
       let p = and_parts (is_some (look_up x bs)) (list_all (λ m. is_some (look_up m bs)) names) all in
@@ -80,10 +84,11 @@ module _ (s : Setup) (g : Configuration) (w : World) (money : AgreeOnMoney s g w
       and_from _ _ (not_from_false _ (no_other x names p.0 p.1 (not-true _ q.0))) (bound_apart names q.1 p.1)
 
 module _ (s : Setup) (setup : IsSetup s) (z : List (List ℕ)) (apart : different_secrets (all_secrets s) ≡ true) (g : Configuration) (w : World) (tracks : Tracks s z g w) where
-  pub advertise_tracked : (k : ℕ) (bs : List (List ℕ × ℕ)) → Tracked s z g w (events.Advertise k bs) (advertise_draft s w k bs)
+  pub advertise_tracked : (k : ℕ) (bs : List (List ℕ × ℕ)) → Tracked s z g w (events.Advertise k bs) (advertise_pending s w k bs)
   advertise_tracked k bs =
       let adverts = w.advertised ++ record { contract = k; bindings = arranged 0 (deposit_names s k) bs } ∷ [] in
-      unless_tracked s z apart g w tracks (events.Advertise k bs) (first_reason (advertise_row s w k bs)) [] (done (record w { advertised = adverts }) []) (λ r clear unguessed begins.
+      unless_tracked s z apart g w tracks (events.Advertise k bs) (first_reason (advertise_row s w k bs)) []
+      (done (record w { advertised = adverts }) []) (λ r clear unguessed begins.
       let row = no_reason-none_true (advertise_row s w k bs) r in
       let calm = still s z apart g w tracks g.init_authorised g.branch_authorised g.time w.tip w.book [] tracks.money.time clear in
       record {
@@ -98,14 +103,16 @@ module _ (s : Setup) (setup : IsSetup s) (z : List (List ℕ)) (apart : differen
           tt,
         );
         tracks = record {
-          money = record { time = calm.money.time; next = calm.money.next; deposits = calm.money.deposits; active = calm.money.active; moves = calm.money.moves };
+          money =
+              record { time = calm.money.time; next = calm.money.next; deposits = calm.money.deposits; active = calm.money.active; moves = calm.money.moves };
           secrets = record { lengths = calm.secrets.lengths; revealed = calm.secrets.revealed; known = calm.secrets.known; own = calm.secrets.own; clear = calm.secrets.clear; heard = calm.secrets.heard; once = calm.secrets.once; early = calm.secrets.early; full = calm.secrets.full };
           constant = record { parties = calm.constant.parties; honest = calm.constant.honest; contracts = calm.constant.contracts };
           advertised = ap (λ xs. xs ++ record { contract = k; bindings = arranged 0 (deposit_names s k) bs } ∷ []) tracks.advertised;
         };
       })
     where
-      by_contract : (o : Option Advert) → contract_at s.contracts k ≡ o → is_some o ≡ true → are_rearranged (names_of bs) (deposit_names s k) ≡ true → is_some (repeated [] bs) ≡ false → is_some (unsuited s w k bs) ≡ false
+      by_contract : (o : Option Advert) → contract_at s.contracts k ≡ o → is_some o ≡ true
+          → are_rearranged (names_of bs) (deposit_names s k) ≡ true → is_some (repeated [] bs) ≡ false → is_some (unsuited s w k bs) ≡ false
           → binds g.deposits (calculus_pre (contract_at g.contracts k)) (arranged 0 (deposit_names s k) bs) ≡ true
       by_contract None e h r o u = cc
       by_contract (Some a) e h r o u =

@@ -18,10 +18,10 @@ use Rattle.spec_run.specs.Compiled.{compiled_instance}
 use Rattle.spec_run.specs.Conditions.{IsSetup, IsEvent}
 use Rattle.spec_run.specs.Secrets.{all_secrets}
 use Rattle.spec_run.specs.Signing.{signed_all, with_pairs}
-use Rattle.spec_run.specs.Giving.{give_row, given_pairs, gift, give_draft}
+use Rattle.spec_run.specs.Giving.{give_row, given_pairs, gift, give_pending}
 use Rattle.spec_run.specs.Firing.{initial_by, taking_of_position, reaches_if, fire_init_row, fire_row}
 use Rattle.spec_run.specs.Ledger.{verdict_in, strings_of, items_of, judged, reaches}
-use Rattle.spec_run.specs.Event.{append_read, draft}
+use Rattle.spec_run.specs.Event.{append_read, pending}
 use Rattle.theory_world.proofs.Hashed.{all_more}
 use Rattle.theory_run.proofs.Facts.Secrets.{different_secrets}
 use Rattle.theory_world.specs.Transactions.{IsNumbered}
@@ -38,7 +38,8 @@ use Rattle.theory_run.proofs.Tracking.Secrets.{post_tracked, reveal_tracked, com
 use Rattle.theory_run.proofs.Tracking.Adverts.{advertise_tracked}
 use Rattle.theory_run.proofs.Tracking.Accepted.{accepted_tracked}
 
-module _ (s : Setup) (setup : IsSetup s) (z : List (List ℕ)) (apart : different_secrets (all_secrets s) ≡ true) (g : Configuration) (w : World) (tracks : Tracks s z g w)
+module _ (s : Setup) (setup : IsSetup s) (z : List (List ℕ)) (apart : different_secrets (all_secrets s) ≡ true) (g : Configuration)
+    (w : World) (tracks : Tracks s z g w)
     (kept : KeptBook s g w) (fit : TransactionsFit s w) (check : Checked s w) (named : PromisesNamed s w.promises) where
   -- ---- a transaction reaches the ledger
 
@@ -48,7 +49,8 @@ module _ (s : Setup) (setup : IsSetup s) (z : List (List ℕ)) (apart : differen
       by_verdict : (v : Verdict) → verdict_in s w tx ≡ v → Tracked s z g w e (judged s w w tx v)
       by_verdict (verdicts.Refused r) h = refused_tracked s z apart g w tracks e (strings_of s w tx) (reason.Ledger r)
       by_verdict (verdicts.Accepted spent made) h = λ clear unguessed begins.
-          accepted_tracked s setup z apart g w tracks w.book w.hashed kept fit check named tx fits spent (accepted_by s w tx spent made h) clear unguessed (λ t k. all_more w.hashed (strings_of s w tx ++ items_of tx) t k) begins e
+          accepted_tracked s setup z apart g w tracks w.book w.hashed kept fit check named tx fits spent (accepted_by s w tx spent made h)
+          clear unguessed (λ t k. all_more w.hashed (strings_of s w tx ++ items_of tx) t k) begins e
 
   reaches_if_tracked : (e : Event) (o : Option Tx) → ((tx : Tx) → o ≡ Some tx → IsNumbered tx) → Tracked s z g w e (reaches_if s w o)
   reaches_if_tracked e None fits = refused_tracked s z apart g w tracks e [] reason.NotCompiled
@@ -69,21 +71,26 @@ module _ (s : Setup) (setup : IsSetup s) (z : List (List ℕ)) (apart : differen
     abbrev given : Tx
     given = gift s w party inputs outputs
 
-    given_tracked : NoneTrue (give_row s w party inputs outputs) → (v : Verdict) → verdict_in s (with_pairs w pairs) given ≡ v → Tracked s z g w giving (judged s w (with_pairs w pairs) given v)
+    given_tracked : NoneTrue (give_row s w party inputs outputs) → (v : Verdict) → verdict_in s (with_pairs w pairs) given ≡ v
+        → Tracked s z g w giving (judged s w (with_pairs w pairs) given v)
     given_tracked row (verdicts.Refused r) h = refused_tracked s z apart g w tracks giving (strings_of s (with_pairs w pairs) given) (reason.Ledger r)
     given_tracked row (verdicts.Accepted spent made) h = λ clear unguessed begins.
         let hs = noted_all w.hashed (strings_of s w given ++ items_of given) in
         let signed : KeptBook s g (record w { book = signed_all w.book pairs; hashed = hs }) =
         signed_kept s setup.hash setup.few_contracts z g w kept fit check tracks.secrets.clear party declared inputs outputs few row spent made h clear in
-        accepted_tracked s setup z apart g w tracks (signed_all w.book pairs) hs signed (record { initial = fit.initial; branch = fit.branch }) (record { checked = check.checked; committed = check.committed }) named given
-        (gift_numbered s setup.hash setup.few_contracts z g w kept fit check tracks.secrets.clear party declared inputs outputs few row) spent (accepted_by s (record w { book = signed_all w.book pairs; hashed = hs }) given spent made h) clear unguessed (λ t k. k) begins giving
+        accepted_tracked s setup z apart g w tracks (signed_all w.book pairs) hs signed
+        (record { initial = fit.initial; branch = fit.branch }) (record { checked = check.checked; committed = check.committed }) named given
+        (gift_numbered s setup.hash setup.few_contracts z g w kept fit check tracks.secrets.clear party declared inputs outputs few row)
+        spent (accepted_by s (record w { book = signed_all w.book pairs; hashed = hs }) given spent made h) clear unguessed (λ t k. k) begins giving
 
-    give_tracked : Tracked s z g w giving (give_draft s w party inputs outputs)
-    give_tracked = unless_tracked s z apart g w tracks giving (first_reason (give_row s w party inputs outputs)) [] (reaches s w (with_pairs w pairs) given) (λ r. given_tracked (no_reason-none_true (give_row s w party inputs outputs) r) (verdict_in s (with_pairs w pairs) given) refl)
+    give_tracked : Tracked s z g w giving (give_pending s w party inputs outputs)
+    give_tracked = unless_tracked s z apart g w tracks giving (first_reason (give_row s w party inputs outputs)) []
+        (reaches s w (with_pairs w pairs) given)
+        (λ r. given_tracked (no_reason-none_true (give_row s w party inputs outputs) r) (verdict_in s (with_pairs w pairs) given) refl)
 
   -- ---- every event
 
-  pub tracked_after : (e : Event) → IsEvent s e → Tracked s z g w e (draft s w e)
+  pub tracked_after : (e : Event) → IsEvent s e → Tracked s z g w e (pending s w e)
   tracked_after (events.Advertise k bs) is = advertise_tracked s setup z apart g w tracks k bs
   tracked_after (events.Commit k party ds) is = commit_tracked s z apart g w tracks k party ds
   tracked_after (events.Endorse k party) is = endorse_tracked s z apart g w tracks k party
@@ -94,8 +101,13 @@ module _ (s : Setup) (setup : IsSetup s) (z : List (List ℕ)) (apart : differen
   tracked_after (events.Sign party label digest) is = sign_tracked s z apart g w tracks party label digest
   tracked_after (events.Give party inputs outputs) is = give_tracked party inputs outputs is.giver is.few_outputs
   tracked_after (events.Append bytes) is = append_tracked (events.Append bytes) (transaction_of bytes) (λ tx h. piece_numbered bytes is tx h)
-  tracked_after (events.FireInit k) is = unless_tracked s z apart g w tracks (events.FireInit k) (first_reason (fire_init_row s w k)) [] (reaches_if s w (initial_by s (compiled_instance s w k)))
-      (λ r. reaches_if_tracked (events.FireInit k) (initial_by s (compiled_instance s w k)) (started_numbered s setup.hash setup.few_contracts z g w kept fit check tracks.secrets.clear k))
-  tracked_after (events.Fire n j) is = unless_tracked s z apart g w tracks (events.Fire n j) (first_reason (fire_row s w n j)) [] (reaches_if s w (taking_of_position s w (live_position_at w n) j))
-      (λ r. reaches_if_tracked (events.Fire n j) (taking_of_position s w (live_position_at w n) j) (taken_numbered s setup.hash setup.few_contracts z g w kept fit check tracks.secrets.clear n j))
+  tracked_after (events.FireInit k) is =
+      unless_tracked s z apart g w tracks (events.FireInit k) (first_reason (fire_init_row s w k)) [] (reaches_if s w (initial_by s (compiled_instance s w k)))
+      (λ r. reaches_if_tracked (events.FireInit k) (initial_by s (compiled_instance s w k))
+      (started_numbered s setup.hash setup.few_contracts z g w kept fit check tracks.secrets.clear k))
+  tracked_after (events.Fire n j) is =
+      unless_tracked s z apart g w tracks (events.Fire n j) (first_reason (fire_row s w n j)) []
+      (reaches_if s w (taking_of_position s w (live_position_at w n) j))
+      (λ r. reaches_if_tracked (events.Fire n j) (taking_of_position s w (live_position_at w n) j)
+      (taken_numbered s setup.hash setup.few_contracts z g w kept fit check tracks.secrets.clear n j))
   tracked_after (events.Mine blocks) is = mine_tracked s z apart g w tracks blocks is

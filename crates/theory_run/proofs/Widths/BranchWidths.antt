@@ -55,8 +55,11 @@ module _ (hash : List ℕ → List ℕ) (size : HashesBytes hash) (st : Instance
   length_parts path k no_part = refl
   length_parts path k (part v c ps) = ap suc (length_parts path (k + 1) ps)
 
-  outputs_fit : (path : List PathStep) (v : ℕ) (c : term.Guarded) → is_readable_branch c ≡ true → v ≤ max_money → ((puts reveals : List (List ℕ)) (test : term.Pred) (next : Contract) → c ≡ put_reveal puts reveals test next → continued_value st v puts ≤ max_money) → AllByRecursion IsOutput (core_outputs hash st path v c)
-  outputs_fit path v (put_reveal puts reveals test next) r l f = (output_fits hash size (position_script hash st path next) (continued_value st v puts) (f puts reveals test next refl), tt)
+  outputs_fit : (path : List PathStep) (v : ℕ) (c : term.Guarded) → is_readable_branch c ≡ true → v ≤ max_money
+      → ((puts reveals : List (List ℕ)) (test : term.Pred) (next : Contract) → c ≡ put_reveal puts reveals test next
+      → continued_value st v puts ≤ max_money) → AllByRecursion IsOutput (core_outputs hash st path v c)
+  outputs_fit path v (put_reveal puts reveals test next) r l f =
+      (output_fits hash size (position_script hash st path next) (continued_value st v puts) (f puts reveals test next refl), tt)
   outputs_fit path v (withdraw party) r l f = (output_fits hash size (party_script hash party) (v - st.advert.fee) (omega (arith, l)), tt)
   outputs_fit path v (split ps) r l f = parts_fit path 0 ps (and_parts (is_readable_split ps) (are_readable_parts ps) r).1
   outputs_fit path v (auth party body) r l f = tt
@@ -86,15 +89,18 @@ module _ (hash : List ℕ → List ℕ) (size : HashesBytes hash) (st : Instance
   outputs_short path v (after height body) = tt
 
   -- its outputs have few bytes
-  pub branch_size : (here : Standing) (i : ℕ) (b : term.Guarded) → is_readable_branch b ≡ true → length (flat_map output_bytes (tx_of (branch_unsigned hash st here i b)).outputs) < 2 ^ 32
+  pub branch_size : (here : Standing) (i : ℕ) (b : term.Guarded) → is_readable_branch b ≡ true
+      → length (flat_map output_bytes (tx_of (branch_unsigned hash st here i b)).outputs) < 2 ^ 32
   branch_size here i b readable =
       let n = outputs_few (branch_path here.position i) here.output.value (core b) (core_readable b readable) in
       let l = short_bytes (core_outputs hash st (branch_path here.position i) here.output.value (core b)) (outputs_short (branch_path here.position i) here.output.value (core b)) in
       omega (arith, n, l)
 
   -- the transaction of a readable branch whose puts lie at places, and are few
-  pub branch_fits : IsWellFormed st.advert → (q : List PathStep) (here : Standing) (choice : Contract) (i : ℕ) (b : term.Guarded) → position_at hash st q ≡ Some (here, choice) → slice_get (branches choice) i ≡ Some b → is_readable_branch b ≡ true
-      → ((x : Spent) → Is_in x (put_deposits hash st (puts_of (core b))) → IsPlace x.outpoint) → length (put_deposits hash st (puts_of (core b))) + 1 < 2 ^ 64 → IsTransaction (tx_of (branch_unsigned hash st here i b))
+  pub branch_fits : IsWellFormed st.advert → (q : List PathStep) (here : Standing) (choice : Contract) (i : ℕ) (b : term.Guarded)
+      → position_at hash st q ≡ Some (here, choice) → slice_get (branches choice) i ≡ Some b → is_readable_branch b ≡ true
+      → ((x : Spent) → Is_in x (put_deposits hash st (puts_of (core b))) → IsPlace x.outpoint)
+      → length (put_deposits hash st (puts_of (core b))) + 1 < 2 ^ 64 → IsTransaction (tx_of (branch_unsigned hash st here i b))
   branch_fits well q here choice i b stands there readable places few =
       let l = lock_low b readable in
       let r = core_readable b readable in
@@ -107,6 +113,7 @@ module _ (hash : List ℕ → List ℕ) (size : HashesBytes hash) (st : Instance
         inputs = inputs_fit (here.output ∷ put_deposits hash st (puts_of (core b))) (λ x j. elim j [ inl e ↦ subst (λ (y : Spent). IsPlace y.outpoint) (sym e) (position_place hash size st well q here choice stands) | inr k ↦ places x k ]);
         few_outputs = let f = outputs_few (branch_path here.position i) here.output.value (core b) r in omega (arith, f);
         outputs = outputs_fit (branch_path here.position i) here.output.value (core b) r v
-            (λ puts reveals test next e. position_little hash st well (q ++ To i ∷ []) _ next (put_position hash st q here choice i b puts reveals test next stands there e));
+            (λ puts reveals test next e. position_little hash st well (q ++ To i ∷ []) _ next
+            (put_position hash st q here choice i b puts reveals test next stands there e));
         lock = omega (arith, l);
       }

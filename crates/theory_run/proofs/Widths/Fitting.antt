@@ -116,7 +116,8 @@ module _ (s : Setup) (is : IsSetup s) (w : World) (adverts : (k : ℕ) → is_ad
       let a = bound_at s w adverts k st c (d.0) (d.1) i in
       subst IsPlace (sym a.outpoint) (placed a.number a.bound.output a.bound.there)
 
-  persistent_place : (ds : List (List ℕ × Holding)) → ((d : List ℕ × Holding) → Is_in d ds → Is_in d (deposits st.advert.pre)) → (x : Spent) → Is_in x (map (λ (d : List ℕ × Holding). deposit s.hash st d.0 d.1) ds) → IsPlace x.outpoint
+  persistent_place : (ds : List (List ℕ × Holding)) → ((d : List ℕ × Holding) → Is_in d ds → Is_in d (deposits st.advert.pre)) → (x : Spent)
+      → Is_in x (map (λ (d : List ℕ × Holding). deposit s.hash st d.0 d.1) ds) → IsPlace x.outpoint
   persistent_place [] f x h = absurd h
   persistent_place (d ∷ ds) f x (inl e) = subst (λ (y : Spent). IsPlace y.outpoint) (sym e) (bound_place d (f d (inl refl)))
   persistent_place (d ∷ ds) f x (inr i) = persistent_place ds (λ y j. f y (inr j)) x i

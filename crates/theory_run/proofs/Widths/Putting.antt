@@ -47,7 +47,8 @@ length_without : (x : List ℕ) (ys : List (List ℕ)) → is_among x ys ≡ tru
 length_without x [] h = cc
 length_without x (y ∷ ys) h = by_test (bytes_eq y x) h (length_without x ys)
   where
-    by_test : (b : Bool) → (b || is_among x ys) ≡ true → (is_among x ys ≡ true → length ys ≡ suc (length (without x ys))) → suc (length ys) ≡ suc (length (if b then ys else y ∷ without x ys))
+    by_test : (b : Bool) → (b || is_among x ys) ≡ true → (is_among x ys ≡ true → length ys ≡ suc (length (without x ys))) → suc (length ys)
+        ≡ suc (length (if b then ys else y ∷ without x ys))
     by_test true e ih = refl
     by_test false e ih = ap suc (ih e)
 
@@ -55,13 +56,15 @@ among_without : (x z : List ℕ) (ys : List (List ℕ)) → bytes_eq z x ≡ fal
 among_without x z [] h k = cc
 among_without x z (y ∷ ys) h k = by_test (bytes_eq y x) refl (or_cases (bytes_eq y z) (is_among z ys) k) (among_without x z ys h)
   where
-    by_test : (b : Bool) → bytes_eq y x ≡ b → (bytes_eq y z ≡ true) ⊎ (is_among z ys ≡ true) → (is_among z ys ≡ true → is_among z (without x ys) ≡ true) → is_among z (if b then ys else y ∷ without x ys) ≡ true
+    by_test : (b : Bool) → bytes_eq y x ≡ b → (bytes_eq y z ≡ true) ⊎ (is_among z ys ≡ true)
+        → (is_among z ys ≡ true → is_among z (without x ys) ≡ true) → is_among z (if b then ys else y ∷ without x ys) ≡ true
     by_test true e (inl q) ih = absurd (both_ways _ h (subst (λ t. bytes_eq t x ≡ true) (bytes-true y z q) e))
     by_test true e (inr q) ih = q
     by_test false e (inl q) ih = or_left _ _ q
     by_test false e (inr q) ih = or_right (bytes_eq y z) _ (ih q)
 
-all_without : (x : List ℕ) (xs ys : List (List ℕ)) → is_among x xs ≡ false → list_all (λ z. is_among z ys) xs ≡ true → list_all (λ z. is_among z (without x ys)) xs ≡ true
+all_without : (x : List ℕ) (xs ys : List (List ℕ)) → is_among x xs ≡ false → list_all (λ z. is_among z ys) xs ≡ true
+    → list_all (λ z. is_among z (without x ys)) xs ≡ true
 all_without x [] ys h k = refl
 all_without x (z ∷ xs) ys h k =
     let a = or_parts (bytes_eq z x) (is_among x xs) h in
@@ -94,13 +97,16 @@ few_names a h =
     grind (arith, nat_tests, q, l)
 
 module _ (s : Setup) (is : IsSetup s) (w : World) (adverts : (k : ℕ) → is_advertised w k ≡ true → AdvertFine s w k) (placed : (n : ℕ) (o : Output) → slice_get w.outputs n ≡ Some o → IsPlace o.outpoint) where
-  put_places : (k : ℕ) (st : Instance) (c : compiled_instance s w k ≡ Some st) (puts : List (List ℕ)) → list_all (λ n. is_among n (names_of (volatile st.advert.pre))) puts ≡ true → (x : Spent) → Is_in x (put_deposits s.hash st puts) → IsPlace x.outpoint
+  put_places : (k : ℕ) (st : Instance) (c : compiled_instance s w k ≡ Some st) (puts : List (List ℕ))
+      → list_all (λ n. is_among n (names_of (volatile st.advert.pre))) puts ≡ true → (x : Spent) → Is_in x (put_deposits s.hash st puts) → IsPlace x.outpoint
   put_places k st c [] h x i = absurd i
   put_places k st c (n ∷ puts) h x (inl e) =
       let r = volatile_named st.advert.pre n (and_parts (is_among n (names_of (volatile st.advert.pre))) (list_all (λ m. is_among m (names_of (volatile st.advert.pre))) puts) h).0 in
       let p = bound_place s is w adverts placed k st c (n, r.0) r.2 in
       subst (λ (y : Spent). IsPlace y.outpoint) (sym e) p
-  put_places k st c (n ∷ puts) h x (inr i) = put_places k st c puts (and_parts (is_among n (names_of (volatile st.advert.pre))) (list_all (λ m. is_among m (names_of (volatile st.advert.pre))) puts) h).1 x i
+  put_places k st c (n ∷ puts) h x (inr i) =
+      put_places k st c puts (and_parts (is_among n (names_of (volatile st.advert.pre)))
+      (list_all (λ m. is_among m (names_of (volatile st.advert.pre))) puts) h).1 x i
 
   -- every compiled transaction has numbers within their widths
   pub all_fit : TransactionsFit s w
@@ -116,7 +122,9 @@ module _ (s : Setup) (is : IsSetup s) (w : World) (adverts : (k : ℕ) → is_ad
         let l = few_names st.advert well in
         let m = length_map (λ name. deposit s.hash st name (holding_or_none (look_up name (volatile st.advert.pre)))) (puts_of (core b)) in
         let readable = branch_is_readable s.hash st well q here choice i b stand there in
-        numbered (tx_of (branch_unsigned s.hash st here i b)) (branch_fits s.hash is.hash st well q here choice i b stand there readable (put_places k st c (puts_of (core b)) known) (omega (arith, n, l, m))) (branch_size s.hash is.hash st here i b readable);
+        numbered (tx_of (branch_unsigned s.hash st here i b))
+        (branch_fits s.hash is.hash st well q here choice i b stand there readable (put_places k st c (puts_of (core b)) known)
+        (omega (arith, n, l, m))) (branch_size s.hash is.hash st here i b readable);
   }
 
 pub transactions_fit : (s : Setup) → IsSetup s → (g : Configuration) (w : World) → KeptBook s g w → TransactionsFit s w

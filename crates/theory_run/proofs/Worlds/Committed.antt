@@ -16,12 +16,12 @@ use Rattle.spec_run.specs.declared.outcome.Reason.{Reason}
 use Rattle.spec_run.specs.Setup.{Setup, contract_at, pre_of, is_honest}
 use Rattle.spec_run.specs.World.{Promise, World}
 use Rattle.spec_run.specs.Conditions.{IsSetup}
-use Rattle.spec_run.specs.Draft.{Draft, unless}
+use Rattle.spec_run.specs.Pending.{Pending, unless}
 use Rattle.spec_run.specs.Advertising.{or_else_this, arranged, advertise_row}
 use Rattle.spec_run.specs.Committing.{secrets_at, own_digests, committed_digests, committed_strings, commit_row, digest_row, used_digests}
 use Rattle.spec_run.specs.Committing.{used_again}
-use Rattle.spec_run.specs.Committing.{with_promise, committed_draft}
-use Rattle.spec_run.specs.Event.{Passed, draft}
+use Rattle.spec_run.specs.Committing.{with_promise, committed_pending}
+use Rattle.spec_run.specs.Event.{Passed, pending}
 use Rattle.spec_run.specs.Translation.{world_after}
 use Rattle.theory_calculus.proofs.Names.{bytes-true, among-append, different_names}
 use Rattle.theory_run.specs.WorldsOfRuns.{IsOfOwnSecrets}
@@ -167,19 +167,19 @@ module _ (s : Setup) (setup : IsSetup s) where
 
   -- ---- every event
 
-  unless_apart : (w : World) (r : Option Reason) (hashes : List (List ℕ)) (d : Draft) → KeptApart s w.promises
+  unless_apart : (w : World) (r : Option Reason) (hashes : List (List ℕ)) (d : Pending) → KeptApart s w.promises
       → (r ≡ None → KeptApart s d.world.promises) → KeptApart s (unless r w hashes d).world.promises
   unless_apart w None hashes d kept h = h refl
   unless_apart w (Some r) hashes d kept h = kept
 
-  quiet_apart : (w : World) (e : Event) → IsQuiet e → KeptApart s w.promises → KeptApart s (draft s w e).world.promises
+  quiet_apart : (w : World) (e : Event) → IsQuiet e → KeptApart s w.promises → KeptApart s (pending s w e).world.promises
   quiet_apart w e q kept = let t = told_stays s w e q in subst (KeptApart s) (sym t.promises) kept
 
-  apart_after : (w : World) (e : Event) → KeptApart s w.promises → KeptApart s (draft s w e).world.promises
+  apart_after : (w : World) (e : Event) → KeptApart s w.promises → KeptApart s (pending s w e).world.promises
   apart_after w (events.Advertise k bs) kept = unless_apart w (first_reason (advertise_row s w k bs)) [] _ kept (λ r. kept)
   apart_after w (events.Commit k a ds) kept =
       let strings = committed_strings s k a in
-      let last = committed_draft s (with_promise s w k a ds) k a strings in
+      let last = committed_pending s (with_promise s w k a ds) k a strings in
       unless_apart w (first_reason (commit_row s w k a ds)) [] (unless (first_reason (digest_row s w k a ds)) w strings last) kept (λ r.
       let row = no_reason-none_true (commit_row s w k a ds) r in
       unless_apart w (first_reason (digest_row s w k a ds)) strings last kept (λ q.
@@ -202,6 +202,6 @@ module _ (s : Setup) (setup : IsSetup s) where
   pub committed_apart : (ps : List Passed) (w : World) → AllPassed s w ps → KeptApart s w.promises → KeptApart s (world_after w ps).promises
   committed_apart [] w h kept = kept
   committed_apart (p ∷ ps) w h kept =
-      let next : KeptApart s p.draft.world.promises =
-      subst (λ (d : Draft). KeptApart s d.world.promises) (sym h.0.draft) (apart_after w p.event kept) in
+      let next : KeptApart s p.pending.world.promises =
+      subst (λ (d : Pending). KeptApart s d.world.promises) (sym h.0.pending) (apart_after w p.event kept) in
       committed_apart ps p.world h.1 (subst (λ (v : World). KeptApart s v.promises) (sym h.0.world) next)

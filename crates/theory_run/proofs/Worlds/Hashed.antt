@@ -14,19 +14,19 @@ noted-append ms [] ys = refl
 noted-append ms (x ∷ xs) ys = noted-append (noted ms x) xs ys
 
 pub hashed_after : (s : Setup) (ps : List Passed) (w : World) → AllPassed s w ps
-    → (world_after w ps).hashed ≡ noted_all w.hashed (flat_map (λ p. p.draft.hashes) ps)
+    → (world_after w ps).hashed ≡ noted_all w.hashed (flat_map (λ p. p.pending.hashes) ps)
 hashed_after s [] w h = refl
 hashed_after s (p ∷ ps) w h =
     hashed_after s ps p.world h.1
-    ∙ ap (λ (v : World). noted_all v.hashed (flat_map (λ p. p.draft.hashes) ps)) h.0.world
-    ∙ sym (noted-append w.hashed p.draft.hashes (flat_map (λ p. p.draft.hashes) ps))
-    ∙ ap (noted_all w.hashed) (sym (flat_map-cons (λ (q : Passed). q.draft.hashes) p ps))
+    ∙ ap (λ (v : World). noted_all v.hashed (flat_map (λ p. p.pending.hashes) ps)) h.0.world
+    ∙ sym (noted-append w.hashed p.pending.hashes (flat_map (λ p. p.pending.hashes) ps))
+    ∙ ap (noted_all w.hashed) (sym (flat_map-cons (λ (q : Passed). q.pending.hashes) p ps))
 
 pub posted_after : (s : Setup) (ps : List Passed) (w : World) → AllPassed s w ps
-    → (world_after w ps).posted ≡ w.posted ++ flat_map (λ p. p.draft.posts) ps
+    → (world_after w ps).posted ≡ w.posted ++ flat_map (λ p. p.pending.posts) ps
 posted_after s [] w h = sym (append-nil w.posted)
 posted_after s (p ∷ ps) w h =
     posted_after s ps p.world h.1
-    ∙ ap (λ (v : World). v.posted ++ flat_map (λ p. p.draft.posts) ps) h.0.world
-    ∙ append_assoc w.posted p.draft.posts (flat_map (λ p. p.draft.posts) ps)
-    ∙ ap (λ xs. w.posted ++ xs) (sym (flat_map-cons (λ (q : Passed). q.draft.posts) p ps))
+    ∙ ap (λ (v : World). v.posted ++ flat_map (λ p. p.pending.posts) ps) h.0.world
+    ∙ append_assoc w.posted p.pending.posts (flat_map (λ p. p.pending.posts) ps)
+    ∙ ap (λ xs. w.posted ++ xs) (sym (flat_map-cons (λ (q : Passed). q.pending.posts) p ps))

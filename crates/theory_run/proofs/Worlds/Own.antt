@@ -12,11 +12,11 @@ use Rattle.spec_run.specs.Setup.{Setup}
 use Rattle.spec_run.specs.World.{World}
 use Rattle.spec_run.specs.Conditions.{IsSetup}
 use Rattle.spec_run.specs.Signing.{label_party}
-use Rattle.spec_run.specs.Event.{draft, opening_world}
+use Rattle.spec_run.specs.Event.{pending, opening_world}
 use Rattle.spec_run.specs.Translation.{Turn, record_in, opening_configuration, course, last_or, last_world}
 use Rattle.spec_run.specs.Statements.{Claim, IsRun, HoldsFrom}
 use Rattle.theory_run.specs.OwnSignatures.{own_pairs, own_pairs_from, own_pairs_in}
-use Rattle.theory_world.specs.KeptApart.{NoClash}
+use Rattle.theory_world.specs.KeptApart.{NoCollision}
 use Rattle.theory_world.proofs.Hashed.{all_more}
 use Rattle.theory_world.proofs.Book.{signed-append}
 use Rattle.theory_run.proofs.Following.{Keeps, run_posts, holds_throughout}
@@ -27,7 +27,7 @@ use Rattle.theory_run.proofs.Worlds.OwnSigned.{signed_step}
 -- an event leaves the messages there, and the pairs under a party's key that it adds are those that the party signs
 pub record SignsOwn (s : Setup) (w : World) (t : Turn) : Type 0 where
   pub more : (m : List ℕ) → is_among m w.hashed ≡ true → is_among m t.world.hashed ≡ true
-  pub own : (hs : List (List ℕ)) → NoClash s.hash hs → ((m : List ℕ) → is_among m t.world.hashed ≡ true → is_among m hs ≡ true)
+  pub own : (hs : List (List ℕ)) → NoCollision s.hash hs → ((m : List ℕ) → is_among m t.world.hashed ≡ true → is_among m hs ≡ true)
       → (l : Label) → IsLabel l → is_among (label_text l) hs ≡ true → (x : List ℕ)
       → has_signed t.world.book (key_of s.hash l) x
       ≡ (has_signed w.book (key_of s.hash l) x || has_signed (own_pairs s (label_party l) w t.event t.outcome) (key_of s.hash l) x)
@@ -39,11 +39,11 @@ keeps_own : (s : Setup) → IsSetup s → (z : List (List ℕ)) → Keeps s (sig
 keeps_own s setup z = record {
   step = λ before g w e k is calm unguessed begins. (
     record {
-      more = λ m h. all_more w.hashed (draft s w e).hashes m h;
+      more = λ m h. all_more w.hashed (pending s w e).hashes m h;
       own = λ hs clear sub l fine heard x.
           let books = k.books in
           signed_step s setup.hash setup.few_contracts g w books.book (checks s setup g w books) books.clear books.labels
-          hs (λ m h. sub m (all_more w.hashed (draft s w e).hashes m h)) clear e is sub l fine heard x;
+          hs (λ m h. sub m (all_more w.hashed (pending s w e).hashes m h)) clear e is sub l fine heard x;
     },
     run_after s setup z g w k e is calm unguessed begins,
   );
@@ -60,7 +60,7 @@ module _ (s : Setup) where
   more_at_end [] before g w h m i = i
   more_at_end (t ∷ ts) before g w h m i = more_at_end ts (before ++ record_in t ∷ []) t.configuration t.world h.1 m (h.0.more m i)
 
-  module _ (hs : List (List ℕ)) (clear : NoClash s.hash hs) (l : Label) (fine : IsLabel l) (heard : is_among (label_text l) hs ≡ true)
+  module _ (hs : List (List ℕ)) (clear : NoCollision s.hash hs) (l : Label) (fine : IsLabel l) (heard : is_among (label_text l) hs ≡ true)
       (x : List ℕ) where
     signed_from : (ts : List Turn) (before : List Record) (g : Configuration) (w : World) → HoldsFrom (signs_own s) before g w ts
         → ((m : List ℕ) → is_among m (end w ts).hashed ≡ true → is_among m hs ≡ true)
@@ -80,7 +80,7 @@ module _ (s : Setup) where
         ∙ ap (λ b. has_signed w.book key x || b) (sym (signed-append first rest key x))
 
 -- under the key of a label that was hashed stand exactly the pairs that the label's party has signed
-pub own_signatures : (s : Setup) (es : List Event) → IsRun s es → NoClash s.hash (last_world s es).hashed
+pub own_signatures : (s : Setup) (es : List Event) → IsRun s es → NoCollision s.hash (last_world s es).hashed
     → (l : Label) (x : List ℕ) → IsLabel l → is_among (label_text l) (last_world s es).hashed ≡ true
     → has_signed (last_world s es).book (key_of s.hash l) x ≡ has_signed (own_pairs_in s (label_party l) es) (key_of s.hash l) x
 own_signatures s es run clear l x fine heard =

@@ -20,7 +20,7 @@ use Rattle.spec_run.specs.Setup.{Setup}
 use Rattle.spec_run.specs.World.{World, live_position_at}
 use Rattle.spec_run.specs.Compiled.{compiled_instance}
 use Rattle.spec_run.specs.Conditions.{HashesBytes, IsEvent}
-use Rattle.spec_run.specs.Draft.{Draft, done, unless, settled}
+use Rattle.spec_run.specs.Pending.{Pending, done, unless, applied}
 use Rattle.spec_run.specs.Signing.{with_pairs, signed_all, endorse_row, init_row}
 use Rattle.spec_run.specs.Signing.{authorise_row, label_party, sign_row}
 use Rattle.spec_run.specs.Advertising.{advertise_row}
@@ -30,11 +30,11 @@ use Rattle.spec_run.specs.Giving.{given_pairs, give_row, gift}
 use Rattle.spec_run.specs.Firing.{initial_by, taking_of_position, reaches_if, fire_init_row, fire_row}
 use Rattle.spec_run.specs.Ledger.{verdict_in, judged}
 use Rattle.spec_run.specs.Values.{is_refused}
-use Rattle.spec_run.specs.Event.{append_read, mine_row, draft}
+use Rattle.spec_run.specs.Event.{append_read, mine_row, pending}
 use Rattle.theory_run.specs.OwnSignatures.{is_signer, event_pairs, signed_pairs, own_pairs}
 use Rattle.theory_bitcoin.proofs.Labels.{one_label}
 use Rattle.theory_calculus.proofs.Names.{bytes-true, bytes_refl}
-use Rattle.theory_world.specs.KeptApart.{NoClash}
+use Rattle.theory_world.specs.KeptApart.{NoCollision}
 use Rattle.theory_world.proofs.Hashed.{all_new, among_head}
 use Rattle.theory_world.proofs.Book.{key-apart, signed_more, signed_new, signed_back}
 use Rattle.theory_run.specs.KeptBook.{KeptBook}
@@ -57,11 +57,11 @@ signed_all-or book ps k d = by_tests (has_signed book k d) (has_signed ps k d) r
     ])
 
 module _ (s : Setup) (w : World) where
-  -- the draft's book has what the event signs
-  abbrev BookIs : Event → Draft → Type 0
+  -- the pending effect's book has what the event signs
+  abbrev BookIs : Event → Pending → Type 0
   BookIs e d = d.world.book ≡ signed_all w.book (signed_pairs s w e d.outcome)
 
-  unless_book : (e : Event) (r : Option Reason) (hashes : List (List ℕ)) (d : Draft) → BookIs e d → BookIs e (unless r w hashes d)
+  unless_book : (e : Event) (r : Option Reason) (hashes : List (List ℕ)) (d : Pending) → BookIs e d → BookIs e (unless r w hashes d)
   unless_book e None hashes d h = h
   unless_book e (Some r) hashes d h = refl
 
@@ -78,7 +78,7 @@ module _ (s : Setup) (w : World) where
   read_book e q (Ok tx) = judged_book e [] q tx (verdict_in s w tx)
   read_book e q (Err place) = refl
 
-  pub book_is : (e : Event) → BookIs e (draft s w e)
+  pub book_is : (e : Event) → BookIs e (pending s w e)
   book_is (events.Advertise k bs) = unless_book (events.Advertise k bs) (first_reason (advertise_row s w k bs)) [] _ refl
   book_is (events.Commit k a ds) =
       unless_book (events.Commit k a ds) (first_reason (commit_row s w k a ds)) [] _
@@ -114,7 +114,7 @@ pub record IsSigners (s : Setup) (hs : List (List ℕ)) (e : Event) (key : List 
   pub whose : is_signer (label_party label) e ≡ true
 
 module _ (s : Setup) (size : HashesBytes s.hash) (few_contracts : length s.contracts ≤ 16) (g : Configuration) (w : World)
-    (kept : KeptBook s g w) (check : Checked s w) (clear : NoClash s.hash w.hashed) (own : KeptLabels s w)
+    (kept : KeptBook s g w) (check : Checked s w) (clear : NoCollision s.hash w.hashed) (own : KeptLabels s w)
     (hs : List (List ℕ)) (sub : (t : List ℕ) → is_among t w.hashed ≡ true → is_among t hs ≡ true) where
   by_party : (e : Event) (a : List ℕ) → is_signer a e ≡ true → (key : List ℕ) → IsKeyOf s w a key → IsSigners s hs e key
   by_party e a signs key k = record {
@@ -129,22 +129,22 @@ module _ (s : Setup) (size : HashesBytes s.hash) (few_contracts : length s.contr
   some_signed true ps key x h = cc
   some_signed false ps key x h = h
 
-  -- where the draft isn't refused for a reason
-  unless_signed : (e : Event) (r : Option Reason) (d : Draft) (key x : List ℕ)
+  -- where the pending effect isn't refused for a reason
+  unless_signed : (e : Event) (r : Option Reason) (d : Pending) (key x : List ℕ)
       → has_signed (signed_pairs s w e (unless r w [] d).outcome) key x ≡ true
       → (r ≡ None → has_signed (event_pairs s w e) key x ≡ true → IsSigners s hs e key) → IsSigners s hs e key
   unless_signed e None d key x h go = go refl (some_signed (is_refused d.outcome) (event_pairs s w e) key x h)
   unless_signed e (Some r) d key x h go = cc
 
-  nothing : (e : Event) (d : Draft) (key x : List ℕ) → event_pairs s w e ≡ [] → has_signed (signed_pairs s w e d.outcome) key x ≡ true
+  nothing : (e : Event) (d : Pending) (key x : List ℕ) → event_pairs s w e ≡ [] → has_signed (signed_pairs s w e d.outcome) key x ≡ true
       → IsSigners s hs e key
   nothing e d key x none h =
       let y = some_signed (is_refused d.outcome) (event_pairs s w e) key x h in
       let z : has_signed [] key x ≡ true = subst (λ ps. has_signed ps key x ≡ true) none y in
       absurd (both_ways _ refl z)
 
-  pub signers : (e : Event) → IsEvent s e → ((t : List ℕ) → is_among t (settled w (draft s w e)).hashed ≡ true → is_among t hs ≡ true)
-      → (key x : List ℕ) → has_signed (signed_pairs s w e (draft s w e).outcome) key x ≡ true → IsSigners s hs e key
+  pub signers : (e : Event) → IsEvent s e → ((t : List ℕ) → is_among t (applied w (pending s w e)).hashed ≡ true → is_among t hs ≡ true)
+      → (key x : List ℕ) → has_signed (signed_pairs s w e (pending s w e).outcome) key x ≡ true → IsSigners s hs e key
   signers (events.Endorse k a) is new key x h = unless_signed (events.Endorse k a) (first_reason (endorse_row s w k a)) _ key x h (λ r y.
       by_party (events.Endorse k a) a (bytes_refl a) key
       (endorsed_labels s size few_contracts g w kept check clear own a is k (compiled_instance s w k) refl key x y))
@@ -165,12 +165,12 @@ module _ (s : Setup) (size : HashesBytes s.hash) (few_contracts : length s.contr
       ps : List Pair
       ps = (key_of s.hash label, digest) ∷ []
 
-      signing : Draft
+      signing : Pending
       signing = done (with_pairs w ps) (label_text label ∷ [])
 
       unsigned : (r : Option Reason) → first_reason (sign_row s a label) ≡ r
           → has_signed (signed_pairs s w e (unless r w [] signing).outcome) key x ≡ true
-          → ((t : List ℕ) → is_among t (settled w (unless r w [] signing)).hashed ≡ true → is_among t hs ≡ true) → IsSigners s hs e key
+          → ((t : List ℕ) → is_among t (applied w (unless r w [] signing)).hashed ≡ true → is_among t hs ≡ true) → IsSigners s hs e key
       unsigned (Some r) q y more = cc
       unsigned None q y more =
           let row = no_reason-none_true (sign_row s a label) q in
@@ -186,23 +186,23 @@ module _ (s : Setup) (size : HashesBytes s.hash) (few_contracts : length s.contr
       unless_signed (events.Give a inputs outputs) (first_reason (give_row s w a inputs outputs)) _ key x h (λ r y.
       by_party (events.Give a inputs outputs) a (bytes_refl a) key
       (given_labels s size few_contracts g w kept check clear own a is.giver inputs outputs key x y))
-  signers (events.Advertise k bs) is new key x h = nothing (events.Advertise k bs) (draft s w (events.Advertise k bs)) key x refl h
-  signers (events.Commit k a ds) is new key x h = nothing (events.Commit k a ds) (draft s w (events.Commit k a ds)) key x refl h
-  signers (events.Reveal k a name) is new key x h = nothing (events.Reveal k a name) (draft s w (events.Reveal k a name)) key x refl h
-  signers (events.Post string) is new key x h = nothing (events.Post string) (draft s w (events.Post string)) key x refl h
-  signers (events.Append bytes) is new key x h = nothing (events.Append bytes) (draft s w (events.Append bytes)) key x refl h
-  signers (events.FireInit k) is new key x h = nothing (events.FireInit k) (draft s w (events.FireInit k)) key x refl h
-  signers (events.Fire n j) is new key x h = nothing (events.Fire n j) (draft s w (events.Fire n j)) key x refl h
-  signers (events.Mine blocks) is new key x h = nothing (events.Mine blocks) (draft s w (events.Mine blocks)) key x refl h
+  signers (events.Advertise k bs) is new key x h = nothing (events.Advertise k bs) (pending s w (events.Advertise k bs)) key x refl h
+  signers (events.Commit k a ds) is new key x h = nothing (events.Commit k a ds) (pending s w (events.Commit k a ds)) key x refl h
+  signers (events.Reveal k a name) is new key x h = nothing (events.Reveal k a name) (pending s w (events.Reveal k a name)) key x refl h
+  signers (events.Post string) is new key x h = nothing (events.Post string) (pending s w (events.Post string)) key x refl h
+  signers (events.Append bytes) is new key x h = nothing (events.Append bytes) (pending s w (events.Append bytes)) key x refl h
+  signers (events.FireInit k) is new key x h = nothing (events.FireInit k) (pending s w (events.FireInit k)) key x refl h
+  signers (events.Fire n j) is new key x h = nothing (events.Fire n j) (pending s w (events.Fire n j)) key x refl h
+  signers (events.Mine blocks) is new key x h = nothing (events.Mine blocks) (pending s w (events.Mine blocks)) key x refl h
 
   -- what the event signs under a party's key is what the party signs
-  module _ (clear_hs : NoClash s.hash hs) (e : Event) (is : IsEvent s e)
-      (new : (t : List ℕ) → is_among t (settled w (draft s w e)).hashed ≡ true → is_among t hs ≡ true)
+  module _ (clear_hs : NoCollision s.hash hs) (e : Event) (is : IsEvent s e)
+      (new : (t : List ℕ) → is_among t (applied w (pending s w e)).hashed ≡ true → is_among t hs ≡ true)
       (l : Label) (fine : IsLabel l) (heard : is_among (label_text l) hs ≡ true) (x : List ℕ) where
     abbrev all : List Pair
-    all = signed_pairs s w e (draft s w e).outcome
+    all = signed_pairs s w e (pending s w e).outcome
 
-    only_own : has_signed all (key_of s.hash l) x ≡ has_signed (own_pairs s (label_party l) w e (draft s w e).outcome) (key_of s.hash l) x
+    only_own : has_signed all (key_of s.hash l) x ≡ has_signed (own_pairs s (label_party l) w e (pending s w e).outcome) (key_of s.hash l) x
     only_own = by_test (is_signer (label_party l) e) refl
       where
         by_test : (b : Bool) → is_signer (label_party l) e ≡ b
@@ -213,8 +213,8 @@ module _ (s : Setup) (size : HashesBytes s.hash) (few_contracts : length s.contr
             let same : k.label ≡ l = one_label k.label l k.fine fine (key-apart s.hash hs k.label l clear_hs k.heard heard k.is) in
             both_ways _ q (subst (λ y. is_signer (label_party y) e ≡ true) same k.whose))
 
-    pub signed_step : has_signed (settled w (draft s w e)).book (key_of s.hash l) x
-        ≡ (has_signed w.book (key_of s.hash l) x || has_signed (own_pairs s (label_party l) w e (draft s w e).outcome) (key_of s.hash l) x)
+    pub signed_step : has_signed (applied w (pending s w e)).book (key_of s.hash l) x
+        ≡ (has_signed w.book (key_of s.hash l) x || has_signed (own_pairs s (label_party l) w e (pending s w e).outcome) (key_of s.hash l) x)
     signed_step =
         ap (λ b. has_signed b (key_of s.hash l) x) (book_is s w e)
         ∙ signed_all-or w.book all (key_of s.hash l) x

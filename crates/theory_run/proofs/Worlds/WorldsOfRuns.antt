@@ -11,7 +11,7 @@ use Rattle.spec_run.specs.World.{World}
 use Rattle.spec_run.specs.Conditions.{are_all_among, IsEvent}
 use Rattle.spec_run.specs.Values.{live_value}
 use Rattle.spec_run.specs.Event.{Passed, event, goes_on, opening_strings, opening_world, played_from, played}
-use Rattle.spec_run.specs.Draft.{Answer, Went, Halted}
+use Rattle.spec_run.specs.Pending.{Answer, Went, Halted}
 use Rattle.spec_run.specs.Translation.{Turn, turn_of, turns_from, opening_configuration, last_configuration, last_world, world_after}
 use Rattle.spec_run.specs.Statements.{IsRun, simulated}
 use Rattle.spec_run.proofs.Courses.{last_left}
@@ -54,7 +54,7 @@ module _ (s : Setup) (es : List Event) (run : IsRun s es) where
   messages = record {
     noted =
         ap (λ (v : World). v.hashed) left ∙ hashed_after s (played s es).passed (opening_world s) passed
-        ∙ sym (noted-append [] (opening_strings s) (flat_map (λ p. p.draft.hashes) (played s es).passed));
+        ∙ sym (noted-append [] (opening_strings s) (flat_map (λ p. p.pending.hashes) (played s es).passed));
     different = kept.books.clear.one;
     posted = ap (λ (v : World). v.posted) left ∙ posted_after s (played s es).passed (opening_world s) passed;
     heard = every_among w.posted w.hashed kept.tracks.secrets.heard;
@@ -101,7 +101,7 @@ taken_passed s (suc k) (e ∷ es) w = by_answer (event s w e) (taken_passed s k 
     by_answer : (a : Answer) → ((next : World) → (played_from s next (take k es)).passed ≡ take k (played_from s next es).passed)
         → (goes_on e a (λ next. played_from s next (take k es))).passed ≡ take (suc k) (goes_on e a (λ next. played_from s next es)).passed
     by_answer (Halted halt) ih = refl
-    by_answer (Went d next) ih = ap (λ ps. record { event = e; draft = d; world = next } ∷ ps) (ih next)
+    by_answer (Went d next) ih = ap (λ ps. record { event = e; pending = d; world = next } ∷ ps) (ih next)
 
 -- a turn's world is left by the events up to it
 turn_left : (s : Setup) (strings : List (List ℕ)) (ps : List Passed) (g : Configuration) (w : World) (n : ℕ) (t : Turn)
@@ -113,11 +113,11 @@ turn_left s strings (p ∷ ps) g w (suc n) t h = turn_left s strings ps (turn_of
 pub worlds_of_turns : WorldsOfTurns
 worlds_of_turns s es run n t h =
     let k : n + 1 ≡ suc n = omega arith in
-    let front : IsRun s (take (suc n) es) =
+    let prefix : IsRun s (take (suc n) es) =
     record { setup = run.setup; opens = run.opens; events = taken_events s (suc n) es run.events } in
-    let same = left s (take (suc n) es) front ∙ ap (world_after (opening_world s)) (taken_passed s (suc n) es (opening_world s))
+    let same = left s (take (suc n) es) prefix ∙ ap (world_after (opening_world s)) (taken_passed s (suc n) es (opening_world s))
     ∙ turn_left s (run_posts s es) (played s es).passed (opening_configuration s) (opening_world s) n t h in
-    rw k (subst (IsWorldOfRun s (take (suc n) es)) same (world_of_run s (take (suc n) es) front))
+    rw k (subst (IsWorldOfRun s (take (suc n) es)) same (world_of_run s (take (suc n) es) prefix))
 
 pub worlds_of_runs : WorldsOfRuns
 worlds_of_runs s es run = world_of_run s es run

@@ -7,13 +7,13 @@ use Rattle.spec_run.specs.Setup.{Setup}
 use Rattle.spec_run.specs.World.{World}
 use Rattle.spec_run.specs.Owners.{paid_to}
 use Rattle.spec_run.specs.Conditions.{IsSetup}
-use Rattle.spec_run.specs.Draft.{Draft}
+use Rattle.spec_run.specs.Pending.{Pending}
 use Rattle.spec_run.specs.Values.{live_value}
 use Rattle.spec_run.specs.Event.{Passed, holds_nothing, opening_outputs, opening_world}
 use Rattle.spec_run.specs.Translation.{world_after}
 use Rattle.theory_world.proofs.Tests.{sum_map}
 use Rattle.theory_world.proofs.Ledger.Spend.{total-made}
-use Rattle.theory_world.proofs.Ledger.Worth.{draft_keeps}
+use Rattle.theory_world.proofs.Ledger.Worth.{pending_keeps}
 use Rattle.theory_run.proofs.Worlds.AllPassed.{AllPassed}
 
 -- at the opening it is what the header's deposits are worth
@@ -29,7 +29,7 @@ worth_after s [] w h = omega arith
 worth_after s (p ∷ ps) w h =
     let later = worth_after s ps p.world h.1 in
     let here = ap live_value h.0.world in
-    let same = ap (λ (d : Draft). live_value d.world) h.0.draft in
-    let keeps = draft_keeps s w p.event in
+    let same = ap (λ (d : Pending). live_value d.world) h.0.pending in
+    let keeps = pending_keeps s w p.event in
     let less = keeps.no_more in
     omega (arith, later, here, same, less)

@@ -6,7 +6,7 @@ use Rattle.spec_bitcoin.specs.declared.tx.Tx.{Tx}
 use Rattle.spec_run.specs.declared.event.Event.{Event}
 use Rattle.spec_run.specs.Setup.{Setup}
 use Rattle.spec_run.specs.World.{World}
-use Rattle.spec_run.specs.Draft.{Draft, Went}
+use Rattle.spec_run.specs.Pending.{Pending, Went}
 use Rattle.spec_run.specs.Event.{event}
 
 -- the string stands in the witness of some input
@@ -28,4 +28,4 @@ pub record Posts (w next : World) (tx : Tx) : Type 0 where
 -- an event whose transaction is accepted posts what the witnesses of all its inputs hold
 abbrev pub WitnessesArePosted : Type 0
 WitnessesArePosted =
-    (s : Setup) (w next : World) (e : Event) (d : Draft) (tx : Tx) → event s w e ≡ Went d next → d.tx ≡ Some tx → Posts w next tx
+    (s : Setup) (w next : World) (e : Event) (d : Pending) (tx : Tx) → event s w e ≡ Went d next → d.tx ≡ Some tx → Posts w next tx

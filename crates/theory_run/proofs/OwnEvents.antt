@@ -5,7 +5,7 @@ use Rattle.spec_calculus.specs.Steps.{owned}
 use Rattle.spec_run.specs.declared.event.Event.{Event}
 use Rattle.spec_run.specs.declared.event.Event.TheVariants as events
 use Rattle.spec_run.specs.Licence.{IsCommitOf, IsInitOf, IsAuthoriseOf, IsRevealOf, IsGiveOf}
-use Rattle.theory_meaning.specs.OwnEvents.{OnlyOwnEvents}
+use Rattle.theory_run.specs.OwnEvents.{OnlyOwnEvents}
 
 committed : (e : Event) (contract : ℕ) (party : List ℕ) → IsCommitOf e contract party
     → (digests : List (List ℕ × List ℕ)) × (e ≡ events.Commit contract party digests)

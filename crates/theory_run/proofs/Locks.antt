@@ -9,7 +9,7 @@ use Rattle.spec_calculus.specs.declared.step.Step.TheVariants as steps
 use Rattle.spec_calculus.specs.Configuration.{Configuration}
 use Rattle.spec_calculus.specs.Branches.{lock_of}
 use Rattle.spec_calculus.specs.Steps.{premises, branch_at}
-use Rattle.theory_meaning.specs.Locks.{heights, AreReached, LockIsReached, BranchesWait}
+use Rattle.theory_run.specs.Locks.{heights, AreReached, LockIsReached, BranchesWait}
 use Rattle.theory_calculus.proofs.Members.{no_false}
 
 none_waits : (time : ℕ) → nat_le 0 time ≡ true

@@ -18,7 +18,7 @@ use Rattle.spec_run.specs.declared.header.HeldSecret.{HeldSecret}
 use Rattle.spec_run.specs.declared.outcome.Reason.{Reason}
 use Rattle.spec_run.specs.Setup.{Setup}
 use Rattle.spec_run.specs.World.{World, live_position_at}
-use Rattle.spec_run.specs.Draft.{Draft, Answer, Went, Halted, unless, settled, settle, guess}
+use Rattle.spec_run.specs.Pending.{Pending, Answer, Went, Halted, unless, applied, apply, guess}
 use Rattle.spec_run.specs.Compiled.{compiled_instance}
 use Rattle.spec_run.specs.Advertising.{advertise_row}
 use Rattle.spec_run.specs.Committing.{commit_row, digest_row, committed_strings}
@@ -27,17 +27,17 @@ use Rattle.spec_run.specs.Revealing.{reveal_row}
 use Rattle.spec_run.specs.Giving.{give_row, given_pairs, gift}
 use Rattle.spec_run.specs.Firing.{fire_init_row, fire_row, reaches_if, initial_by, taking_of_position}
 use Rattle.spec_run.specs.Ledger.{items_of, judged, verdict_in, reaches}
-use Rattle.spec_run.specs.Event.{append_read, mine_row, draft, event}
+use Rattle.spec_run.specs.Event.{append_read, mine_row, pending, event}
 use Rattle.theory_calculus.proofs.Names.{among-append}
-use Rattle.theory_meaning.specs.Witnesses.{IsShown, Posts, WitnessesArePosted}
+use Rattle.theory_run.specs.Witnesses.{IsShown, Posts, WitnessesArePosted}
 
--- ---- what a draft posts
+-- ---- what a pending effect posts
 
--- where the draft has an accepted transaction, it posts the items of its witnesses
-abbrev PostsItems : Draft → Type 0
+-- where the pending effect has an accepted transaction, it posts the items of its witnesses
+abbrev PostsItems : Pending → Type 0
 PostsItems d = (tx : Tx) → d.tx ≡ Some tx → d.posts ≡ items_of tx
 
-unless_posts : (w : World) (r : Option Reason) (hashes : List (List ℕ)) (d : Draft) → PostsItems d → PostsItems (unless r w hashes d)
+unless_posts : (w : World) (r : Option Reason) (hashes : List (List ℕ)) (d : Pending) → PostsItems d → PostsItems (unless r w hashes d)
 unless_posts w None hashes d h = h
 unless_posts w (Some r) hashes d h = λ tx e. cc
 
@@ -56,29 +56,29 @@ append_posts : (s : Setup) (w : World) (r : Result Tx ℕ) → PostsItems (appen
 append_posts s w (Ok given) = reaches_posts s w w given
 append_posts s w (Err place) = λ tx e. cc
 
-draft_posts : (s : Setup) (w : World) (e : Event) → PostsItems (draft s w e)
-draft_posts s w (events.Advertise contract bindings) = unless_posts w (first_reason (advertise_row s w contract bindings)) [] _ (λ tx e. cc)
-draft_posts s w (events.Commit contract party digests) =
+pending_posts : (s : Setup) (w : World) (e : Event) → PostsItems (pending s w e)
+pending_posts s w (events.Advertise contract bindings) = unless_posts w (first_reason (advertise_row s w contract bindings)) [] _ (λ tx e. cc)
+pending_posts s w (events.Commit contract party digests) =
     unless_posts w (first_reason (commit_row s w contract party digests)) [] _
     (unless_posts w (first_reason (digest_row s w contract party digests)) (committed_strings s contract party) _ (λ tx e. cc))
-draft_posts s w (events.Endorse contract party) = unless_posts w (first_reason (endorse_row s w contract party)) [] _ (λ tx e. cc)
-draft_posts s w (events.Init contract party) = unless_posts w (first_reason (init_row s w contract party)) [] _ (λ tx e. cc)
-draft_posts s w (events.Authorise party output branch) =
+pending_posts s w (events.Endorse contract party) = unless_posts w (first_reason (endorse_row s w contract party)) [] _ (λ tx e. cc)
+pending_posts s w (events.Init contract party) = unless_posts w (first_reason (init_row s w contract party)) [] _ (λ tx e. cc)
+pending_posts s w (events.Authorise party output branch) =
     unless_posts w (first_reason (authorise_row s w party output branch)) [] _ (λ tx e. cc)
-draft_posts s w (events.Reveal contract party secret) =
+pending_posts s w (events.Reveal contract party secret) =
     unless_posts w (first_reason (reveal_row s w contract party secret)) [] _ (λ tx e. cc)
-draft_posts s w (events.Post bytes) = λ tx e. cc
-draft_posts s w (events.Sign party label digest) = unless_posts w (first_reason (sign_row s party label)) [] _ (λ tx e. cc)
-draft_posts s w (events.Give party inputs outputs) =
+pending_posts s w (events.Post bytes) = λ tx e. cc
+pending_posts s w (events.Sign party label digest) = unless_posts w (first_reason (sign_row s party label)) [] _ (λ tx e. cc)
+pending_posts s w (events.Give party inputs outputs) =
     unless_posts w (first_reason (give_row s w party inputs outputs)) [] _
     (reaches_posts s w (with_pairs w (given_pairs s w party inputs outputs)) (gift s w party inputs outputs))
-draft_posts s w (events.Append bytes) = append_posts s w (transaction_of bytes)
-draft_posts s w (events.FireInit contract) =
+pending_posts s w (events.Append bytes) = append_posts s w (transaction_of bytes)
+pending_posts s w (events.FireInit contract) =
     unless_posts w (first_reason (fire_init_row s w contract)) [] _ (reaches_if_posts s w (initial_by s (compiled_instance s w contract)))
-draft_posts s w (events.Fire output branch) =
+pending_posts s w (events.Fire output branch) =
     unless_posts w (first_reason (fire_row s w output branch)) [] _
     (reaches_if_posts s w (taking_of_position s w (live_position_at w output) branch))
-draft_posts s w (events.Mine blocks) = unless_posts w (first_reason (mine_row w blocks)) [] _ (λ tx e. cc)
+pending_posts s w (events.Mine blocks) = unless_posts w (first_reason (mine_row w blocks)) [] _ (λ tx e. cc)
 
 -- ---- the items of a transaction, input by input
 
@@ -128,20 +128,20 @@ posted_by w next tx e = record {
 }
 
 -- what an event that went on has come to, and the world that it left
-abbrev GoesTo : World → Draft → Answer → Type 0
-GoesTo w d (Went e next) = (e ≡ d) × (next ≡ settled w d)
+abbrev GoesTo : World → Pending → Answer → Type 0
+GoesTo w d (Went e next) = (e ≡ d) × (next ≡ applied w d)
 GoesTo w d (Halted halt) = Unit {0}
 
-settle_goes : (w : World) (d : Draft) (pair : Option (List ℕ × List ℕ)) (held : Option HeldSecret) → GoesTo w d (settle w d pair held)
-settle_goes w d (Some pair) held = tt
-settle_goes w d None (Some held) = tt
-settle_goes w d None None = (refl, refl)
+apply_goes : (w : World) (d : Pending) (pair : Option (List ℕ × List ℕ)) (held : Option HeldSecret) → GoesTo w d (apply w d pair held)
+apply_goes w d (Some pair) held = tt
+apply_goes w d None (Some held) = tt
+apply_goes w d None None = (refl, refl)
 
 pub witnesses_are_posted : WitnessesArePosted
 witnesses_are_posted s w next e d tx went accepted =
-    let x = draft s w e in
+    let x = pending s w e in
     let goes : GoesTo w x (event s w e) =
-    settle_goes w x (collision s.hash w.hashed x.hashes) (guess s w.posted x.posts x.allowed) in
-    let both : (d ≡ x) × (next ≡ settled w x) = subst (GoesTo w x) went goes in
-    let posts : x.posts ≡ items_of tx = draft_posts s w e tx (sym (ap (λ (y : Draft). y.tx) both.0) ∙ accepted) in
+    apply_goes w x (collision s.hash w.hashed x.hashes) (guess s w.posted x.posts x.allowed) in
+    let both : (d ≡ x) × (next ≡ applied w x) = subst (GoesTo w x) went goes in
+    let posts : x.posts ≡ items_of tx = pending_posts s w e tx (sym (ap (λ (y : Pending). y.tx) both.0) ∙ accepted) in
     posted_by w next tx (ap (λ (y : World). y.posted) both.1 ∙ ap (λ ps. w.posted ++ ps) posts)

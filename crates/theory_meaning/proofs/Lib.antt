@@ -1,3 +1,0 @@
-pub mod Locks
-pub mod OwnEvents
-pub mod Witnesses

@@ -1,5 +1,0 @@
-use Rattle.theory_meaning.proofs.OwnEvents.{only_own_events}
-use Rattle.theory_meaning.proofs.only_own_events.Goals as goal
-
-pub returns : goal.returns
-returns c = only_own_events

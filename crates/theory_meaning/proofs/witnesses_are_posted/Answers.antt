@@ -1,5 +1,0 @@
-use Rattle.theory_meaning.proofs.Witnesses.{witnesses_are_posted}
-use Rattle.theory_meaning.proofs.witnesses_are_posted.Goals as goal
-
-pub returns : goal.returns
-returns c = witnesses_are_posted
